@@ -4,7 +4,7 @@ use Rattle.ciborium_ll_grammar.specs.declared.hdr.Header.{Header}
 use Rattle.ciborium_ll_grammar.specs.Title.{IsTitle, title_len, IsCutTitle, AreBytes}
 use Rattle.ciborium_ll_grammar.specs.Strings.{Kind, Bytes, Text, kind_header, IsMisplaced, IsWritable}
 use Rattle.ciborium_ll_grammar.specs.Elements.{AreWritable, Mark, Open, pieces, spelling, IsRun}
-use Rattle.ciborium_ll_grammar.specs.Faults.{Place, Due, In, Reaches, Answer, Syntax, with_front, FirstFault}
+use Rattle.ciborium_ll_grammar.specs.Faults.{Point, Due, In, Reaches, Answer, Syntax, with_front, FirstFault}
 use Rattle.ciborium_ll_grammar.proofs.OpenStrings.{IsInsideAt}
 use Rattle.ciborium_ll_text.specs.declared.state.State.TheVariants as s
 use Rattle.ciborium_ll_text.specs.States.{after, may_end}
@@ -53,7 +53,7 @@ abbrev pub OfKind : Within → StringKind → Type 0
 OfKind w.Nothing kind = Unit {0}
 OfKind (w.Open outer more) kind = outer ≡ kind
 
-abbrev pub place_of : Within → Place
+abbrev pub place_of : Within → Point
 place_of w.Nothing = Due
 place_of (w.Open kind more) = In (kind_of kind)
 
@@ -101,7 +101,7 @@ pub record Whole (count : ℕ) (bytes output : List ℕ) : Type 0 where
   pub out : output ≡ spelling marks
 
 -- a fault, of whatever answer
-pub record SomeFault (before : List ℕ) (marks : List Mark) (at : Place) (ahead : List ℕ) : Type 0 where
+pub record SomeFault (before : List ℕ) (marks : List Mark) (at : Point) (ahead : List ℕ) : Type 0 where
   pub answer : Answer
   pub written : List ℕ
   pub consumed : ℕ
@@ -111,7 +111,7 @@ pub record SomeFault (before : List ℕ) (marks : List Mark) (at : Place) (ahead
 pub record Broken (place count : ℕ) (bytes output : List ℕ) : Type 0 where
   pub before : List ℕ
   pub marks : List Mark
-  pub at : Place
+  pub at : Point
   pub ahead : List ℕ
   pub reach : Reaches count before marks at
   pub is : bytes ≡ before ++ ahead

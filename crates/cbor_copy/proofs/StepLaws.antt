@@ -148,7 +148,7 @@ module _ (count left place : ℕ) (i : Within) (before bytes output : List ℕ) 
             answer = Short;
             written = spelling marks;
             consumed = _;
-            fault = CutTitle {place = In K} tt short;
+            fault = CutTitle {point = In K} tt short;
           }
           | inr o ↦ record {
             answer = Syntax (length before);
@@ -176,12 +176,12 @@ module _ (count left place : ℕ) (i : Within) (before bytes output : List ℕ) 
       answer = Syntax (length before);
       written = spelling marks;
       consumed = 1;
-      fault = NoTitle {place = place_of i} (at_title i) (refused_on front y r);
+      fault = NoTitle {point = place_of i} (at_title i) (refused_on front y r);
     };
     more = [];
     more_bytes = tt;
     consumed = 1;
-    fault = rw (named, out) (NoTitle {place = place_of i} (at_title i) (refused_on front [] r));
+    fault = rw (named, out) (NoTitle {point = place_of i} (at_title i) (refused_on front [] r));
   }
 
 -- ---- a byte of a title

@@ -35,7 +35,7 @@ title_short count bytes output spot o = record {
   fault = record {
     before = o.before;
     marks = o.marks;
-    place = place_of spot.within;
+    point = place_of spot.within;
     ahead = spot.front;
     answer = Short;
     written = spelling o.marks;
@@ -43,7 +43,7 @@ title_short count bytes output spot o = record {
     reach = reaches spot.within count spot.left o.before o.marks o.at o.due;
     is = o.is;
     spelled = λ on. absurd cc;
-    fault = CutTitle {place = place_of spot.within} (at_title spot.within)
+    fault = CutTitle {point = place_of spot.within} (at_title spot.within)
         (front_cut spot.front spot (length o.before) o.front);
   };
   answered = refl;
@@ -56,7 +56,7 @@ body_short kind left count bytes output spot o some = record {
   fault = record {
     before = o.before ++ o.title;
     marks = o.marks;
-    place = _;
+    point = _;
     ahead = o.part ++ spot.front;
     answer = Short;
     written = with_front o.marks (kind_of kind) o.len o.part;
@@ -88,7 +88,7 @@ broken_tells place count bytes output o = (
       no_fault false count (bytes ++ more) run (record {
         before = o.before;
         marks = o.marks;
-        place = o.at;
+        point = o.at;
         ahead = o.ahead ++ more;
         answer = f.answer;
         written = f.written;
@@ -105,7 +105,7 @@ broken_tells place count bytes output o = (
       fault = record {
         before = o.before;
         marks = o.marks;
-        place = o.at;
+        point = o.at;
         ahead = o.ahead ++ o.more;
         answer = Syntax place;
         written = output;

@@ -33,9 +33,11 @@ use Rattle.ciborium_ll.specs.Types.Write.{Ghosts as Writer}
 use Rattle.ciborium_ll.specs.Encoding.{WritesAll, WritesBytes, WritesFront}
 use Rattle.ciborium_ll.proofs.EncodingLaws.{WritesBytes-stopped, WritesBytes-then}
 use Rattle.cbor_diag.specs.ItemTexts.{indent, new_line, nest_opening, nest_closing, nest_last, nest_end, level_within}
-use Rattle.cbor_diag.specs.ItemTexts.{item_lead, is_value_at, is_first_at, kind_quotes, IsAll, scalar, float, string, nest}
+use Rattle.cbor_diag.specs.ItemTexts.{item_lead, is_value_at, is_first_at, kind_quotes, IsAll, scalar, float, string}
+use Rattle.cbor_diag.specs.ItemTexts.{nest}
 use Rattle.cbor_diag.specs.ItemTexts.{AreShown, none, more, RestShown, WithinShown}
-use Rattle.cbor_diag.specs.ItemStops.{WithinBegun, RestStops, plain, opening, within, closing, WithinStops, title, lead, item}
+use Rattle.cbor_diag.specs.ItemStops.{WithinBegun, RestStops, plain, opening, within, closing, WithinStops, title, lead}
+use Rattle.cbor_diag.specs.ItemStops.{item}
 use Rattle.cbor_diag.specs.ItemStops.{ComesNoItem, ItemStops, no_item, behind, ShowsRest, ShowsWithin, ShowsItem}
 
 -- ---- lines
@@ -72,6 +74,12 @@ module _ {W F : Type 0} (sink : Writer W F) where
             (WritesBytes-then sink {T = Unit {0}} old now new (Ok (tt {0})) (new_line level) (codes "  ") far.written
             all);
       }
+
+  -- all of it was
+  pub line_ends : (level far : ℕ) (old now : W) → far ≡ level → LineFar far old now
+      → WritesAll sink old (new_line level) now
+  line_ends level far old now same begun =
+      subst (λ (n : ℕ). WritesAll sink old (new_line n) now) same begun.written
 
   -- the writer failed within it
   pub line_stops : {T : Type 0} (level far : ℕ) (old now new : W) (result : Result T F) → far < level

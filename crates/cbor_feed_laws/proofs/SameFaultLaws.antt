@@ -7,7 +7,7 @@ use Rattle.ciborium_ll_grammar.specs.declared.hdr.Header.TheVariants as h
 use Rattle.ciborium_ll_grammar.specs.Title.{IsTitle, BeginsRefused, title_len}
 use Rattle.ciborium_ll_grammar.specs.Strings.{Kind, Bytes, Text}
 use Rattle.ciborium_ll_grammar.specs.Items.{IsTakenTitle}
-use Rattle.ciborium_ll_grammar.specs.Faults.{Place, Due, In, BodyDue, IsAtTitle, IsRefusedIn, Answer, Short, Syntax}
+use Rattle.ciborium_ll_grammar.specs.Faults.{Point, Due, In, BodyDue, IsAtTitle, IsRefusedIn, Answer, Short, Syntax}
 use Rattle.ciborium_ll_grammar.specs.Faults.{FirstFault, CutTitle, NoTitle, LongTitle, OtherTitle, DamagedText, CutBody}
 use Rattle.ciborium_ll_grammar.specs.Faults.{CutDamagedText}
 use Rattle.ciborium_ll_grammar.proofs.StringLaws.{break_title}
@@ -41,8 +41,8 @@ module _ (fault : Fault) (s : Bool) (depth : ℕ) (due : List ℕ) (runs : FromS
 
   -- ---- a title is due
 
-  refused_named : (before ahead : List ℕ) (place : Place) → ReachesItem s depth before place → due ≡ before ++ ahead
-      → IsAtTitle place → BeginsRefused ahead → fault ≡ f.Syntax (length before)
+  refused_named : (before ahead : List ℕ) (point : Point) → ReachesItem s depth before point → due ≡ before ++ ahead
+      → IsAtTitle point → BeginsRefused ahead → fault ≡ f.Syntax (length before)
   refused_named before ahead Due reach e at_title refused =
       let o = due_reached fault s depth before ahead due reach runs e in
       no_title fault s w.Nothing o.left o.at_item.levels o.at_item.place (length before) ahead o.at_item.runs refused
@@ -77,8 +77,8 @@ module _ (fault : Fault) (s : Bool) (depth : ℕ) (due : List ℕ) (runs : FromS
         )
       ]
 
-  long_named : (before ahead t rest : List ℕ) (x : Header) (place : Place) → ReachesItem s depth before place
-      → due ≡ before ++ ahead → IsAtTitle place → IsTitle t x → (IsTakenTitle s t x → ⊥) → ahead ≡ t ++ rest
+  long_named : (before ahead t rest : List ℕ) (x : Header) (point : Point) → ReachesItem s depth before point
+      → due ≡ before ++ ahead → IsAtTitle point → IsTitle t x → (IsTakenTitle s t x → ⊥) → ahead ≡ t ++ rest
       → Named (length before)
   long_named before ahead t rest x Due reach e at_title q never parts =
       long_here before ahead t rest x reach e q never parts
@@ -122,28 +122,28 @@ module _ (fault : Fault) (s : Bool) (depth : ℕ) (due : List ℕ) (runs : FromS
 
   -- ---- a row of the faults
 
-  row_named : (before ahead written : List ℕ) (place : Place) (answer : Answer) (consumed at : ℕ)
-      → FirstFault s before [] place ahead answer written consumed → ReachesItem s depth before place
+  row_named : (before ahead written : List ℕ) (point : Point) (answer : Answer) (consumed at : ℕ)
+      → FirstFault s before [] point ahead answer written consumed → ReachesItem s depth before point
       → due ≡ before ++ ahead → answer ≡ Syntax at → Named at
-  row_named before ahead written place answer consumed at (CutTitle at_title is_cut) reach e a =
+  row_named before ahead written point answer consumed at (CutTitle at_title is_cut) reach e a =
       absurd (not_short at a)
-  row_named before ahead written place answer consumed at (NoTitle at_title refused) reach e a =
-      inl (refused_named before ahead place reach e at_title refused ∙ ap f.Syntax (syntax_at (length before) at a))
-  row_named before ahead written place answer consumed at (LongTitle {title = t} x rest at_title q never parts)
+  row_named before ahead written point answer consumed at (NoTitle at_title refused) reach e a =
+      inl (refused_named before ahead point reach e at_title refused ∙ ap f.Syntax (syntax_at (length before) at a))
+  row_named before ahead written point answer consumed at (LongTitle {title = t} x rest at_title q never parts)
       reach e a =
       subst Named (syntax_at (length before) at a)
-      (long_named before ahead t rest x place reach e at_title q never parts)
-  row_named before ahead written place answer consumed at (OtherTitle {kind = k} {title = t} x rest q refused parts)
+      (long_named before ahead t rest x point reach e at_title q never parts)
+  row_named before ahead written point answer consumed at (OtherTitle {kind = k} {title = t} x rest q refused parts)
       reach e a =
       inl (other_named before ahead t rest x k reach e q refused parts
       ∙ ap f.Syntax (syntax_at (length before) at a))
-  row_named before ahead written place answer consumed at
+  row_named before ahead written point answer consumed at
       (DamagedText {len = len} {start = start} front rest fits none parts sound some within) reach e a =
       inl (text_named before ahead Text len start refl reach e (λ long ends. none (text_from (take len ahead) ends))
       ∙ ap f.Syntax (syntax_at start at a))
-  row_named before ahead written place answer consumed at (CutBody front rest short parts sound some most within)
+  row_named before ahead written point answer consumed at (CutBody front rest short parts sound some most within)
       reach e a = absurd (not_short at a)
-  row_named before ahead written place answer consumed at
+  row_named before ahead written point answer consumed at
       (CutDamagedText {len = len} {start = start} front rest short none parts sound some within) reach e a =
       inl (text_named before ahead Text len start refl reach e (λ long ends. absurd (omega (arith, long, short)))
       ∙ ap f.Syntax (syntax_at start at a))
@@ -152,7 +152,7 @@ module _ (fault : Fault) (s : Bool) (depth : ℕ) (due : List ℕ) (runs : FromS
 
   pub syntax_named : (met : HasItemFault s depth due) → (at : ℕ) → met.answer ≡ Syntax at → Named at
   syntax_named met at a =
-      row_named met.before met.ahead met.written met.place met.answer met.consumed at met.fault met.reach met.is a
+      row_named met.before met.ahead met.written met.point met.answer met.consumed at met.fault met.reach met.is a
 
   pub break_named : (met : HasEarlyBreak s depth due) → fault ≡ f.Break (length met.before)
   break_named met =

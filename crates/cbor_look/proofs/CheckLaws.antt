@@ -22,7 +22,7 @@ use Rattle.cbor_look.specs.declared.dump.DumpError.TheVariants as d
 use Rattle.cbor_look.specs.declared.sequence.Sequence.{Sequence}
 use Rattle.cbor_look.specs.declared.sequence.Stopped.{Stopped}
 use Rattle.cbor_look.specs.declared.walk.Walk.{Walk}
-use Rattle.cbor_look.specs.Takings.{IsAlike, most_bytes}
+use Rattle.cbor_look.specs.Takings.{HasRoom, IsAlike, most_bytes}
 use Rattle.cbor_look.specs.Levels.{Nest, StandsBehind, outside, inside, closes_one}
 use Rattle.cbor_look.specs.Dumps.{AreTaken, IsEndOf, IsTaken, EndsTitles}
 use Rattle.cbor_look.specs.Walks.{IsDue, IsDueBehind, whole_behind}
@@ -209,7 +209,7 @@ module _ {R E : Type 0} (source : Ghosts R E) where
     pub comes_end : {W : Type 0} (error : Error E) (len : ℕ) (new : Decoder R) (result : Result E (DumpError E W))
         → walk.used ≤ depth → PullsHeader source now (Err error) new → new.offset ≡ now.offset + len
         → EndsTitles error walk.used len result → AreTaken result
-        → ReadsAsCheck source depth most_bytes old result new
+        → ReadsAsCheck source depth old result new
     comes_end error len new (Ok fault) few fails moved says taken =
         let used = come.due.keeps.used in
         let items = walk_ended strict depth 0 walk come.bytes come.due says.1 in
@@ -220,17 +220,19 @@ module _ {R E : Type 0} (source : Ghosts R E) where
         let at = come.passed.offset in
         let here = says.2 in
         record {
-          room = most_bytes;
-          held = omega arith;
           checked = Ok (record { items = come.count; bytes = length come.reads.bytes; «end» = fault });
           answers = refl;
           checks = record {
-            between = come.between;
-            reads = come.reads;
-            counted = refl;
-            fails = subst (λ (x : Error E). StopsItem source false depth most_bytes come.between (s.Read x) new)
-                says.0 stopped;
-            still = omega (arith, moved, counted, at, here);
+            room = most_bytes;
+            held = omega arith;
+            holds = record {
+              between = come.between;
+              reads = come.reads;
+              counted = refl;
+              fails = subst (λ (x : Error E). StopsItem source false depth most_bytes come.between (s.Read x) new)
+                  says.0 stopped;
+              still = omega (arith, moved, counted, at, here);
+            };
           };
         }
     comes_end error len new (Err (d.Item why)) few fails moved says taken =
@@ -238,27 +240,27 @@ module _ {R E : Type 0} (source : Ghosts R E) where
         let stopped = stops_in most_bytes come.due.nests come.due.within (depth - length come.due.nests)
         (omega (arith, used, few)) (s.Read error) new (inl fails) in
         record {
-          room = most_bytes;
-          held = omega arith;
           checked = Err (record { items = come.count; place = come.between.offset; error = why });
           answers = refl;
           checks = record {
-            between = come.between;
-            reads = come.reads;
-            place = refl;
-            fails = subst (λ (x : SkipError E). StopsItem source false depth most_bytes come.between x new)
-                (sym says.0) stopped;
-            no_end = λ is_end. not_ended error len new moved says.1
-                (subst (λ (x : SkipError E). IsEnd x come.between.offset new.offset) says.0 is_end);
+            room = most_bytes;
+            held = omega arith;
+            holds = record {
+              between = come.between;
+              reads = come.reads;
+              place = refl;
+              fails = subst (λ (x : SkipError E). StopsItem source false depth most_bytes come.between x new)
+                  (sym says.0) stopped;
+              no_end = λ is_end. not_ended error len new moved says.1
+                  (subst (λ (x : SkipError E). IsEnd x come.between.offset new.offset) says.0 is_end);
+            };
           };
         }
     comes_end error len new (Err (d.Rows fault)) few fails moved says taken = absurd taken
 
     -- a title that was read, or the string behind it, by its error: through a buffer of some room
-    record Stops (error : SkipError E) (new : Decoder R) : Type 0 where
-      room : ℕ
-      held : room ≤ most_bytes
-      stops : StopsItem source false depth room come.between error new
+    abbrev Stops : SkipError E → Decoder R → Type 0
+    Stops error new = HasRoom (λ room. StopsItem source false depth room come.between error new)
 
     title_stops : (error : SkipError E) (W : Type 0) (header : Header) (place : ℕ) (titled new : Decoder R)
         → PullsTitle source now header titled → (IsSteady source now → IsSteady source titled) → place ≡ now.offset
@@ -271,7 +273,7 @@ module _ {R E : Type 0} (source : Ghosts R E) where
         record {
           room = fails.room;
           held = fails.held;
-          stops = stops_in fails.room due.nests due.within (depth - length due.nests)
+          holds = stops_in fails.room due.nests due.within (depth - length due.nests)
               (stands_few strict depth due.nests come.bytes due.within)
               (s.Read error) new (inr (record {
                 kind = stops.0;
@@ -279,7 +281,7 @@ module _ {R E : Type 0} (source : Ghosts R E) where
                 titled = titled;
                 pulled = subst (λ (x : Header). PullsTitle source now x titled) due.is pulled;
                 steady = steady;
-                fails = fails.skipped;
+                fails = fails.holds;
               }));
         }
     title_stops (s.Break at) W header place titled new pulled steady same stops =
@@ -287,7 +289,7 @@ module _ {R E : Type 0} (source : Ghosts R E) where
         record {
           room = most_bytes;
           held = omega arith;
-          stops = stops_in most_bytes due.nests due.within (depth - length due.nests)
+          holds = stops_in most_bytes due.nests due.within (depth - length due.nests)
               (stands_few strict depth due.nests come.bytes due.within)
               (s.Break at) new (record {
                 not_closable = due.not_closable;
@@ -301,7 +303,7 @@ module _ {R E : Type 0} (source : Ghosts R E) where
         record {
           room = most_bytes;
           held = omega arith;
-          stops = stops_in most_bytes due.nests due.within 0 (let full = due.full in omega (arith, full)) (s.Deep at) new
+          holds = stops_in most_bytes due.nests due.within 0 (let full = due.full in omega (arith, full)) (s.Deep at) new
               (record {
                 none_left = refl;
                 place = stops.2 ∙ same;
@@ -315,21 +317,23 @@ module _ {R E : Type 0} (source : Ghosts R E) where
         → PullsTitle source now header titled → (IsSteady source now → IsSteady source titled) → place ≡ now.offset
         → titled.offset ≤ new.offset → now.offset < titled.offset
         → StopsTitle source strict depth 0 header place come.bytes titled (Err error) new → IsTaken error
-        → ReadsAsCheck source depth most_bytes old (Err error) new
+        → ReadsAsCheck source depth old (Err error) new
     comes_title {W = W} (d.Item why) header place titled new pulled steady at rises some stops taken =
         let there = title_stops why W header place titled new pulled steady at stops in
         record {
-          room = there.room;
-          held = there.held;
           checked = Err (record { items = come.count; place = come.between.offset; error = why });
           answers = refl;
           checks = record {
-            between = come.between;
-            reads = come.reads;
-            place = refl;
-            fails = there.stops;
-            no_end =
-                let moved = come.passed.offset in further why come.between new (omega (arith, moved, rises, some));
+            room = there.room;
+            held = there.held;
+            holds = record {
+              between = come.between;
+              reads = come.reads;
+              place = refl;
+              fails = there.holds;
+              no_end =
+                  let moved = come.passed.offset in further why come.between new (omega (arith, moved, rises, some));
+            };
           };
         }
     comes_title (d.Rows fault) header place titled new pulled steady at rises some stops taken = absurd taken
@@ -348,19 +352,20 @@ module _ {R E : Type 0} (source : Ghosts R E) where
     }
 
     pub answers_told : {W : Type 0} (result : Result E (DumpError E W)) (new : Decoder R)
-        → ReadsAsCheck source depth most_bytes old result new → AnswersTold source depth due old result new
+        → ReadsAsCheck source depth old result new → AnswersTold source depth due old result new
     answers_told result new reads = record {
       checked = reads.checked;
       answers = reads.answers;
-      told = check_told source depth reads.room old due (ready_for reads.room reads.held) new reads.checked reads.checks;
+      told = check_told source depth reads.checks.room old due (ready_for reads.checks.room reads.checks.held) new reads.checked
+          reads.checks.holds;
     }
 
     -- the answers are of one kind
     pub answers_exactly : {W : Type 0} (result : Result E (DumpError E W)) (new : Decoder R)
-        → ReadsAsCheck source depth most_bytes old result new → IsOk result ↔ IsSequence old.strict depth due
+        → ReadsAsCheck source depth old result new → IsOk result ↔ IsSequence old.strict depth due
     answers_exactly result new reads =
-        let exactly = check_exactly source depth reads.room old due (ready_for reads.room reads.held) new reads.checked
-        reads.checks in (
+        let exactly = check_exactly source depth reads.checks.room old due (ready_for reads.checks.room reads.checks.held) new reads.checked
+        reads.checks.holds in (
           λ ok. exactly.0 (both_ok reads.checked result reads.answers ok),
           λ is. ok_both reads.checked result reads.answers (exactly.1 is),
         )

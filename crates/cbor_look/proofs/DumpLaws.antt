@@ -1,15 +1,22 @@
 -- The lines of a dump, one behind the other.
 use Rattle.std.proofs.Common.{◌≡◌, ℕ, ◌+◌, List, [], ◌∷◌, ◌++◌, length, Option, Some, None, refl, sym, ap, subst, ◌∙◌}
-use Rattle.std.proofs.Common.{append_assoc, append-nil, inl, inr, arith}
+use Rattle.std.proofs.Common.{append_assoc, append-nil, inl, inr, arith, ◌<◌, ◌≤◌, Bool, IfSome}
 use Rattle.ciborium_ll.specs.Types.Read.{Ghosts}
 use Rattle.ciborium_ll.specs.Types.Decoder.{Decoder}
-use Rattle.cbor_look.specs.Levels.{Line, bytes_of, IsFilled, Stands, AllStand}
-use Rattle.cbor_look.specs.Endings.{IsMeant, AreMeant, EndAtFault, Ending, Meant, AtFault, Either, EndAs}
-use Rattle.cbor_look.specs.Endings.{ending_before}
+use Rattle.cbor_look.specs.Levels.{Line, bytes_of, IsFilled, Stands, AllStand, Ending, Meant, Refused, Failed, Stopped}
+use Rattle.cbor_look.specs.Levels.{IsTitleFault, IsTextFault}
+use Rattle.cbor_look.specs.Endings.{IsMeant, AreMeant, EndAtFault, EndAs, LeavesAs, ending_before, ending_of}
+use Rattle.cbor_look.specs.Endings.{bytes_at_fault, fault_part}
+use Rattle.cbor_look.specs.Parts.{IsPartRow}
+use Rattle.cbor_look.specs.declared.rows.Meaning.{Meaning}
+use Rattle.cbor_look.specs.declared.rows.Meaning.TheVariants as m
+use Rattle.ciborium_ll.specs.Strings.{Kind, Text}
+use Rattle.ciborium_ll.specs.Decoding.{view}
+use Rattle.ciborium_ll.proofs.DecodingLaws.{IfSome-all}
 use Rattle.ciborium_ll.specs.Types.Error.{Error}
 use Rattle.ciborium_ll.specs.Types.Error.TheVariants as e
 use Rattle.cbor_skip.specs.declared.SkipError.TheVariants as s
-use Rattle.cbor_look.specs.Takings.{HasFault, Takes}
+use Rattle.cbor_look.specs.Takings.{HasFault, IsIdle, IsTitleRow, LeavesBehind, Takes, most_bytes}
 use Rattle.cbor_look.specs.Dumps.{Draws, IsRefusal, IsTaken, Lines, SaysFault, Shows, ShowsBehind, fault_lines}
 use Rattle.cbor_look.specs.declared.dump.DumpError.{DumpError}
 use Rattle.cbor_look.specs.declared.dump.DumpError.TheVariants as d
@@ -40,16 +47,26 @@ bytes_then (line ∷ first) second =
     ap (λ (z : List ℕ). line.bytes ++ z) (bytes_then first second)
     ∙ sym (append_assoc line.bytes (bytes_of first) (bytes_of second))
 
-stand_then : (depth start : ℕ) (before : List ℕ) (first second : List Line) → AllStand depth start before first
-    → AllStand depth start (before ++ bytes_of first) second → AllStand depth start before (first ++ second)
-stand_then depth start before [] second a b =
-    subst (λ (z : List ℕ). AllStand depth start z second) (append-nil before) b
-stand_then depth start before (line ∷ first) second a b = (
+-- a line that is meant stands however lines end
+stands_meant : (how : Ending) (depth : ℕ) (before : List ℕ) (meaning : Meaning) (line : Line)
+    → Stands Meant depth before meaning line → Stands how depth before meaning line
+stands_meant how depth before (m.Header header) line stands = stands
+stands_meant how depth before m.Bytes line stands = stands
+stands_meant how depth before m.Text line stands = stands
+stands_meant how depth before m.Fault line (inl none) = absurd none.fault
+stands_meant how depth before m.Fault line (inr none) = absurd none.fault
+
+stand_then : (how : Ending) (depth start : ℕ) (before : List ℕ) (first second : List Line)
+    → AllStand Meant depth start before first → AllStand how depth start (before ++ bytes_of first) second
+    → AllStand how depth start before (first ++ second)
+stand_then how depth start before [] second a b =
+    subst (λ (z : List ℕ). AllStand how depth start z second) (append-nil before) b
+stand_then how depth start before (line ∷ first) second a b = (
   a.0,
   a.1,
-  a.2,
-  stand_then depth start (before ++ line.bytes) first second a.3
-      (subst (λ (z : List ℕ). AllStand depth start z second)
+  stands_meant how depth before line.meaning line a.2,
+  stand_then how depth start (before ++ line.bytes) first second a.3
+      (subst (λ (z : List ℕ). AllStand how depth start z second)
       (sym (append_assoc before line.bytes (bytes_of first))) b),
 )
 
@@ -72,33 +89,71 @@ fault_then (line ∷ first) second a b = fault_behind line (first ++ second) a.0
 ends_then : (how : Ending) (first second : List Line) → AreMeant first → EndAs how second
     → EndAs how (first ++ second)
 ends_then Meant first second a b = meant_then first second a b
-ends_then AtFault first second a b = fault_then first second a b
-ends_then Either first second a (inl b) = inl (meant_then first second a b)
-ends_then Either first second a (inr b) = inr (fault_then first second a b)
+ends_then (Refused strict) first second a b = fault_then first second a b
+ends_then Failed first second a (inl b) = inl (meant_then first second a b)
+ends_then Failed first second a (inr b) = inr (fault_then first second a b)
+ends_then Stopped first second a (inl b) = inl (meant_then first second a b)
+ends_then Stopped first second a (inr b) = inr (fault_then first second a b)
 
 -- what was read before a read stopped
-read_ends : {E : Type 0} (W : Type 0) (error : Error E) (level offset : ℕ) (bytes : List ℕ) → HasFault error bytes
-    → EndAs (ending_before {E = E} {W = W} (d.Item (s.Read error))) (fault_lines level offset bytes)
-read_ends W (e.Syntax at) level offset [] some = absurd (omega (arith, some))
-read_ends W (e.Syntax at) level offset (byte ∷ bytes) some = refl
-read_ends W (e.Io fault) level offset [] some = inl tt
-read_ends W (e.Io fault) level offset (byte ∷ bytes) some = inr refl
-read_ends W e.TooLong level offset [] some = inl tt
-read_ends W e.TooLong level offset (byte ∷ bytes) some = inr refl
-read_ends W e.Waiting level offset [] some = inl tt
-read_ends W e.Waiting level offset (byte ∷ bytes) some = inr refl
+pub read_ends : {E : Type 0} (strict : Bool) (error : Error E) (level offset : ℕ) (bytes : List ℕ)
+    → HasFault error bytes → EndAs (ending_of strict error) (fault_lines level offset bytes)
+read_ends strict (e.Syntax at) level offset [] some = absurd (omega (arith, some))
+read_ends strict (e.Syntax at) level offset (byte ∷ bytes) some = refl
+read_ends strict (e.Io fault) level offset [] some = inl tt
+read_ends strict (e.Io fault) level offset (byte ∷ bytes) some = inr refl
+read_ends strict e.TooLong level offset [] some = inl tt
+read_ends strict e.TooLong level offset (byte ∷ bytes) some = inr refl
+read_ends strict e.Waiting level offset [] some = inl tt
+read_ends strict e.Waiting level offset (byte ∷ bytes) some = inr refl
 
-pub fault_ends : {E W : Type 0} (error : Error E) (why : DumpError E W) (level offset : ℕ) (bytes : List ℕ)
-    → SaysFault error why → IsTaken why → HasFault error bytes
-    → EndAs (ending_before why) (fault_lines level offset bytes)
-fault_ends {E = E} {W = W} error (d.Item (s.Read other)) level offset bytes says taken some =
-    let same : other ≡ error = cc in
-    let lines = fault_lines level offset bytes in
-    subst (λ (x : Error E). EndAs (ending_before {E = E} {W = W} (d.Item (s.Read x))) lines) (sym same)
-    (read_ends W error level offset bytes some)
-fault_ends error (d.Item (s.Break at)) level offset bytes says taken some = absurd cc
-fault_ends error (d.Item (s.Deep at)) level offset bytes says taken some = absurd cc
-fault_ends error (d.Rows fault) level offset bytes says taken some = absurd taken
+-- ---- rows at fault
+
+-- what was read of a title
+pub title_row : {E : Type 0} (strict : Bool) (kind : Kind) (opens : ℕ) (error : Error E) (bytes : List ℕ)
+    → IsTitleRow strict error bytes → 0 < length bytes → IsTitleFault (ending_of strict error) kind opens bytes
+title_row strict kind opens (e.Syntax at) bytes row some = inl row
+title_row strict kind opens (e.Io fault) bytes (inl none) some =
+    absurd (let l = ap length none in omega (arith, l, some))
+title_row strict kind opens (e.Io fault) bytes (inr first) some = first
+title_row strict kind opens e.TooLong bytes (inl none) some = absurd (let l = ap length none in omega (arith, l, some))
+title_row strict kind opens e.TooLong bytes (inr first) some = first
+title_row strict kind opens e.Waiting bytes (inl none) some = absurd (let l = ap length none in omega (arith, l, some))
+title_row strict kind opens e.Waiting bytes (inr first) some = first
+
+-- what was read of a body
+pub part_row : {E : Type 0} (strict : Bool) (kind : Kind) (left : ℕ) (error : Error E) (bytes : List ℕ)
+    → IsPartRow kind left error bytes → 0 < length bytes
+    → (kind ≡ Text) × IsTextFault (ending_of strict error) left bytes
+part_row strict kind left (e.Syntax at) bytes row some = row
+part_row strict kind left (e.Io fault) bytes (inl none) some = absurd (let l = ap length none in omega (arith, l, some))
+part_row strict kind left (e.Io fault) bytes (inr cut) some = cut
+part_row strict kind left e.TooLong bytes (inl none) some = absurd (let l = ap length none in omega (arith, l, some))
+part_row strict kind left e.TooLong bytes (inr cut) some = cut
+part_row strict kind left e.Waiting bytes (inl none) some = absurd (let l = ap length none in omega (arith, l, some))
+part_row strict kind left e.Waiting bytes (inr cut) some = cut
+
+-- what is left behind it
+pub leaves_as : {E : Type 0} (strict : Bool) (error : Error E) (bytes : List ℕ) (known : Option (List ℕ))
+    → IfSome known (LeavesBehind error bytes) → IfSome known (LeavesAs (ending_of strict error) bytes)
+leaves_as strict (e.Syntax at) bytes known left = IfSome-all known _ (λ any. tt)
+leaves_as strict (e.Io fault) bytes known left = left
+leaves_as strict e.TooLong bytes known left = IfSome-all known _ (λ any. tt)
+leaves_as strict e.Waiting bytes known left = IfSome-all known _ (λ any. tt)
+
+-- lines that are meant have nothing at fault
+no_fault : (meaning : Meaning) (bytes : List ℕ) → IsMeant meaning → fault_part meaning bytes ≡ []
+no_fault (m.Header header) bytes meant = refl
+no_fault m.Bytes bytes meant = refl
+no_fault m.Text bytes meant = refl
+no_fault m.Fault bytes meant = absurd meant
+
+pub fault_behind_meant : (first second : List Line) → AreMeant first
+    → bytes_at_fault (first ++ second) ≡ bytes_at_fault second
+fault_behind_meant [] second meant = refl
+fault_behind_meant (line ∷ first) second meant =
+    ap (λ (z : List ℕ). z ++ bytes_at_fault (first ++ second)) (no_fault line.meaning line.bytes meant.0)
+    ∙ fault_behind_meant first second meant.1
 
 -- no line
 pub lines_none : (depth start : ℕ) (drawn : Option (List Line)) (before : List ℕ)
@@ -114,8 +169,8 @@ pub lines_then : {how : Ending} (depth start : ℕ) (old middle new : Option (Li
 lines_then {how} depth start old middle new before first second a b = record {
   lines = a.lines ++ b.lines;
   drawn = draws_then old middle new a.lines b.lines a.drawn b.drawn;
-  stand = stand_then depth start before a.lines b.lines a.stand
-      (subst (λ (z : List ℕ). AllStand depth start (before ++ z) b.lines) (sym a.joined) b.stand);
+  stand = stand_then how depth start before a.lines b.lines a.stand
+      (subst (λ (z : List ℕ). AllStand how depth start (before ++ z) b.lines) (sym a.joined) b.stand);
   joined = bytes_then a.lines b.lines ∙ (ap (λ (z : List ℕ). z ++ bytes_of b.lines) a.joined
       ∙ ap (λ (z : List ℕ). first ++ z) b.joined);
   ends = ends_then how a.lines b.lines a.ends b.ends;
@@ -124,7 +179,8 @@ lines_then {how} depth start old middle new before first second a b = record {
 -- one line
 pub lines_one : {how : Ending} (depth start : ℕ) (old new : Option (List Line)) (before : List ℕ) (line : Line)
     → Draws old new (line ∷ []) → line.offset ≡ start + length before → IsFilled line.bytes
-    → Stands depth before line.meaning line → EndAs how (line ∷ []) → Lines depth start old new before line.bytes how
+    → Stands how depth before line.meaning line → EndAs how (line ∷ [])
+    → Lines depth start old new before line.bytes how
 lines_one depth start old new before line drawn offset filled stands ends = record {
   lines = line ∷ [];
   drawn = drawn;
@@ -137,16 +193,23 @@ module _ {R E : Type 0} (source : Ghosts R E) where
   pub shows_none : (depth start : ℕ) (drawn : Option (List Line)) (before : List ℕ) (decoder : Decoder R)
       → Shows source depth start drawn drawn before [] Meant decoder decoder
   shows_none depth start drawn before decoder =
-      record { lines = lines_none depth start drawn before; takes = takes_none source decoder }
+      record {
+        lines = lines_none depth start drawn before;
+        takes = takes_none source decoder;
+        left = λ idle. IfSome-all (view source decoder) _ (λ any. tt);
+      }
 
   pub shows_then : {how : Ending} (depth start : ℕ) (drawn middle then_drawn : Option (List Line))
       (before first second : List ℕ) (old between new : Decoder R)
       → Shows source depth start drawn middle before first Meant old between
       → Shows source depth start middle then_drawn (before ++ first) second how between new
       → Shows source depth start drawn then_drawn before (first ++ second) how old new
-  shows_then depth start drawn middle then_drawn before first second old between new a b = record {
+  unfolding lines_then
+  shows_then {how} depth start drawn middle then_drawn before first second old between new a b = record {
     lines = lines_then depth start drawn middle then_drawn before first second a.lines b.lines;
     takes = takes_then source old between new first second a.takes b.takes;
+    left = λ idle. subst (λ (z : List ℕ). IfSome (view source new) (LeavesAs how z))
+        (sym (fault_behind_meant a.lines.lines b.lines.lines a.lines.ends)) (b.left (a.takes.consumed idle).1);
   }
 
   -- bytes that were read, and what was shown of them and behind them
@@ -157,4 +220,78 @@ module _ {R E : Type 0} (source : Ghosts R E) where
   shows_read depth start drawn then_drawn before row bytes old between new takes behind = record {
     lines = behind.lines;
     takes = takes_then source old between new row bytes takes behind.takes;
+    left = λ idle. behind.left (takes.consumed idle).1;
   }
+
+  -- a title and what is behind it
+  pub title_then : {how : Ending} (depth start : ℕ) (drawn middle then_drawn : Option (List Line))
+      (before title bytes : List ℕ) (old new : Decoder R) → Lines depth start drawn middle before title Meant
+      → Shows source depth start middle then_drawn (before ++ title) bytes how old new
+      → ShowsBehind source depth start drawn then_drawn before title bytes how old new
+  unfolding lines_then
+  title_then {how} depth start drawn middle then_drawn before title bytes old new first rest = record {
+    lines = lines_then depth start drawn middle then_drawn before title bytes first rest.lines;
+    takes = rest.takes;
+    left = λ idle. subst (λ (z : List ℕ). IfSome (view source new) (LeavesAs how z))
+        (sym (fault_behind_meant first.lines rest.lines.lines first.ends)) (rest.left idle);
+  }
+
+  -- by the error of the dump, which is that of the read
+  pub shows_says : {W : Type 0} (strict : Bool) (error : Error E) (why : DumpError E W) (depth start : ℕ)
+      (drawn then_drawn : Option (List Line)) (before bytes : List ℕ) (old new : Decoder R) → SaysFault error why
+      → IsTaken why → Shows source depth start drawn then_drawn before bytes (ending_of strict error) old new
+      → Shows source depth start drawn then_drawn before bytes (ending_before strict why) old new
+  shows_says strict error (d.Item (s.Read other)) depth start drawn then_drawn before bytes old new says taken shows =
+      let same : other ≡ error = cc in
+      subst (λ (x : Error E). Shows source depth start drawn then_drawn before bytes (ending_of strict x) old new)
+      (sym same) shows
+  shows_says strict error (d.Item (s.Break at)) depth start drawn then_drawn before bytes old new says taken shows =
+      absurd cc
+  shows_says strict error (d.Item (s.Deep at)) depth start drawn then_drawn before bytes old new says taken shows =
+      absurd cc
+  shows_says strict error (d.Rows fault) depth start drawn then_drawn before bytes old new says taken shows =
+      absurd taken
+
+  -- what was read before a read stopped, in a row at fault where there is some
+  pub shows_fault : (strict : Bool) (error : Error E) (depth start : ℕ) (drawn then_drawn : Option (List Line))
+      (before : List ℕ) (level offset : ℕ) (row : List ℕ) (old new : Decoder R) → Takes source old row new
+      → Draws drawn then_drawn (fault_lines level offset row) → offset ≡ start + length before
+      → (0 < length row → Stands (ending_of strict error) depth before m.Fault
+      (record { level = level; offset = offset; bytes = row; meaning = m.Fault }))
+      → length row ≤ most_bytes → HasFault error row
+      → (IsIdle source old → IfSome (view source new) (LeavesBehind error row))
+      → Shows source depth start drawn then_drawn before row (ending_of strict error) old new
+  unfolding lines_one
+  shows_fault strict error depth start drawn then_drawn before level offset [] old new takes draws at stands few some
+      left = record {
+        lines = record {
+          lines = [];
+          drawn = draws;
+          stand = tt;
+          joined = refl;
+          ends = read_ends strict error level offset [] some;
+        };
+        takes = takes;
+        left = λ idle. leaves_as strict error [] (view source new) (left idle);
+      }
+  shows_fault strict error depth start drawn then_drawn before level offset (byte ∷ bytes) old new takes draws at stands
+      few some left = record {
+        lines = lines_one depth start drawn then_drawn before _ draws at (omega arith, few) (stands (omega arith))
+            (read_ends strict error level offset (byte ∷ bytes) some);
+        takes = takes;
+        left = λ idle. subst (λ (z : List ℕ). IfSome (view source new) (LeavesAs (ending_of strict error) z))
+            (sym (append-nil (byte ∷ bytes))) (leaves_as strict error (byte ∷ bytes) (view source new) (left idle));
+      }
+
+  -- where nothing was read
+  pub shows_nothing : (depth start : ℕ) (drawn then_drawn : Option (List Line)) (before : List ℕ) (level offset : ℕ)
+      (row : List ℕ) (old new : Decoder R) → Takes source old row new
+      → Draws drawn then_drawn (fault_lines level offset row) → length row ≡ 0
+      → Shows source depth start drawn then_drawn before row Meant old new
+  shows_nothing depth start drawn then_drawn before level offset [] old new takes draws none = record {
+    lines = record { lines = []; drawn = draws; stand = tt; joined = refl; ends = tt };
+    takes = takes;
+    left = λ idle. IfSome-all (view source new) _ (λ any. tt);
+  }
+  shows_nothing depth start drawn then_drawn before level offset (byte ∷ bytes) old new takes draws none =
+      absurd (omega (arith, none))

@@ -4,7 +4,7 @@ use Rattle.std.proofs.Common.{sym, ap, subst, ◌∙◌, inl, inr, arith, append
 use Rattle.ciborium_ll.specs.Title.{BeginsRefused}
 use Rattle.ciborium_ll.specs.Strings.{Kind, kind_header}
 use Rattle.ciborium_ll.specs.Items.{AreItems, no_items, more_items}
-use Rattle.ciborium_ll.specs.Faults.{Place, Due, IsInside, opened, deeper, Answer, Short}
+use Rattle.ciborium_ll.specs.Faults.{Point, Due, IsInside, opened, deeper, Answer, Short}
 use Rattle.ciborium_ll.specs.Faults.{FirstFault, CutTitle, NoTitle, LongTitle, OtherTitle, DamagedText, CutBody}
 use Rattle.ciborium_ll.specs.Faults.{CutDamagedText}
 use Rattle.ciborium_ll.proofs.ItemLaws.{one_item}
@@ -63,7 +63,7 @@ inside_some k u bs (deeper {outer = x} {inner = y} {bodies = cs} p q) =
     omega (arith, inside_some k x cs p, length-append x y)
 
 -- before a byte was read an item is due
-pub due_first : (s : Bool) (d : ℕ) (u : List ℕ) (at : Place) → ReachesItem s d u at → u ≡ [] → at ≡ Due
+pub due_first : (s : Bool) (d : ℕ) (u : List ℕ) (at : Point) → ReachesItem s d u at → u ≡ [] → at ≡ Due
 due_first s d u at (at_item p) e = refl
 due_first s d u at (at_string {bytes = a} {opens = y} {bodies = bs} {kind = k} p q g ok) e =
     let counted = ap length e in absurd (omega (arith, counted, inside_some k y bs q, length-append a y))
@@ -75,7 +75,7 @@ due_first s d u at (at_piece {bytes = a} {title = t} {len = l} {kind = k} r p g)
     absurd (omega (arith, counted, title_some t (kind_header k (Some l)) p, length-append a t))
 
 -- where no byte is consumed of what is short there is none
-pub fault_first : (s : Bool) (before : List ℕ) (at : Place) (ahead : List ℕ) (answer : Answer) (written : List ℕ)
+pub fault_first : (s : Bool) (before : List ℕ) (at : Point) (ahead : List ℕ) (answer : Answer) (written : List ℕ)
     (consumed : ℕ) → FirstFault s before [] at ahead answer written consumed → at ≡ Due → answer ≡ Short → consumed ≡ 0
     → ahead ≡ []
 fault_first s before at ahead answer written consumed (CutTitle title cut) due is none = nothing ahead (omega (
@@ -91,7 +91,7 @@ fault_first s before at ahead answer written consumed (CutDamagedText front rest
     absurd cc
 
 -- where there is none, it is short, and none is consumed
-pub first_fault : (s : Bool) (before : List ℕ) (at : Place) (ahead : List ℕ) (answer : Answer) (written : List ℕ)
+pub first_fault : (s : Bool) (before : List ℕ) (at : Point) (ahead : List ℕ) (answer : Answer) (written : List ℕ)
     (consumed : ℕ) → FirstFault s before [] at ahead answer written consumed → at ≡ Due → ahead ≡ []
     → (answer ≡ Short) × (consumed ≡ 0)
 first_fault s before at ahead answer written consumed (CutTitle title cut) due none =

@@ -1,13 +1,20 @@
 -- What is left behind a dump, byte by byte.
-use Rattle.std.proofs.Common.{◌≡◌, ℕ, ◌+◌, ◌<◌, ◌≤◌, List, [], ◌++◌, length, Option, Some, Result, Ok, Err, OnOk, sym, ap}
+use Rattle.std.proofs.Common.{inl, inr, ◌∷◌}
+use Rattle.std.proofs.Common.{◌≡◌, ℕ, ◌+◌, ◌<◌, ◌≤◌, List, [], ◌++◌, length, Option, Some, Result, Ok, Err, OnOk, sym}
+use Rattle.std.proofs.Common.{ap}
 use Rattle.std.proofs.Common.{◌∙◌, subst, arith, append-nil, length-append}
 use Rattle.ciborium_ll.specs.Types.Read.{Ghosts}
 use Rattle.ciborium_ll.specs.Types.Decoder.{Decoder}
-use Rattle.ciborium_ll.specs.Decoding.{offset_limit, view}
+use Rattle.ciborium_ll.specs.Decoding.{offset_limit, view, Passes, ReadsBytes}
+use Rattle.ciborium_ll.specs.Types.Error.{Error}
+use Rattle.ciborium_ll.specs.Types.Error.TheVariants as e
+use Rattle.ciborium_ll.proofs.BodyLaws.{view_none, Passes-read}
+use Rattle.ciborium_ll.proofs.DecodingLaws.{IfSome-at}
+use Rattle.cbor_look.proofs.ItemRows.{nothing}
 use Rattle.ciborium_ll.proofs.CopyingTold.{consumes_told}
 use Rattle.cbor_look.specs.Dumps.{Draws, ShowsLeft, fault_lines}
 use Rattle.cbor_look.specs.Levels.{Line}
-use Rattle.cbor_look.specs.Takings.{IsIdle, IsLast, Keeps, Takes, most_bytes}
+use Rattle.cbor_look.specs.Takings.{EndsRow, IsIdle, Keeps, ReadsOn, Takes, most_bytes}
 
 -- what follows where all went well
 pub on_ok : {A E : Type 0} {P Q : Type 0} (result : Result A E) → (P → Q) → OnOk result P → OnOk result Q
@@ -15,30 +22,68 @@ on_ok (Ok value) follows holds = follows holds
 on_ok (Err error) follows holds = tt
 
 module _ {R E : Type 0} (source : Ghosts R E) where
+  -- the read of one more byte fails only where there is none, or where the offset has no room for it
+  next_fails : (error : Error E) (byte : ℕ) (old new : Decoder R) → IsIdle source old
+      → ReadsBytes source old (Err error) (byte ∷ []) new → (left : List ℕ) → view source new ≡ Some left
+      → new.offset + length left < offset_limit → left ≡ []
+  next_fails (e.Io fault) byte old new idle fails left told fits =
+      let still = fails.steady idle.steady in
+      let behind = view_none new.waiting (source.ahead new.reader) fails.none_waits in
+      let less : length left < 1 =
+      IfSome-at (source.ahead old.reader) left _ (sym still.0 ∙ (sym behind ∙ told)) still.1 in
+      nothing left (omega (arith, less))
+  next_fails (e.Syntax place) byte old new idle fails left told fits = absurd fails
+  next_fails e.TooLong byte old new idle fails left told fits =
+      let full = fails.1 in
+      let same = fails.2.offset in
+      nothing left (omega (arith, full, same, fits))
+  next_fails e.Waiting byte old new idle fails left told fits =
+      absurd (let waits = rw idle.none_waits at fails.0 in cc)
+
+  none_left : (count : ℕ) (old new : Decoder R) → IsIdle source old → EndsRow source count old new → (left : List ℕ)
+      → view source new ≡ Some left → count + length left ≤ most_bytes → new.offset + length left < offset_limit
+      → left ≡ []
+  none_left count old new idle (inl full) left told few fits =
+      nothing left (let all = full.0 in omega (arith, all, few))
+  none_left count old new idle (inr fails) left told few fits =
+      next_fails fails.1.error fails.1.byte old new idle fails.1.fails.read left told fits
+
   -- all that was left was taken
-  taken_all : (old new : Decoder R) (bytes : List ℕ) → Keeps source [] bytes old new
-      → (IsIdle source old → IsLast source bytes new) → (due : List ℕ) → IsIdle source old → view source old ≡ Some due
+  taken_all : (old between new : Decoder R) (bytes : List ℕ) → Keeps source [] bytes old new
+      → (IsIdle source old → IsIdle source between) → EndsRow source (length bytes) between new → (due : List ℕ)
+      → IsIdle source old → view source old ≡ Some due
       → length due ≤ most_bytes → old.offset + length due < offset_limit → bytes ≡ due
-  taken_all old new bytes keeps last due idle told few fits =
+  taken_all old between new bytes keeps still ends due idle told few fits =
       let consumed = keeps.takes.consumed idle in
       let gone = consumes_told _ _ due keeps.bytes told consumed.0 in
       let long = ap length gone.2 in
       let same : bytes ≡ keeps.bytes = keeps.appended in
       let counted = ap length same in
-      let none : gone.0 ≡ [] = last idle gone.0 gone.1
+      let none : gone.0 ≡ [] = none_left (length bytes) between new (still idle) ends gone.0 gone.1
       (omega (arith, counted, long, few, length-append keeps.bytes gone.0))
       (omega (arith, counted, long, fits, keeps.takes.offset, length-append keeps.bytes gone.0)) in
       same ∙ sym (gone.2 ∙ (ap (λ (z : List ℕ). keeps.bytes ++ z) none ∙ append-nil keeps.bytes))
 
-  pub shows_left : (level : ℕ) (drawn then_drawn : Option (List Line)) (old new : Decoder R) (bytes : List ℕ)
-      → Keeps source [] bytes old new → length bytes ≤ most_bytes
-      → (IsIdle source old → IsLast source bytes new)
+  -- one byte more came
+  pub one_passed : (old between new : Decoder R) (before after : List ℕ) → Passes source old before between
+      → ReadsOn source 1 before after between (Ok tt) new → Passes source old after new
+  one_passed old between new before after passed reads =
+      subst (λ (z : List ℕ). Passes source old z new) (sym reads.behind)
+      (Passes-read source old between new before reads.bytes passed reads.reads.read reads.reads.steady)
+
+  pub shows_left : (level : ℕ) (drawn then_drawn : Option (List Line)) (old between new : Decoder R) (bytes : List ℕ)
+      → Keeps source [] bytes old new → Passes source old bytes between → EndsRow source (length bytes) between new
+      → length bytes ≤ most_bytes
+      → (IsIdle source old → IsIdle source between)
       → Draws drawn then_drawn (fault_lines level old.offset bytes)
       → ShowsLeft source level drawn then_drawn old new
-  shows_left level drawn then_drawn old new bytes keeps few last draws = record {
+  shows_left level drawn then_drawn old between new bytes keeps passed ends few still draws = record {
     bytes = bytes;
     draws = draws;
     few = few;
     takes = subst (λ (z : List ℕ). Takes source old z new) (sym keeps.appended) keeps.takes;
-    all = taken_all old new bytes keeps last;
+    between = between;
+    passed = passed;
+    ends = ends;
+    all = taken_all old between new bytes keeps still ends;
   }

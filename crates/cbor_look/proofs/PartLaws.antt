@@ -20,8 +20,8 @@ use Rattle.ciborium_ll_text.specs.declared.state.State.{State}
 use Rattle.ciborium_ll_text.specs.declared.state.State.TheVariants as t
 use Rattle.ciborium_ll_text.proofs.StateLaws.{after-append, text_ends, text_from, none_goes_on, some_goes_on}
 use Rattle.ciborium_ll_text.proofs.LastEndLaws.{due, back, Back, begins, goes_on}
-use Rattle.cbor_look.specs.Takings.{ReadsOn}
-use Rattle.cbor_look.specs.Parts.{is_between, is_inside, FailsInBody, IsSound, ReadsPart, ReadsText}
+use Rattle.cbor_look.specs.Takings.{ReadsOn, most_text}
+use Rattle.cbor_look.specs.Parts.{is_between, is_inside, FailsInBody, IsCutText, IsSound, ReadsPart, ReadsText}
 use Rattle.cbor_look.proofs.PullLaws.{passes_idle, first_passed}
 
 -- ---- states
@@ -58,6 +58,18 @@ inside_not t.BehindEd is = (omega arith, λ e. absurd cc)
 inside_not t.BehindF0 is = (omega arith, λ e. absurd cc)
 inside_not t.BehindF4 is = (omega arith, λ e. absurd cc)
 inside_not t.Damaged is = absurd cc
+
+-- no more than three are due
+pub due_few : (state : State) → due state ≤ 3
+due_few t.Between = omega arith
+due_few t.OneDue = omega arith
+due_few t.TwoDue = omega arith
+due_few t.ThreeDue = omega arith
+due_few t.BehindE0 = omega arith
+due_few t.BehindEd = omega arith
+due_few t.BehindF0 = omega arith
+due_few t.BehindF4 = omega arith
+due_few t.Damaged = omega arith
 
 -- inside a character one byte less is due behind a further one
 due_step : (state : State) (byte : ℕ) → 0 < due state → due (after_byte state byte) < due state
@@ -126,6 +138,12 @@ cut_of bytes is =
       }
     ]
 
+pub cut_text : (left : ℕ) (bytes : List ℕ) → is_inside (after t.Between bytes) ≡ true → most_text ≤ length bytes
+    → length bytes < left → IsCutText left bytes
+cut_text left bytes is many less =
+    let more = some_goes_on bytes (inside_not (after t.Between bytes) is).1 in
+    record { many = many; due = less; no_text = inside_broken bytes is; more = more.0; goes_on = more.1 }
+
 -- where no more is read the bytes are all that was left, or they are cut nowhere
 pub sound_of : (left : ℕ) (bytes : List ℕ) (whole : Bool) → whole ≡ is_between (after t.Between bytes)
     → length bytes ≤ left → (length bytes < left → is_inside (after t.Between bytes) ≡ false) → IsSound left bytes whole
@@ -187,7 +205,7 @@ module _ {R E : Type 0} (source : Ghosts R E) where
   part_fails kind left place old between new bytes (e.Io fault) part none some few more fails = record {
     room = length part.left + length bytes;
     held = few;
-    ends = record {
+    holds = record {
       between = between;
       part = part;
       count = length bytes;
@@ -199,7 +217,7 @@ module _ {R E : Type 0} (source : Ghosts R E) where
   part_fails kind left place old between new bytes e.TooLong part none some few more fails = record {
     room = length part.left + length bytes;
     held = few;
-    ends = record {
+    holds = record {
       between = between;
       part = part;
       count = length bytes;
@@ -220,7 +238,7 @@ module _ {R E : Type 0} (source : Ghosts R E) where
       part_fails kind left place old old new reads.bytes error
       (begun kind left old old [] [] [] refl (omega arith) IsStuck-nil (writable_first kind) (omega arith)
       (Passes-none source old))
-      none (omega (arith, counted, zero, any)) (omega (arith, counted)) (omega (arith, counted, most)) reads.reads
+      none (omega (arith, counted, zero, any)) (omega (arith, counted)) (omega (arith, counted, most)) reads.reads.read
 
   -- a further one, behind bytes of a text that are cut
   pub next_part : (left place : ℕ) (row next : List ℕ) (old between new : Decoder R) (error : Error E)
@@ -234,7 +252,7 @@ module _ {R E : Type 0} (source : Ghosts R E) where
       (begun Text left old between row cut.front cut.left cut.parts cut.few cut.stuck cut.text (omega (arith, more)) passed)
       (passes_idle source old between row passed none) (omega (arith, counted, room))
       (omega (arith, counted, room, ap length cut.parts, length-append cut.front cut.left)) (omega (arith, counted, more))
-      reads.reads
+      reads.reads.read
 
   -- the bytes of a part of a text are none: as one read of them finds
   pub fault_part : (left place : ℕ) (row : List ℕ) (old new : Decoder R) → length row ≤ left → length row ≤ 16
@@ -242,7 +260,7 @@ module _ {R E : Type 0} (source : Ghosts R E) where
   fault_part left place row old new most few reads = record {
     room = length row;
     held = few;
-    ends = record {
+    holds = record {
       between = old;
       part = begun Text left old old [] [] [] refl (omega arith) IsStuck-nil IsCharacters-nil (omega arith)
           (Passes-none source old);
@@ -308,7 +326,7 @@ module _ {R E : Type 0} (source : Ghosts R E) where
   part_behind kind len left place front old between new error passed written counted fails = record {
     room = fails.room;
     held = fails.held;
-    ends = ends_behind kind len left fails.room place front old between new error passed written counted fails.ends;
+    holds = ends_behind kind len left fails.room place front old between new error passed written counted fails.holds;
   }
 
   -- a part of the body of a byte string

@@ -2,7 +2,7 @@
 use Rattle.std.proofs.Common.{◌≡◌, ℕ, zero, suc, ◌+◌, ◌-◌, ◌^◌, ◌<◌, ◌≤◌, List, [], ◌∷◌, ◌++◌, length}
 use Rattle.std.proofs.Common.{Option, Some, None, refl, sym}
 use Rattle.std.proofs.Common.{ap, subst, ◌∙◌, arith, append-nil, append_assoc, length-append, inl, inr, Bool, true}
-use Rattle.std.proofs.Common.{false, Err, Fits, w64}
+use Rattle.std.proofs.Common.{false, Err, Fits, IfSome, w64}
 use Rattle.std.proofs.lemmas.Bool.{false_from_ne_true}
 use Rattle.ciborium_ll.specs.Types.Read.{Ghosts}
 use Rattle.ciborium_ll.specs.Types.Header.{Header}
@@ -10,12 +10,12 @@ use Rattle.ciborium_ll.specs.Types.Header.TheVariants as h
 use Rattle.ciborium_ll.specs.Types.Decoder.{Decoder}
 use Rattle.ciborium_ll.specs.Types.Error.{Error}
 use Rattle.ciborium_ll.specs.Types.Error.TheVariants as e
-use Rattle.ciborium_ll.specs.Decoding.{IsSteady, Passes, PullsHeader, PullsTitle}
+use Rattle.ciborium_ll.specs.Decoding.{IsSteady, Passes, PullsHeader, PullsTitle, view}
 use Rattle.ciborium_ll.specs.Faults.{IsInside, opened, deeper, IsRefusedIn}
 use Rattle.ciborium_ll.specs.Finishing.{EndsBody}
 use Rattle.ciborium_ll.specs.Items.{AreTakenStrings, IsTakenTitle}
 use Rattle.ciborium_ll.specs.Skipping.{SkipsInside, MeetsNoTitle, MeetsBody, StopsInside}
-use Rattle.ciborium_ll.proofs.DecodingLaws.{Passes-none, Passes-then}
+use Rattle.ciborium_ll.proofs.DecodingLaws.{IfSome-all, Passes-none, Passes-then}
 use Rattle.ciborium_ll.proofs.NestLaws.{alone_bytes, open_alone}
 use Rattle.cbor_skip.specs.declared.SkipError.TheVariants as s
 use Rattle.cbor_look.specs.declared.dump.DumpError.{DumpError}
@@ -25,17 +25,17 @@ use Rattle.ciborium_ll.specs.Strings.{Kind, kind_header, definite, IsWritable}
 use Rattle.ciborium_ll.specs.Elements.{AreWritable}
 use Rattle.ciborium_ll.proofs.ElementLaws.{AreWritable-append}
 use Rattle.cbor_look.specs.declared.rows.Meaning.TheVariants as m
-use Rattle.cbor_look.specs.Takings.{IsAlike, most_bytes, Takes}
-use Rattle.cbor_look.specs.Levels.{IsWithinTitle, Line, Nest, StandsWithin, AreOpen, none, more, TitleDue, title_level}
-use Rattle.cbor_look.specs.Dumps.{Draws, fault_lines, SaysFault, Shows}
-use Rattle.cbor_look.specs.Endings.{Ending, Meant, EndAs}
+use Rattle.cbor_look.specs.Takings.{HasFault, IsAlike, IsIdle, LeavesBehind, most_bytes, Takes}
+use Rattle.cbor_look.specs.Levels.{Ending, IsTitleFault, Meant}
+use Rattle.cbor_look.specs.Levels.{Line, Nest, StandsWithin, AreOpen, none, more, TitleDue, title_level}
+use Rattle.cbor_look.specs.Dumps.{Draws, fault_lines, IsTaken, SaysFault, Shows}
+use Rattle.cbor_look.specs.Endings.{ending_before, ending_of}
 use Rattle.cbor_look.specs.StringRows.{EndsString, IsPart, StopsRest}
 use Rattle.cbor_look.specs.declared.strings.Part.{Part}
 use Rattle.cbor_look.specs.declared.strings.Part.TheVariants as p
-use Rattle.cbor_look.proofs.DumpLaws.{shows_none, shows_then}
-use Rattle.cbor_look.proofs.RowLaws.{within_few}
+use Rattle.cbor_look.proofs.DumpLaws.{shows_fault, shows_none, shows_says, shows_then}
 use Rattle.cbor_look.proofs.TitleLaws.{title_line, break_bytes}
-use Rattle.cbor_look.proofs.StringLaws.{lines_fault, next_offset, add_string, add_open, close_inner, close_last}
+use Rattle.cbor_look.proofs.StringLaws.{next_offset, add_string, add_open, close_inner, close_last}
 use Rattle.cbor_look.proofs.StringLaws.{not_open, taken_any, taken_none, taken_then}
 use Rattle.cbor_look.proofs.PullLaws.{passes_idle, passes_alike}
 
@@ -152,25 +152,30 @@ module _ {R E : Type 0} (source : Ghosts R E) where
         passes_alike source strict old between so_far.bytes (so_far.passed alike.none_waits) alike
 
     -- what was read before a fault
-    pub within_fails : {how : Ending} (then_drawn : Option (List Line)) (row : List ℕ) (offset : ℕ) (new : Decoder R)
+    pub within_fails : {W : Type 0} (error : Error E) (why : DumpError E W) (then_drawn : Option (List Line))
+        (row : List ℕ) (offset : ℕ) (new : Decoder R) → SaysFault error why → IsTaken why
         → Takes source between row new → offset ≡ between.offset
-        → Draws middle then_drawn (fault_lines inner offset row) → IsWithinTitle row
-        → EndAs how (fault_lines inner offset row)
-        → Shows source depth start drawn then_drawn (items ++ title) (so_far.bytes ++ row) how old new
-    within_fails then_drawn row offset new takes at drawn_fault within ends =
-        shows_then source depth start drawn middle then_drawn (items ++ title) so_far.bytes row old between new
-        so_far.shows (record {
-          lines = lines_fault depth start middle then_drawn ((items ++ title) ++ so_far.bytes) inner offset row
-              drawn_fault (at ∙ here)
-              (λ some. inl (record {
-                nests = nests;
-                opens = suc so_far.opens;
-                due = due_within;
-                no_more = within;
-                level = so_far.level;
-              })) (within_few row within) ends;
-          takes = takes;
-        })
+        → Draws middle then_drawn (fault_lines inner offset row)
+        → (0 < length row → IsTitleFault (ending_of strict error) kind (suc so_far.opens) row)
+        → length row ≤ most_bytes → HasFault error row
+        → (IsIdle source between → IfSome (view source new) (LeavesBehind error row))
+        → Shows source depth start drawn then_drawn (items ++ title) (so_far.bytes ++ row) (ending_before strict why)
+        old new
+    unfolding due_within
+    within_fails error why then_drawn row offset new says taken takes at drawn_fault fault few some left =
+        shows_says source strict error why depth start drawn then_drawn (items ++ title) (so_far.bytes ++ row) old new
+        says taken
+        (shows_then source depth start drawn middle then_drawn (items ++ title) so_far.bytes row old between new
+        so_far.shows
+        (shows_fault source strict error depth start middle then_drawn ((items ++ title) ++ so_far.bytes) inner offset
+        row between new takes drawn_fault (at ∙ here)
+        (λ any. inl (record {
+          nests = nests;
+          opens = suc so_far.opens;
+          due = due_within;
+          fault = fault any;
+          level = so_far.level;
+        })) few some left))
 
     -- a title
     pub within_title : (then_drawn : Option (List Line)) (row : List ℕ) (x : Header) (offset level : ℕ)
@@ -184,6 +189,7 @@ module _ {R E : Type 0} (source : Ghosts R E) where
           lines = title_line depth start middle then_drawn ((items ++ title) ++ so_far.bytes) row x level offset nests
               (suc so_far.opens) due_within p same (at ∙ here) drawn_line;
           takes = takes;
+          left = λ idle. IfSome-all (view source new) _ (λ any. tt);
         })
 
     parts_then : (row : List ℕ) → title ++ (so_far.bytes ++ row) ≡ so_far.parts ++ row
@@ -362,7 +368,7 @@ module _ {R E : Type 0} (source : Ghosts R E) where
         record {
           room = most_bytes;
           held = omega arith;
-          stops = subst (λ (x : Error E). StopsInside source kind most_bytes old x new) (sym same)
+          holds = subst (λ (x : Error E). StopsInside source kind most_bytes old x new) (sym same)
               (no_title_stops most_bytes error new (record {
                 between = between;
                 part = skips_inside p alike;
@@ -383,7 +389,7 @@ module _ {R E : Type 0} (source : Ghosts R E) where
         record {
           room = most_bytes;
           held = omega arith;
-          stops = subst (λ (x : Error E). StopsInside source kind most_bytes old x new) (sym same)
+          holds = subst (λ (x : Error E). StopsInside source kind most_bytes old x new) (sym same)
               (inr (inl (record {
                 between = between;
                 part = skips_inside p alike;
@@ -410,14 +416,14 @@ module _ {R E : Type 0} (source : Ghosts R E) where
         record {
           room = stops.room;
           held = stops.held;
-          stops = body_stops stops.room error new (record {
+          holds = body_stops stops.room error new (record {
             between = between;
             part = skips_inside p alike;
             titled = titled;
             len = len;
             pulled = pulled;
             steady = λ holds. steady ((so_far.passed alike.none_waits).steady holds);
-            ends = subst (λ (n : ℕ). EndsBody source kind [] len stops.room n titled (Err error) new) at stops.ends;
+            ends = subst (λ (n : ℕ). EndsBody source kind [] len stops.room n titled (Err error) new) at stops.holds;
           });
         }
     within_body p len place titled new pulled steady (d.Item (s.Break other)) stops at alike = absurd stops

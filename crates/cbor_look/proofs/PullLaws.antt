@@ -11,11 +11,24 @@ use Rattle.ciborium_ll.specs.Types.Error.{Error}
 use Rattle.ciborium_ll.specs.Types.Error.TheVariants as e
 use Rattle.ciborium_ll.specs.Title.{IsCutTitle, affix_len}
 use Rattle.ciborium_ll.specs.Decoding.{view, Begins, IsSteady, IsUntouched, Passes, PullsHeader, ReadsAll}
-use Rattle.ciborium_ll.specs.Decoding.{ReadsBytes}
-use Rattle.ciborium_ll.proofs.DecodingLaws.{IfSome-all, Passes-none}
+use Rattle.ciborium_ll.specs.Decoding.{IsWaiting, ReadsBytes}
+use Rattle.ciborium_ll.proofs.DecodingLaws.{Passes-none}
 use Rattle.ciborium_ll.proofs.BodyLaws.{view_none, Passes-read}
-use Rattle.cbor_look.specs.Takings.{IsAlike, Means, PullsRow, ReadsOn}
+use Rattle.ciborium_ll.specs.Strings.{Kind, Text}
+use Rattle.cbor_look.specs.Parts.{IsCutText, IsPartRow}
+use Rattle.cbor_look.specs.Takings.{IsAlike, IsTitleRow, Leaves, LeavesBehind, Means, PullsRow, ReadsOn, RefusesRead}
+use Rattle.std.proofs.Common.{get_or, length-append, ◌++◌, ◌≤◌, Result}
+use Rattle.ciborium_ll.proofs.DecodingLaws.{IfSome-all}
+use Rattle.cbor_look.proofs.TakingLaws.{one_of}
 use Rattle.cbor_look.proofs.ItemRows.{nothing}
+
+-- ---- answers
+
+pub same_error : {A E : Type 0} (one other : E) → ◌≡◌ {A = Result A E} (Err one) (Err other) → one ≡ other
+same_error one other same = cc
+
+pub no_error : {A E : Type 0} (value : A) (error : E) → ◌≡◌ {A = Result A E} (Ok value) (Err error) → ⊥
+no_error value error same = cc
 
 -- ---- bytes that are told
 
@@ -43,6 +56,18 @@ cut_behind None known' byte c less = tt
 cut_behind (Some due) None byte c less = absurd c
 cut_behind (Some due) (Some rest) byte c less =
     subst (λ (z : List ℕ). IsCutTitle z × (byte ∷ [] ≡ take 1 z)) (sym c) (less, refl)
+
+each_less : (known : Option (List ℕ)) (count : ℕ) (row : List ℕ)
+    → ((left : List ℕ) → length left < count → Leaves row left) → IfSome known (λ due. length due < count)
+    → IfSome known (Leaves row)
+each_less None count row follows less = tt
+each_less (Some left) count row follows less = follows left less
+
+-- a row of several bytes leaves none
+pub several_leave : (row left : List ℕ) → 1 < length row → left ≡ [] → Leaves row left
+several_leave [] left several none = absurd (omega (arith, several))
+several_leave (byte ∷ []) left several none = absurd (omega (arith, several))
+several_leave (byte ∷ (next ∷ more)) left several none = none
 
 module _ {R E : Type 0} (source : Ghosts R E) where
   -- ---- behind what passed
@@ -75,7 +100,7 @@ module _ {R E : Type 0} (source : Ghosts R E) where
       → Passes source old row new
   more_passed count before row old between new passed none reads =
       subst (λ (z : List ℕ). Passes source old z new) (sym reads.behind)
-      (Passes-read source old between new before reads.bytes passed reads.reads reads.steady)
+      (Passes-read source old between new before reads.bytes passed reads.reads.read reads.reads.steady)
 
   -- the first bytes of a row
   pub first_passed : (count : ℕ) (before row : List ℕ) (old new : Decoder R) → before ≡ [] → old.waiting ≡ None
@@ -83,6 +108,101 @@ module _ {R E : Type 0} (source : Ghosts R E) where
   first_passed count before row old new empty none reads =
       more_passed count before row old old new
       (subst (λ (z : List ℕ). Passes source old z old) (sym empty) (Passes-none source old)) none reads
+
+  -- ---- where a header waits
+
+  -- no read is all right
+  pub waits_no_read : (count : ℕ) (before after : List ℕ) (old new : Decoder R) → IsWaiting old
+      → ReadsOn source count before after old (Ok tt) new → ⊥
+  waits_no_read count before after old new waits reads = let never = rw reads.reads.read.none_waited at waits in cc
+
+  pub waits_refused : (count : ℕ) (before after : List ℕ) (error : Error E) (old new : Decoder R) → IsWaiting old
+      → ReadsOn source count before after old (Err error) new → (error ≡ e.Waiting) × RefusesRead old new
+  waits_refused count before after (e.Io fault) old new waits reads =
+      absurd (let never = rw reads.reads.read.none_waited at waits in cc)
+  waits_refused count before after (e.Syntax place) old new waits reads = absurd reads.reads.read
+  waits_refused count before after e.TooLong old new waits reads =
+      absurd (let never = rw reads.reads.read.0 at waits in cc)
+  waits_refused count before after e.Waiting old new waits reads =
+      (refl, record { untouched = reads.reads.read.1; counted = reads.reads.refusals })
+
+  -- a row that one byte was read for
+  pub first_byte : (before row : List ℕ) (old new : Decoder R) → before ≡ []
+      → ReadsOn source 1 before row old (Ok tt) new → row ≡ get_or row 0 0 ∷ []
+  first_byte before row old new none reads =
+      let empty = ap length none in
+      let counted = reads.counted in
+      let long = ap length reads.behind in
+      one_of row (omega (arith, empty, counted, long, length-append before reads.bytes))
+
+  -- what a decoder says of a first byte and its affix, which were read one behind the other
+  pub row_means : (strict : Bool) (count : ℕ) (before one row shown : List ℕ) (old between new : Decoder R)
+      (result : Option Header) → before ≡ [] → ReadsOn source 1 before one old (Ok tt) between
+      → count ≡ affix_len (get_or one 0 0 % 32) → count ≤ 8 → ReadsOn source count one row between (Ok tt) new
+      → shown ≡ row
+      → ((first : ℕ) (affix : List ℕ) → shown ≡ first ∷ affix → length affix ≡ affix_len (first % 32)
+      → Means strict shown result) → Means strict row result
+  row_means strict count before one row shown old between new result none first announced few second same says =
+      let is = first_byte before one old between none first in
+      let counted = second.counted in
+      let long = ap length is in
+      subst (λ (z : List ℕ). Means strict z result) same
+      (says (get_or one 0 0) second.bytes
+      (same ∙ (second.behind ∙ ap (λ (z : List ℕ). z ++ second.bytes) is))
+      (omega (arith, counted, long, announced, few)))
+
+  -- ---- what a row has where a read fails
+
+  -- of a title nothing, or its first byte
+  pub row_nothing : (strict : Bool) (count : ℕ) (before after : List ℕ) (error : Error E) (old new : Decoder R)
+      → ReadsOn source count before after old (Err error) new → (row : List ℕ) → row ≡ [] → IsTitleRow strict error row
+  row_nothing strict count before after (e.Io fault) old new reads row none = inl none
+  row_nothing strict count before after (e.Syntax at) old new reads row none = absurd reads.reads.read
+  row_nothing strict count before after e.TooLong old new reads row none = inl none
+  row_nothing strict count before after e.Waiting old new reads row none = inl none
+
+  pub row_first : (strict : Bool) (count : ℕ) (before after : List ℕ) (error : Error E) (old new : Decoder R)
+      → ReadsOn source count before after old (Err error) new → (byte : ℕ) (row : List ℕ) → row ≡ byte ∷ []
+      → IsTitleRow strict error row
+  row_first strict count before after (e.Io fault) old new reads byte row one = inr (byte, one)
+  row_first strict count before after (e.Syntax at) old new reads byte row one = absurd reads.reads.read
+  row_first strict count before after e.TooLong old new reads byte row one = inr (byte, one)
+  row_first strict count before after e.Waiting old new reads byte row one = inr (byte, one)
+
+  -- of a body nothing, or the front of a text
+  pub part_nothing : (kind : Kind) (left count : ℕ) (before after : List ℕ) (error : Error E) (old new : Decoder R)
+      → ReadsOn source count before after old (Err error) new → (row : List ℕ) → row ≡ []
+      → IsPartRow kind left error row
+  part_nothing kind left count before after (e.Io fault) old new reads row none = inl none
+  part_nothing kind left count before after (e.Syntax at) old new reads row none = absurd reads.reads.read
+  part_nothing kind left count before after e.TooLong old new reads row none = inl none
+  part_nothing kind left count before after e.Waiting old new reads row none = inl none
+
+  pub part_cut : (left count : ℕ) (before after : List ℕ) (error : Error E) (old new : Decoder R)
+      → ReadsOn source count before after old (Err error) new → (row : List ℕ) → IsCutText left row
+      → IsPartRow Text left error row
+  part_cut left count before after (e.Io fault) old new reads row cut = inr (refl, cut)
+  part_cut left count before after (e.Syntax at) old new reads row cut = absurd reads.reads.read
+  part_cut left count before after e.TooLong old new reads row cut = inr (refl, cut)
+  part_cut left count before after e.Waiting old new reads row cut = inr (refl, cut)
+
+  -- and behind it a steady reader leaves less than was asked for
+  pub less_left : (count : ℕ) (before after : List ℕ) (error : Error E) (old new : Decoder R)
+      → (reads : ReadsOn source count before after old (Err error) new) → IsSteady source old → (row : List ℕ)
+      → ((left : List ℕ) → length left < length reads.bytes → Leaves row left)
+      → IfSome (view source new) (LeavesBehind error row)
+  less_left count before after (e.Io fault) old new reads steady row follows =
+      let fails = reads.reads.read in
+      let still = fails.steady steady in
+      subst (λ (z : Option (List ℕ)). IfSome z (Leaves row))
+      (sym (view_none new.waiting (source.ahead new.reader) fails.none_waits ∙ still.0))
+      (each_less (source.ahead old.reader) (length reads.bytes) row follows still.1)
+  less_left count before after (e.Syntax at) old new reads steady row follows =
+      IfSome-all (view source new) _ (λ any. tt)
+  less_left count before after e.TooLong old new reads steady row follows =
+      IfSome-all (view source new) _ (λ any. tt)
+  less_left count before after e.Waiting old new reads steady row follows =
+      IfSome-all (view source new) _ (λ any. tt)
 
   -- ---- a read that fails
 
@@ -177,6 +297,20 @@ module _ {R E : Type 0} (source : Ghosts R E) where
       }
   affix_fails e.Waiting old between new byte bytes first steady long fails =
       absurd (let waits = rw first.none_waits at fails.0 in cc)
+
+  -- and so behind a first byte that was read for a row
+  pub second_fails : (error : Error E) (count : ℕ) (before one after : List ℕ) (old between new : Decoder R)
+      → before ≡ [] → ReadsOn source 1 before one old (Ok tt) between → count ≡ affix_len (get_or one 0 0 % 32)
+      → count ≤ 8 → ReadsOn source count one after between (Err error) new → PullsHeader source old (Err error) new
+  second_fails error count before one after old between new none first announced few second =
+      let is = first_byte before one old between none first in
+      let all : first.bytes ≡ get_or one 0 0 ∷ [] =
+      sym (first.behind ∙ ap (λ (z : List ℕ). z ++ first.bytes) none) ∙ is in
+      let counted = second.counted in
+      let long = ap length is in
+      affix_fails error old between new (get_or one 0 0) second.bytes
+      (subst (λ (z : List ℕ). ReadsAll source old z between) all first.reads.read) first.reads.steady
+      (omega (arith, counted, long, announced, few)) second.reads.read
 
   -- ---- a title that was read whole
 

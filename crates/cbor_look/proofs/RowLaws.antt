@@ -1,13 +1,13 @@
 -- How many bytes a row has.
-use Rattle.std.proofs.Common.{ℕ, ◌%◌, ◌≤◌, Bool, true, false, List, [], ◌∷◌, length, if◌then◌else◌}
-use Rattle.std.proofs.Common.{◌==◌, sym, subst, arith}
+use Rattle.std.proofs.Common.{ℕ, ◌%◌, ◌≤◌, Bool, true, false, List, length, if◌then◌else◌}
+use Rattle.std.proofs.Common.{◌==◌, ap, arith}
 use Rattle.std.proofs.lemmas.List.{length-take}
 use Rattle.ciborium_ll.specs.Types.Header.{Header}
 use Rattle.ciborium_ll.specs.Title.{IsTitle, affix_len}
 use Rattle.ciborium_ll.proofs.AffixLaws.{announced}
 use Rattle.ciborium_ll.proofs.NestLaws.{title_some}
 use Rattle.cbor_look.specs.declared.taken.Taken.{Taken}
-use Rattle.cbor_look.specs.Levels.{IsFilled, IsWithinTitle}
+use Rattle.cbor_look.specs.Levels.{IsFilled}
 use Rattle.cbor_look.specs.Takings.{most_bytes, taken_bytes}
 
 -- what was read for a row fits it
@@ -24,17 +24,14 @@ affix_few minor =
     either_few (minor == 24) 1 _ (omega arith) (either_few (minor == 25) 2 _ (omega arith)
     (either_few (minor == 26) 4 _ (omega arith) (either_few (minor == 27) 8 0 (omega arith) (omega arith))))
 
-pub within_few : (bytes : List ℕ) → IsWithinTitle bytes → length bytes ≤ most_bytes
-within_few [] within = omega arith
-within_few (byte ∷ rest) within = let few = affix_few (byte % 32) in omega (arith, within, few)
-
 -- a title has as many behind its first byte as that announces
-pub title_within : (title : List ℕ) (x : Header) → IsTitle title x → IsWithinTitle title
-title_within title x p =
+title_few : (title : List ℕ) (x : Header) → IsTitle title x → length title ≤ most_bytes
+title_few title x p =
     let front = announced title x p in
     let long = front.long in
-    let within : IsWithinTitle (front.byte ∷ front.affix) = omega (arith, long) in
-    subst IsWithinTitle (sym front.is) within
+    let all = ap length front.is in
+    let few = affix_few (front.byte % 32) in
+    omega (arith, long, all, few)
 
 pub title_filled : (title : List ℕ) (x : Header) → IsTitle title x → IsFilled title
-title_filled title x p = (title_some title x p, within_few title (title_within title x p))
+title_filled title x p = (title_some title x p, title_few title x p)

@@ -1,7 +1,8 @@
 -- The texts of rows, as they are written step by step.
-use Rattle.std.proofs.Common.{◌≡◌, ◌∙◌, ℕ, zero, suc, ◌+◌, ◌<◌, List, [], ◌∷◌, ◌++◌, refl, sym, ap, arith, false, ◌-◌, ◌^◌}
+use Rattle.std.proofs.Common.{◌≡◌, ◌∙◌, ℕ, zero, suc, ◌+◌, ◌<◌, List, [], ◌∷◌, ◌++◌, refl, sym, ap, arith, false, ◌-◌}
+use Rattle.std.proofs.Common.{◌^◌}
 use Rattle.std.proofs.Common.{append-nil, append_assoc, length, take, get_or, Option, Some, Result, subst}
-use Rattle.std.proofs.Common.{Ok, Err, true, if◌then◌else◌}
+use Rattle.std.proofs.Common.{Ok, Err, true, if◌then◌else◌, ◌*◌, min, ◌⊎◌, inl, inr}
 use Rattle.std.proofs.lemmas.List.{take_more}
 use Rattle.std.proofs.lemmas.Str.{IsUtf8-from_is_utf8, is_utf8-from_IsUtf8}
 use Rattle.std.specs.Result.{MatchResult, result_unwrap_or}
@@ -12,7 +13,12 @@ use Rattle.std.specs.Fmt.{HasWritten, IsPlainFormatter, DisplaysOnOk, WritesOnOk
 use Rattle.std.specs.Fmt.{digits_output, styled_digits_output, shown_prefix, radix_prefix}
 use Rattle.std.specs.Option.{option_map}
 use Rattle.std.specs.declared.fmt.Formatter.{Formatter}
-use Rattle.cbor_look.specs.RowTexts.{blank, hex_text, joined_text, more_text, characters_text, character_text, shown_text}
+use Rattle.cbor_look.specs.RowTexts.{blank, hex_text, joined_text, more_text, characters_text, character_text}
+use Rattle.cbor_look.specs.RowTexts.{shown_text}
+use Rattle.cbor_look.specs.RowTexts.{digits_text, margin_text, meaning_text, row_text}
+use Rattle.cbor_look.specs.declared.rows.Meaning.{Meaning}
+use Rattle.cbor_look.specs.declared.rows.Meaning.TheVariants as m
+use Rattle.cbor_look.specs.declared.rows.Row.{Row}
 
 -- one space more
 pub blank_more : (count : ℕ) → blank count ++ 32 ∷ [] ≡ blank (count + 1)
@@ -88,3 +94,30 @@ module _ {W : Type 0} (took : W → List ℕ → W → Type 0) where
   pub shows : (f g : Formatter W) (result : Result (Unit {0}) _) (output : Option (List ℕ)) (text : List ℕ)
       → output ≡ Some text → DisplaysOnOk took f result output g → WritesOnOk took f result text g
   shows f g result output text same wrote = subst (λ o. DisplaysOnOk took f result o g) same wrote
+
+-- what stands on a row: the indent, the bytes, and behind them what they mean
+pub row_is : (row : Row) (shown : ℕ) (meaning : Meaning) (text : List ℕ) → shown ≡ min row.level 256
+    → row.meaning ≡ meaning → meaning_text meaning row.level row.bytes.now ≡ text
+    → blank (3 * shown) ++ (digits_text row.bytes.now ++ text) ≡ row_text row
+row_is row shown meaning text same means is =
+    ap (λ (n : ℕ). blank (3 * n) ++ (digits_text row.bytes.now ++ text)) same
+    ∙ ap (λ (z : List ℕ). blank (3 * min row.level 256) ++ (digits_text row.bytes.now ++ z))
+    (sym is ∙ ap (λ (z : Meaning). meaning_text z row.level row.bytes.now) (sym means))
+
+-- and nothing behind the bytes
+pub row_bare : (row : Row) (shown : ℕ) → shown ≡ min row.level 256
+    → (row.meaning ≡ m.Bytes) ⊎ (row.meaning ≡ m.Fault)
+    → blank (3 * shown) ++ digits_text row.bytes.now ≡ row_text row
+row_bare row shown same means =
+    ap (λ (z : List ℕ). blank (3 * shown) ++ z) (sym (append-nil (digits_text row.bytes.now)))
+    ∙ (elim means [
+      | inl is ↦ row_is row shown m.Bytes [] same is refl
+      | inr is ↦ row_is row shown m.Fault [] same is refl
+    ])
+
+-- what stands between the bytes of a row and what they mean
+pub margin_is : (level count shown left : ℕ) → shown ≡ min level 256 → left ≡ 36 - (3 * shown + 3 * count)
+    → blank left ++ (32 ∷ 35 ∷ 32 ∷ blank (2 * shown)) ≡ margin_text level count
+margin_is level count shown left same less =
+    ap (λ (n : ℕ). blank n ++ (32 ∷ 35 ∷ 32 ∷ blank (2 * shown))) less
+    ∙ ap (λ (n : ℕ). blank (36 - (3 * n + 3 * count)) ++ (32 ∷ 35 ∷ 32 ∷ blank (2 * n))) same

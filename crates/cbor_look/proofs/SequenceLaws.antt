@@ -109,10 +109,10 @@ module _ {R E : Type 0} (source : Ghosts R E) where
     no_byte ahead between new meets still =
         let fault = meets.fault in
         let none = nothing fault.before (omega (arith, meets.offset, still)) in
-        let at = due_first old.strict depth fault.before fault.place fault.reach none in
+        let at = due_first old.strict depth fault.before fault.point fault.reach none in
         let nowhere : fault.consumed ≡ 0 = omega (arith, meets.offset, still) in
         let left =
-        fault_first old.strict fault.before fault.place fault.ahead fault.answer fault.written fault.consumed fault.fault at
+        fault_first old.strict fault.before fault.point fault.ahead fault.answer fault.written fault.consumed fault.fault at
         meets.answered nowhere in (
           fault.is ∙ (ap (λ (z : List ℕ). z ++ fault.ahead) none ∙ left),
           meets.left ∙ ap Some (ap (λ (z : List ℕ). drop fault.consumed z) left ∙ drop-nil fault.consumed),
@@ -128,9 +128,9 @@ module _ {R E : Type 0} (source : Ghosts R E) where
         let both = length-append fault.before fault.ahead in
         let first = nothing fault.before (omega (arith, counted, both)) in
         let last = nothing fault.ahead (omega (arith, counted, both)) in
-        let at = due_first old.strict depth fault.before fault.place fault.reach first in
+        let at = due_first old.strict depth fault.before fault.point fault.reach first in
         let short =
-        first_fault old.strict fault.before fault.place fault.ahead fault.answer fault.written fault.consumed fault.fault at last
+        first_fault old.strict fault.before fault.point fault.ahead fault.answer fault.written fault.consumed fault.fault at last
         in
         let begins = ap length first in
         (sym meets.answered ∙ short.0, omega (arith, meets.offset, short.1, begins))

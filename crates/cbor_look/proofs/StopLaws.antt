@@ -18,9 +18,9 @@ module _ {R E W : Type 0} (source : Ghosts R E) where
       → StopsRest source kind len (old.offset - title_len (kind_header kind len)) old (Err why) new
       → StopsTitle source strict depth whole (kind_header kind len) place before old (Err why) new
   rest_stops strict depth whole kind None place before old new (d.Item (s.Read error)) due stops =
-      (kind, None, due, record { room = stops.room; held = stops.held; skipped = stops.stops })
+      (kind, None, due, stops)
   rest_stops strict depth whole kind (Some len) place before old new (d.Item (s.Read error)) due stops =
-      (kind, Some len, due, record { room = stops.room; held = stops.held; skipped = stops.ends })
+      (kind, Some len, due, stops)
   rest_stops strict depth whole kind None place before old new (d.Item (s.Break at)) due stops = absurd stops
   rest_stops strict depth whole kind (Some len) place before old new (d.Item (s.Break at)) due stops = absurd stops
   rest_stops strict depth whole kind None place before old new (d.Item (s.Deep at)) due stops = absurd stops

@@ -1,7 +1,7 @@
 -- The lines of a string, behind its title.
-use Rattle.std.proofs.Common.{◌≡◌, ℕ, zero, suc, ◌+◌, ◌-◌, ◌<◌, ◌≤◌, List, [], ◌∷◌, ◌++◌, length, Option, Some, None}
+use Rattle.std.proofs.Common.{◌≡◌, ℕ, zero, suc, ◌+◌, ◌-◌, ◌≤◌, List, [], ◌∷◌, ◌++◌, length, Option, Some, None}
 use Rattle.std.proofs.Common.{Result, Ok, Err, inr, refl, sym, ap, subst, ◌∙◌, arith, append-nil, append_assoc}
-use Rattle.std.proofs.Common.{length-append, Bool, true, false}
+use Rattle.std.proofs.Common.{length-append, Bool, IfSome, true, false}
 use Rattle.ciborium_ll.specs.Types.Read.{Ghosts}
 use Rattle.ciborium_ll.specs.Types.Decoder.{Decoder}
 use Rattle.ciborium_ll.specs.Title.{IsTitle, IsStrictTitle}
@@ -24,27 +24,17 @@ use Rattle.cbor_look.specs.declared.rows.Meaning.TheVariants as m
 use Rattle.cbor_look.specs.declared.strings.Kind.{Kind as CodeKind}
 use Rattle.cbor_look.specs.declared.strings.Kind.TheVariants as k
 use Rattle.cbor_look.specs.Parts.{FailsInBody}
-use Rattle.cbor_look.specs.Takings.{most_bytes, Takes, Keeps}
+use Rattle.cbor_look.specs.Takings.{HasFault, IsIdle, LeavesBehind, most_bytes, Takes, Keeps}
 use Rattle.cbor_look.specs.Levels.{Line, Nest, AreOpen, none, more, TitleDue, HasBody, HasNoText, IsFilled, Stands}
-use Rattle.cbor_look.specs.Parts.{IsBroken}
-use Rattle.cbor_look.specs.Dumps.{Draws, fault_lines, Lines, SaysFault, Shows}
-use Rattle.cbor_look.specs.Endings.{Ending, IsMeant, Meant, EndAs}
+use Rattle.cbor_look.specs.Levels.{Ending, IsTextFault, Meant}
+use Rattle.cbor_look.specs.Parts.{IsPartRow}
+use Rattle.ciborium_ll.specs.Decoding.{view}
+use Rattle.ciborium_ll.proofs.DecodingLaws.{IfSome-all}
+use Rattle.cbor_look.specs.Dumps.{Draws, fault_lines, SaysFault, Shows}
+use Rattle.cbor_look.specs.Endings.{IsMeant, ending_of}
 use Rattle.cbor_look.specs.StringRows.{EndsString, StopsRest, kind_of, meaning_of}
-use Rattle.cbor_look.proofs.DumpLaws.{lines_one, shows_then}
+use Rattle.cbor_look.proofs.DumpLaws.{lines_one, part_row, shows_fault, shows_then}
 use Rattle.cbor_look.proofs.PullLaws.{passes_idle}
-
--- ---- what was read before a fault
-
-pub lines_fault : {how : Ending} (depth start : ℕ) (old new : Option (List Line)) (before : List ℕ) (level offset : ℕ)
-    (bytes : List ℕ) → Draws old new (fault_lines level offset bytes) → offset ≡ start + length before
-    → (0 < length bytes
-    → Stands depth before m.Fault (record { level = level; offset = offset; bytes = bytes; meaning = m.Fault }))
-    → length bytes ≤ most_bytes → EndAs how (fault_lines level offset bytes)
-    → Lines depth start old new before bytes how
-lines_fault depth start old new before level offset [] drawn at stands few ends =
-    record { lines = []; drawn = drawn; stand = tt; joined = refl; ends = ends }
-lines_fault depth start old new before level offset (byte ∷ bytes) drawn at stands few ends =
-    lines_one depth start old new before _ drawn at (omega arith, few) (stands (omega arith)) ends
 
 -- ---- bodies
 
@@ -83,10 +73,11 @@ body_here depth opens nests outer title kind len level at front bytes fits offse
   level = let e = at.below in omega (arith, e);
 }
 
-no_text : (kind : Kind) (depth : ℕ) (before : List ℕ) (line : Line) → IsBroken kind line.bytes
-    → 0 < length line.bytes → HasBody depth before kind line → HasNoText depth before line
-no_text Bytes depth before line broken some body = let none = ap length broken in absurd (omega (arith, none, some))
-no_text Text depth before line broken some body = record { body = body; no_text = broken some }
+no_text : (how : Ending) (kind : Kind) (depth : ℕ) (before : List ℕ) (line : Line) → kind ≡ Text
+    → (body : HasBody depth before kind line) → IsTextFault how (body.len - length body.front) line.bytes
+    → HasNoText how depth before line
+no_text how Bytes depth before line is body fault = absurd cc
+no_text how Text depth before line is body fault = record { body = body; fault = fault }
 
 part_meant : (kind : CodeKind) → IsMeant (meaning_of kind)
 part_meant k.Bytes = tt
@@ -94,7 +85,7 @@ part_meant k.Text = tt
 
 part_stands : (kind : CodeKind) (depth : ℕ) (before : List ℕ) (line : Line)
     → HasBody depth before (kind_of kind) line → IsWritable (kind_of kind) line.bytes
-    → Stands depth before (meaning_of kind) line
+    → Stands Meant depth before (meaning_of kind) line
 part_stands k.Bytes depth before line body written = body
 part_stands k.Text depth before line body written = (body, written)
 
@@ -123,28 +114,31 @@ module _ {R E : Type 0} (source : Ghosts R E) where
       let moved = shows.takes.offset in omega (arith, moved, at, length-append before bytes)
 
   -- what was read of a body, behind what was shown of it
-  pub part_fails : {how : Ending} (depth start opens : ℕ) (nests : List Nest) (outer title : List ℕ) (kind : Kind)
-      (len left level offset : ℕ) (drawn middle then_drawn : Option (List Line)) (bytes : List ℕ)
+  pub part_fails : (strict : Bool) (error : Error E) (depth start opens : ℕ) (nests : List Nest) (outer title : List ℕ)
+      (kind : Kind) (len left level offset : ℕ) (drawn middle then_drawn : Option (List Line)) (bytes : List ℕ)
       (old between new : Decoder R) → AtBody depth opens nests outer title kind len level
       → old.offset ≡ start + length (outer ++ title)
       → (so_far : SoFar depth start drawn middle (outer ++ title) kind len left old between)
       → Takes source between bytes new → length bytes ≤ left → offset ≡ between.offset
-      → Draws middle then_drawn (fault_lines level offset bytes) → IsBroken kind bytes → length bytes ≤ most_bytes
-      → EndAs how (fault_lines level offset bytes)
-      → Shows source depth start drawn then_drawn (outer ++ title) (so_far.front ++ bytes) how old new
-  part_fails depth start opens nests outer title kind len left level offset drawn middle then_drawn bytes old between
-      new at begun so_far takes few here drawn_fault broken fit ends =
+      → Draws middle then_drawn (fault_lines level offset bytes) → IsPartRow kind left error bytes
+      → length bytes ≤ most_bytes → HasFault error bytes
+      → (IsIdle source between → IfSome (view source new) (LeavesBehind error bytes))
+      → Shows source depth start drawn then_drawn (outer ++ title) (so_far.front ++ bytes) (ending_of strict error) old
+      new
+  unfolding body_here
+  part_fails strict error depth start opens nests outer title kind len left level offset drawn middle then_drawn bytes
+      old between new at begun so_far takes few here drawn_fault row fit some left_behind =
       let counted = so_far.counted in
+      let rest : left ≡ len - length so_far.front = omega (arith, counted) in
       shows_then source depth start drawn middle then_drawn (outer ++ title) so_far.front bytes old between new
-      so_far.shows (record {
-        lines = lines_fault depth start middle then_drawn ((outer ++ title) ++ so_far.front) level offset bytes
-            drawn_fault
-            (here ∙ next_offset depth start drawn middle (outer ++ title) so_far.front old between so_far.shows begun)
-            (λ some. inr (no_text kind depth _ _ broken some
-            (body_here depth opens nests outer title kind len level at so_far.front bytes
-            (omega (arith, counted, few)) offset m.Fault))) fit ends;
-        takes = takes;
-      })
+      so_far.shows (shows_fault source strict error depth start middle then_drawn ((outer ++ title) ++ so_far.front)
+      level offset bytes between new takes drawn_fault
+      (here ∙ next_offset depth start drawn middle (outer ++ title) so_far.front old between so_far.shows begun)
+      (λ any. let fault = part_row strict kind left error bytes row any in
+      inr (no_text (ending_of strict error) kind depth _ _ fault.0
+      (body_here depth opens nests outer title kind len level at so_far.front bytes (omega (arith, counted, few)) offset
+      m.Fault)
+      (subst (λ (n : ℕ). IsTextFault (ending_of strict error) n bytes) rest fault.1))) fit some left_behind)
 
   pub part_shown : (depth start opens : ℕ) (nests : List Nest) (outer title : List ℕ) (kind : CodeKind)
       (len left level offset : ℕ) (drawn middle then_drawn : Option (List Line)) (bytes : List ℕ)
@@ -171,6 +165,7 @@ module _ {R E : Type 0} (source : Ghosts R E) where
                   (body_here depth opens nests outer title (kind_of kind) len level at so_far.front bytes fits offset
                   (meaning_of kind)) written) (part_meant kind, tt);
               takes = takes;
+              left = λ idle. IfSome-all (view source new) _ (λ any. tt);
             });
         counted = omega (arith, counted, few, length-append so_far.front bytes);
         written = writable_then (kind_of kind) so_far.front bytes so_far.written written;

@@ -1,6 +1,7 @@
 -- The lines of titles, and what is due behind them.
 use Rattle.std.proofs.Common.{◌≡◌, ℕ, ◌+◌, ◌-◌, ◌≤◌, List, [], ◌∷◌, ◌++◌, length, Option, Some, None, refl, sym}
-use Rattle.std.proofs.Common.{ap, subst, ◌∙◌, arith, append-nil, length-append, Bool, Result, Ok, Err, OnOk, inl}
+use Rattle.std.proofs.Common.{ap, subst, ◌∙◌, arith, append-nil, length-append, Bool, Result, Ok, Err, OnOk, IfSome}
+use Rattle.std.proofs.Common.{inl}
 use Rattle.ciborium_ll.specs.Types.Read.{Ghosts}
 use Rattle.ciborium_ll.specs.Types.Decoder.{Decoder}
 use Rattle.ciborium_ll.specs.Types.Header.{Header}
@@ -14,10 +15,12 @@ use Rattle.cbor_skip.specs.Due.{IsNest}
 use Rattle.cbor_skip.proofs.ItemSteps.{item_of}
 use Rattle.cbor_look.specs.declared.rows.Meaning.TheVariants as m
 use Rattle.cbor_look.specs.declared.walk.Walk.{Walk}
-use Rattle.cbor_look.specs.Takings.{HasFault, Takes}
-use Rattle.cbor_look.specs.Endings.{Ending, Meant, EndAs, ending}
+use Rattle.cbor_look.specs.Takings.{HasFault, IsIdle, IsTitleRow, LeavesBehind, Takes, most_bytes}
+use Rattle.ciborium_ll.specs.Decoding.{view}
+use Rattle.ciborium_ll.proofs.DecodingLaws.{IfSome-all}
+use Rattle.cbor_look.specs.Endings.{LeavesAs, ending, ending_of}
 use Rattle.cbor_look.specs.Levels.{Line, Nest, StandsBehind, StandsWithin, outside, inside, none, TitleDue}
-use Rattle.cbor_look.specs.Levels.{IsWithinTitle, title_level}
+use Rattle.cbor_look.specs.Levels.{Ending, Meant, title_level}
 use Rattle.ciborium_ll.specs.Types.Error.{Error}
 use Rattle.cbor_look.specs.Dumps.{AreTaken, Draws, EndsTitles, fault_lines, Lines, Shows, ShowsBehind}
 use Rattle.cbor_skip.specs.declared.SkipError.TheVariants as s
@@ -31,11 +34,11 @@ use Rattle.cbor_look.specs.TitleRows.{DrawsTitle, ShowsAll, ShowsTitle, StopsAlo
 use Rattle.cbor_look.specs.Takings.{IsAlike}
 use Rattle.cbor_look.specs.Walks.{IsValue, IsDue, IsBehindItem, Breaks}
 use Rattle.cbor_look.proofs.ItemRows.{nothing}
-use Rattle.cbor_look.proofs.RowLaws.{title_filled, within_few}
+use Rattle.cbor_look.proofs.RowLaws.{title_filled}
 use Rattle.cbor_look.proofs.WalkLaws.{stands_any}
-use Rattle.cbor_look.proofs.StringLaws.{lines_fault}
 use Rattle.cbor_look.proofs.TakingLaws.{takes_none}
-use Rattle.cbor_look.proofs.DumpLaws.{fault_ends, lines_one, lines_then, shows_then, shows_read}
+use Rattle.cbor_look.proofs.DumpLaws.{lines_one, shows_fault, shows_nothing, shows_read}
+use Rattle.cbor_look.proofs.DumpLaws.{shows_says, shows_then, title_row}
 
 -- ---- levels
 
@@ -205,22 +208,25 @@ module _ {R E : Type 0} (source : Ghosts R E) where
     pub due : IsDue strict depth whole walk bytes
     pub came : IsAlike strict old → Comes strict depth walk old new
 
-  pub title_then : {how : Ending} (depth start : ℕ) (drawn middle then_drawn : Option (List Line))
-      (before title bytes : List ℕ) (old new : Decoder R) → Lines depth start drawn middle before title Meant
-      → Shows source depth start middle then_drawn (before ++ title) bytes how old new
-      → ShowsBehind source depth start drawn then_drawn before title bytes how old new
-  title_then depth start drawn middle then_drawn before title bytes old new first rest = record {
-    lines = lines_then depth start drawn middle then_drawn before title bytes first rest.lines;
-    takes = rest.takes;
-  }
-
   pub title_only : {how : Ending} (depth start : ℕ) (drawn then_drawn : Option (List Line)) (before title : List ℕ)
       (decoder : Decoder R) → Lines depth start drawn then_drawn before title how
+      → ((bytes left : List ℕ) → LeavesAs how bytes left)
       → ShowsBehind source depth start drawn then_drawn before title [] how decoder decoder
-  title_only {how} depth start drawn then_drawn before title decoder lines = record {
+  title_only {how} depth start drawn then_drawn before title decoder lines left = record {
     lines = subst (λ (z : List ℕ). Lines depth start drawn then_drawn before z how) (sym (append-nil title)) lines;
     takes = takes_none source decoder;
+    left = λ idle. IfSome-all (view source decoder) _ (λ any. left _ any);
   }
+
+  -- of a title of which nothing more is read no reader fails
+  alone_leaves : {W : Type 0} (strict : Bool) (depth whole : ℕ) (header : Header) (place : ℕ) (before : List ℕ)
+      (result : Result (Unit {0}) (DumpError E W)) → StopsAlone strict depth whole header place before result
+      → (bytes left : List ℕ) → LeavesAs (ending strict result) bytes left
+  alone_leaves strict depth whole header place before (Ok done) stops bytes left = tt
+  alone_leaves strict depth whole header place before (Err (d.Item (s.Read error))) stops bytes left = absurd stops
+  alone_leaves strict depth whole header place before (Err (d.Item (s.Break at))) stops bytes left = tt
+  alone_leaves strict depth whole header place before (Err (d.Item (s.Deep at))) stops bytes left = tt
+  alone_leaves strict depth whole header place before (Err (d.Rows fault)) stops bytes left = tt
 
   alone_stops : {W : Type 0} (strict : Bool) (depth whole : ℕ) (header : Header) (place : ℕ) (before : List ℕ)
       (decoder : Decoder R)
@@ -247,37 +253,38 @@ module _ {R E : Type 0} (source : Ghosts R E) where
       decoder
   title_alone depth whole start drawn then_drawn before title header walk strict place result decoder draws = record {
     bytes = [];
-    shows = title_only depth start drawn then_drawn before title decoder draws.lines;
+    shows = title_only depth start drawn then_drawn before title decoder draws.lines
+        (alone_leaves strict depth whole header place before result draws.stops);
     due = rw (append-nil title) draws.due;
     passed = λ alike. none_passed decoder result;
     stops = λ alike. alone_stops strict depth whole header place before decoder result draws.stops;
   }
 
   -- what was read of a title before a fault
-  pub up_fails : {how : Ending} (strict : Bool) (depth : ℕ) (drawn middle then_drawn : Option (List Line))
+  pub up_fails : (strict : Bool) (error : Error E) (depth : ℕ) (drawn middle then_drawn : Option (List Line))
       (walk : Walk) (row : List ℕ) (place level : ℕ) (old between new : Decoder R)
       → (up : UpTo strict depth drawn middle walk old between)
       → Takes source between row new → place ≡ between.offset → level ≡ walk.used
-      → Draws middle then_drawn (fault_lines level place row) → IsWithinTitle row
-      → EndAs how (fault_lines level place row)
-      → Shows source depth old.offset drawn then_drawn [] (up.bytes ++ row) how old new
-  up_fails strict depth drawn middle then_drawn walk row place level old between new up takes at same drawn_fault
-      within ends =
+      → Draws middle then_drawn (fault_lines level place row) → IsTitleRow strict error row
+      → length row ≤ most_bytes → HasFault error row
+      → (IsIdle source between → IfSome (view source new) (LeavesBehind error row))
+      → Shows source depth old.offset drawn then_drawn [] (up.bytes ++ row) (ending_of strict error) old new
+  up_fails strict error depth drawn middle then_drawn walk row place level old between new up takes at same drawn_fault
+      fault few some left =
       let used = up.due.keeps.used in
       let moved = up.shows.takes.offset in
-      shows_then source depth old.offset drawn middle then_drawn [] up.bytes row old between new up.shows (record {
-        lines = lines_fault depth old.offset middle then_drawn up.bytes level place row drawn_fault
-            (omega (arith, at, moved))
-            (λ some. inl (record {
-              nests = up.due.nests;
-              opens = 0;
-              due = due_here depth up.due.nests up.bytes
-                  (up.whole, stands_any strict depth up.whole up.due.nests up.bytes up.due.within);
-              no_more = within;
-              level = omega (arith, same, used);
-            })) (within_few row within) ends;
-        takes = takes;
-      })
+      let due = due_here depth up.due.nests up.bytes
+      (up.whole, stands_any strict depth up.whole up.due.nests up.bytes up.due.within) in
+      shows_then source depth old.offset drawn middle then_drawn [] up.bytes row old between new up.shows
+      (shows_fault source strict error depth old.offset middle then_drawn up.bytes level place row between new takes
+      drawn_fault (omega (arith, at, moved))
+      (λ any. inl (record {
+        nests = up.due.nests;
+        opens = 0;
+        due = due;
+        fault = title_row strict due.kind 0 error row fault any;
+        level = omega (arith, same, used);
+      })) few some left)
 
   -- a title that was read, and what is shown of it and behind it
   pub up_title : {W : Type 0} (strict : Bool) (depth whole place : ℕ) (header : Header) (drawn middle then_drawn :
@@ -286,7 +293,8 @@ module _ {R E : Type 0} (source : Ghosts R E) where
       → Shows source depth old.offset drawn middle [] before Meant old between → Takes source between row titled
       → (title : ShowsTitle source depth whole old.offset middle then_drawn before row header walk strict place result
       titled new)
-      → Shows source depth old.offset drawn then_drawn [] (before ++ (row ++ title.bytes)) (ending result) old new
+      → Shows source depth old.offset drawn then_drawn [] (before ++ (row ++ title.bytes)) (ending strict result) old
+      new
   up_title strict depth whole place header drawn middle then_drawn before walk row result old between titled new shows
       takes title =
       shows_then source depth old.offset drawn middle then_drawn [] before (row ++ title.bytes) old between new shows
@@ -299,13 +307,15 @@ module _ {R E : Type 0} (source : Ghosts R E) where
       (result : Result E (DumpError E W)) → (up : UpTo strict depth drawn middle walk old between)
       → Takes source between row new → place ≡ between.offset → level ≡ walk.used
       → Draws middle then_drawn (fault_lines level place row) → EndsTitles error level (length row) result
-      → IsWithinTitle row → HasFault error row → AreTaken result
+      → IsTitleRow strict error row → length row ≤ most_bytes → HasFault error row
+      → (IsIdle source between → IfSome (view source new) (LeavesBehind error row)) → AreTaken result
       → ShowsAll source strict depth drawn then_drawn result old new
   up_ended strict depth drawn middle then_drawn walk row place level old between new error (Ok fault) up takes at same
-      drawn_fault ends within some taken =
+      drawn_fault ends row_fault few some left taken =
       let none = nothing row ends.2 in
-      let shows = up_fails strict depth drawn middle then_drawn walk row place level old between new up takes at same
-      drawn_fault within (subst (λ (z : List ℕ). EndAs Meant (fault_lines level place z)) (sym none) tt) in
+      let shows = shows_then source depth old.offset drawn middle then_drawn [] up.bytes row old between new up.shows
+      (shows_nothing source depth old.offset middle then_drawn up.bytes level place row between new takes drawn_fault
+      ends.2) in
       let items = walk_ended strict depth up.whole walk up.bytes up.due (sym same ∙ ends.1) in
       record {
         bytes = up.bytes ++ row;
@@ -317,9 +327,11 @@ module _ {R E : Type 0} (source : Ghosts R E) where
         );
       }
   up_ended strict depth drawn middle then_drawn walk row place level old between new error (Err why) up takes at same
-      drawn_fault ends within some taken = record {
+      drawn_fault ends row_fault few some left taken = record {
         bytes = up.bytes ++ row;
-        shows = up_fails strict depth drawn middle then_drawn walk row place level old between new up takes at same
-            drawn_fault within (fault_ends error why level place row ends.0 taken some);
+        shows = shows_says source strict error why depth old.offset drawn then_drawn [] (up.bytes ++ row) old new ends.0
+            taken
+            (up_fails strict error depth drawn middle then_drawn walk row place level old between new up takes at same
+            drawn_fault row_fault few some left);
         whole = tt;
       }

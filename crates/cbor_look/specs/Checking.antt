@@ -1,5 +1,5 @@
 -- A dump as a check: what `dump` consumes, and where and why it stops.
-use Rattle.std.specs.Prelude.{◌≡◌, ℕ, ◌≤◌, List, Result, Ok, Err}
+use Rattle.std.specs.Prelude.{◌≡◌, ℕ, List, Result, Ok, Err}
 use Rattle.ciborium_ll.specs.Types.Read.{Ghosts}
 use Rattle.ciborium_ll.specs.Types.Decoder.{Decoder}
 use Rattle.cbor_look.specs.declared.sequence.Sequence.{Sequence}
@@ -7,6 +7,7 @@ use Rattle.cbor_look.specs.declared.sequence.Stopped.{Stopped}
 use Rattle.cbor_look.specs.declared.dump.DumpError.{DumpError}
 use Rattle.cbor_look.specs.declared.dump.DumpError.TheVariants as d
 use Rattle.cbor_look.specs.Sequences.{ChecksItems, ChecksTold}
+use Rattle.cbor_look.specs.Takings.{HasRoom}
 
 -- A dump answers as a check that answers so: with the same end, or the same error
 abbrev pub AnswersAs : {E W : Type 0} → Result (Sequence E) (Stopped E) → Result E (DumpError E W) → Type 0
@@ -15,15 +16,13 @@ AnswersAs (Err stopped) (Err (d.Item error)) = stopped.error ≡ error
 AnswersAs checked result = ⊥
 
 module _ {R E W : Type 0} (source : Ghosts R E) where
-  -- a check through a buffer of some room, but of no more than so much, would do what the dump did, and answers the
+  -- a check through a buffer of some room, but of no more than a row has, would do what the dump did, and answers the
   -- same
-  pub record ReadsAsCheck (depth most : ℕ) (old : Decoder R) (result : Result E (DumpError E W)) (new : Decoder R)
+  pub record ReadsAsCheck (depth : ℕ) (old : Decoder R) (result : Result E (DumpError E W)) (new : Decoder R)
       : Type 0 where
-    pub room : ℕ
-    pub held : room ≤ most
     pub checked : Result (Sequence E) (Stopped E)
     pub answers : AnswersAs checked result
-    pub checks : ChecksItems source depth room old checked new
+    pub checks : HasRoom (λ room. ChecksItems source depth room old checked new)
 
   -- a dump where the bytes are told: it does what a check does, and answers the same
   pub record AnswersTold (depth : ℕ) (due : List ℕ) (old : Decoder R) (result : Result E (DumpError E W))

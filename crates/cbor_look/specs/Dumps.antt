@@ -1,6 +1,7 @@
 -- What `dump` and its parts do with the lines: their bytes, joined, are those that were consumed, and each stands at
 -- its level.
-use Rattle.std.specs.Prelude.{◌≡◌, ℕ, ◌+◌, ◌<◌, ◌≤◌, List, [], ◌∷◌, ◌++◌, length, Option, Some, None, Result, Ok, Err}
+use Rattle.std.specs.Prelude.{◌≡◌, ℕ, ◌+◌, ◌<◌, ◌≤◌, List, [], ◌∷◌, ◌++◌, length, Option, Some, None, IfSome, Result}
+use Rattle.std.specs.Prelude.{Ok, Err}
 use Rattle.ciborium_ll.specs.Types.Read.{Ghosts}
 use Rattle.ciborium_ll.specs.Types.Decoder.{Decoder}
 use Rattle.ciborium_ll.specs.Types.Error.{Error}
@@ -9,10 +10,10 @@ use Rattle.cbor_skip.specs.declared.SkipError.TheVariants as s
 use Rattle.cbor_look.specs.declared.dump.DumpError.{DumpError}
 use Rattle.cbor_look.specs.declared.dump.DumpError.TheVariants as d
 use Rattle.cbor_look.specs.declared.rows.Meaning.TheVariants as m
-use Rattle.ciborium_ll.specs.Decoding.{offset_limit, view}
-use Rattle.cbor_look.specs.Takings.{IsIdle, Takes, most_bytes}
-use Rattle.cbor_look.specs.Levels.{Line, bytes_of, AllStand}
-use Rattle.cbor_look.specs.Endings.{Ending, EndAs}
+use Rattle.ciborium_ll.specs.Decoding.{offset_limit, view, Passes}
+use Rattle.cbor_look.specs.Takings.{EndsRow, IsIdle, RefusesRead, Takes, most_bytes}
+use Rattle.cbor_look.specs.Levels.{Line, Ending, bytes_of, AllStand}
+use Rattle.cbor_look.specs.Endings.{EndAs, LeavesAs, bytes_at_fault}
 
 -- each line was taken, though a fault stands behind them
 abbrev pub IsTaken : {E W : Type 0} → DumpError E W → Type 0
@@ -45,6 +46,13 @@ abbrev pub EndsTitles : {E W : Type 0} → Error E → ℕ → ℕ → Result E 
 EndsTitles error level len (Ok fault) = (error ≡ e.Io fault) × (level ≡ 0) × (len ≡ 0)
 EndsTitles error level len (Err why) = SaysFault error why × (IsEndOf error level len → ⊥)
 
+-- What a dump does where a header waits: it takes no row and reads nothing, and says so
+pub record AnswersWaiting {R E S W : Type 0} (rows : S) (old : Decoder R) (result : Result E (DumpError E W))
+    (then_rows : S) (new : Decoder R) : Type 0 where
+  pub answer : result ≡ Err (d.Item (s.Read e.Waiting))
+  pub no_row : then_rows ≡ rows
+  pub refuses : RefusesRead old new
+
 -- the lines so far, where they are told, grow by these
 abbrev pub Draws : Option (List Line) → Option (List Line) → List Line → Type 0
 Draws None new lines = Unit {0}
@@ -63,30 +71,37 @@ pub record Lines (depth start : ℕ) (old new : Option (List Line)) (before byte
     : Type 0 where
   pub lines : List Line
   pub drawn : Draws old new lines
-  pub stand : AllStand depth start before lines
+  pub stand : AllStand ending depth start before lines
   pub joined : bytes_of lines ≡ bytes
   pub ends : EndAs ending lines
 
 module _ {R E : Type 0} (source : Ghosts R E) where
-  -- lines were drawn of just the bytes that were consumed
+  -- lines were drawn of just the bytes that were consumed; where bytes that are told end too early, it is said how many
+  -- of them are left
   pub record Shows (depth start : ℕ) (drawn then_drawn : Option (List Line)) (before bytes : List ℕ)
       (ending : Ending) (old new : Decoder R) : Type 0 where
     pub lines : Lines depth start drawn then_drawn before bytes ending
     pub takes : Takes source old bytes new
+    pub left : IsIdle source old → IfSome (view source new) (LeavesAs ending (bytes_at_fault lines.lines))
 
   -- the bytes consumed before were drawn, and then that
   pub record ShowsBehind (depth start : ℕ) (drawn then_drawn : Option (List Line)) (before row bytes : List ℕ)
       (ending : Ending) (old new : Decoder R) : Type 0 where
     pub lines : Lines depth start drawn then_drawn before (row ++ bytes) ending
     pub takes : Takes source old bytes new
+    pub left : IsIdle source old → IfSome (view source new) (LeavesAs ending (bytes_at_fault lines.lines))
 
-  -- What was left behind a dump is shown at the level: in a line, where there is some, are just bytes that were consumed,
-  -- and no more than a line has. Where the reader is steady, no header waits, and so few bytes are told as one line has
-  -- and the offset fits, they are all of these
+  -- What was left behind a dump is shown at the level: in a line, where there is some, are just bytes that were
+  -- consumed, and no more than a line has. They came one by one, until the line was full or a read failed, behind which
+  -- there was none. Where the reader is steady, no header waits, and so few bytes are told as one line has and the
+  -- offset fits, they are all of these
   pub record ShowsLeft (level : ℕ) (drawn then_drawn : Option (List Line)) (old new : Decoder R) : Type 0 where
     pub bytes : List ℕ
     pub draws : Draws drawn then_drawn (fault_lines level old.offset bytes)
     pub few : length bytes ≤ most_bytes
     pub takes : Takes source old bytes new
+    pub between : Decoder R
+    pub passed : Passes source old bytes between
+    pub ends : EndsRow source (length bytes) between new
     pub all : (due : List ℕ) → IsIdle source old → view source old ≡ Some due → length due ≤ most_bytes
         → old.offset + length due < offset_limit → bytes ≡ due

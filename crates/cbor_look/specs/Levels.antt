@@ -1,16 +1,19 @@
 -- At which level each line of a dump stands: within how many tags, arrays, maps and opens.
-use Rattle.std.specs.Prelude.{◌≡◌, ℕ, zero, suc, ◌+◌, ◌-◌, ◌%◌, ◌<◌, ◌≤◌, ◌⊎◌, Bool, true, false, List, [], ◌∷◌, ◌++◌}
+use Rattle.std.specs.Prelude.{◌≡◌, ℕ, zero, suc, ◌+◌, ◌-◌, ◌<◌, ◌≤◌, ◌⊎◌, Bool, true, false, List, [], ◌∷◌, ◌++◌}
 use Rattle.std.specs.Prelude.{length, Some, None, if◌then◌else◌}
 use Rattle.ciborium_ll.specs.Types.Header.{Header}
 use Rattle.ciborium_ll.specs.Types.Header.TheVariants as h
-use Rattle.ciborium_ll.specs.Title.{IsTitle, affix_len}
+use Rattle.ciborium_ll.specs.Title.{IsTitle}
 use Rattle.ciborium_ll.specs.Strings.{Kind, Bytes, Text, kind_header, AreStrings, IsWritable}
 use Rattle.ciborium_ll.specs.Elements.{AreWritable}
+use Rattle.ciborium_ll.specs.Faults.{IsRefusedIn}
+use Rattle.ciborium_ll.specs.Finishing.{IsNoText}
 use Rattle.ciborium_ll.specs.Items.{AreItems, IsTakenTitle}
 use Rattle.cbor_skip.specs.Due.{TakesMore, may_close}
 use Rattle.cbor_look.specs.declared.rows.Meaning.{Meaning}
 use Rattle.cbor_look.specs.declared.rows.Meaning.TheVariants as m
-use Rattle.cbor_look.specs.Takings.{most_bytes}
+use Rattle.cbor_look.specs.Takings.{IsFirstByte, Means, most_bytes}
+use Rattle.cbor_look.specs.Parts.{IsCutText}
 
 -- ---- within what a title stands
 
@@ -103,37 +106,61 @@ pub record HasBody (depth : ℕ) (before : List ℕ) (kind : Kind) (line : Line)
   pub fits : length front + length line.bytes ≤ len
   pub level : line.level ≡ suc (length nests + opens)
 
--- behind the first byte stand no more than it announces: of one title, whole or cut, or of none (RFC 7049, 2.1)
-abbrev pub IsWithinTitle : List ℕ → Type 0
-IsWithinTitle [] = Unit {0}
-IsWithinTitle (byte ∷ rest) = length rest ≤ affix_len (byte % 32)
+-- how lines end: all are meant; or the last one is at fault, since what it has is refused, by a strict dump or another
+-- one; or the reader failed, or another read stopped, and all are meant or the last one is at fault, since it was cut
+pub data Ending : Type 0 where
+  Meant : Ending
+  Refused : Bool → Ending
+  Failed : Ending
+  Stopped : Ending
 
--- behind these bytes the line has what was read of a title at fault, and no more, at the level of one that is due
-pub record HasNoTitle (depth : ℕ) (before : List ℕ) (line : Line) : Type 0 where
+-- all bytes of a title that is refused, within so many opens of the kind: by its first byte, since it is not strict
+-- where only such are taken, or since it may not stand in the string (RFC 7049, 2.1, 2.2.2 and 3.9)
+abbrev pub IsNoTitle : Bool → Kind → ℕ → List ℕ → Type 0
+IsNoTitle strict kind opens bytes = Means strict bytes None
+    ⊎ ((0 < opens) × ((header : Header) × IsTitle bytes header × IsRefusedIn strict kind header))
+
+-- what a line at fault has of a title, by how lines end: all of one that is refused, or the first byte of one that was
+-- cut
+abbrev pub IsTitleFault : Ending → Kind → ℕ → List ℕ → Type 0
+IsTitleFault Meant kind opens bytes = ⊥
+IsTitleFault (Refused strict) kind opens bytes = IsNoTitle strict kind opens bytes
+IsTitleFault Failed kind opens bytes = IsFirstByte bytes
+IsTitleFault Stopped kind opens bytes = IsFirstByte bytes
+
+-- what it has of a text's body, of which so much is left: what is no text, or the front of a text that was cut
+abbrev pub IsTextFault : Ending → ℕ → List ℕ → Type 0
+IsTextFault Meant left bytes = ⊥
+IsTextFault (Refused strict) left bytes = IsNoText [] left bytes
+IsTextFault Failed left bytes = IsCutText left bytes
+IsTextFault Stopped left bytes = IsCutText left bytes
+
+-- behind these bytes the line has what was read of a title at fault, at the level of one that is due
+pub record HasNoTitle (how : Ending) (depth : ℕ) (before : List ℕ) (line : Line) : Type 0 where
   pub nests : List Nest
   pub opens : ℕ
   pub due : TitleDue depth nests opens before
-  pub no_more : IsWithinTitle line.bytes
+  pub fault : IsTitleFault how due.kind opens line.bytes
   pub level : line.level ≡ length nests + opens
 
--- behind these bytes the line has a part of a text's body that is no whole characters
-pub record HasNoText (depth : ℕ) (before : List ℕ) (line : Line) : Type 0 where
+-- behind these bytes the line has what was read of a text's body at fault
+pub record HasNoText (how : Ending) (depth : ℕ) (before : List ℕ) (line : Line) : Type 0 where
   pub body : HasBody depth before Text line
-  pub no_text : IsWritable Text line.bytes → ⊥
+  pub fault : IsTextFault how (body.len - length body.front) line.bytes
 
 -- behind these bytes the line has what it says that it has, at its level
-abbrev pub Stands : ℕ → List ℕ → Meaning → Line → Type 0
-Stands depth before (m.Header header) line = HasTitle depth before header line
-Stands depth before m.Bytes line = HasBody depth before Bytes line
-Stands depth before m.Text line = HasBody depth before Text line × IsWritable Text line.bytes
-Stands depth before m.Fault line = HasNoTitle depth before line ⊎ HasNoText depth before line
+abbrev pub Stands : Ending → ℕ → List ℕ → Meaning → Line → Type 0
+Stands how depth before (m.Header header) line = HasTitle depth before header line
+Stands how depth before m.Bytes line = HasBody depth before Bytes line
+Stands how depth before m.Text line = HasBody depth before Text line × IsWritable Text line.bytes
+Stands how depth before m.Fault line = HasNoTitle how depth before line ⊎ HasNoText how depth before line
 
 -- a line has a byte, and no more than 16
 abbrev pub IsFilled : List ℕ → Type 0
 IsFilled bytes = (0 < length bytes) × (length bytes ≤ most_bytes)
 
 -- each of the lines does, is filled, and has the offset of its first byte, where the bytes before begin at the start
-abbrev pub AllStand : ℕ → ℕ → List ℕ → List Line → Type 0
-AllStand depth start before [] = Unit {0}
-AllStand depth start before (line ∷ lines) = (line.offset ≡ start + length before)
-    × IsFilled line.bytes × Stands depth before line.meaning line × AllStand depth start (before ++ line.bytes) lines
+abbrev pub AllStand : Ending → ℕ → ℕ → List ℕ → List Line → Type 0
+AllStand how depth start before [] = Unit {0}
+AllStand how depth start before (line ∷ lines) = (line.offset ≡ start + length before) × IsFilled line.bytes
+    × Stands how depth before line.meaning line × AllStand how depth start (before ++ line.bytes) lines

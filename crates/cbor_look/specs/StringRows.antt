@@ -1,5 +1,6 @@
 -- What the rows of a string show of it.
-use Rattle.std.specs.Prelude.{◌≡◌, ℕ, ◌≤◌, Bool, false, List, [], ◌∷◌, ◌++◌, length, Option, Some, None, Result, Ok, Err}
+use Rattle.std.specs.Prelude.{◌≡◌, ℕ, Bool, false, List, [], ◌∷◌, ◌++◌, length, Option, Some, None, Result, Ok}
+use Rattle.std.specs.Prelude.{Err}
 use Rattle.std.specs.Prelude.{OnOk}
 use Rattle.ciborium_ll.specs.Types.Read.{Ghosts}
 use Rattle.ciborium_ll.specs.Types.Decoder.{Decoder}
@@ -25,7 +26,7 @@ use Rattle.cbor_look.specs.Levels.{Line}
 use Rattle.cbor_look.specs.Dumps.{Shows}
 use Rattle.cbor_look.specs.Endings.{ending}
 use Rattle.cbor_look.specs.Parts.{FailsInBody}
-use Rattle.cbor_look.specs.Takings.{IsAlike, most_bytes}
+use Rattle.cbor_look.specs.Takings.{HasRoom, IsAlike}
 
 -- a kind of string in the code, as the grammar has it
 abbrev pub kind_of : CodeKind → Kind
@@ -62,10 +63,8 @@ IsRest strict kind None bytes = EndsString strict kind bytes
 module _ {R E : Type 0} (source : Ghosts R E) where
   -- behind an open the read of a string failed as that of a skip does, through a buffer of some room, but of no more
   -- than a row has (RFC 7049, 2.2.2)
-  pub record FailsInside (kind : Kind) (old : Decoder R) (error : Error E) (new : Decoder R) : Type 0 where
-    pub room : ℕ
-    pub held : room ≤ most_bytes
-    pub stops : StopsInside source kind room old error new
+  abbrev pub FailsInside : Kind → Decoder R → Error E → Decoder R → Type 0
+  FailsInside kind old error new = HasRoom (λ room. StopsInside source kind room old error new)
 
 module _ {R E W : Type 0} (source : Ghosts R E) where
   -- how the read of what follows a string's title stops: as a skip of it does; the place is that of the title of a body
@@ -85,7 +84,7 @@ module _ {R E W : Type 0} (source : Ghosts R E) where
       (len : Option ℕ) (strict : Bool) (place : ℕ) (result : Result (Unit {0}) (DumpError E W)) (old new : Decoder R)
       : Type 0 where
     pub bytes : List ℕ
-    pub shows : Shows source depth start drawn then_drawn before bytes (ending result) old new
+    pub shows : Shows source depth start drawn then_drawn before bytes (ending strict result) old new
     pub whole : OnOk result (IsRest strict kind len bytes)
     pub passed : IsAlike strict old → OnOk result (Passes source old bytes new)
     pub stops : IsAlike strict old → StopsRest kind len place old result new

@@ -1,5 +1,6 @@
 -- The bytes of a row: just those that were consumed for it.
-use Rattle.std.specs.Prelude.{◌≡◌, ℕ, ◌+◌, ◌-◌, ◌<◌, ◌≤◌, min, Bool, IsTrue, List, [], ◌∷◌, ◌++◌, length, take, Option, None}
+use Rattle.std.specs.Prelude.{◌≡◌, ℕ, ◌+◌, ◌-◌, ◌%◌, ◌<◌, ◌≤◌, min, Bool, IsTrue, List, [], ◌∷◌, ◌++◌, length, take}
+use Rattle.std.specs.Prelude.{Option, None}
 use Rattle.std.specs.Prelude.{Some, Result, Ok, Err, OnOk, ◌⊎◌}
 use Rattle.std.specs.Io.KnownBytes.{Consumes}
 use Rattle.ciborium_ll.specs.Types.Read.{Ghosts}
@@ -7,8 +8,9 @@ use Rattle.ciborium_ll.specs.Types.Decoder.{Decoder}
 use Rattle.ciborium_ll.specs.Types.Error.{Error}
 use Rattle.ciborium_ll.specs.Types.Error.TheVariants as e
 use Rattle.ciborium_ll.specs.Types.Header.{Header}
-use Rattle.ciborium_ll.specs.Title.{IsTitle, IsStrictTitle, IsRefused}
-use Rattle.ciborium_ll.specs.Decoding.{offset_limit, view, IsSteady, PullsHeader, PullsTitle, ReadsBytes}
+use Rattle.ciborium_ll.specs.Title.{IsTitle, IsStrictTitle, IsRefused, affix_len}
+use Rattle.ciborium_ll.specs.Decoding.{refusals_of, view, IsSteady, IsUntouched, PullsHeader, PullsTitle}
+use Rattle.ciborium_ll.specs.Decoding.{Reads}
 use Rattle.cbor_look.specs.declared.taken.Taken.{Taken}
 
 -- the bytes that were read for a row
@@ -19,6 +21,16 @@ taken_bytes taken = take taken.len taken.bytes
 abbrev pub most_bytes : ℕ
 most_bytes = 16
 
+-- this holds of some room of a buffer, which is no more than a row has
+pub record HasRoom (Holds : ℕ → Type 0) : Type 0 where
+  pub room : ℕ
+  pub held : room ≤ most_bytes
+  pub holds : Holds room
+
+-- the most bytes of a text that are read at once: behind them is room for the rest of a character
+abbrev pub most_text : ℕ
+most_text = 13
+
 -- what a decoder says of a first byte and as many as that announces, where it is strict or not: they are a title of the
 -- header, and where it is strict one that it takes; or none is, by the first byte or where it is strict by all (RFC
 -- 7049, 2.1 to 2.3 and 3.9)
@@ -26,6 +38,27 @@ abbrev pub Means : Bool → List ℕ → Option Header → Type 0
 Means strict bytes (Some header) = IsTitle bytes header × (IsTrue strict → IsStrictTitle bytes header)
 Means strict bytes None = ((byte : ℕ) × IsRefused byte × (bytes ≡ byte ∷ []))
     ⊎ (IsTrue strict × ((header : Header) × IsTitle bytes header × (IsStrictTitle bytes header → ⊥)))
+
+-- a first byte, which is all that came of a title
+abbrev pub IsFirstByte : List ℕ → Type 0
+IsFirstByte bytes = (byte : ℕ) × (bytes ≡ byte ∷ [])
+
+-- what was read of a title where the read stopped so: all of one that is refused, or nothing, or its first byte
+abbrev pub IsTitleRow : {E : Type 0} → Bool → Error E → List ℕ → Type 0
+IsTitleRow strict (e.Syntax at) bytes = Means strict bytes None
+IsTitleRow strict error bytes = (bytes ≡ []) ⊎ IsFirstByte bytes
+
+-- so many bytes are left behind those of a row at fault, where the bytes end too early: behind none fewer than a row
+-- has, behind a first byte fewer than it announces (RFC 7049, 2.1), and none behind the front of a text
+abbrev pub Leaves : List ℕ → List ℕ → Type 0
+Leaves [] left = length left < most_bytes
+Leaves (byte ∷ []) left = length left < affix_len (byte % 32)
+Leaves bytes left = left ≡ []
+
+-- the same where the reader failed: of no other error anything is said
+abbrev pub LeavesBehind : {E : Type 0} → Error E → List ℕ → List ℕ → Type 0
+LeavesBehind (e.Io fault) bytes left = Leaves bytes left
+LeavesBehind error bytes left = Unit {0}
 
 -- where bytes are at fault, some were read
 abbrev pub HasFault : {E : Type 0} → Error E → List ℕ → Type 0
@@ -37,15 +70,29 @@ pub record IsAlike {R : Type 0} (strict : Bool) (decoder : Decoder R) : Type 0 w
   pub none_waits : decoder.waiting ≡ None
   pub mode : decoder.strict ≡ strict
 
+-- a read was refused, since a header waits: but for the count of refusals nothing changed
+pub record RefusesRead {R : Type 0} (old new : Decoder R) : Type 0 where
+  pub untouched : IsUntouched old new
+  pub counted : refusals_of new ≡ refusals_of old + 1
+
 module _ {R E : Type 0} (source : Ghosts R E) where
   -- so many bytes were read behind those before, or as many as there was room for
   pub record ReadsOn (count : ℕ) (before after : List ℕ) (old : Decoder R) (result : Result (Unit {0}) (Error E))
       (new : Decoder R) : Type 0 where
     pub bytes : List ℕ
     pub counted : length bytes ≡ min count (most_bytes - length before)
-    pub reads : ReadsBytes source old result bytes new
+    pub reads : Reads source old result bytes new
     pub behind : OnOk result (after ≡ before ++ bytes)
-    pub steady : IsSteady source old → IsSteady source new
+
+  -- one more byte was asked for, and the read failed
+  pub record FailsNext (old new : Decoder R) : Type 0 where
+    pub error : Error E
+    pub byte : ℕ
+    pub fails : Reads source old (Err error) (byte ∷ []) new
+
+  -- no more is read for a row of so many bytes: it is full, or one read of one more byte failed
+  abbrev pub EndsRow : ℕ → Decoder R → Decoder R → Type 0
+  EndsRow count old new = ((count ≡ most_bytes) × (new ≡ old)) ⊎ ((count < most_bytes) × FailsNext old new)
 
   -- a title was read as `pull` reads it, by the answer
   abbrev pub PullsRow : Decoder R → Result Header (Error E) → Decoder R → Type 0
@@ -67,8 +114,3 @@ module _ {R E : Type 0} (source : Ghosts R E) where
     pub bytes : List ℕ
     pub appended : after ≡ before ++ bytes
     pub takes : Takes old bytes new
-
-  -- of the bytes that are told none are left that would fit the row and the offset
-  abbrev pub IsLast : List ℕ → Decoder R → Type 0
-  IsLast taken decoder = (left : List ℕ) → view source decoder ≡ Some left → length taken + length left ≤ most_bytes
-      → decoder.offset + length left < offset_limit → left ≡ []

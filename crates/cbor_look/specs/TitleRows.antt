@@ -1,5 +1,5 @@
 -- What the rows of a title show, and of the string that it begins.
-use Rattle.std.specs.Prelude.{◌≡◌, ℕ, ◌≤◌, Bool, false, List, [], ◌++◌, Option, Result, Ok, Err, OnOk}
+use Rattle.std.specs.Prelude.{◌≡◌, ℕ, Bool, false, List, [], ◌++◌, Option, Result, Ok, Err, OnOk}
 use Rattle.ciborium_ll.specs.Types.Read.{Ghosts}
 use Rattle.ciborium_ll.specs.Types.Decoder.{Decoder}
 use Rattle.ciborium_ll.specs.Types.Error.{Error}
@@ -17,7 +17,7 @@ use Rattle.cbor_look.specs.Levels.{Line, Nest, StandsBehind, closes_one}
 use Rattle.cbor_look.specs.Dumps.{Lines, Shows, ShowsBehind}
 use Rattle.cbor_look.specs.Endings.{ending}
 use Rattle.cbor_look.specs.Walks.{IsDueBehind, IsDeepest}
-use Rattle.cbor_look.specs.Takings.{IsAlike, most_bytes}
+use Rattle.cbor_look.specs.Takings.{HasRoom, IsAlike}
 use Rattle.cbor_look.specs.Sequences.{IsSequence}
 
 -- behind the bytes an item is due, in place of which no break may stand
@@ -49,18 +49,15 @@ module _ {E W : Type 0} where
   pub record DrawsTitle (strict : Bool) (depth whole start : ℕ) (drawn then_drawn : Option (List Line))
       (before title : List ℕ) (header : Header) (walk : Walk) (place : ℕ)
       (result : Result (Unit {0}) (DumpError E W)) : Type 0 where
-    pub lines : Lines depth start drawn then_drawn before title (ending result)
+    pub lines : Lines depth start drawn then_drawn before title (ending strict result)
     pub due : OnOk result (IsDueBehind strict depth whole walk (before ++ title))
     pub stops : StopsAlone strict depth whole header place before result
 
 module _ {R E : Type 0} (source : Ghosts R E) where
   -- a string of this length failed as a skip of it does, through a buffer of some room, but of no more than a row has
   -- (RFC 7049, 2.2)
-  pub record FailsInString (kind : Kind) (len : Option ℕ) (old : Decoder R) (error : Error E) (new : Decoder R)
-      : Type 0 where
-    pub room : ℕ
-    pub held : room ≤ most_bytes
-    pub skipped : SkipsString source kind len room old (Err error) new
+  abbrev pub FailsInString : Kind → Option ℕ → Decoder R → Error E → Decoder R → Type 0
+  FailsInString kind len old error new = HasRoom (λ room. SkipsString source kind len room old (Err error) new)
 
 module _ {R E W : Type 0} (source : Ghosts R E) where
   -- how a title ends a dump, or the string that it begins, which stops as a skip of it does (RFC 7049, 2.2)
@@ -81,7 +78,7 @@ module _ {R E W : Type 0} (source : Ghosts R E) where
       (header : Header) (walk : Walk) (strict : Bool) (place : ℕ) (result : Result (Unit {0}) (DumpError E W))
       (old new : Decoder R) : Type 0 where
     pub bytes : List ℕ
-    pub shows : ShowsBehind source depth start drawn then_drawn before title bytes (ending result) old new
+    pub shows : ShowsBehind source depth start drawn then_drawn before title bytes (ending strict result) old new
     pub due : OnOk result (IsDueBehind strict depth whole walk (before ++ (title ++ bytes)))
     pub passed : IsAlike strict old → OnOk result (Passes source old bytes new)
     pub stops : IsAlike strict old → StopsTitle strict depth whole header place before old result new
@@ -94,5 +91,5 @@ module _ {R E W : Type 0} (source : Ghosts R E) where
       (DumpError E W))
       (old new : Decoder R) : Type 0 where
     pub bytes : List ℕ
-    pub shows : Shows source depth old.offset drawn then_drawn [] bytes (ending result) old new
+    pub shows : Shows source depth old.offset drawn then_drawn [] bytes (ending strict result) old new
     pub whole : OnOk result (IsSequence strict depth bytes)

@@ -1,13 +1,18 @@
 //! A dump: each title of a sequence of items on a line, and bodies of strings below theirs.
 
-ghost use Rattle.std.specs.Prelude.{◌≡◌, ℕ, ◌+◌, ◌-◌, ◌<◌, ◌≤◌, ◌↔◌, List, [], ◌∷◌, ◌++◌, length, Bool, IfErr, IsOk};
+ghost use Rattle.std.specs.Prelude.{◌≡◌, ℕ, ◌+◌, ◌-◌, ◌<◌, ◌≤◌, ◌↔◌, List, [], ◌∷◌, ◌++◌, length, Bool, Err, IfErr};
+ghost use Rattle.std.specs.Prelude.{IsOk};
 ghost use Rattle.ciborium_ll.specs.Items.{IsTakenTitle};
 ghost use Rattle.ciborium_ll.specs.Title.{IsTitle, title_len};
-ghost use Rattle.ciborium_ll.specs.Decoding.{offset_of, strict_of};
+ghost use Rattle.ciborium_ll.specs.Decoding.{offset_of, strict_of, IsWaiting};
 ghost use Rattle.cbor_skip.specs.Due.{IsNest};
 ghost use Rattle.cbor_skip.specs.SkippingTold.{IsReadyToSkip};
 ghost use Rattle.cbor_look.specs.Checking.{AnswersTold, ReadsAsCheck};
-ghost use Rattle.cbor_look.specs.Dumps.{AreTaken, Draws, EndsTitles, IsRefusal, IsTaken, SaysFault, fault_lines};
+ghost use Rattle.cbor_look.specs.Dumps.{AnswersWaiting, AreTaken, Draws, EndsTitles, IsRefusal, IsTaken, SaysFault};
+ghost use Rattle.cbor_look.specs.Dumps.{fault_lines};
+ghost use Rattle.ciborium_ll.specs.Types.Error.TheVariants.{Waiting};
+ghost use Rattle.cbor_skip.specs.declared.SkipError.TheVariants as s;
+ghost use Rattle.cbor_look.specs.declared.dump.DumpError.TheVariants as d;
 ghost use Rattle.cbor_look.specs.Sequences.{IsSequence};
 ghost use Rattle.cbor_look.specs.Takings.{IsAlike, most_bytes, taken_bytes};
 ghost use Rattle.ciborium_ll.specs.Strings.{kind_header};
@@ -40,9 +45,15 @@ pub enum DumpError<E, W> {
 /// `Ok` has what the reader answered where a further item would begin. Before an error all that was read is shown.
 /// Nothing is read ahead of the rows, and no memory is taken.
 ///
-/// No row means a fault but the last one before an error. Where bytes are no item (`Error::Syntax`) that one does, and
-/// where a read stopped for another reason it may. It has what was read of one title, or bytes of a text that are no
-/// whole characters. A break where none may stand, and the title of a nest too deep, are shown as what they are.
+/// No row means a fault but the last one before an error. Where bytes are no item (`Error::Syntax`) that one does: it
+/// has all of a title that is refused, by its first byte, by a strict dump since it is not strict, or since it may not
+/// stand in its string; or bytes of a text that are none, as the rest of the body or however they go on. Where a read
+/// stopped for another reason it may: it has the first byte of a title, or 13 bytes or more of a text, which end inside
+/// a character, and more are due. A break where none may stand, and the title of a nest too deep, are shown as what
+/// they are.
+///
+/// Where a steady reader that tells its bytes fails within an item, and no header waited, few of them are left: behind
+/// a first byte at fault fewer than it announces, behind a text at fault none, and where no row is at fault at most 15.
 ///
 /// Each row has from 1 to 16 bytes, stands at its level, and has the offset of its first byte. The level of a title is
 /// the number of tags, arrays, maps and opens that it stands within in the grammar, and a break that closes one has the
@@ -56,8 +67,11 @@ pub enum DumpError<E, W> {
 /// not taken. Where besides a steady reader tells its bytes and the offset fits, `Ok` comes exactly where the bytes are
 /// a sequence of items to the depth; else the error is the fault behind the items before it.
 ///
-/// No clause says what is consumed where a header waits, nor where a dump stops whose decoder is not as strict: a title
-/// is then taken or refused as the dump is strict or not. How a row is printed its own `Display` says.
+/// Where a header waits, the error is `Error::Waiting`: no row is taken, nothing is read, and but for its count of
+/// refusals, which grows by one, the decoder is as it was.
+///
+/// No clause says where a dump stops whose decoder is not as strict: a title is then taken or refused as the dump is
+/// strict or not. How a row is printed its own `Display` says.
 pub fn dump<R: Read, S: Rows>(
     decoder: &mut Decoder<R>,
     depth: usize,
@@ -67,10 +81,11 @@ pub fn dump<R: Read, S: Rows>(
 where
     R::Error: Drop,
     requires { depth ≤ 256 }
+    ensures waits { IsWaiting decoder.old → AnswersWaiting rows.old decoder.old result rows.new decoder.new }
     ensures shows { AreTaken result
         → ShowsAll R.Read strict depth (S.drawn rows.old) (S.drawn rows.new) result decoder.old decoder.new }
     ensures reads { IsAlike strict decoder.old → AreTaken result
-        → ReadsAsCheck R.Read depth most_bytes decoder.old result decoder.new }
+        → ReadsAsCheck R.Read depth decoder.old result decoder.new }
     ensures told { (due : List ℕ) → IsAlike strict decoder.old
         → IsReadyToSkip R.Read most_bytes decoder.old due → AreTaken result
         → AnswersTold R.Read depth due decoder.old result decoder.new }
@@ -104,6 +119,8 @@ fn ended<E: Drop, S: Rows>(
     ensures draws { AreTaken result
         → Draws (S.drawn rows.old) (S.drawn rows.new) (fault_lines level offset (taken_bytes taken.now)) }
     ensures ends { EndsTitles error level (length (taken_bytes taken.now)) result }
+    ensures waits { error ≡ Waiting → taken_bytes taken.now ≡ []
+        → (result ≡ Err (d.Item (s.Read Waiting))) × (rows.new ≡ rows.old) }
 {
     match error {
         Error::Io(end) if level == 0 && taken.len() == 0 => Ok(end),
@@ -122,6 +139,7 @@ pub(crate) fn fault<E: Drop, S: Rows>(
     ensures draws { IsTaken result
         → Draws (S.drawn rows.old) (S.drawn rows.new) (fault_lines level offset (taken_bytes taken.now)) }
     ensures says { SaysFault error result }
+    ensures none { taken_bytes taken.now ≡ [] → (result ≡ d.Item (s.Read error)) × (rows.new ≡ rows.old) }
 {
     match fault_row(taken, offset, level, rows) {
         Ok(()) => DumpError::Item(SkipError::Read(error)),

@@ -1,13 +1,14 @@
 //! The rows of a string, behind its title.
 
-ghost use Rattle.std.specs.Prelude.{◌≡◌, ℕ, ◌+◌, ◌<◌, ◌≤◌, Bool, List, [], ◌++◌, length, suc, IfErr, IfOk, None, Some};
+ghost use Rattle.std.specs.Prelude.{◌≡◌, ℕ, ◌+◌, ◌<◌, ◌≤◌, Bool, List, [], ◌++◌, length, suc, IfErr, IfOk, IfSome};
+ghost use Rattle.std.specs.Prelude.{None, Some};
 ghost use Rattle.ciborium_ll.specs.Title.{IsTitle};
 ghost use Rattle.ciborium_ll.specs.Strings.{IsWritable, kind_header};
-ghost use Rattle.ciborium_ll.specs.Decoding.{offset_of, waiting_of};
+ghost use Rattle.ciborium_ll.specs.Decoding.{offset_of, view, waiting_of};
 ghost use Rattle.cbor_look.specs.Dumps.{AreTaken};
 ghost use Rattle.cbor_look.specs.Levels.{Nest, StandsWithin, TitleDue, title_level};
-ghost use Rattle.cbor_look.specs.Parts.{IsBroken, ReadsPart};
-ghost use Rattle.cbor_look.specs.Takings.{HasFault, Keeps, taken_bytes};
+ghost use Rattle.cbor_look.specs.Parts.{IsPartRow, ReadsPart};
+ghost use Rattle.cbor_look.specs.Takings.{HasFault, IsIdle, Keeps, LeavesBehind, taken_bytes};
 ghost use Rattle.cbor_look.specs.StringRows.{IsPart, ShowsRest, kind_of, meaning_of};
 
 use crate::dump::{DumpError, fault, shown};
@@ -92,7 +93,9 @@ fn read_part<R: Read>(
     ensures most { length (taken_bytes taken.new) ≤ left }
     ensures some { IfOk result (λ _. 0 < left → 0 < length (taken_bytes taken.new)) }
     ensures fault { 0 < left → IfErr result (λ error. HasFault error (taken_bytes taken.new)) }
-    ensures broken { IfErr result (λ _. IsBroken (kind_of kind) (taken_bytes taken.new)) }
+    ensures row { 0 < left → IfErr result (λ error. IsPartRow (kind_of kind) left error (taken_bytes taken.new)) }
+    ensures left { 0 < left → IfErr result (λ error. IsIdle R.Read decoder.old
+        → IfSome (view R.Read decoder.new) (LeavesBehind error (taken_bytes taken.new))) }
     ensures written { IfOk result (λ _. IsWritable (kind_of kind) (taken_bytes taken.new)) }
     ensures reads { 0 < left → waiting_of decoder.old ≡ None
         → ReadsPart R.Read (kind_of kind) left place (taken_bytes taken.new) decoder.old result decoder.new }

@@ -1,8 +1,9 @@
 //! Bytes that were read for one row.
 
-ghost use Rattle.std.specs.Prelude.{◌≡◌, ◌+◌, ◌-◌, ◌%◌, ◌<◌, ◌≤◌, [], length, min, suc, false, IfErr, IfOk, IsTrue, None};
+ghost use Rattle.std.specs.Prelude.{◌≡◌, ◌+◌, ◌-◌, ◌%◌, ◌<◌, ◌≤◌, [], length, min, suc, false, IfErr, IfOk, IfSome};
+ghost use Rattle.std.specs.Prelude.{IsTrue, None, Ok, Err};
 ghost use Rattle.ciborium_ll.specs.Title.{affix_len};
-ghost use Rattle.ciborium_ll.specs.Decoding.{offset_of, waiting_of, Passes};
+ghost use Rattle.ciborium_ll.specs.Decoding.{offset_of, view, waiting_of, IsWaiting, Passes};
 
 use crate::fronts::{header_of, is_cut, is_text};
 use ciborium_ll::io::Read;
@@ -23,11 +24,11 @@ pub(crate) struct Taken {
 impl Taken {
     ghost use Rattle.ciborium_ll.specs.Items.{IsTakenTitle};
     ghost use Rattle.ciborium_ll.specs.Title.{IsTitle};
-    ghost use Rattle.ciborium_ll_text.specs.Text.{IsCharacters};
-    ghost use Rattle.cbor_look.specs.Takings.{HasFault, IsAlike, IsIdle, IsLast, Keeps, PullsRow, ReadsOn, taken_bytes};
-    ghost use Rattle.cbor_look.specs.Parts.{IsBroken, ReadsText};
+    ghost use Rattle.cbor_look.specs.Takings.{EndsRow, HasFault, IsAlike, IsIdle, Keeps, PullsRow, ReadsOn};
+    ghost use Rattle.cbor_look.specs.Takings.{IsTitleRow, LeavesBehind, RefusesRead, taken_bytes};
+    ghost use Rattle.ciborium_ll.specs.Types.Error.TheVariants.{Waiting};
+    ghost use Rattle.cbor_look.specs.Parts.{IsPartRow, IsSound, ReadsText};
     ghost use Rattle.ciborium_ll.specs.Strings.{Text};
-    ghost use Rattle.cbor_look.specs.Levels.{IsWithinTitle};
 
     /// None.
     pub(crate) fn new() -> Taken
@@ -79,8 +80,10 @@ impl Taken {
         R::Error: Drop,
         ensures keeps { Keeps R.Read (taken_bytes self.old) (taken_bytes self.new) decoder.old decoder.new }
         ensures one { IsTrue result → length (taken_bytes self.new) ≡ suc (length (taken_bytes self.old)) }
-        ensures last { result ≡ false → IsIdle R.Read decoder.old
-            → IsLast R.Read (taken_bytes self.new) decoder.new }
+        ensures came { IsTrue result
+            → ReadsOn R.Read 1 (taken_bytes self.old) (taken_bytes self.new) decoder.old (Ok tt) decoder.new }
+        ensures ends { result ≡ false → (taken_bytes self.new ≡ taken_bytes self.old)
+            × EndsRow R.Read (length (taken_bytes self.old)) decoder.old decoder.new }
     {
         if self.len == MOST_BYTES {
             return false;
@@ -102,7 +105,11 @@ impl Taken {
         ensures passes { waiting_of decoder.old ≡ None
             → IfOk result (λ _. Passes R.Read decoder.old (taken_bytes self.new) decoder.new) }
         ensures fault { IfErr result (λ error. HasFault error (taken_bytes self.new)) }
-        ensures within { IfErr result (λ _. IsWithinTitle (taken_bytes self.new)) }
+        ensures row { IfErr result (λ error. IsTitleRow strict error (taken_bytes self.new)) }
+        ensures left { IfErr result (λ error. IsIdle R.Read decoder.old
+            → IfSome (view R.Read decoder.new) (LeavesBehind error (taken_bytes self.new))) }
+        ensures waits { IsWaiting decoder.old → (result ≡ Err Waiting) × (taken_bytes self.new ≡ [])
+            × RefusesRead decoder.old decoder.new }
         ensures pulls { IsAlike strict decoder.old → place ≡ offset_of decoder.old
             → PullsRow R.Read decoder.old result decoder.new }
     {
@@ -125,9 +132,10 @@ impl Taken {
         ensures most { length (taken_bytes self.new) ≤ left }
         ensures some { IfOk result (λ _. 0 < left → 0 < length (taken_bytes self.new)) }
         ensures fault { IfErr result (λ error. HasFault error (taken_bytes self.new)) }
-        ensures broken { IfErr result (λ _. IsBroken Text (taken_bytes self.new)) }
-        ensures damaged { IfOk result (λ whole. whole ≡ false → IsBroken Text (taken_bytes self.new)) }
-        ensures text { IfOk result (λ whole. IsTrue whole → IsCharacters (taken_bytes self.new)) }
+        ensures row { 0 < left → IfErr result (λ error. IsPartRow Text left error (taken_bytes self.new)) }
+        ensures left { 0 < left → IfErr result (λ error. IsIdle R.Read decoder.old
+            → IfSome (view R.Read decoder.new) (LeavesBehind error (taken_bytes self.new))) }
+        ensures sound { IfOk result (λ whole. IsSound left (taken_bytes self.new) whole) }
         ensures reads { 0 < left → waiting_of decoder.old ≡ None
             → ReadsText R.Read left (taken_bytes self.new) decoder.old result decoder.new }
     {

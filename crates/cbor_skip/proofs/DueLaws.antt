@@ -7,7 +7,7 @@ use Rattle.ciborium_ll_grammar.specs.Title.{IsTitle, IsStrictTitle, shortest_tit
 use Rattle.ciborium_ll_grammar.specs.Strings.{Kind, Bytes, Text, kind_header}
 use Rattle.ciborium_ll_grammar.specs.Strings.IsString.{definite, indefinite}
 use Rattle.ciborium_ll_grammar.specs.Elements.{Mark, Plain, Whole, open_marks, IsElement, plain, string}
-use Rattle.ciborium_ll_grammar.specs.Faults.{Place, Due, In, IsAtTitle, Answer, FirstFault}
+use Rattle.ciborium_ll_grammar.specs.Faults.{Point, Due, In, IsAtTitle, Answer, FirstFault}
 use Rattle.ciborium_ll_grammar.specs.Items.{Completes, positive, negative, float, simple, byte_string, text_string}
 use Rattle.ciborium_ll_grammar.specs.Items.{open_bytes, open_text, tag, array, pairs, open_array, open_pairs, AreItems}
 use Rattle.ciborium_ll_grammar.specs.Items.{no_items, more_items, IsItem, IsTakenTitle, AreTakenStrings}
@@ -208,7 +208,7 @@ module _ (strict : Bool) where
   }
 
   -- no item stands in front where what is due can't come
-  item_stuck : (d : ℕ) (u : List ℕ) (at : Place) → ReachesItem strict d u at → (s : List ℕ) → Stuck at s
+  item_stuck : (d : ℕ) (u : List ℕ) (at : Point) → ReachesItem strict d u at → (s : List ℕ) → Stuck at s
       → (w v : List ℕ) → IsItem strict d w → u ++ s ≡ w ++ v → ⊥
   item_stuck d u at (at_item {levels = l} {closable = c} p) s (stop f) w v i e =
       let b = goes_begins l c s (item_goes_on false d u l c p w i s v e) in
@@ -302,7 +302,7 @@ module _ (strict : Bool) where
         | inr ends ↦ absurd (open_no_break k inside.0 (t ++ r) ends.1 (parts ∙ ends.2))
       ]
 
-  long_title : strict ≡ true → (d : ℕ) (u : List ℕ) (at : Place) → ReachesItem strict d u at → IsAtTitle at
+  long_title : strict ≡ true → (d : ℕ) (u : List ℕ) (at : Point) → ReachesItem strict d u at → IsAtTitle at
       → (t r : List ℕ) (x : Header) → IsTitle t x → (w v : List ℕ) → IsItem strict d w → u ++ (t ++ r) ≡ w ++ v
       → IsStrictTitle t x
   long_title on d u at (at_item {levels = l} {closable = c} due) title t r x p w v i e =
@@ -313,7 +313,7 @@ module _ (strict : Bool) where
   long_title on d u at (at_body k reach q g) title t r x p w v i e = absurd title
   long_title on d u at (at_piece reach q g) title t r x p w v i e = absurd title
 
-  nested_open : strict ≡ true → (d : ℕ) (u : List ℕ) (at : Place) → ReachesItem strict d u at → (k : Kind) → at ≡ In k
+  nested_open : strict ≡ true → (d : ℕ) (u : List ℕ) (at : Point) → ReachesItem strict d u at → (k : Kind) → at ≡ In k
       → (t r : List ℕ) → IsTitle t (kind_header k None) → (w v : List ℕ) → IsItem strict d w → u ++ (t ++ r) ≡ w ++ v → ⊥
   nested_open on d u at (at_item due) k is t r p w v i e = absurd cc
   nested_open on d u at (at_string {bytes = a} {opens = y} {levels = l} {closable = c} {bodies = bs} {kind = j} due q g ok)
@@ -325,7 +325,7 @@ module _ (strict : Bool) where
   nested_open on d u at (at_piece reach q g) k is t r p w v i e = absurd cc
 
   -- no item stands in front where a title is refused
-  refused_stuck : (d : ℕ) (u : List ℕ) (at : Place) → ReachesItem strict d u at → (ahead : List ℕ)
+  refused_stuck : (d : ℕ) (u : List ℕ) (at : Point) → ReachesItem strict d u at → (ahead : List ℕ)
       → Refuses strict at ahead → (w v : List ℕ) → IsItem strict d w → u ++ ahead ≡ w ++ v → ⊥
   refused_stuck d u at reach ahead (long {t = t} x r title p untaken is) w v i e =
       let on = refuses_on strict t x untaken in
@@ -335,7 +335,7 @@ module _ (strict : Bool) where
       nested_open on d u at reach k refl t r p w v i (sym (ap (λ (z : List ℕ). u ++ z) is) ∙ e)
 
   -- nor where it is at fault
-  fault_stuck : (d : ℕ) (u : List ℕ) (at : Place) → ReachesItem strict d u at → (ahead : List ℕ) (answer : Answer)
+  fault_stuck : (d : ℕ) (u : List ℕ) (at : Point) → ReachesItem strict d u at → (ahead : List ℕ) (answer : Answer)
       (written : List ℕ) (consumed : ℕ)
       → FirstFault strict u [] at ahead answer written consumed → (w v : List ℕ) → IsItem strict d w
       → u ++ ahead ≡ w ++ v → ⊥
@@ -348,7 +348,7 @@ module _ (strict : Bool) where
   -- where a whole item stands in front, there is no fault
   pub no_item_fault : (d : ℕ) (x : List ℕ) → ItemInFront strict d x → HasItemFault strict d x → ⊥
   no_item_fault d x front f =
-      fault_stuck d f.before f.place f.reach f.ahead f.answer f.written f.consumed f.fault front.item front.rest
+      fault_stuck d f.before f.point f.reach f.ahead f.answer f.written f.consumed f.fault front.item front.rest
       front.is_item (sym f.is ∙ front.is)
 
   -- ---- no break and no nest where none may stand

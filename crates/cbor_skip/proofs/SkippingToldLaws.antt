@@ -14,7 +14,7 @@ use Rattle.ciborium_ll_decoder.specs.declared.dec.Error.TheVariants as e
 use Rattle.ciborium_ll_grammar.specs.Title.{BeginsRefused, title_len}
 use Rattle.ciborium_ll_grammar.specs.Strings.{Kind, Text, kind_header, IsMisplaced}
 use Rattle.ciborium_ll_text.specs.Text.{IsCharacters, BeginsNoText}
-use Rattle.ciborium_ll_grammar.specs.Faults.{Place, Due, In, BodyDue, IsAtTitle, IsInside, FirstFault, CutTitle, NoTitle}
+use Rattle.ciborium_ll_grammar.specs.Faults.{Point, Due, In, BodyDue, IsAtTitle, IsInside, FirstFault, CutTitle, NoTitle}
 use Rattle.ciborium_ll_grammar.specs.Faults.{LongTitle, OtherTitle, DamagedText, CutBody, CutDamagedText, Short, Syntax}
 use Rattle.ciborium_ll_grammar.specs.Faults.{with_front}
 use Rattle.ciborium_ll_grammar.specs.Items.{AreTakenStrings, IsTakenTitle}
@@ -103,11 +103,11 @@ module _ {R E : Type 0} (source : Ghosts R E) (depth room : ℕ) (old : Decoder 
 
     -- ---- where a title is due
 
-    no_title : (bytes : List ℕ) (place : Place) (at : Decoder R) (start : ℕ) (new : Decoder R)
-        → ReachesItem (strictness old) depth bytes place
-        → IsAtTitle place → Passes source old bytes at → RefusesTitle source at start new
+    no_title : (bytes : List ℕ) (point : Point) (at : Decoder R) (start : ℕ) (new : Decoder R)
+        → ReachesItem (strictness old) depth bytes point
+        → IsAtTitle point → Passes source old bytes at → RefusesTitle source at start new
         → (n : ℕ) × (start ≡ old.offset + n) × MeetsItemFault source (strictness old) depth due (Syntax n) old new
-    no_title bytes place at start new reach title passed refused =
+    no_title bytes point at start new reach title passed refused =
         let c = came bytes at passed in
         let byte = refused.byte in
         let gone = consumes_told _ _ c.rest (byte ∷ []) c.left refused.bytes in (
@@ -116,7 +116,7 @@ module _ {R E : Type 0} (source : Ghosts R E) (depth room : ℕ) (old : Decoder 
           record {
             fault = record {
               before = bytes;
-              place = place;
+              point = point;
               ahead = c.rest;
               answer = Syntax (length bytes);
               written = [];
@@ -139,11 +139,11 @@ module _ {R E : Type 0} (source : Ghosts R E) (depth room : ℕ) (old : Decoder 
         strict_settled old.waiting old.strict (ready.none_waits mode) ∙ mode
 
     -- a title that it refuses
-    long_title : (bytes : List ℕ) (place : Place) (at : Decoder R) (start : ℕ) (new : Decoder R)
-        → ReachesItem (strictness old) depth bytes place
-        → IsAtTitle place → Passes source old bytes at → RefusesLonger source at start new
+    long_title : (bytes : List ℕ) (point : Point) (at : Decoder R) (start : ℕ) (new : Decoder R)
+        → ReachesItem (strictness old) depth bytes point
+        → IsAtTitle point → Passes source old bytes at → RefusesLonger source at start new
         → (n : ℕ) × (start ≡ old.offset + n) × MeetsItemFault source (strictness old) depth due (Syntax n) old new
-    long_title bytes place at start new reach title passed longer =
+    long_title bytes point at start new reach title passed longer =
         let c = came bytes at passed in
         let gone = consumes_told _ _ c.rest longer.title c.left longer.bytes in (
           length bytes,
@@ -151,7 +151,7 @@ module _ {R E : Type 0} (source : Ghosts R E) (depth room : ℕ) (old : Decoder 
           record {
             fault = record {
               before = bytes;
-              place = place;
+              point = point;
               ahead = c.rest;
               answer = Syntax (length bytes);
               written = [];
@@ -182,7 +182,7 @@ module _ {R E : Type 0} (source : Ghosts R E) (depth room : ℕ) (old : Decoder 
           record {
             fault = record {
               before = bytes;
-              place = In k;
+              point = In k;
               ahead = c.rest;
               answer = Syntax (length bytes);
               written = [];
@@ -197,11 +197,11 @@ module _ {R E : Type 0} (source : Ghosts R E) (depth room : ℕ) (old : Decoder 
           },
         )
 
-    cut_title : (bytes : List ℕ) (place : Place) (at : Decoder R) (fault : E) (new : Decoder R)
-        → ReachesItem (strictness old) depth bytes place
-        → IsAtTitle place → Passes source old bytes at → PullsHeader source at (Err (e.Io fault)) new
+    cut_title : (bytes : List ℕ) (point : Point) (at : Decoder R) (fault : E) (new : Decoder R)
+        → ReachesItem (strictness old) depth bytes point
+        → IsAtTitle point → Passes source old bytes at → PullsHeader source at (Err (e.Io fault)) new
         → MeetsItemFault source (strictness old) depth due Short old new
-    cut_title bytes place at fault new reach title passed fails =
+    cut_title bytes point at fault new reach title passed fails =
         let c = came bytes at passed in
         let cut = fails.steady (passed.steady ready.steady) in
         let gone = consumes_told _ _ c.rest fails.read c.left cut.0 in
@@ -210,7 +210,7 @@ module _ {R E : Type 0} (source : Ghosts R E) (depth room : ℕ) (old : Decoder 
         record {
           fault = record {
             before = bytes;
-            place = place;
+            point = point;
             ahead = c.rest;
             answer = Short;
             written = [];
@@ -260,7 +260,7 @@ module _ {R E : Type 0} (source : Ghosts R E) (depth room : ℕ) (old : Decoder 
           record {
             fault = record {
               before = bytes;
-              place = In k;
+              point = In k;
               ahead = c.rest;
               answer = Syntax (length bytes);
               written = [];
@@ -297,7 +297,7 @@ module _ {R E : Type 0} (source : Ghosts R E) (depth room : ℕ) (old : Decoder 
         record {
           fault = record {
             before = bytes;
-            place = BodyDue k len start;
+            point = BodyDue k len start;
             ahead = c.rest;
             answer = Short;
             written = with_front [] k len part.front;
@@ -351,7 +351,7 @@ module _ {R E : Type 0} (source : Ghosts R E) (depth room : ℕ) (old : Decoder 
         record {
           fault = record {
             before = bytes;
-            place = BodyDue Text len start;
+            point = BodyDue Text len start;
             ahead = c.rest;
             answer = Syntax start;
             written = with_front [] Text len [];
@@ -381,17 +381,17 @@ module _ {R E : Type 0} (source : Ghosts R E) (depth room : ℕ) (old : Decoder 
     body_told bytes k len start at-place at e.Waiting new reach passed place ends = absurd ends.stops
 
     -- a title that fails, by its answer
-    title_told : (bytes : List ℕ) (place : Place) (at : Decoder R) (error : Error E) (new : Decoder R)
-        → ReachesItem (strictness old) depth bytes place → IsAtTitle place → Passes source old bytes at
+    title_told : (bytes : List ℕ) (point : Point) (at : Decoder R) (error : Error E) (new : Decoder R)
+        → ReachesItem (strictness old) depth bytes point → IsAtTitle point → Passes source old bytes at
         → PullsHeader source at (Err error) new → SkipsTold source (strictness old) depth due old (Err (s.Read error)) new
-    title_told bytes place at (e.Io fault) new reach title passed fails =
-        cut_title bytes place at fault new reach title passed fails
-    title_told bytes place at (e.Syntax n) new reach title passed (inl refused) =
-        no_title bytes place at n new reach title passed refused
-    title_told bytes place at (e.Syntax n) new reach title passed (inr longer) =
-        long_title bytes place at n new reach title passed longer
-    title_told bytes place at e.TooLong new reach title passed fails = absurd (title_fits bytes at new passed fails)
-    title_told bytes place at e.Waiting new reach title passed fails = absurd fails
+    title_told bytes point at (e.Io fault) new reach title passed fails =
+        cut_title bytes point at fault new reach title passed fails
+    title_told bytes point at (e.Syntax n) new reach title passed (inl refused) =
+        no_title bytes point at n new reach title passed refused
+    title_told bytes point at (e.Syntax n) new reach title passed (inr longer) =
+        long_title bytes point at n new reach title passed longer
+    title_told bytes point at e.TooLong new reach title passed fails = absurd (title_fits bytes at new passed fails)
+    title_told bytes point at e.Waiting new reach title passed fails = absurd fails
 
     -- ---- within a string
 

@@ -7,7 +7,7 @@ use Rattle.ciborium_ll_grammar.specs.Title.{IsTitle, shortest_title, title_len}
 use Rattle.ciborium_ll_grammar.specs.Strings.{Kind, kind_header}
 use Rattle.ciborium_ll_grammar.specs.Elements.{AreWritable}
 use Rattle.ciborium_ll_grammar.specs.Items.{AreItems, AreTakenStrings, IsTakenTitle}
-use Rattle.ciborium_ll_grammar.specs.Faults.{IsInside, Place, Due, In, BodyDue}
+use Rattle.ciborium_ll_grammar.specs.Faults.{IsInside, Point, Due, In, BodyDue}
 
 -- A nest: a header behind which items stand, one level deeper. It is that of a tag (RFC 7049, 2.4), an array or a map
 -- (2.1, 2.2.1)
@@ -61,10 +61,10 @@ IsTakenInside true kind opens bodies = (strings : List ℕ)
     × (opens ≡ shortest_title (kind_header kind None) ++ strings) × AreTakenStrings true kind strings bodies
 IsTakenInside false kind opens bodies = Unit {0}
 
--- `ReachesItem strict depth bytes place`: the bytes are a beginning of an item to the depth, in its shortest spelling
--- where only that is taken, and what is due behind them is the place: an item; within a string a further one or its
--- end; or a body (RFC 7049, 2.2.2 and 3.9)
-pub data ReachesItem (strict : Bool) (depth : ℕ) : List ℕ → Place → Type 0 where
+-- `ReachesItem strict depth bytes point`: the bytes are a beginning of an item to the depth, in its shortest spelling
+-- where only that is taken, and lead to the point: an item is due; within a string a further one or its end; or a body
+-- (RFC 7049, 2.2.2 and 3.9)
+pub data ReachesItem (strict : Bool) (depth : ℕ) : List ℕ → Point → Type 0 where
   at_item : {bytes : List ℕ} {levels : ℕ} {closable : Bool} → ItemDue strict false depth bytes levels closable
       → ReachesItem strict depth bytes Due
   at_string : {bytes opens : List ℕ} {levels : ℕ} {closable : Bool} {bodies : List (List ℕ)} {kind : Kind}

@@ -4,7 +4,7 @@ use Rattle.std.specs.Prelude.{◌≡◌, ℕ, false, Bool, List, [], ◌∷◌, 
 use Rattle.ciborium_ll_grammar.specs.declared.hdr.Header.{Header}
 use Rattle.ciborium_ll_grammar.specs.Title.{IsTitle}
 use Rattle.ciborium_ll_grammar.specs.Items.{IsItem, IsTakenTitle}
-use Rattle.ciborium_ll_grammar.specs.Faults.{Place, Answer, FirstFault}
+use Rattle.ciborium_ll_grammar.specs.Faults.{Point, Answer, FirstFault}
 use Rattle.cbor_skip.specs.Due.{IsNest, ItemDue, ReachesItem}
 
 -- an item to the depth stands in front of the bytes, in any spelling or in the shortest one (RFC 7049, 2.1 to 2.4 and
@@ -21,14 +21,14 @@ pub record ItemInFront (strict : Bool) (depth : ℕ) (bytes : List ℕ) : Type 0
 -- word on writing is left open
 pub record HasItemFault (strict : Bool) (depth : ℕ) (bytes : List ℕ) : Type 0 where
   pub before : List ℕ
-  pub place : Place
+  pub point : Point
   pub ahead : List ℕ
   pub answer : Answer
   pub written : List ℕ
   pub consumed : ℕ
-  pub reach : ReachesItem strict depth before place
+  pub reach : ReachesItem strict depth before point
   pub is : bytes ≡ before ++ ahead
-  pub fault : FirstFault strict before [] place ahead answer written consumed
+  pub fault : FirstFault strict before [] point ahead answer written consumed
 
 -- behind a beginning of an item a break stands where an item is due, and may not stand in its place (RFC 7049, 2.2.1)
 pub record HasEarlyBreak (strict : Bool) (depth : ℕ) (bytes : List ℕ) : Type 0 where

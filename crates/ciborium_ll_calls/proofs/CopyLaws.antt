@@ -11,7 +11,7 @@ use Rattle.ciborium_ll.specs.Types.Error.TheVariants as e
 use Rattle.ciborium_ll.specs.Types.RecodeError.{RecodeError}
 use Rattle.ciborium_ll.specs.Types.RecodeError.TheVariants as r
 use Rattle.ciborium_ll.specs.Elements.{Mark, spelling}
-use Rattle.ciborium_ll.specs.Faults.{Place, Due, In, BodyDue, Syntax}
+use Rattle.ciborium_ll.specs.Faults.{Point, Due, In, BodyDue, Syntax}
 use Rattle.ciborium_ll.specs.Decoding.{IsFreshAs, IsSteady, offset_limit}
 use Rattle.ciborium_ll.specs.Recoding.{CopiesElements, StopsWriting}
 use Rattle.ciborium_ll.specs.RecodingTold.{IsReady, IsTold, RecodesTold, StopsAt, StopsShort}
@@ -44,8 +44,8 @@ stands_too known one other before after p q stands =
     subst (λ (bytes : List ℕ). StandInFront bytes before after) (same_bytes known one other p q) stands
 
 -- no more is consumed than is ahead
-no_more : (marks : List Mark) (place : Place) (ahead written : List ℕ) (consumed : ℕ)
-    → StopsAt marks place ahead written consumed → consumed ≤ length ahead
+no_more : (marks : List Mark) (point : Point) (ahead written : List ℕ) (consumed : ℕ)
+    → StopsAt marks point ahead written consumed → consumed ≤ length ahead
 no_more marks Due ahead written consumed stops = omega (arith, stops.1)
 no_more marks (In kind) ahead written consumed stops = omega (arith, stops.1)
 no_more marks (BodyDue kind len start) ahead written consumed stops = omega (arith, stops.7)
@@ -176,7 +176,7 @@ module _ {R E W F : Type 0} (source : Reader R E) (sink : Writer W F) where
   never_too_long count due old new told object start =
       let stop = told.0.stop in
       let parts = ap length stop.is in
-      let few = no_more stop.marks stop.place stop.ahead stop.written stop.consumed stop.stops in
+      let few = no_more stop.marks stop.point stop.ahead stop.written stop.consumed stop.stops in
       let full : 2 ^ 64 ≤ new.decoder.offset + max 8 buffer_size = told.1 in
       omega (arith, object, parts, few, full, told.0.offset, start, length-append stop.before stop.ahead)
 

@@ -6,7 +6,7 @@ use Rattle.ciborium_ll_grammar.specs.Title.{IsTitle}
 use Rattle.ciborium_ll_grammar.specs.Strings.{Kind, Bytes, Text, kind_header, IsMisplaced}
 use Rattle.std.specs.List.{AllByRecursion}
 use Rattle.ciborium_ll_grammar.specs.Elements.{Mark, spelling, IsElement, IsRun, done, next, IsMeant}
-use Rattle.ciborium_ll_grammar.specs.Faults.{Place, Due, In, BodyDue, Reaches, due, inside, body, body_inside, Answer}
+use Rattle.ciborium_ll_grammar.specs.Faults.{Point, Due, In, BodyDue, Reaches, due, inside, body, body_inside, Answer}
 use Rattle.ciborium_ll_grammar.specs.Faults.{IsAtTitle, IsRefusedIn, FirstFault, CutTitle, NoTitle, LongTitle}
 use Rattle.ciborium_ll_grammar.specs.Faults.{OtherTitle, DamagedText, CutBody, CutDamagedText}
 use Rattle.ciborium_ll_grammar.specs.Items.{IsTakenTitle}
@@ -83,13 +83,13 @@ follows i u ms (next {count = j} {first = a} {rest = b} {marks = os} {others = p
     }
 
 -- what is due can't come
-pub data Stuck : Place → List ℕ → Type 0 where
+pub data Stuck : Point → List ℕ → Type 0 where
   stop : {s : List ℕ} → Stop s → Stuck Due s
   halt : {s : List ℕ} (k : Kind) → Halt k s → Stuck (In k) s
   bad_body : {s : List ℕ} {k : Kind} {l p : ℕ} → IsBad k l s → Stuck (BodyDue k l p) s
 
 -- no run of n elements stands in front where what is due cannot come
-pub reach_stuck : (n : ℕ) (u : List ℕ) (ms : List Mark) (at : Place) → Reaches n u ms at → (s : List ℕ) → Stuck at s
+pub reach_stuck : (n : ℕ) (u : List ℕ) (ms : List Mark) (at : Point) → Reaches n u ms at → (s : List ℕ) → Stuck at s
     → (w v : List ℕ) (ns : List Mark) → IsRun n w ns → u ++ s ≡ w ++ v → ⊥
 reach_stuck n u ms at (due {before = i} l r) s (stop f) w v ns r' e =
     let z = follows i u ms r n w ns r' l s v e in
@@ -109,14 +109,14 @@ too_short Bytes l s f = f
 too_short Text l s f = inl f
 
 -- a title that is refused only where the shortest spelling alone is taken
-pub data Refuses (strict : Bool) : Place → List ℕ → Type 0 where
-  long : {at : Place} {s t : List ℕ} (x : Header) (r : List ℕ) → IsAtTitle at → IsTitle t x
+pub data Refuses (strict : Bool) : Point → List ℕ → Type 0 where
+  long : {at : Point} {s t : List ℕ} (x : Header) (r : List ℕ) → IsAtTitle at → IsTitle t x
       → (IsTakenTitle strict t x → ⊥) → s ≡ t ++ r → Refuses strict at s
   nested : {k : Kind} {s t : List ℕ} (r : List ℕ) → strict ≡ true → IsTitle t (kind_header k None) → s ≡ t ++ r
       → Refuses strict (In k) s
 
 -- elsewhere none is
-pub none_refused : (at : Place) (s : List ℕ) → Refuses false at s → ⊥
+pub none_refused : (at : Point) (s : List ℕ) → Refuses false at s → ⊥
 none_refused at s (long x r d p untaken e) = untaken tt
 none_refused at s (nested r on p e) = absurd (let o = on in cc)
 
@@ -131,15 +131,15 @@ refused_other strict k s t r x p (inr further) e =
     inr (nested r further.0 (subst (IsTitle t) further.1 p) e)
 
 -- at a fault what is due can't come, or is refused
-pub stuck_or_refused : (strict : Bool) (u : List ℕ) (ms : List Mark) (at : Place) (s : List ℕ) (a : Answer)
+pub stuck_or_refused : (strict : Bool) (u : List ℕ) (ms : List Mark) (at : Point) (s : List ℕ) (a : Answer)
     (out : List ℕ) (c : ℕ) → FirstFault strict u ms at s a out c
     → Stuck at s ⊎ Refuses strict at s
-stuck_or_refused strict u ms at s a out c (CutTitle {place = Due} d f) = inl (stop (stop_cut f))
-stuck_or_refused strict u ms at s a out c (CutTitle {place = In k} d f) = inl (halt k (halt_cut f))
-stuck_or_refused strict u ms at s a out c (CutTitle {place = BodyDue k l p} d f) = absurd d
-stuck_or_refused strict u ms at s a out c (NoTitle {place = Due} d f) = inl (stop (stop_refused f))
-stuck_or_refused strict u ms at s a out c (NoTitle {place = In k} d f) = inl (halt k (halt_refused f))
-stuck_or_refused strict u ms at s a out c (NoTitle {place = BodyDue k l p} d f) = absurd d
+stuck_or_refused strict u ms at s a out c (CutTitle {point = Due} d f) = inl (stop (stop_cut f))
+stuck_or_refused strict u ms at s a out c (CutTitle {point = In k} d f) = inl (halt k (halt_cut f))
+stuck_or_refused strict u ms at s a out c (CutTitle {point = BodyDue k l p} d f) = absurd d
+stuck_or_refused strict u ms at s a out c (NoTitle {point = Due} d f) = inl (stop (stop_refused f))
+stuck_or_refused strict u ms at s a out c (NoTitle {point = In k} d f) = inl (halt k (halt_refused f))
+stuck_or_refused strict u ms at s a out c (NoTitle {point = BodyDue k l p} d f) = absurd d
 stuck_or_refused strict u ms at s a out c (LongTitle x r d p untaken e) = inr (long x r d p untaken e)
 stuck_or_refused strict u ms at s a out c (OtherTitle {kind = k} {title = t} x r p f e) =
     refused_other strict k s t r x p f e
@@ -148,7 +148,7 @@ stuck_or_refused strict u ms at s a out c (CutBody {kind = k} {len = l} b r f e 
     inl (bad_body (too_short k l s f))
 stuck_or_refused strict u ms at s a out c (CutDamagedText b r f g e p w m) = inl (bad_body (inl f))
 
-pub stuck : (u : List ℕ) (ms : List Mark) (at : Place) (s : List ℕ) (a : Answer) (out : List ℕ) (c : ℕ)
+pub stuck : (u : List ℕ) (ms : List Mark) (at : Point) (s : List ℕ) (a : Answer) (out : List ℕ) (c : ℕ)
     → FirstFault false u ms at s a out c → Stuck at s
 stuck u ms at s a out c f = elim (stuck_or_refused false u ms at s a out c f)
     [ inl halts ↦ halts | inr refuses ↦ absurd (none_refused at s refuses) ]

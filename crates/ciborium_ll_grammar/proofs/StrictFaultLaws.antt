@@ -9,7 +9,7 @@ use Rattle.ciborium_ll_grammar.specs.Strings.{Kind, Bytes, Text, kind_header, Is
 use Rattle.ciborium_ll_grammar.specs.Strings.IsString.{definite, indefinite}
 use Rattle.ciborium_ll_grammar.specs.Elements.{Mark, Open, pieces, spelling, IsElement, plain, string}
 use Rattle.ciborium_ll_grammar.specs.Elements.{IsPlain, IsRun, IsMeant, IsStrictSpelling, IsStrictRun}
-use Rattle.ciborium_ll_grammar.specs.Faults.{Place, Due, In, BodyDue, IsAtTitle, IsInside, opened, deeper, Reaches, due}
+use Rattle.ciborium_ll_grammar.specs.Faults.{Point, Due, In, BodyDue, IsAtTitle, IsInside, opened, deeper, Reaches, due}
 use Rattle.ciborium_ll_grammar.specs.Faults.{inside, body, body_inside, due_title, RunInFront, HasFault}
 use Rattle.ciborium_ll_text.proofs.Lists.{same_front}
 use Rattle.ciborium_ll_grammar.proofs.TitleLaws.{one_title, shortest_no_longer, IsTitle-shortest}
@@ -225,12 +225,12 @@ inside_same i k a b os bs r n e =
 -- ---- a beginning of a strict run, and a title behind it
 
 -- within a string the header is no open
-abbrev IsNoOpen : Place → Header → Type 0
+abbrev IsNoOpen : Point → Header → Type 0
 IsNoOpen Due x = Unit {0}
 IsNoOpen (In k) x = x ≡ kind_header k None → ⊥
 IsNoOpen (BodyDue k len start) x = Unit {0}
 
-title_strictly : (n : ℕ) (u : List ℕ) (ms : List Mark) (at : Place) → Reaches n u ms at → IsAtTitle at → u
+title_strictly : (n : ℕ) (u : List ℕ) (ms : List Mark) (at : Point) → Reaches n u ms at → IsAtTitle at → u
     ≡ spelling ms → (t r : List ℕ) (x : Header) → IsTitle t x
     → (w v : List ℕ) (ns : List Mark) → IsStrictRun n w ns → u ++ (t ++ r) ≡ w ++ v → IsStrictTitle t x × IsNoOpen at x
 title_strictly n u ms at (due {before = i} l q) d s t r x c w v ns run e =
@@ -246,14 +246,14 @@ title_strictly n u ms at (inside {before = i} {bytes = a} {opens = b} {marks = o
 title_strictly n u ms at (body k q p) d s t r x c w v ns run e = absurd d
 title_strictly n u ms at (body_inside q p) d s t r x c w v ns run e = absurd d
 
-at_title_spelled : (place : Place) (bytes : List ℕ) (marks : List Mark) → IsAtTitle place
-    → IsStrictSpelling bytes marks (due_title place) → bytes ≡ spelling marks
+at_title_spelled : (point : Point) (bytes : List ℕ) (marks : List Mark) → IsAtTitle point
+    → IsStrictSpelling bytes marks (due_title point) → bytes ≡ spelling marks
 at_title_spelled Due bytes marks d spelled = spelled_alone bytes marks spelled
 at_title_spelled (In k) bytes marks d spelled = spelled_alone bytes marks spelled
 at_title_spelled (BodyDue k len start) bytes marks d spelled = absurd d
 
 -- no strict run of n elements stands in front where a title is refused
-strictly_stuck : (n : ℕ) (u : List ℕ) (ms : List Mark) (at : Place) → Reaches n u ms at
+strictly_stuck : (n : ℕ) (u : List ℕ) (ms : List Mark) (at : Point) → Reaches n u ms at
     → IsStrictSpelling u ms (due_title at) → (s : List ℕ) → Refuses true at s
     → (w v : List ℕ) (ns : List Mark) → IsStrictRun n w ns → u ++ s ≡ w ++ v → ⊥
 strictly_stuck n u ms at reach spelled s (long {t} x r d p untaken g) w v ns run e =
@@ -264,18 +264,18 @@ strictly_stuck n u ms at reach spelled s (nested {k} {t} r on p g) w v ns run e 
     ns run (ap (λ (z : List ℕ). u ++ z) (sym g) ∙ e)).1 refl
 
 refused_none : (strict : Bool) (n : ℕ) (x : List ℕ) (r : RunInFront strict n x) (f : HasFault strict n x)
-    → Refuses strict f.place f.ahead → ⊥
-refused_none false n x r f refuses = none_refused f.place f.ahead refuses
+    → Refuses strict f.point f.ahead → ⊥
+refused_none false n x r f refuses = none_refused f.point f.ahead refuses
 refused_none true n x r f refuses =
     let run = r.spelled refl in
-    strictly_stuck n f.before f.marks f.place f.reach (f.spelled refl) f.ahead refuses r.elements r.rest r.marks
+    strictly_stuck n f.before f.marks f.point f.reach (f.spelled refl) f.ahead refuses r.elements r.rest r.marks
     (record { run = r.run; same = spelled_alone r.elements r.marks run; meant = run.meant }) (sym f.is ∙ r.is)
 
 -- where a run of n elements stands in front, there is no fault
 pub no_fault : (strict : Bool) (n : ℕ) (x : List ℕ) → RunInFront strict n x → HasFault strict n x → ⊥
 no_fault strict n x r f =
-    elim (stuck_or_refused strict f.before f.marks f.place f.ahead f.answer f.written f.consumed f.fault) [
-      | inl halts ↦ reach_stuck n f.before f.marks f.place f.reach f.ahead halts r.elements r.rest r.marks r.run
+    elim (stuck_or_refused strict f.before f.marks f.point f.ahead f.answer f.written f.consumed f.fault) [
+      | inl halts ↦ reach_stuck n f.before f.marks f.point f.reach f.ahead halts r.elements r.rest r.marks r.run
           (sym f.is ∙ r.is)
       | inr refuses ↦ refused_none strict n x r f refuses
     ]

@@ -21,16 +21,16 @@ pub data IsInside (kind : Kind) : List ℕ → List (List ℕ) → Type 0 where
       → IsInside kind inner others
       → IsInside kind (outer ++ inner) (bodies ++ others)
 
--- what is due: an element; within a string of the kind a further one or its end; or a body of so many bytes, to whose
--- fault this offset is given
-pub data Place : Type 0 where
-  Due : Place
-  In : Kind → Place
-  BodyDue : Kind → ℕ → ℕ → Place
+-- a point in elements, by what is due there: an element; within a string of the kind a further one or its end; or a
+-- body of so many bytes, to whose fault this offset is given
+pub data Point : Type 0 where
+  Due : Point
+  In : Kind → Point
+  BodyDue : Kind → ℕ → ℕ → Point
 
--- `Reaches count bytes marks place`: the bytes are a part of so many elements, which left the marks, and what is due
--- behind them is the place
-pub data Reaches (count : ℕ) : List ℕ → List Mark → Place → Type 0 where
+-- `Reaches count bytes marks point`: the bytes are a part of so many elements, which left the marks, and lead to the
+-- point
+pub data Reaches (count : ℕ) : List ℕ → List Mark → Point → Type 0 where
   due : {before : ℕ} {bytes : List ℕ} {marks : List Mark} → before < count → IsRun before bytes marks
       → Reaches count bytes marks Due
   inside : {before : ℕ} {bytes opens : List ℕ} {marks : List Mark} {bodies : List (List ℕ)} {kind : Kind}
@@ -49,7 +49,7 @@ pub data Reaches (count : ℕ) : List ℕ → List Mark → Place → Type 0 whe
 -- ---- the first fault
 
 -- a title is due
-abbrev pub IsAtTitle : Place → Type 0
+abbrev pub IsAtTitle : Point → Type 0
 IsAtTitle Due = Unit {0}
 IsAtTitle (In kind) = Unit {0}
 IsAtTitle (BodyDue kind len start) = ⊥
@@ -68,21 +68,21 @@ pub data Answer : Type 0 where
 abbrev pub with_front : List Mark → Kind → ℕ → List ℕ → List ℕ
 with_front marks kind len front = spelling marks ++ (shortest_title (kind_header kind (Some len)) ++ front)
 
--- `FirstFault strict before marks place ahead answer written consumed`: behind the bytes before, which left the marks,
--- the bytes ahead are at fault where the place is due. The answer, what is written in all, and how many bytes ahead are
+-- `FirstFault strict before marks point ahead answer written consumed`: behind the bytes before, which left the marks,
+-- the bytes ahead are at fault at this point. The answer, what is written in all, and how many bytes ahead are
 -- consumed (RFC 7049, 2.1, 2.2.2, 2.3 and 3.9)
 pub data FirstFault (strict : Bool) (before : List ℕ) (marks : List Mark) :
-    Place → List ℕ → Answer → List ℕ → ℕ → Type 0 where
+    Point → List ℕ → Answer → List ℕ → ℕ → Type 0 where
   -- a title is due, and the bytes end before it or within it
-  CutTitle : {place : Place} {ahead : List ℕ} → IsAtTitle place → IsCutTitle ahead
-      → FirstFault strict before marks place ahead Short (spelling marks) (min 1 (length ahead))
+  CutTitle : {point : Point} {ahead : List ℕ} → IsAtTitle point → IsCutTitle ahead
+      → FirstFault strict before marks point ahead Short (spelling marks) (min 1 (length ahead))
   -- a title is due, and a byte comes with which none begins
-  NoTitle : {place : Place} {ahead : List ℕ} → IsAtTitle place → BeginsRefused ahead
-      → FirstFault strict before marks place ahead (Syntax (length before)) (spelling marks) 1
+  NoTitle : {point : Point} {ahead : List ℕ} → IsAtTitle point → BeginsRefused ahead
+      → FirstFault strict before marks point ahead (Syntax (length before)) (spelling marks) 1
   -- a title is due, and one comes that isn't the shortest, or a small simple value, where none such is taken
-  LongTitle : {place : Place} {title ahead : List ℕ} (header : Header) (rest : List ℕ) → IsAtTitle place
+  LongTitle : {point : Point} {title ahead : List ℕ} (header : Header) (rest : List ℕ) → IsAtTitle point
       → IsTitle title header → (IsTakenTitle strict title header → ⊥) → ahead ≡ title ++ rest
-      → FirstFault strict before marks place ahead (Syntax (length before)) (spelling marks) (length title)
+      → FirstFault strict before marks point ahead (Syntax (length before)) (spelling marks) (length title)
   -- within a string a title comes that may not stand there
   OtherTitle : {kind : Kind} {title ahead : List ℕ} (header : Header) (rest : List ℕ) → IsTitle title header
       → IsRefusedIn strict kind header
@@ -119,7 +119,7 @@ pub record RunInFront (strict : Bool) (count : ℕ) (bytes : List ℕ) : Type 0 
   pub spelled : strict ≡ true → IsStrictSpelling elements marks []
 
 -- the title of a body that is due, in its shortest spelling, which alone is taken where `strict` holds
-abbrev pub due_title : Place → List ℕ
+abbrev pub due_title : Point → List ℕ
 due_title Due = []
 due_title (In kind) = []
 due_title (BodyDue kind len start) = shortest_title (kind_header kind (Some len))
@@ -129,12 +129,12 @@ due_title (BodyDue kind len start) = shortest_title (kind_header kind (Some len)
 pub record HasFault (strict : Bool) (count : ℕ) (bytes : List ℕ) : Type 0 where
   pub before : List ℕ
   pub marks : List Mark
-  pub place : Place
+  pub point : Point
   pub ahead : List ℕ
   pub answer : Answer
   pub written : List ℕ
   pub consumed : ℕ
-  pub reach : Reaches count before marks place
+  pub reach : Reaches count before marks point
   pub is : bytes ≡ before ++ ahead
-  pub spelled : strict ≡ true → IsStrictSpelling before marks (due_title place)
-  pub fault : FirstFault strict before marks place ahead answer written consumed
+  pub spelled : strict ≡ true → IsStrictSpelling before marks (due_title point)
+  pub fault : FirstFault strict before marks point ahead answer written consumed

@@ -15,7 +15,7 @@ use Rattle.ciborium_ll_text.specs.Text.{IsCharacters}
 use Rattle.ciborium_ll_grammar.specs.Elements.{AreWritable, Mark, Plain, Whole, Open, Piece, Close, pieces, spelling}
 use Rattle.ciborium_ll_grammar.specs.Elements.{IsPlain, plain, string, IsRun, done, body_spelling, IsStrictSpelling}
 use Rattle.ciborium_ll_grammar.specs.Items.{IsTakenTitle}
-use Rattle.ciborium_ll_grammar.specs.Faults.{Place, Due, In, BodyDue, Reaches, due, inside, body, body_inside}
+use Rattle.ciborium_ll_grammar.specs.Faults.{Point, Due, In, BodyDue, Reaches, due, inside, body, body_inside}
 use Rattle.ciborium_ll_grammar.specs.Faults.{IsAtTitle, IsRefusedIn, due_title, CutTitle, NoTitle, LongTitle}
 use Rattle.ciborium_ll_grammar.specs.Faults.{OtherTitle, DamagedText, CutBody, RunInFront, HasFault, Short, Syntax}
 use Rattle.ciborium_ll_grammar.proofs.OpenStrings.{IsInsideAt, one_open}
@@ -187,7 +187,7 @@ body_faulty : (strict : Bool) (n : ℕ) (v s : List ℕ) (ms : List Mark) (k : K
 body_faulty strict n v s ms k l p r sp lt = record {
   before = v;
   marks = ms;
-  place = BodyDue k l p;
+  point = BodyDue k l p;
   ahead = s;
   answer = Short;
   written = spelling ms ++ (shortest_title (kind_header k (Some l)) ++ []);
@@ -206,7 +206,7 @@ text_faulty : (strict : Bool) (n : ℕ) (v s : List ℕ) (ms : List Mark) (k : K
 text_faulty strict n v s ms k l p r sp e le un = record {
   before = v;
   marks = ms;
-  place = BodyDue Text l p;
+  point = BodyDue Text l p;
   ahead = s;
   answer = Syntax p;
   written = spelling ms ++ (shortest_title (h.Text (Some l)) ++ []);
@@ -273,13 +273,13 @@ due_titled strict n i left u s t rest ms x e r sp p taken q =
     no_bodies k = tt
 
 -- a title that isn't taken
-untaken_title : (strict : Bool) (n : ℕ) (u s t rest : List ℕ) (ms : List Mark) (at : Place) (x : Header)
+untaken_title : (strict : Bool) (n : ℕ) (u s t rest : List ℕ) (ms : List Mark) (at : Point) (x : Header)
     → Reaches n u ms at → IsAtTitle at → (strict ≡ true → IsStrictSpelling u ms (due_title at)) → IsTitle t x
     → (IsTakenTitle strict t x → ⊥) → s ≡ t ++ rest → HasFault strict n (u ++ s)
 untaken_title strict n u s t rest ms at x reach d sp p untaken q = record {
   before = u;
   marks = ms;
-  place = at;
+  point = at;
   ahead = s;
   answer = Syntax (length u);
   written = spelling ms;
@@ -291,12 +291,12 @@ untaken_title strict n u s t rest ms at x reach d sp p untaken q = record {
 }
 
 -- the bytes end where a title is due, or none begins so
-cut_title : (strict : Bool) (n : ℕ) (u s : List ℕ) (ms : List Mark) (at : Place) → Reaches n u ms at → IsAtTitle at
+cut_title : (strict : Bool) (n : ℕ) (u s : List ℕ) (ms : List Mark) (at : Point) → Reaches n u ms at → IsAtTitle at
     → (strict ≡ true → IsStrictSpelling u ms (due_title at)) → IsCutTitle s → HasFault strict n (u ++ s)
 cut_title strict n u s ms at reach d sp c = record {
   before = u;
   marks = ms;
-  place = at;
+  point = at;
   ahead = s;
   answer = Short;
   written = spelling ms;
@@ -307,13 +307,13 @@ cut_title strict n u s ms at reach d sp c = record {
   fault = CutTitle d c;
 }
 
-refused_title : (strict : Bool) (n : ℕ) (u s : List ℕ) (ms : List Mark) (at : Place) → Reaches n u ms at
+refused_title : (strict : Bool) (n : ℕ) (u s : List ℕ) (ms : List Mark) (at : Point) → Reaches n u ms at
     → IsAtTitle at → (strict ≡ true → IsStrictSpelling u ms (due_title at)) → BeginsRefused s
     → HasFault strict n (u ++ s)
 refused_title strict n u s ms at reach d sp c = record {
   before = u;
   marks = ms;
-  place = at;
+  point = at;
   ahead = s;
   answer = Syntax (length u);
   written = spelling ms;
@@ -379,7 +379,7 @@ other_title : (strict : Bool) (n : ℕ) (u s t rest : List ℕ) (ms : List Mark)
 other_title strict n u s t rest ms k x reach sp p f q = record {
   before = u;
   marks = ms;
-  place = In k;
+  point = In k;
   ahead = s;
   answer = Syntax (length u);
   written = spelling ms;

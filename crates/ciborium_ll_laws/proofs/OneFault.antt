@@ -6,7 +6,7 @@ use Rattle.ciborium_ll_grammar.specs.declared.hdr.Header.{Header}
 use Rattle.ciborium_ll_grammar.specs.Title.{IsTitle, IsCutTitle, BeginsRefused, title_len}
 use Rattle.ciborium_ll_grammar.specs.Strings.{Kind, kind_header, IsString, AreStrings, none, more, IsMisplaced}
 use Rattle.ciborium_ll_grammar.specs.Elements.{AreWritable, Mark, Open, pieces, IsElement, IsRun}
-use Rattle.ciborium_ll_grammar.specs.Faults.{IsInside, Place, Due, In, BodyDue, Reaches, due, inside, body, body_inside}
+use Rattle.ciborium_ll_grammar.specs.Faults.{IsInside, Point, Due, In, BodyDue, Reaches, due, inside, body, body_inside}
 use Rattle.ciborium_ll_grammar.specs.Faults.{Answer, FirstFault, HasFault, CutTitle, NoTitle, LongTitle, OtherTitle}
 use Rattle.ciborium_ll_grammar.specs.Faults.{DamagedText, CutBody, CutDamagedText}
 use Rattle.ciborium_ll_text.specs.Text.{BeginsNoText}
@@ -144,14 +144,14 @@ same_run i i' u u' y y' ms ms' r r' f f' e =
     ]
 
 -- a place where a title is due, and can't come
-data Base (n : ℕ) : List ℕ → List Mark → Place → List ℕ → Type 0 where
+data Base (n : ℕ) : List ℕ → List Mark → Point → List ℕ → Type 0 where
   at_due : {i : ℕ} {u y : List ℕ} {ms : List Mark} → i < n → IsRun i u ms → Stop y → Base n u ms Due y
   at_in : {i : ℕ} {u v y : List ℕ} {ms : List Mark} {bs : List (List ℕ)} {k : Kind} → i < n → IsRun i u ms
       → IsInside k v bs → AreWritable k bs
       → Halt k y → Base n (u ++ v) (ms ++ Open k ∷ pieces k bs) (In k) y
 
 -- the same bytes before, marks, place and bytes ahead
-abbrev pub SameBase : List ℕ → List ℕ → List Mark → List Mark → Place → Place → List ℕ → List ℕ → Type 0
+abbrev pub SameBase : List ℕ → List ℕ → List Mark → List Mark → Point → Point → List ℕ → List ℕ → Type 0
 SameBase u u' ms ms' at at' y y' = (u ≡ u') × (ms ≡ ms') × (at ≡ at') × (y ≡ y')
 
 -- no element comes where one is due and there is none
@@ -170,8 +170,8 @@ open_stops k u y z c f e =
     open_halts k t.0 (t.1 ++ z) y (halt_of y f k (same_kind k t.0 (t.1 ++ z) y None t.2 g)) t.2 g
 
 -- the places where a title is due and cannot come are one
-one_base : (n : ℕ) (u : List ℕ) (ms : List Mark) (at : Place) (y : List ℕ) → Base n u ms at y
-    → (u' : List ℕ) (ms' : List Mark) (at' : Place) (y' : List ℕ) → Base n u' ms' at' y' → u ++ y ≡ u' ++ y'
+one_base : (n : ℕ) (u : List ℕ) (ms : List Mark) (at : Point) (y : List ℕ) → Base n u ms at y
+    → (u' : List ℕ) (ms' : List Mark) (at' : Point) (y' : List ℕ) → Base n u' ms' at' y' → u ++ y ≡ u' ++ y'
     → SameBase u u' ms ms' at at' y y'
 one_base n u ms at y (at_due {i} l r f) u' ms' at' y' (at_due {i = i'} l' r' f') e =
     let o = same_run i i' u u' y y' ms ms' r r' (no_at_stop y f) (no_at_stop y' f') e in
@@ -210,20 +210,20 @@ one_base n u ms at y (at_in {i} {u = a} {v = b} {ms = os} {bs} {k} l r q ok f) u
     (rw (aa, bb) refl, rw (oo, k-is, bbs) refl, ap In kk, g.2)
 
 -- why a title can't come: there is none to use, or a body behind it is bad
-data Flat : Place → List ℕ → Type 0 where
-  flat_cut : {at : Place} {y : List ℕ} → IsCutTitle y → Flat at y
-  flat_refused : {at : Place} {y : List ℕ} → BeginsRefused y → Flat at y
+data Flat : Point → List ℕ → Type 0 where
+  flat_cut : {at : Point} {y : List ℕ} → IsCutTitle y → Flat at y
+  flat_refused : {at : Point} {y : List ℕ} → BeginsRefused y → Flat at y
   flat_foreign : {k : Kind} {y t : List ℕ} (r : List ℕ) (x : Header) → IsTitle t x → IsMisplaced k x → y ≡ t ++ r
       → Flat (In k) y
 
 -- a body of the kind may be due behind the place
-abbrev IsOf : Place → Kind → Type 0
+abbrev IsOf : Point → Kind → Type 0
 IsOf Due k = Unit {0}
 IsOf (In j) k = j ≡ k
 IsOf (BodyDue j l p) k = ⊥
 
 -- no title of a string of the kind stands where none can come
-flat_deep : (at : Place) (y : List ℕ) → Flat at y → (t s : List ℕ) (k : Kind) (l : ℕ) → IsOf at k
+flat_deep : (at : Point) (y : List ℕ) → Flat at y → (t s : List ℕ) (k : Kind) (l : ℕ) → IsOf at k
     → IsTitle t (kind_header k (Some l))
     → y ≡ t ++ s → ⊥
 flat_deep at y (flat_cut c) t s k l o p e = title_not_cut t s (kind_header k (Some l)) p (subst IsCutTitle e c)
@@ -233,7 +233,7 @@ flat_deep at y (flat_foreign {k = j} {t = t'} r x q f z) t s k l o p e =
     kind_not_misplaced k (Some l) (subst (IsMisplaced k) g.1 (subst (λ (i : Kind). IsMisplaced i x) o f))
 
 -- the place of a body behind a title that was due
-abbrev place_of : Place → Kind → ℕ → List ℕ → List ℕ → Place
+abbrev place_of : Point → Kind → ℕ → List ℕ → List ℕ → Point
 place_of Due k l u t = BodyDue k l (length (u ++ t) - title_len (kind_header k (Some l)))
 place_of (In j) k l u t = BodyDue k l (length u)
 place_of (BodyDue j m p) k l u t = Due
@@ -250,13 +250,13 @@ bad_of k l p s u ms a out c (CutBody b r f e g m m2 m3) = too_short k l s f
 bad_of k l p s u ms a out c (CutDamagedText b r f g e z w m) = inl f
 
 -- a fault by the place where its title was due
-data Seen (n : ℕ) : List ℕ → List Mark → Place → List ℕ → Type 0 where
-  seen_flat : {u s : List ℕ} {ms : List Mark} {at : Place} → Base n u ms at s → Flat at s → Seen n u ms at s
-  seen_deep : {u t s : List ℕ} {ms : List Mark} {at : Place} (k : Kind) (l : ℕ) → Base n u ms at (t ++ s) → IsOf at k
+data Seen (n : ℕ) : List ℕ → List Mark → Point → List ℕ → Type 0 where
+  seen_flat : {u s : List ℕ} {ms : List Mark} {at : Point} → Base n u ms at s → Flat at s → Seen n u ms at s
+  seen_deep : {u t s : List ℕ} {ms : List Mark} {at : Point} (k : Kind) (l : ℕ) → Base n u ms at (t ++ s) → IsOf at k
       → IsTitle t (kind_header k (Some l)) → Seen n (u ++ t) ms (place_of at k l u t) s
 
 -- each fault is at a place where a title was due
-seen : (n : ℕ) (u : List ℕ) (ms : List Mark) (at : Place) → Reaches n u ms at
+seen : (n : ℕ) (u : List ℕ) (ms : List Mark) (at : Point) → Reaches n u ms at
     → (s : List ℕ) (a : Answer) (out : List ℕ) (c : ℕ)
     → FirstFault false u ms at s a out c → Seen n u ms at s
 seen n u ms at (due l r) s a out c (CutTitle d f) = seen_flat (at_due l r (stop_cut f)) (flat_cut f)
@@ -276,16 +276,16 @@ seen n u ms at (body_inside {title = t} {len = m} (inside {kind = k} l r q ok) p
     seen_deep k m (at_in l r q ok (halt_bad s m p (bad_of k m _ s _ _ _ _ _ f) refl)) refl p
 
 -- faults in one list are at one place
-one_seen : (n : ℕ) (u : List ℕ) (ms : List Mark) (at : Place) (s : List ℕ) → Seen n u ms at s
-    → (u' : List ℕ) (ms' : List Mark) (at' : Place) (s' : List ℕ) → Seen n u' ms' at' s' → u ++ s ≡ u' ++ s'
+one_seen : (n : ℕ) (u : List ℕ) (ms : List Mark) (at : Point) (s : List ℕ) → Seen n u ms at s
+    → (u' : List ℕ) (ms' : List Mark) (at' : Point) (s' : List ℕ) → Seen n u' ms' at' s' → u ++ s ≡ u' ++ s'
     → SameBase u u' ms ms' at at' s s'
 one_seen n u ms at s (seen_flat b f) u' ms' at' s' (seen_flat b' f') e = one_base n u ms at s b u' ms' at' s' b' e
 one_seen n u ms at s (seen_flat b f) u' ms' at' s' (seen_deep {u = v'} {t = t'} {at = p'} k' l' b' o' q') e =
     let z = one_base n u ms at s b v' ms' p' (t' ++ s') b' (e ∙ append_assoc v' t' s') in
-    absurd (flat_deep at s f t' s' k' l' (subst (λ (i : Place). IsOf i k') (sym z.2) o') q' z.3)
+    absurd (flat_deep at s f t' s' k' l' (subst (λ (i : Point). IsOf i k') (sym z.2) o') q' z.3)
 one_seen n u ms at s (seen_deep {u = v} {t} {at = p} k l b o q) u' ms' at' s' (seen_flat b' f') e =
     let z = one_base n v ms p (t ++ s) b u' ms' at' s' b' (sym (append_assoc v t s) ∙ e) in
-    absurd (flat_deep at' s' f' t s k l (subst (λ (i : Place). IsOf i k) z.2 o) q (sym z.3))
+    absurd (flat_deep at' s' f' t s k l (subst (λ (i : Point). IsOf i k) z.2 o) q (sym z.3))
 one_seen n u ms at s (seen_deep {u = v} {t} {at = p} k l b o q) u' ms' at' s'
     (seen_deep {u = v'} {t = t'} {at = p'} k' l' b' o' q') e =
     let z = one_base n v ms p (t ++ s) b v' ms' p' (t' ++ s') b'
@@ -299,12 +299,12 @@ one_seen n u ms at s (seen_deep {u = v} {t} {at = p} k l b o q) u' ms' at' s'
     (rw (vv, tt') refl, z.1, rw (pp, kk, ll, vv, tt') refl, g.3)
 
 -- all faults of one list are at one place
-pub one_fault : (n : ℕ) (x : List ℕ) (f g : HasFault false n x) → SameBase f.before g.before f.marks g.marks f.place
-    g.place f.ahead g.ahead
+pub one_fault : (n : ℕ) (x : List ℕ) (f g : HasFault false n x) → SameBase f.before g.before f.marks g.marks f.point
+    g.point f.ahead g.ahead
 one_fault n x f g =
-    one_seen n f.before f.marks f.place f.ahead (seen n f.before f.marks f.place f.reach f.ahead f.answer f.written
+    one_seen n f.before f.marks f.point f.ahead (seen n f.before f.marks f.point f.reach f.ahead f.answer f.written
     f.consumed f.fault)
-    g.before g.marks g.place g.ahead (seen n g.before g.marks g.place g.reach g.ahead g.answer g.written g.consumed
+    g.before g.marks g.point g.ahead (seen n g.before g.marks g.point g.reach g.ahead g.answer g.written g.consumed
     g.fault)
     (sym f.is ∙ g.is)
 
@@ -316,7 +316,7 @@ cut_not_refused [] c r = r
 cut_not_refused (b ∷ s) c r = omega (arith, refused_affix b r, c)
 
 -- faults at one place have one answer, unless the bytes end within a text that is none
-same_answer : (u : List ℕ) (ms : List Mark) (at : Place) (s : List ℕ) (a : Answer) (out : List ℕ) (c : ℕ)
+same_answer : (u : List ℕ) (ms : List Mark) (at : Point) (s : List ℕ) (a : Answer) (out : List ℕ) (c : ℕ)
     → FirstFault false u ms at s a out c
     → (a' : Answer) (out' : List ℕ) (c' : ℕ) → FirstFault false u ms at s a' out' c' → (a ≡ a') ⊎ BeginsNoText s
 same_answer u ms at s a out c (LongTitle x r d p untaken e) a' out' c' g = absurd (untaken tt)
@@ -360,7 +360,7 @@ same_answer u ms at s a out c (CutDamagedText b r l n e z w m) a' out' c' (CutDa
     inl refl
 
 -- a fault at the same place
-same_place : (u u' : List ℕ) (ms ms' : List Mark) (at at' : Place) (s s' : List ℕ) (a : Answer) (out : List ℕ) (c : ℕ)
+same_place : (u u' : List ℕ) (ms ms' : List Mark) (at at' : Point) (s s' : List ℕ) (a : Answer) (out : List ℕ) (c : ℕ)
     → SameBase u u' ms ms' at at' s s' → FirstFault false u' ms' at' s' a out c → FirstFault false u ms at s a out c
 same_place u u' ms ms' at at' s s' a out c e f =
     let uu : u ≡ u' = e.0 in
@@ -372,6 +372,6 @@ same_place u u' ms ms' at at' s s' a out c e f =
 -- the faults of one list have one answer, unless the bytes end within a text that is none
 pub one_answer : (n : ℕ) (x : List ℕ) (f g : HasFault false n x) → (f.answer ≡ g.answer) ⊎ BeginsNoText f.ahead
 one_answer n x f g =
-    same_answer f.before f.marks f.place f.ahead f.answer f.written f.consumed f.fault g.answer g.written g.consumed
-    (same_place f.before g.before f.marks g.marks f.place g.place f.ahead g.ahead g.answer g.written g.consumed
+    same_answer f.before f.marks f.point f.ahead f.answer f.written f.consumed f.fault g.answer g.written g.consumed
+    (same_place f.before g.before f.marks g.marks f.point g.point f.ahead g.ahead g.answer g.written g.consumed
     (one_fault n x f g) g.fault)

@@ -12,11 +12,11 @@ pub fn no_fault()
         → HasFault strict count bytes → ⊥ }
 {}
 
-/// Where any spelling is taken, the faults of one list of bytes are all at one place, and have one answer unless the
+/// Where any spelling is taken, the faults of one list of bytes are all at one point, and have one answer unless the
 /// bytes end within a body with which no text begins.
 pub fn one_fault()
-    ensures place { (count : ℕ) (bytes : List ℕ) (fault other : HasFault false count bytes)
-        → (fault.before ≡ other.before) × (fault.marks ≡ other.marks) × (fault.place ≡ other.place)
+    ensures point { (count : ℕ) (bytes : List ℕ) (fault other : HasFault false count bytes)
+        → (fault.before ≡ other.before) × (fault.marks ≡ other.marks) × (fault.point ≡ other.point)
         × (fault.ahead ≡ other.ahead) }
     ensures answer { (count : ℕ) (bytes : List ℕ) (fault other : HasFault false count bytes)
         → (fault.answer ≡ other.answer) ⊎ BeginsNoText fault.ahead }

@@ -92,7 +92,7 @@ module _ {R E W F : Type 0} (source : Reader R E) (sink : Writer W F) where
     title_stops new error behind fails = record {
       bytes = behind.bytes;
       marks = behind.marks;
-      place = Due;
+      point = Due;
       reaches = due behind.due behind.run;
       at_title = tt;
       between = now.decoder;

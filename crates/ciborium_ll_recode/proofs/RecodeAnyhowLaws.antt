@@ -13,7 +13,7 @@ use Rattle.ciborium_ll_decoder.specs.declared.copy.RecodeError.TheVariants as r
 use Rattle.ciborium_ll_grammar.specs.Title.{shortest_title}
 use Rattle.ciborium_ll_grammar.specs.Strings.{Kind, kind_header}
 use Rattle.ciborium_ll_grammar.specs.Elements.{Mark, spelling}
-use Rattle.ciborium_ll_grammar.specs.Faults.{Place, Due, In, BodyDue, IsAtTitle, Reaches, with_front}
+use Rattle.ciborium_ll_grammar.specs.Faults.{Point, Due, In, BodyDue, IsAtTitle, Reaches, with_front}
 use Rattle.ciborium_ll_decoder.specs.Decoding.{offset_limit, next_read}
 use Rattle.ciborium_ll_io.specs.Writes.{WritesAll}
 use Rattle.ciborium_ll_decoder.specs.Finishing.{BeginsRest}
@@ -30,33 +30,33 @@ use Rattle.ciborium_ll_recode.proofs.RecodeFaultLaws.{front_output, damaged_told
 module _ {R E W F : Type 0} {strict : Bool} (source : Reader R E) (sink : Writer W F) (count room : ℕ)
     (old : Sides R W) (due written : List ℕ) where
   module _ (told : IsTold source sink strict old due written) where
-    at_title : (marks : List Mark) (place : Place) (ahead : List ℕ) (n : ℕ) → IsAtTitle place
-        → n ≤ min 1 (length ahead) → StopsAt marks place ahead (spelling marks) n
+    at_title : (marks : List Mark) (point : Point) (ahead : List ℕ) (n : ℕ) → IsAtTitle point
+        → n ≤ min 1 (length ahead) → StopsAt marks point ahead (spelling marks) n
     at_title marks Due ahead n title less = (refl, less)
     at_title marks (In k) ahead n title less = (refl, less)
     at_title marks (BodyDue k len start) ahead n title less = absurd title
 
     -- behind elements or parts of one, and at most a first byte
-    title_short : (bytes : List ℕ) (marks : List Mark) (place : Place) (between new : Decoder R) (after : W)
-        (read behind : List ℕ) → Reaches count bytes marks place → IsAtTitle place
+    title_short : (bytes : List ℕ) (marks : List Mark) (point : Point) (between new : Decoder R) (after : W)
+        (read behind : List ℕ) → Reaches count bytes marks point → IsAtTitle point
         → (copied : Copied source sink old bytes marks (sides between after))
         → (came source sink count room old due written told bytes marks (sides between after) copied).rest
         ≡ read ++ behind → length read ≤ 1
         → new.offset ≡ between.offset + length read → StopsShort source sink count due written old.decoder
         (sides new after)
-    title_short bytes marks place between new after read behind reach title copied split few offset =
+    title_short bytes marks point between new after read behind reach title copied split few offset =
         let c = came source sink count room old due written told bytes marks (sides between after) copied in
         let counted = ap length split in
         record {
           stop = record {
             before = bytes;
             marks = marks;
-            place = place;
+            point = point;
             ahead = c.rest;
             consumed = length read;
             reach = reach;
             is = c.parts;
-            stops = at_title marks place c.rest (length read) title (omega (arith, few, counted, length-append read behind));
+            stops = at_title marks point c.rest (length read) title (omega (arith, few, counted, length-append read behind));
             written = spelling marks;
           };
           output = c.output;
@@ -69,7 +69,7 @@ module _ {R E W F : Type 0} {strict : Bool} (source : Reader R E) (sink : Writer
         let c = came source sink count room old due written told stops.bytes stops.marks
         (sides stops.between new.writer) stops.copied in
         let began = rw c.left at stops.fails.began in
-        title_short stops.bytes stops.marks stops.place stops.between new.decoder new.writer stops.fails.read began.0
+        title_short stops.bytes stops.marks stops.point stops.between new.decoder new.writer stops.fails.read began.0
         stops.reaches stops.at_title stops.copied began.1 stops.fails.within_first stops.fails.offset
 
     pub title_passes : (new : Sides R W) → StopsAtTitle source sink count old e.TooLong new
@@ -79,7 +79,7 @@ module _ {R E W F : Type 0} {strict : Bool} (source : Reader R E) (sink : Writer
         (sides stops.between new.writer) stops.copied in
         let gone = consumes_told _ _ c.rest stops.fails.read c.left stops.fails.bytes in
         let full : 2 ^ 64 ≤ new.decoder.offset + next_read stops.fails.read = stops.fails.full in (
-          title_short stops.bytes stops.marks stops.place stops.between new.decoder new.writer stops.fails.read gone.0
+          title_short stops.bytes stops.marks stops.point stops.between new.decoder new.writer stops.fails.read gone.0
               stops.reaches stops.at_title stops.copied gone.2 stops.fails.within_first stops.fails.offset,
           omega (arith, full, next_read_small stops.fails.read, le-max_left 8 room),
         )
@@ -118,7 +118,7 @@ module _ {R E W F : Type 0} {strict : Bool} (source : Reader R E) (sink : Writer
           stop = record {
             before = bytes;
             marks = marks;
-            place = BodyDue k len start;
+            point = BodyDue k len start;
             ahead = c.rest;
             consumed = length part.read;
             reach = reach;

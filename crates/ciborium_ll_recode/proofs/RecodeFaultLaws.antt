@@ -11,7 +11,7 @@ use Rattle.ciborium_ll_grammar.specs.Strings.{Kind, Text, kind_header}
 use Rattle.ciborium_ll_text.specs.Text.{IsCharacters, BeginsNoText}
 use Rattle.ciborium_ll_grammar.specs.Elements.{Mark, spelling, IsStrictSpelling}
 use Rattle.ciborium_ll_grammar.specs.Items.{IsTakenTitle}
-use Rattle.ciborium_ll_grammar.specs.Faults.{Place, Due, In, BodyDue, IsAtTitle, IsRefusedIn, Reaches, due_title}
+use Rattle.ciborium_ll_grammar.specs.Faults.{Point, Due, In, BodyDue, IsAtTitle, IsRefusedIn, Reaches, due_title}
 use Rattle.ciborium_ll_grammar.specs.Faults.{Syntax, NoTitle, LongTitle, OtherTitle, DamagedText, CutDamagedText}
 use Rattle.ciborium_ll_grammar.specs.Faults.{HasFault}
 use Rattle.ciborium_ll_decoder.specs.Decoding.{view, RefusesTitle, RefusesLonger}
@@ -34,8 +34,8 @@ front_read : (read front more : List ℕ) → read ≡ front ++ more → length 
 front_read read front more e = omega (arith, ap length e, length-append front more)
 
 -- where a title is due no body's title is under way
-pub spelled_at : (place : Place) (bytes : List ℕ) (marks : List Mark) → IsAtTitle place
-    → IsStrictSpelling bytes marks [] → IsStrictSpelling bytes marks (due_title place)
+pub spelled_at : (point : Point) (bytes : List ℕ) (marks : List Mark) → IsAtTitle point
+    → IsStrictSpelling bytes marks [] → IsStrictSpelling bytes marks (due_title point)
 spelled_at Due bytes marks title spelled = spelled
 spelled_at (In kind) bytes marks title spelled = spelled
 spelled_at (BodyDue kind len start) bytes marks title spelled = absurd title
@@ -98,14 +98,14 @@ module _ {R E W F : Type 0} {strict : Bool} (source : Reader R E) (sink : Writer
             fault = record {
               before = stops.bytes;
               marks = stops.marks;
-              place = stops.place;
+              point = stops.point;
               ahead = c.rest;
               answer = Syntax (length stops.bytes);
               written = spelling stops.marks;
               consumed = 1;
               reach = stops.reaches;
               is = c.parts;
-              spelled = λ on. spelled_at stops.place stops.bytes stops.marks stops.at_title
+              spelled = λ on. spelled_at stops.point stops.bytes stops.marks stops.at_title
                   (stops.strict (told.mode ∙ on) (told.none_waits on));
               fault = NoTitle stops.at_title (subst BeginsRefused (sym gone.2) refused.refused);
             };
@@ -132,14 +132,14 @@ module _ {R E W F : Type 0} {strict : Bool} (source : Reader R E) (sink : Writer
             fault = record {
               before = stops.bytes;
               marks = stops.marks;
-              place = stops.place;
+              point = stops.point;
               ahead = c.rest;
               answer = Syntax (length stops.bytes);
               written = spelling stops.marks;
               consumed = length title;
               reach = stops.reaches;
               is = c.parts;
-              spelled = λ on. spelled_at stops.place stops.bytes stops.marks stops.at_title
+              spelled = λ on. spelled_at stops.point stops.bytes stops.marks stops.at_title
                   (stops.strict (told.mode ∙ on) (told.none_waits on));
               fault = LongTitle refused.header gone.0 stops.at_title refused.is_title
                   (subst (λ (b : Bool). IsTakenTitle b title refused.header → ⊥) on refused.not_strict) gone.2;
@@ -172,7 +172,7 @@ module _ {R E W F : Type 0} {strict : Bool} (source : Reader R E) (sink : Writer
             fault = record {
               before = stops.bytes;
               marks = stops.marks;
-              place = In stops.kind;
+              point = In stops.kind;
               ahead = c.rest;
               answer = Syntax (length stops.bytes);
               written = spelling stops.marks;
@@ -218,7 +218,7 @@ module _ {R E W F : Type 0} {strict : Bool} (source : Reader R E) (sink : Writer
           record {
             before = bytes;
             marks = marks;
-            place = BodyDue Text len start;
+            point = BodyDue Text len start;
             ahead = rest;
             answer = Syntax start;
             written = spelling marks ++ (shortest_title (kind_header Text (Some len)) ++ front);
@@ -241,7 +241,7 @@ module _ {R E W F : Type 0} {strict : Bool} (source : Reader R E) (sink : Writer
             record {
               before = bytes;
               marks = marks;
-              place = BodyDue Text len start;
+              point = BodyDue Text len start;
               ahead = rest;
               answer = Syntax start;
               written = spelling marks ++ (shortest_title (kind_header Text (Some len)) ++ front);
@@ -267,7 +267,7 @@ module _ {R E W F : Type 0} {strict : Bool} (source : Reader R E) (sink : Writer
                 record {
                   before = bytes;
                   marks = marks;
-                  place = BodyDue Text len start;
+                  point = BodyDue Text len start;
                   ahead = rest;
                   answer = Syntax start;
                   written = spelling marks ++ (shortest_title (kind_header Text (Some len)) ++ front);

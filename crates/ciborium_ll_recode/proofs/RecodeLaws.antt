@@ -15,7 +15,7 @@ use Rattle.ciborium_ll_grammar.specs.Strings.{Kind, kind_header}
 use Rattle.ciborium_ll_grammar.specs.Strings.IsString.{definite}
 use Rattle.ciborium_ll_grammar.specs.Elements.{Mark, Whole, mark_spelling, spelling, string, IsRun}
 use Rattle.ciborium_ll_grammar.specs.Elements.{IsStrictSpelling}
-use Rattle.ciborium_ll_grammar.specs.Faults.{Place, Due, BodyDue, Reaches, IsAtTitle, with_front, due, body}
+use Rattle.ciborium_ll_grammar.specs.Faults.{Point, Due, BodyDue, Reaches, IsAtTitle, with_front, due, body}
 use Rattle.ciborium_ll_decoder.specs.Decoding.{Passes, Strictly}
 use Rattle.ciborium_ll_io.specs.Writes.{WritesAll, WritesFront}
 use Rattle.ciborium_ll_recode.specs.Recoding.{WritesHeader}
@@ -58,8 +58,8 @@ module _ {R E W F : Type 0} (source : Reader R E) (sink : Writer W F) where
     pub mark_unwritten : (bytes : List ℕ) (marks : List Mark) (mark : Mark) (header : Header) (now : Sides R W)
         (after : W) (fault : F) → mark_spelling mark ≡ shortest_title header
         → Copied source sink old bytes marks now → WritesFront sink now.writer (shortest_title header) after
-        → IsRun count bytes (marks ++ mark ∷ []) ⊎ ((place : Place) × Reaches count bytes (marks ++ mark ∷ []) place
-        × IsAtTitle place) → StopsWriting source sink count room old (sides now.decoder after)
+        → IsRun count bytes (marks ++ mark ∷ []) ⊎ ((point : Point) × Reaches count bytes (marks ++ mark ∷ []) point
+        × IsAtTitle point) → StopsWriting source sink count room old (sides now.decoder after)
     mark_unwritten bytes marks mark header now after fault spelled copied stopped belongs = record {
       bytes = bytes;
       read = [];

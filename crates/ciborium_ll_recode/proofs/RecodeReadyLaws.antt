@@ -45,14 +45,14 @@ module _ {R E W F : Type 0} {strict : Bool} (source : Reader R E) (sink : Writer
           fault = record {
             before = stops.bytes;
             marks = stops.marks;
-            place = stops.place;
+            point = stops.point;
             ahead = c.rest;
             answer = Short;
             written = spelling stops.marks;
             consumed = min 1 (length c.rest);
             reach = stops.reaches;
             is = c.parts;
-            spelled = λ on. spelled_at stops.place stops.bytes stops.marks stops.at_title
+            spelled = λ on. spelled_at stops.point stops.bytes stops.marks stops.at_title
                 (stops.strict (told.mode ∙ on) (told.none_waits on));
             fault = CutTitle stops.at_title ends.0;
           };
@@ -90,7 +90,7 @@ module _ {R E W F : Type 0} {strict : Bool} (source : Reader R E) (sink : Writer
           fault = record {
             before = stops.bytes;
             marks = stops.marks;
-            place = BodyDue stops.kind stops.len stops.start;
+            point = BodyDue stops.kind stops.len stops.start;
             ahead = c.rest;
             answer = Short;
             written = spelling stops.marks ++ (shortest_title (kind_header stops.kind (Some stops.len)) ++ part.front);

@@ -7,7 +7,7 @@ use Rattle.ciborium_ll_grammar.specs.Strings.{Kind, kind_header, AreStrings, non
 use Rattle.ciborium_ll_grammar.specs.Strings.IsString.{definite, indefinite}
 use Rattle.ciborium_ll_grammar.specs.Elements.{Mark, Open, pieces, spelling, IsElement, plain, string}
 use Rattle.ciborium_ll_grammar.specs.Elements.{IsPlain, IsRun, done, next}
-use Rattle.ciborium_ll_grammar.specs.Faults.{Place, Reaches, due, inside, body, body_inside}
+use Rattle.ciborium_ll_grammar.specs.Faults.{Point, Reaches, due, inside, body, body_inside}
 use Rattle.ciborium_ll_recode.proofs.UnderWay.{IsUnderWay}
 use Rattle.ciborium_ll_grammar.proofs.TitleLaws.{one_title}
 use Rattle.ciborium_ll_grammar.proofs.StringLaws.{some_is, mixed, fronts, not_break, break_title, string_not_break}
@@ -245,7 +245,7 @@ following i u ms (next {count = j} {first = a} {rest = b} {marks = os} {others =
     }
 
 -- a part of elements is spelled within all of them
-pub spelled_within : (n : ℕ) (u : List ℕ) (ms : List Mark) (at : Place) → Reaches n u ms at → (more read : List ℕ)
+pub spelled_within : (n : ℕ) (u : List ℕ) (ms : List Mark) (at : Point) → Reaches n u ms at → (more read : List ℕ)
     → IsUnderWay at more read → (x w v : List ℕ) (ns : List Mark) → IsRun n w ns
     → u ++ x ≡ w ++ v → length (spelling ms) + length more ≤ length (spelling ns)
 spelled_within n u ms at (due {before = i} l r) front read way x w v ns run e =

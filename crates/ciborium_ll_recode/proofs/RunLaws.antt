@@ -9,7 +9,7 @@ use Rattle.ciborium_ll_grammar.specs.Strings.{kind_header}
 use Rattle.ciborium_ll_grammar.specs.Strings.IsString.{definite, indefinite}
 use Rattle.ciborium_ll_grammar.specs.Elements.{Mark, Open, pieces, spelling, IsElement, plain, string}
 use Rattle.ciborium_ll_grammar.specs.Elements.{IsRun, done, next}
-use Rattle.ciborium_ll_grammar.specs.Faults.{Place, Due, In, BodyDue, Reaches, due, inside, body, body_inside}
+use Rattle.ciborium_ll_grammar.specs.Faults.{Point, Due, In, BodyDue, Reaches, due, inside, body, body_inside}
 use Rattle.ciborium_ll_decoder.specs.Decoding.{Begins, Passes}
 use Rattle.ciborium_ll_recode.proofs.UnderWay.{IsUnderWay}
 use Rattle.ciborium_ll_grammar.proofs.TitleLaws.{shortest_no_longer, shortest_some}
@@ -20,16 +20,16 @@ use Rattle.ciborium_ll_decoder.proofs.NestLaws.{title_some}
 -- ---- what is written is no longer than what was read
 
 -- the shortest title of a body that is due
-abbrev under_way : Place → ℕ
+abbrev under_way : Point → ℕ
 under_way Due = 0
 under_way (In kind) = 0
 under_way (BodyDue kind len start) = title_len (kind_header kind (Some len))
 
-reach_shorter : (count : ℕ) (bytes : List ℕ) (marks : List Mark) (place : Place) → Reaches count bytes marks place
-    → length (spelling marks) + under_way place ≤ length bytes
-reach_shorter count bytes marks place (due {before = j} less run) = let again = run_again j bytes marks run in
+reach_shorter : (count : ℕ) (bytes : List ℕ) (marks : List Mark) (point : Point) → Reaches count bytes marks point
+    → length (spelling marks) + under_way point ≤ length bytes
+reach_shorter count bytes marks point (due {before = j} less run) = let again = run_again j bytes marks run in
     omega (arith, again.shorter)
-reach_shorter count bytes marks place (inside {before = j} {bytes = u} {opens = v} {marks = ms} {bodies = bs}
+reach_shorter count bytes marks point (inside {before = j} {bytes = u} {opens = v} {marks = ms} {bodies = bs}
     {kind = k} less run i s) =
     let again = run_again j u ms run in
     let spelled = ap length (spelling-append ms (Open k ∷ pieces k bs)) in
@@ -42,14 +42,14 @@ reach_shorter count bytes marks place (inside {before = j} {bytes = u} {opens = 
       length-append (shortest_title (kind_header k None)) (spelling (pieces k bs)),
       length-append u v,
     )
-reach_shorter count bytes marks place (body {bytes = u} {title = t} {len = l} k reach p) =
+reach_shorter count bytes marks point (body {bytes = u} {title = t} {len = l} k reach p) =
     omega (
       arith,
       reach_shorter count u marks Due reach,
       shortest_no_longer t (kind_header k (Some l)) p,
       length-append u t,
     )
-reach_shorter count bytes marks place (body_inside {bytes = u} {title = t} {len = l} {kind = k} reach p) =
+reach_shorter count bytes marks point (body_inside {bytes = u} {title = t} {len = l} {kind = k} reach p) =
     omega (
       arith,
       reach_shorter count u marks (In k) reach,
@@ -58,8 +58,8 @@ reach_shorter count bytes marks place (body_inside {bytes = u} {title = t} {len 
     )
 
 -- what was to be written is no longer than what was read
-pub way_shorter : (count : ℕ) (bytes : List ℕ) (marks : List Mark) (place : Place) (more read : List ℕ)
-    → Reaches count bytes marks place → IsUnderWay place more read
+pub way_shorter : (count : ℕ) (bytes : List ℕ) (marks : List Mark) (point : Point) (more read : List ℕ)
+    → Reaches count bytes marks point → IsUnderWay point more read
     → length (spelling marks ++ more) ≤ length (bytes ++ read)
 way_shorter count bytes marks Due more read reach way =
     let none = ap length way.0 in

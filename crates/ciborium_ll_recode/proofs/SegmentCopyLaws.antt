@@ -104,7 +104,7 @@ module _ {R E W F : Type 0} (source : Reader R E) (sink : Writer W F) (k : Kind)
       title_stops error all fails = record {
         bytes = so_far_bytes all.among.strings;
         marks = so_far_marks;
-        place = In k;
+        point = In k;
         reaches = reaches_inside all.left all.between all.among;
         at_title = tt;
         between = all.between;

@@ -4,13 +4,13 @@ use Rattle.std.proofs.Common.{append_assoc, append-nil, length-append}
 use Rattle.ciborium_ll_grammar.specs.Title.{shortest_title}
 use Rattle.ciborium_ll_grammar.specs.Strings.{kind_header}
 use Rattle.ciborium_ll_grammar.specs.Elements.{Mark, mark_spelling, spelling, IsRun}
-use Rattle.ciborium_ll_grammar.specs.Faults.{Place, Due, In, BodyDue, Reaches, IsAtTitle}
+use Rattle.ciborium_ll_grammar.specs.Faults.{Point, Due, In, BodyDue, Reaches, IsAtTitle}
 use Rattle.ciborium_ll_decoder.specs.Decoding.{Begins}
 use Rattle.ciborium_ll_recode.specs.Recoding.{NextWrite, Alone, Titled, Chunk}
 use Rattle.ciborium_ll_grammar.proofs.ElementLaws.{spelling-append}
 
 -- what is under way of a body where its copy stops: its title, and a beginning of what was read of it
-abbrev pub IsUnderWay : Place → List ℕ → List ℕ → Type 0
+abbrev pub IsUnderWay : Point → List ℕ → List ℕ → Type 0
 IsUnderWay Due more read = (more ≡ []) × (read ≡ [])
 IsUnderWay (In kind) more read = (more ≡ []) × (read ≡ [])
 IsUnderWay (BodyDue kind len start) more read =
@@ -18,7 +18,7 @@ IsUnderWay (BodyDue kind len start) more read =
     × (length part ≤ len)
 
 -- where a title is due nothing is under way
-nothing_under_way : (place : Place) → IsAtTitle place → IsUnderWay place [] []
+nothing_under_way : (point : Point) → IsAtTitle point → IsUnderWay point [] []
 nothing_under_way Due title = (refl, refl)
 nothing_under_way (In k) title = (refl, refl)
 nothing_under_way (BodyDue k len start) title = absurd title
@@ -29,7 +29,7 @@ pub record Spells (count : ℕ) (before read whole next : List ℕ) : Type 0 whe
   pub more : List ℕ
   pub is : whole ++ next ≡ spelling marks ++ more
   pub belongs : (IsRun count before marks × (more ≡ []) × (read ≡ [])) ⊎
-      ((place : Place) × Reaches count before marks place × IsUnderWay place more read)
+      ((point : Point) × Reaches count before marks point × IsUnderWay point more read)
 
 pub spells : (count room : ℕ) (before read whole next : List ℕ) → NextWrite count room before read whole next
     → Spells count before read whole next

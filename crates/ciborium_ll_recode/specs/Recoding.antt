@@ -15,7 +15,7 @@ use Rattle.ciborium_ll_grammar.specs.Title.{IsTitle, IsStrictTitle, shortest_tit
 use Rattle.ciborium_ll_grammar.specs.Strings.{Kind, kind_header, IsWritable, most_kept}
 use Rattle.ciborium_ll_grammar.specs.Elements.{Mark, Open, mark_spelling, pieces, open_marks, spelling, IsElement}
 use Rattle.ciborium_ll_grammar.specs.Elements.{IsRun, IsStrictSpelling}
-use Rattle.ciborium_ll_grammar.specs.Faults.{Place, In, BodyDue, Reaches, IsAtTitle, IsRefusedIn, with_front}
+use Rattle.ciborium_ll_grammar.specs.Faults.{Point, In, BodyDue, Reaches, IsAtTitle, IsRefusedIn, with_front}
 use Rattle.ciborium_ll_decoder.specs.Decoding.{offset_limit, MovesOn, Strictly, Passes, PullsHeader, PullsTitle}
 use Rattle.ciborium_ll_decoder.specs.Segments.{PullsOther}
 use Rattle.ciborium_ll_decoder.specs.BodyCopies.{Sides, sides}
@@ -42,7 +42,7 @@ pub data NextWrite (count room : ℕ) : List ℕ → List ℕ → List ℕ → L
   Alone : {before : List ℕ} (marks : List Mark) (mark : Mark) (header : Header)
       → mark_spelling mark ≡ shortest_title header
       → IsRun count before (marks ++ mark ∷ []) ⊎
-      ((place : Place) × Reaches count before (marks ++ mark ∷ []) place × IsAtTitle place)
+      ((point : Point) × Reaches count before (marks ++ mark ∷ []) point × IsAtTitle point)
       → NextWrite count room before [] (spelling marks) (shortest_title header)
   -- the title of a body
   Titled : {before : List ℕ} (marks : List Mark) (kind : Kind) (len start : ℕ)
@@ -83,9 +83,9 @@ module _ {R E W F : Type 0} (source : Reader R E) (sink : Writer W F) where
   pub record StopsAtTitle (count : ℕ) (old : Sides R W) (error : Error E) (new : Sides R W) : Type 0 where
     pub bytes : List ℕ
     pub marks : List Mark
-    pub place : Place
-    pub reaches : Reaches count bytes marks place
-    pub at_title : IsAtTitle place
+    pub point : Point
+    pub reaches : Reaches count bytes marks point
+    pub at_title : IsAtTitle point
     pub between : Decoder R
     pub copied : Copied old bytes marks (sides between new.writer)
     pub fails : PullsHeader source between (Err error) new.decoder

@@ -10,16 +10,16 @@ use Rattle.ciborium_ll_decoder.specs.declared.copy.RecodeError.{RecodeError}
 use Rattle.ciborium_ll_decoder.specs.declared.copy.RecodeError.TheVariants as r
 use Rattle.ciborium_ll_grammar.specs.Strings.{IsWritable, most_kept}
 use Rattle.ciborium_ll_grammar.specs.Elements.{Mark, spelling, IsRun}
-use Rattle.ciborium_ll_grammar.specs.Faults.{Place, Due, In, BodyDue, Reaches, Answer, Short, Syntax, RunInFront}
+use Rattle.ciborium_ll_grammar.specs.Faults.{Point, Due, In, BodyDue, Reaches, Answer, Short, Syntax, RunInFront}
 use Rattle.ciborium_ll_grammar.specs.Faults.{HasFault, with_front}
 use Rattle.ciborium_ll_decoder.specs.Decoding.{offset_limit, Begins, view, IsSteady}
 use Rattle.ciborium_ll_recode.specs.Recoding.{NextWrite}
 use Rattle.ciborium_ll_decoder.specs.BodyCopies.{Sides}
 
--- `StopsAt marks place ahead written consumed`: behind the marks a side failed at this place, with these bytes ahead.
+-- `StopsAt marks point ahead written consumed`: behind the marks a side failed at this point, with these bytes ahead.
 -- What is written in all, of a body under way its shortest title and a front of it, and how many bytes ahead are
 -- consumed: of a title the first one at most, of a text up to three more than are written
-abbrev pub StopsAt : List Mark → Place → List ℕ → List ℕ → ℕ → Type 0
+abbrev pub StopsAt : List Mark → Point → List ℕ → List ℕ → ℕ → Type 0
 StopsAt marks Due ahead written consumed = (written ≡ spelling marks) × (consumed ≤ min 1 (length ahead))
 StopsAt marks (In kind) ahead written consumed = (written ≡ spelling marks) × (consumed ≤ min 1 (length ahead))
 StopsAt marks (BodyDue kind len start) ahead written consumed =
@@ -32,13 +32,13 @@ StopsAt marks (BodyDue kind len start) ahead written consumed =
 pub record StopInReading (count : ℕ) (bytes : List ℕ) : Type 0 where
   pub before : List ℕ
   pub marks : List Mark
-  pub place : Place
+  pub point : Point
   pub ahead : List ℕ
   pub is : bytes ≡ before ++ ahead
-  pub reach : Reaches count before marks place
+  pub reach : Reaches count before marks point
   pub written : List ℕ
   pub consumed : ℕ
-  pub stops : StopsAt marks place ahead written consumed
+  pub stops : StopsAt marks point ahead written consumed
 
 -- a copy of so many elements, through a buffer of so much room, stops there, since no more can be written: behind all of
 -- them or a part, at one title or one chunk. All before it is written, and of that a beginning; what was read and not

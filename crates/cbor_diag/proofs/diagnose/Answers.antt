@@ -1,5 +1,5 @@
-use Rattle.std.proofs.Common.{◌≡◌, Err, refl, false}
-use Rattle.std.proofs.lemmas.Result.{err_from_is_err_and}
+use Rattle.std.proofs.Common.{refl, false}
+use Rattle.ciborium_ll.proofs.DecodingLaws.{exit_is}
 use Rattle.cbor_skip.specs.declared.SkipError.TheVariants as s
 use Rattle.cbor_diag.specs.declared.DiagError.TheVariants as d
 use Rattle.cbor_skip.proofs.ItemSteps.{pull_stops, stops_here}
@@ -11,10 +11,7 @@ use Rattle.cbor_diag.proofs.diagnose.Goals as goal
 pub returns-in_err-header-clause-reads : goal.returns-in_err-header-clause-reads
 returns-in_err-header-clause-reads g c =
     let error = c.in_err-header.field-0.0 in
-    let from = err_from_is_err_and c.from_residual.result c.from_residual.ensures.1 in
-    let is_error = from.1 in
-    let is_same = from.2 in
-    let same : c.from_residual.result ≡ Err (d.Read (s.Read error)) = cc in
+    let same = exit_is c.from_residual.result (d.Read (s.Read error)) c.from_residual.ensures.1 in
     rw same (record {
       reads = pull_stops g.R.Read c.offset-place.ensures.same c.in_err-header.ensures.header;
       moves_on = tt;
@@ -23,10 +20,7 @@ returns-in_err-header-clause-reads g c =
 pub returns-in_err-header-clause-shown : goal.returns-in_err-header-clause-shown
 returns-in_err-header-clause-shown g c =
     let error = c.in_err-header.field-0.0 in
-    let from = err_from_is_err_and c.from_residual.result c.from_residual.ensures.1 in
-    let is_error = from.1 in
-    let is_same = from.2 in
-    let same : c.from_residual.result ≡ Err (d.Read (s.Read error)) = cc in
+    let same = exit_is c.from_residual.result (d.Read (s.Read error)) c.from_residual.ensures.1 in
     rw same (none_came g.R.Read g.W.Write c.args.layout _ c.args.decoder.now _ error c.args.writer.now
     c.offset-place.ensures.same c.in_err-header.ensures.header)
 

@@ -1,7 +1,6 @@
 use Rattle.std.proofs.Common.{◌≡◌, ◌-◌, ◌<◌, suc, Bool, true, false, Result, Err, sym, subst, refl, inl, inr}
 use Rattle.std.proofs.Common.{arith}
-use Rattle.std.proofs.lemmas.Result.{err_from_is_err_and}
-use Rattle.ciborium_ll.proofs.DecodingLaws.{MovesOn-none, MovesOn-then, nearer}
+use Rattle.ciborium_ll.proofs.DecodingLaws.{exit_is, MovesOn-none, MovesOn-then, nearer}
 use Rattle.ciborium_ll_decoder.proofs.NestLaws.{title_some}
 use Rattle.cbor_skip.specs.declared.SkipError.{SkipError}
 use Rattle.cbor_skip.specs.declared.SkipError.TheVariants as s
@@ -35,11 +34,8 @@ show_item-returns-then-depth-eq0-clause-reads g t c = λ before outer at pulled 
 pub show_item-returns-in_err-is_empty-in-Tag-clause-reads : goal.show_item-returns-in_err-is_empty-in-Tag-clause-reads
 show_item-returns-in_err-is_empty-in-Tag-clause-reads g t c = λ before outer at pulled steady.
     let residual = c.from_residual-in_err-is_empty-in-Tag in
-    let from = err_from_is_err_and residual.result residual.ensures.1 in
-    let is_error = from.1 in
-    let is_same = from.2 in
     let error = c.in_err-is_empty-in-Tag.field-0.0 in
-    let same : residual.result ≡ Err error = cc in
+    let same = exit_is residual.result error residual.ensures.1 in
     let level : suc (c.args.depth - 1) ≡ c.args.depth = omega (arith, c.if-depth-eq0.false) in
     rw same (nest_stops g.R.Read outer c.args.depth before c.args.decoder.now steady (c.args.depth - 1) c.args.header
     c.show_within.new.decoder error level pulled c.in_err-is_empty-in-Tag.ensures.reads)
@@ -63,11 +59,8 @@ show_item-returns-in_err-is_empty-in-Tag-clause-moves_on g t c =
 
 pub show_item-returns-in_err-said-in-Tag-clause-reads : goal.show_item-returns-in_err-said-in-Tag-clause-reads
 show_item-returns-in_err-said-in-Tag-clause-reads g t c = λ before outer at pulled steady.
-    let from = err_from_is_err_and c.from_residual.result c.from_residual.ensures.1 in
-    let is_error = from.1 in
-    let is_same = from.2 in
     let error = c.in_err-said-in-Tag.field-0.0 in
-    let same : c.from_residual.result ≡ Err error = cc in
+    let same = exit_is c.from_residual.result error c.from_residual.ensures.1 in
     rw same (reading_unread (Unit {0}) (ItemRead g.R.Read outer c.args.depth before c.args.decoder.now) error
     c.in_err-said-in-Tag.ensures.writing)
 
@@ -88,10 +81,7 @@ show_within-returns-clause-reads g t c =
 pub show_within-returns-in_err-next-clause-reads : goal.show_within-returns-in_err-next-clause-reads
 show_within-returns-in_err-next-clause-reads g t c =
     let error = c.in_err-next.field-0.0 in
-    let from = err_from_is_err_and c.from_residual.result c.from_residual.ensures.1 in
-    let is_error = from.1 in
-    let is_same = from.2 in
-    let same : c.from_residual.result ≡ Err (d.Read (s.Read error)) = cc in
+    let same = exit_is c.from_residual.result (d.Read (s.Read error)) c.from_residual.ensures.1 in
     let some : is_done c.items.remaining ≡ false = sym c.items-test.ensures in
     rw same (stops_within g.R.Read c.items.invariant.so_far some refl
     (pull_stops g.R.Read c.offset-place.ensures.same c.in_err-next.ensures.header))
@@ -119,11 +109,8 @@ show_within-returns-in-Break-clause-moves_on g t c =
 pub show_within-returns-in_err-show_item-clause-reads : goal.show_within-returns-in_err-show_item-clause-reads
 show_within-returns-in_err-show_item-clause-reads g t c =
     let residual = c.from_residual-in_err-show_item in
-    let from = err_from_is_err_and residual.result residual.ensures.1 in
-    let is_error = from.1 in
-    let is_same = from.2 in
     let error = c.in_err-show_item.field-0.0 in
-    let same : residual.result ≡ Err error = cc in
+    let same = exit_is residual.result error residual.ensures.1 in
     let some : is_done c.items.remaining ≡ false = sym c.items-test.ensures in
     let pulled = rw c.offset-place.ensures.same at c.in_ok-next.ensures.header in
     let steady = rw c.offset-place.ensures.same at c.in_ok-next.ensures.moves_on.steady in
@@ -172,11 +159,8 @@ show_within-returns-in_err-show_item-clause-moves_on g t c =
 pub show_within-returns-in_err-said-clause-reads : goal.show_within-returns-in_err-said-clause-reads
 show_within-returns-in_err-said-clause-reads g t c =
     let residual = c.from_residual-in_err-said in
-    let from = err_from_is_err_and residual.result residual.ensures.1 in
-    let is_error = from.1 in
-    let is_same = from.2 in
     let error = c.in_err-said.field-0.0 in
-    let same : residual.result ≡ Err error = cc in
+    let same = exit_is residual.result error residual.ensures.1 in
     let Holds : Result (Unit {0}) (SkipError g.row.R-Error.Denot) → Type 0 =
     λ answer. SkipsWithin g.R.Read c.args.header c.args.depth 64 c.args.decoder.now answer c.pull.new.self in
     rw same (reading_unread Bool Holds error c.in_err-said.ensures.writing)
@@ -198,11 +182,8 @@ show_item-returns-then-depth-eq0-clause-shown g t c = deep
 
 pub show_item-returns-in_err-said-in-Tag-clause-shown : goal.show_item-returns-in_err-said-in-Tag-clause-shown
 show_item-returns-in_err-said-in-Tag-clause-shown g t c =
-    let from = err_from_is_err_and c.from_residual.result c.from_residual.ensures.1 in
-    let is_error = from.1 in
-    let is_same = from.2 in
     let error = c.in_err-said-in-Tag.field-0.0 in
-    let same : c.from_residual.result ≡ Err error = cc in
+    let same = exit_is c.from_residual.result error c.from_residual.ensures.1 in
     rw same (opening_stops g.R.Read g.W.Write c.args.header _ _ _ _ _ error
     (said_failed g.W.Write _ _ c.open.result c.said.result error _ c.said.ensures.same c.in_err-said-in-Tag.was
     c.open.ensures))
@@ -210,11 +191,8 @@ show_item-returns-in_err-said-in-Tag-clause-shown g t c =
 pub show_item-returns-in_err-is_empty-in-Tag-clause-shown : goal.show_item-returns-in_err-is_empty-in-Tag-clause-shown
 show_item-returns-in_err-is_empty-in-Tag-clause-shown g t c =
     let residual = c.from_residual-in_err-is_empty-in-Tag in
-    let from = err_from_is_err_and residual.result residual.ensures.1 in
-    let is_error = from.1 in
-    let is_same = from.2 in
     let error = c.in_err-is_empty-in-Tag.field-0.0 in
-    let same : residual.result ≡ Err error = cc in
+    let same = exit_is residual.result error residual.ensures.1 in
     let opened = said_wrote g.W.Write _ _ c.open.result c.said.result _ _ c.said.ensures.same c.in_ok-said-in-Tag.was
     c.open.ensures in
     rw same (within_stops g.R.Read g.W.Write c.args.header _ _ _ _ _ _ _ _ error c.within-inner.ensures.layout
@@ -236,10 +214,7 @@ show_item-returns-in_default-clause-shown g t c =
 pub show_within-returns-in_err-next-clause-shown : goal.show_within-returns-in_err-next-clause-shown
 show_within-returns-in_err-next-clause-shown g t c =
     let error = c.in_err-next.field-0.0 in
-    let from = err_from_is_err_and c.from_residual.result c.from_residual.ensures.1 in
-    let is_error = from.1 in
-    let is_same = from.2 in
-    let same : c.from_residual.result ≡ Err (d.Read (s.Read error)) = cc in
+    let same = exit_is c.from_residual.result (d.Read (s.Read error)) c.from_residual.ensures.1 in
     let fails = subst (λ x. PullsHeader g.R.Read x (Err error) c.pull.new.self) c.offset-place.ensures.same
     c.in_err-next.ensures.header in
     rw same (title_stops g.R.Read g.W.Write _ _ c.args.header _ _ _ _ (s.Read error) _ c.items.invariant.items fails)
@@ -255,11 +230,8 @@ show_within-returns-in-Break-clause-shown g t c =
 pub show_within-returns-in_err-said-clause-shown : goal.show_within-returns-in_err-said-clause-shown
 show_within-returns-in_err-said-clause-shown g t c =
     let residual = c.from_residual-in_err-said in
-    let from = err_from_is_err_and residual.result residual.ensures.1 in
-    let is_error = from.1 in
-    let is_same = from.2 in
     let error = c.in_err-said.field-0.0 in
-    let same : residual.result ≡ Err error = cc in
+    let same = exit_is residual.result error residual.ensures.1 in
     let pulled = rw c.offset-place.ensures.same at c.in_ok-next.ensures.header in
     rw same (lead_stops g.R.Read g.W.Write _ _ c.args.header _ _ _ c.is_value.result _ c.in_ok-next.next _ error _
     c.items.invariant.items c.is_value.ensures pulled (said_failed g.W.Write _ _ c.before-in-items.result c.said.result
@@ -268,11 +240,8 @@ show_within-returns-in_err-said-clause-shown g t c =
 pub show_within-returns-in_err-show_item-clause-shown : goal.show_within-returns-in_err-show_item-clause-shown
 show_within-returns-in_err-show_item-clause-shown g t c =
     let residual = c.from_residual-in_err-show_item in
-    let from = err_from_is_err_and residual.result residual.ensures.1 in
-    let is_error = from.1 in
-    let is_same = from.2 in
     let error = c.in_err-show_item.field-0.0 in
-    let same : residual.result ≡ Err error = cc in
+    let same = exit_is residual.result error residual.ensures.1 in
     let pulled = rw c.offset-place.ensures.same at c.in_ok-next.ensures.header in
     let led = said_wrote g.W.Write _ _ c.before-in-items.result c.said.result _ _ c.said.ensures.same c.in_ok-said.was
     c.before-in-items.ensures in

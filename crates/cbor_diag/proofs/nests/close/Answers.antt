@@ -1,5 +1,5 @@
 use Rattle.std.proofs.Common.{◌≡◌, ap, codes}
-use Rattle.ciborium_ll.proofs.EncodingLaws.{WritesBytes-then}
+use Rattle.ciborium_ll.proofs.EncodingLaws.{WritesBytes-stopped, WritesBytes-then}
 use Rattle.cbor_diag.specs.ItemTexts.{nest_closing}
 use Rattle.cbor_diag.proofs.nests.close.Goals as goal
 
@@ -12,3 +12,13 @@ pub returns-in-Map : goal.returns-in-Map
 returns-in-Map g c =
     let closing : nest_closing c.args.header ≡ codes "}" = ap nest_closing c.in-Map.is in
     WritesBytes-then g.W.Write _ _ _ _ _ _ c.in_ok-behind.ensures (rw closing c.put-in-Map.ensures)
+
+pub returns-in_err-behind : goal.returns-in_err-behind
+returns-in_err-behind g c =
+    WritesBytes-stopped g.W.Write _ _ c.from_residual.result _ (nest_closing c.args.header) c.from_residual.ensures.0
+    c.in_err-behind.ensures
+
+pub returns-in-Tag : goal.returns-in-Tag
+returns-in-Tag g c =
+    let closing : nest_closing c.args.header ≡ codes ")" = ap nest_closing c.in-Tag.is in
+    WritesBytes-then g.W.Write _ _ _ _ _ _ c.in_ok-behind.ensures (rw closing c.put.ensures)

@@ -1,7 +1,6 @@
-use Rattle.std.proofs.Common.{◌≡◌, ℕ, List, [], Some, Err, refl, subst}
-use Rattle.std.proofs.lemmas.Result.{err_from_is_err_and}
+use Rattle.std.proofs.Common.{ℕ, List, [], Some, Err, refl, subst}
 use Rattle.ciborium_ll.specs.Finishing.{EndsBody}
-use Rattle.ciborium_ll.proofs.DecodingLaws.{MovesOn-none}
+use Rattle.ciborium_ll.proofs.DecodingLaws.{exit_is, MovesOn-none}
 use Rattle.cbor_diag.specs.Showing.{ShowsText}
 use Rattle.cbor_diag.proofs.BodyShowLaws.{body_closed, body_stops, body_unopened, body_unshown}
 use Rattle.cbor_diag.proofs.ShowLaws.{string_unread}
@@ -9,11 +8,8 @@ use Rattle.cbor_diag.proofs.strings.show_body.Goals as goal
 
 pub returns-in_err-say-clause-text : goal.returns-in_err-say-clause-text
 returns-in_err-say-clause-text g c =
-    let from = err_from_is_err_and c.from_residual.result c.from_residual.ensures.1 in
-    let is_error = from.1 in
-    let is_same = from.2 in
     let error = c.in_err-say.field-0.0 in
-    let same : c.from_residual.result ≡ Err error = cc in
+    let same = exit_is c.from_residual.result error c.from_residual.ensures.1 in
     rw same (body_unopened g.R.Read g.W.Write g.P.Parser.kind c.args.quotes c.args.body.length 64 c.args.body.place
     c.args.segments.now.decoder.now c.args.writer.now error c.say.new.writer
     (subst (λ (z : List ℕ). ShowsText g.W.Write (Some z) c.args.writer.now (Err error) c.say.new.writer)
@@ -42,11 +38,8 @@ returns-clause-text g c =
 
 pub returns-in_err-say-clause-reads : goal.returns-in_err-say-clause-reads
 returns-in_err-say-clause-reads g c =
-    let from = err_from_is_err_and c.from_residual.result c.from_residual.ensures.1 in
-    let is_error = from.1 in
-    let is_same = from.2 in
     let error = c.in_err-say.field-0.0 in
-    let same : c.from_residual.result ≡ Err error = cc in
+    let same = exit_is c.from_residual.result error c.from_residual.ensures.1 in
     rw same (string_unread (λ answer. EndsBody g.R.Read g.P.Parser.kind [] c.args.body.length 64 c.args.body.place
     c.args.segments.now.decoder.now answer c.args.segments.now.decoder.now) error c.in_err-say.ensures.writing)
 

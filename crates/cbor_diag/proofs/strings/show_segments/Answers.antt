@@ -1,12 +1,11 @@
 use Rattle.std.proofs.Common.{rules, refl, subst, sym, ◌≡◌, ◌∙◌, ◌<◌, ◌^◌, [], Bool, false, Some, None, Result, Err}
 use Rattle.std.proofs.Common.{arith}
-use Rattle.std.proofs.lemmas.Result.{err_from_is_err_and}
 use Rattle.ciborium_ll.specs.Types.Error.{Error}
 use Rattle.cbor_skip.specs.declared.SkipError.TheVariants as s
 use Rattle.cbor_diag.specs.declared.DiagError.TheVariants as d
 use Rattle.ciborium_ll.specs.Finishing.{EndsBody}
 use Rattle.ciborium_ll.specs.Skipping.{SkipsString}
-use Rattle.ciborium_ll.proofs.DecodingLaws.{MovesOn-then}
+use Rattle.ciborium_ll.proofs.DecodingLaws.{exit_is, MovesOn-then}
 use Rattle.ciborium_ll.proofs.SkipLaws.{skips_end, skips_error, skips_body, skips_stop, found_rises}
 use Rattle.ciborium_ll.specs.Encoding.{WritesAll}
 use Rattle.cbor_diag.specs.Showing.{ShowsText}
@@ -69,10 +68,7 @@ returns-in_default-clause-reads g c = λ opened len range settled back meant.
 pub returns-in_err-body-clause-reads : goal.returns-in_err-body-clause-reads
 returns-in_err-body-clause-reads g c = λ opened len range settled back meant.
     let error = c.in_err-body.field-0.0 in
-    let from = err_from_is_err_and c.from_residual.result c.from_residual.ensures.1 in
-    let is_error = from.1 in
-    let is_same = from.2 in
-    let same : c.from_residual.result ≡ Err (d.Read (s.Read error)) = cc in
+    let same = exit_is c.from_residual.result (d.Read (s.Read error)) c.from_residual.ensures.1 in
     let less : c.advance.new.self.decoder.now.offset < 2 ^ 64 = search rules in
     rw same (skips_error g.R.Read g.P.Parser.kind c.segments.segments.strict len 64 opened c.segments.segments.decoder.now
     c.advance.new.self.decoder.now c.segments.segments.progress c.advance.new.self.progress error
@@ -83,11 +79,8 @@ returns-in_err-body-clause-reads g c = λ opened len range settled back meant.
 pub returns-in_err-open-clause-reads : goal.returns-in_err-open-clause-reads
 returns-in_err-open-clause-reads g c = λ opened len range settled back meant.
     let residual = c.from_residual-in_err-open in
-    let from = err_from_is_err_and residual.result residual.ensures.1 in
-    let is_error = from.1 in
-    let is_same = from.2 in
     let error = c.in_err-open.field-0.0 in
-    let same : residual.result ≡ Err error = cc in
+    let same = exit_is residual.result error residual.ensures.1 in
     let ended = c.advance.new.self.decoder.now in
     let Holds : Result (Unit {0}) (Error g.row.R-Error.Denot) → Type 0 =
     λ answer. SkipsString g.R.Read g.P.Parser.kind len 64 opened answer ended in
@@ -96,11 +89,8 @@ returns-in_err-open-clause-reads g c = λ opened len range settled back meant.
 pub returns-in_err-show_body-clause-reads : goal.returns-in_err-show_body-clause-reads
 returns-in_err-show_body-clause-reads g c = λ opened len range settled back meant.
     let residual = c.from_residual-in_err-show_body in
-    let from = err_from_is_err_and residual.result residual.ensures.1 in
-    let is_error = from.1 in
-    let is_same = from.2 in
     let error = c.in_err-show_body.field-0.0 in
-    let same : residual.result ≡ Err error = cc in
+    let same = exit_is residual.result error residual.ensures.1 in
     let advances = rw c.in-Some.is at c.in_ok-body.ensures.advances in
     let titled = c.advance.new.self.decoder.now in
     let ended = c.show_body.new.segments.decoder.now in
@@ -144,10 +134,7 @@ returns-in_default-clause-text g c = λ opened len range settled back form.
 pub returns-in_err-body-clause-text : goal.returns-in_err-body-clause-text
 returns-in_err-body-clause-text g c = λ opened len range settled back form.
     let error = c.in_err-body.field-0.0 in
-    let from = err_from_is_err_and c.from_residual.result c.from_residual.ensures.1 in
-    let is_error = from.1 in
-    let is_same = from.2 in
-    let same : c.from_residual.result ≡ Err (d.Read (s.Read error)) = cc in
+    let same = exit_is c.from_residual.result (d.Read (s.Read error)) c.from_residual.ensures.1 in
     rw same (text_fails g.R.Read g.W.Write g.P.Parser.kind c.args.quotes opened c.args.writer.now 64 c.segments.is_first
     c.segments.segments.decoder.now c.advance.new.self.decoder.now c.segments.writer c.segments.segments.strict
     c.segments.segments.progress c.advance.new.self.progress settled len error range
@@ -156,11 +143,8 @@ returns-in_err-body-clause-text g c = λ opened len range settled back form.
 pub returns-in_err-open-clause-text : goal.returns-in_err-open-clause-text
 returns-in_err-open-clause-text g c = λ opened len range settled back form.
     let residual = c.from_residual-in_err-open in
-    let from = err_from_is_err_and residual.result residual.ensures.1 in
-    let is_error = from.1 in
-    let is_same = from.2 in
     let error = c.in_err-open.field-0.0 in
-    let same : residual.result ≡ Err error = cc in
+    let same = exit_is residual.result error residual.ensures.1 in
     let advances = rw c.in-Some.is at c.in_ok-body.ensures.advances in
     rw same (text_unled g.R.Read g.W.Write g.P.Parser.kind c.args.quotes len opened c.args.writer.now
     c.segments.is_first c.segments.segments.decoder.now c.advance.new.self.decoder.now c.segments.writer
@@ -173,11 +157,8 @@ returns-in_err-open-clause-text g c = λ opened len range settled back form.
 pub returns-in_err-show_body-clause-text : goal.returns-in_err-show_body-clause-text
 returns-in_err-show_body-clause-text g c = λ opened len range settled back form.
     let residual = c.from_residual-in_err-show_body in
-    let from = err_from_is_err_and residual.result residual.ensures.1 in
-    let is_error = from.1 in
-    let is_same = from.2 in
     let error = c.in_err-show_body.field-0.0 in
-    let same : residual.result ≡ Err error = cc in
+    let same = exit_is residual.result error residual.ensures.1 in
     let advances = rw c.in-Some.is at c.in_ok-body.ensures.advances in
     rw same (text_stops g.R.Read g.W.Write g.P.Parser.kind c.args.quotes len opened c.args.writer.now
     c.segments.is_first c.segments.segments.decoder.now c.advance.new.self.decoder.now c.segments.writer

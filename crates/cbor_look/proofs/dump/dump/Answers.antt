@@ -1,40 +1,44 @@
-use Rattle.std.proofs.Common.{[], ◌++◌, length, Err, arith}
+use Rattle.std.proofs.Common.{[], ◌++◌, length, Err, refl, ◌∙◌, arith}
 use Rattle.ciborium_ll.proofs.DecodingLaws.{exit_is}
 use Rattle.cbor_look.specs.Checking.{ReadsAsCheck}
 use Rattle.cbor_look.specs.Dumps.{AreTaken, IsTaken}
 use Rattle.ciborium_ll.specs.Items.{IsTakenTitle}
 use Rattle.ciborium_ll.specs.Title.{IsTitle}
 use Rattle.ciborium_ll.proofs.NestLaws.{title_some}
-use Rattle.cbor_look.specs.Takings.{IsAlike, most_bytes, taken_bytes}
+use Rattle.cbor_look.specs.Takings.{IsAlike, taken_bytes}
+use Rattle.cbor_look.proofs.RowLaws.{row_few}
 use Rattle.cbor_look.proofs.StringLaws.{taken_all}
 use Rattle.cbor_look.proofs.DumpLaws.{shows_none}
-use Rattle.cbor_look.proofs.PullLaws.{passes_alike}
+use Rattle.cbor_look.proofs.PullLaws.{no_error, passes_alike, same_error}
 use Rattle.cbor_look.proofs.CheckLaws.{comes_first, comes_next, comes_alike, comes_end, comes_title, answers_told}
 use Rattle.cbor_look.proofs.CheckLaws.{answers_exactly}
 use Rattle.cbor_look.proofs.TitleLaws.{nests_few, up_ended, up_title}
 use Rattle.cbor_look.proofs.dump.dump.Goals as goal
 
 pub titles-init : goal.titles-init
-titles-init g c = record {
-  bytes = [];
-  shows = shows_none g.R.Read c.args.depth _ _ [] _;
-  whole = 0;
-  due = c.new-walk.ensures c.args.strict;
-  came = λ alike. comes_first g.R.Read c.args.strict c.args.depth c.new-walk.result c.args.decoder.now
-      (c.new-walk.ensures c.args.strict) alike;
-}
+titles-init g c = (
+  record {
+    bytes = [];
+    shows = shows_none g.R.Read c.args.depth _ _ [] _;
+    whole = 0;
+    due = c.new-walk.ensures c.args.strict;
+    came = λ alike. comes_first g.R.Read c.args.strict c.args.depth c.new-walk.result c.args.decoder.now
+        (c.new-walk.ensures c.args.strict) alike;
+  },
+  λ waits. (refl, refl),
+)
 
 pub returns-in-Err : goal.returns-in-Err
 returns-in-Err g c =
     let row = taken_bytes c.read_title.new.self in
     let keeps = rw c.offset-place.ensures.same at c.read_title.ensures.keeps in
     let takes = taken_all g.R.Read _ row _ _ c.new-taken.ensures keeps in
-    let up = c.titles.invariant in
+    let up = c.titles.invariant.0 in
     let level = c.level-level.ensures.value in
     let place = c.offset-place.ensures.value in
     let ended = c.ended.ensures.ends in
     let reads : IsAlike c.args.strict c.args.decoder.now → AreTaken c.ended.result
-    → ReadsAsCheck g.R.Read c.args.depth most_bytes c.args.decoder.now c.ended.result c.read_title.new.decoder =
+    → ReadsAsCheck g.R.Read c.args.depth c.args.decoder.now c.ended.result c.read_title.new.decoder =
     λ alike all.
     let come = up.came alike in
     let here = comes_alike g.R.Read c.args.strict c.args.depth c.titles.walk _ _ come in
@@ -46,7 +50,18 @@ returns-in-Err g c =
     record {
       shows = λ all. up_ended g.R.Read c.args.strict c.args.depth _ _ _ c.titles.walk row c.offset-place.result
           c.level-level.result _ _ _ c.in-Err.error c.ended.result up takes place level (c.ended.ensures.draws all)
-          ended (rw c.in-Err.is at c.read_title.ensures.within) (rw c.in-Err.is at c.read_title.ensures.fault) all;
+          ended (rw c.in-Err.is at c.read_title.ensures.row)
+          (row_few c.read_title.new.self) (rw c.in-Err.is at c.read_title.ensures.fault)
+          (rw (c.offset-place.ensures.same, c.in-Err.is) at c.read_title.ensures.left) all;
+      waits = λ waits.
+          let still = c.titles.invariant.1 waits in
+          let refused = (rw (c.offset-place.ensures.same, still.0, c.in-Err.is) at c.read_title.ensures.waits) waits in
+          let answered = c.ended.ensures.waits (same_error _ _ refused.0) refused.1 in
+          record {
+            answer = answered.0;
+            no_row = answered.1 ∙ still.1;
+            refuses = refused.2;
+          };
       reads = reads;
       told = λ due alike ready all. answers_told g.R.Read c.args.depth c.args.decoder.now due ready c.ended.result _
           (reads alike all);
@@ -61,7 +76,7 @@ title-requires g c =
     let keeps = rw c.offset-place.ensures.same at c.read_title.ensures.keeps in
     let takes = taken_all g.R.Read _ row _ _ c.new-taken.ensures keeps in
     let moved = takes.offset in
-    let up = c.titles.invariant in
+    let up = c.titles.invariant.0 in
     let begun = up.shows.takes.offset in
     let used = up.due.keeps.used in
     let few = nests_few c.args.strict c.args.depth up.whole up.due.nests up.bytes up.due.within in
@@ -77,14 +92,14 @@ returns-in_err-title g c =
     let keeps = rw c.offset-place.ensures.same at c.read_title.ensures.keeps in
     let takes = taken_all g.R.Read _ row _ _ c.new-taken.ensures keeps in
     let moved = takes.offset in
-    let up = c.titles.invariant in
+    let up = c.titles.invariant.0 in
     let begun = up.shows.takes.offset in
     let place = c.offset-place.ensures.value in
     let titled : IsTitle row c.in-Ok.header = rw c.in-Ok.is at c.read_title.ensures.title in
     let taken : IsTakenTitle c.args.strict row c.in-Ok.header = rw c.in-Ok.is at c.read_title.ensures.taken in
     let some = title_some row c.in-Ok.header titled in
     let reads : IsAlike c.args.strict c.args.decoder.now → IsTaken error
-    → ReadsAsCheck g.R.Read c.args.depth most_bytes c.args.decoder.now (Err error)
+    → ReadsAsCheck g.R.Read c.args.depth c.args.decoder.now (Err error)
     c.title.new.decoder = λ alike all.
     let come = up.came alike in
     let here = comes_alike g.R.Read c.args.strict c.args.depth c.titles.walk _ _ come in
@@ -108,6 +123,10 @@ returns-in_err-title g c =
                 takes title;
             whole = tt;
           };
+      waits = λ waits.
+          let still = c.titles.invariant.1 waits in
+          absurd (no_error _ _
+          ((rw (c.offset-place.ensures.same, still.0, c.in-Ok.is) at c.read_title.ensures.waits) waits).0);
       reads = reads;
       told = λ due alike ready all. answers_told g.R.Read c.args.depth c.args.decoder.now due ready
           (Err error) _ (reads alike all);
@@ -121,7 +140,7 @@ titles-smaller g c =
     let keeps = rw c.offset-place.ensures.same at c.read_title.ensures.keeps in
     let takes = taken_all g.R.Read _ row _ _ c.new-taken.ensures keeps in
     let moved = takes.offset in
-    let up = c.titles.invariant in
+    let up = c.titles.invariant.0 in
     let begun = up.shows.takes.offset in
     let place = c.offset-place.ensures.value in
     let titled : IsTitle row c.in-Ok.header = rw c.in-Ok.is at c.read_title.ensures.title in
@@ -133,31 +152,36 @@ titles-smaller g c =
     omega (arith, moved, some, behind)
 
 pub titles-preserved : goal.titles-preserved
-titles-preserved g c =
-    let row = taken_bytes c.read_title.new.self in
-    let keeps = rw c.offset-place.ensures.same at c.read_title.ensures.keeps in
-    let takes = taken_all g.R.Read _ row _ _ c.new-taken.ensures keeps in
-    let moved = takes.offset in
-    let up = c.titles.invariant in
-    let begun = up.shows.takes.offset in
-    let place = c.offset-place.ensures.value in
-    let titled : IsTitle row c.in-Ok.header = rw c.in-Ok.is at c.read_title.ensures.title in
-    let taken : IsTakenTitle c.args.strict row c.in-Ok.header = rw c.in-Ok.is at c.read_title.ensures.taken in
-    let title = c.in_ok-title.ensures.shows c.args.depth up.whole c.args.decoder.now.offset up.bytes
-    up.due titled taken (omega (arith, place, begun)) (omega (arith, place, moved)) tt in
-    record {
-      bytes = up.bytes ++ (row ++ title.bytes);
-      shows = up_title g.R.Read c.args.strict c.args.depth up.whole _ _ _ _ _ up.bytes _ row _ _ _ _ _ up.shows
-          takes title;
-      whole = _;
-      due = title.due;
-      came = λ alike.
-          let come = up.came alike in
-          let here = comes_alike g.R.Read c.args.strict c.args.depth c.titles.walk _ _ come in
-          let went = (rw (c.offset-place.ensures.same, c.in-Ok.is) at c.read_title.ensures.passes) here.none_waits in
-          let at = come.passed.offset in
-          let next = c.in_ok-title.ensures.shows c.args.depth 0 come.between.offset come.bytes
-          come.due titled taken (omega (arith, place, at)) (omega (arith, place, moved)) tt in
-          comes_next g.R.Read c.args.strict c.args.depth c.titles.walk _ _ _ _ _ come row next.bytes went
-          (next.passed (passes_alike g.R.Read c.args.strict _ _ row went here)) next.due;
-    }
+titles-preserved g c = (
+  let row = taken_bytes c.read_title.new.self in
+      let keeps = rw c.offset-place.ensures.same at c.read_title.ensures.keeps in
+      let takes = taken_all g.R.Read _ row _ _ c.new-taken.ensures keeps in
+      let moved = takes.offset in
+      let up = c.titles.invariant.0 in
+      let begun = up.shows.takes.offset in
+      let place = c.offset-place.ensures.value in
+      let titled : IsTitle row c.in-Ok.header = rw c.in-Ok.is at c.read_title.ensures.title in
+      let taken : IsTakenTitle c.args.strict row c.in-Ok.header = rw c.in-Ok.is at c.read_title.ensures.taken in
+      let title = c.in_ok-title.ensures.shows c.args.depth up.whole c.args.decoder.now.offset up.bytes
+      up.due titled taken (omega (arith, place, begun)) (omega (arith, place, moved)) tt in
+      record {
+        bytes = up.bytes ++ (row ++ title.bytes);
+        shows = up_title g.R.Read c.args.strict c.args.depth up.whole _ _ _ _ _ up.bytes _ row _ _ _ _ _ up.shows
+            takes title;
+        whole = _;
+        due = title.due;
+        came = λ alike.
+            let come = up.came alike in
+            let here = comes_alike g.R.Read c.args.strict c.args.depth c.titles.walk _ _ come in
+            let went = (rw (c.offset-place.ensures.same, c.in-Ok.is) at c.read_title.ensures.passes) here.none_waits in
+            let at = come.passed.offset in
+            let next = c.in_ok-title.ensures.shows c.args.depth 0 come.between.offset come.bytes
+            come.due titled taken (omega (arith, place, at)) (omega (arith, place, moved)) tt in
+            comes_next g.R.Read c.args.strict c.args.depth c.titles.walk _ _ _ _ _ come row next.bytes went
+            (next.passed (passes_alike g.R.Read c.args.strict _ _ row went here)) next.due;
+      },
+  λ waits.
+      let still = c.titles.invariant.1 waits in
+      absurd (no_error _ _
+      ((rw (c.offset-place.ensures.same, still.0, c.in-Ok.is) at c.read_title.ensures.waits) waits).0),
+)

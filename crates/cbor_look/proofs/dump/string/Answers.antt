@@ -3,7 +3,8 @@ use Rattle.ciborium_ll.proofs.DecodingLaws.{exit_is}
 use Rattle.cbor_look.specs.Takings.{taken_bytes}
 use Rattle.cbor_look.specs.StringRows.{kind_of}
 use Rattle.ciborium_ll.specs.Strings.{kind_header}
-use Rattle.cbor_look.proofs.TitleLaws.{walk_line, string_level, title_then, behind_item, string_item}
+use Rattle.cbor_look.proofs.DumpLaws.{title_then}
+use Rattle.cbor_look.proofs.TitleLaws.{walk_line, string_level, behind_item, string_item}
 use Rattle.cbor_look.proofs.DumpLaws.{not_taken}
 use Rattle.cbor_look.proofs.StopLaws.{rest_stops}
 use Rattle.cbor_look.proofs.WalkLaws.{stands_any}

@@ -1,4 +1,5 @@
 use Rattle.std.proofs.Common.{◌∙◌, ◌<◌, ◌++◌, List, ℕ, Ok, rules, append_assoc, ap, get_or, length, refl, sym, take}
+use Rattle.std.proofs.Common.{take_all}
 use Rattle.cbor_look.specs.RowTexts.{hex_text, joined_text}
 use Rattle.cbor_look.proofs.RowTextLaws.{hex_shown, joined_at, shows, then_written}
 use Rattle.cbor_look.proofs.rows.bits.Goals as goal
@@ -17,3 +18,8 @@ bytes-preserved g c =
     (λ plain. shows took _ _ (Ok c.in_ok-write.field-0) _ _ shown c.in_ok-write.ensures.writes plain refl)
     (append_assoc name (joined_text (take at all)) (hex_text (get_or all at 0))
     ∙ ap (λ (z : List ℕ). name ++ z) (sym (joined_at all at less)))
+
+pub returns : goal.returns
+returns g c = λ plain ok.
+    let same = take_all c.bytes.byte-index c.args.bytes.now c.bytes-test.false in
+    rw same at c.bytes.invariant plain

@@ -1,7 +1,8 @@
-use Rattle.std.proofs.Common.{◌∙◌, ◌-◌, ◌+◌, ◌<◌, ◌∷◌, ◌++◌, List, ℕ, Ok, Some, rules, append_assoc, ap, arith, drop, get_or, length}
-use Rattle.std.proofs.Common.{[], refl, sym, take}
+use Rattle.std.proofs.Common.{◌≡◌, ◌∙◌, ◌-◌, ◌+◌, ◌<◌, ◌∷◌, ◌++◌, List, ℕ, Ok, Some, rules, append_assoc, ap, arith}
+use Rattle.std.proofs.Common.{drop, get_or, length}
+use Rattle.std.proofs.Common.{[], refl, subst, sym, take}
 use Rattle.std.proofs.lemmas.Grind.{common_steps}
-use Rattle.std.specs.Fmt.{◌++?◌}
+use Rattle.std.specs.Fmt.{◌++?◌, HasWritten}
 use Rattle.cbor_look.specs.RowTexts.{hex_text, more_text, digits_text}
 use Rattle.cbor_look.proofs.RowTextLaws.{hex_shown, more_at, shows, then_written}
 use Rattle.cbor_look.proofs.rows.digits.Goals as goal
@@ -31,3 +32,11 @@ bytes-preserved g c =
     (λ plain. shows took _ _ (Ok c.in_ok-write-2.field-0) _ _ (ap (λ z. Some (32 ∷ []) ++? z) shown) c.in_ok-write-2.ensures.writes plain refl)
     (append_assoc first (more_text (take at rest)) (32 ∷ hex_text byte)
     ∙ ap (λ (z : List ℕ). first ++ z) (sym (more_at rest at less)))
+
+pub returns-after-bytes : goal.returns-after-bytes
+returns-after-bytes g c = λ plain ok.
+    let all = c.args.bytes.now in
+    let rest = take (length all - 1) (drop 1 all) in
+    let same : get_or all 0 0 ∷ take c.bytes.byte-index rest ≡ all = grind (arith, common_steps) in
+    subst (λ (z : List ℕ). HasWritten g.W.Write.write_str_gives c.args.f.now (digits_text z) c.bytes.f) same
+    (c.bytes.invariant plain)

@@ -1,7 +1,7 @@
 use Rattle.std.proofs.Common.{[], ◌++◌, arith}
 use Rattle.cbor_look.specs.Takings.{taken_bytes}
 use Rattle.cbor_look.specs.StringRows.{kind_of}
-use Rattle.cbor_look.proofs.DumpLaws.{fault_ends, not_taken, shows_none}
+use Rattle.cbor_look.proofs.DumpLaws.{not_taken, shows_none, shows_says}
 use Rattle.ciborium_ll.proofs.DecodingLaws.{exit_is, Passes-none}
 use Rattle.cbor_look.proofs.StringLaws.{taken_all, part_fails, part_shown, writable_none, body_stops}
 use Rattle.cbor_look.proofs.PullLaws.{passes_idle}
@@ -30,12 +30,15 @@ returns-in-Err g c = record {
       let takes = taken_all g.R.Read _ row _ _ c.new-taken.ensures keeps in
       record {
         bytes = so_far.front ++ row;
-        shows = part_fails g.R.Read depth start opens nests outer title (kind_of c.args.kind) c.args.len c.rows.left
-            c.args.level c.offset-offset.result _ _ _ row _ _ _ (record { due = due; is_title = p; below = level }) at
-            so_far takes c.read_part.ensures.most c.offset-offset.ensures.value (c.fault.ensures.draws all)
-            (rw c.in-Err.is at c.read_part.ensures.broken) (row_few c.read_part.new.taken)
-            (fault_ends c.in-Err.error c.fault.result c.args.level c.offset-offset.result row c.fault.ensures.says all
-            ((rw c.in-Err.is at c.read_part.ensures.fault) c.rows-test.true));
+        shows = shows_says g.R.Read strict c.in-Err.error c.fault.result depth start _ _ (outer ++ title)
+            (so_far.front ++ row) _ _ c.fault.ensures.says all
+            (part_fails g.R.Read strict c.in-Err.error depth start opens nests outer title (kind_of c.args.kind)
+            c.args.len c.rows.left c.args.level c.offset-offset.result _ _ _ row _ _ _
+            (record { due = due; is_title = p; below = level }) at so_far takes c.read_part.ensures.most
+            c.offset-offset.ensures.value (c.fault.ensures.draws all)
+            ((rw c.in-Err.is at c.read_part.ensures.row) c.rows-test.true) (row_few c.read_part.new.taken)
+            ((rw c.in-Err.is at c.read_part.ensures.fault) c.rows-test.true)
+            ((rw (c.offset-offset.ensures.same, c.in-Err.is) at c.read_part.ensures.left) c.rows-test.true));
         whole = tt;
         passed = λ alike. tt;
         stops = λ alike.

@@ -1,6 +1,6 @@
-use Rattle.std.proofs.Common.{◌≡◌, ℕ, ◌+◌, ◌++◌, ap, subst, sym, suc, ◌∙◌, refl, le_refl, arith}
+use Rattle.std.proofs.Common.{◌≡◌, ℕ, ◌+◌, ◌++◌, ap, subst, sym, suc, ◌∙◌, refl, inr, le_refl, arith}
 use Rattle.ciborium_ll.specs.Decoding.{PullsTitle}
-use Rattle.ciborium_ll.proofs.DecodingLaws.{exit_is, Passes-then}
+use Rattle.ciborium_ll.proofs.DecodingLaws.{exit_is, IfSome-all, Passes-then}
 use Rattle.ciborium_ll.specs.Types.Header.{Header}
 use Rattle.ciborium_ll.specs.Types.Error.TheVariants.{Syntax}
 use Rattle.ciborium_ll.specs.Items.{IsTakenTitle}
@@ -9,9 +9,9 @@ use Rattle.ciborium_ll.proofs.NestLaws.{title_some}
 use Rattle.cbor_look.specs.Levels.{title_level}
 use Rattle.cbor_look.specs.Takings.{taken_bytes}
 use Rattle.cbor_look.specs.StringRows.{kind_of}
-use Rattle.cbor_look.proofs.DumpLaws.{fault_ends, not_taken}
+use Rattle.cbor_look.proofs.DumpLaws.{not_taken, title_row}
 use Rattle.cbor_look.proofs.StringLaws.{taken_all}
-use Rattle.cbor_look.proofs.RowLaws.{title_within}
+use Rattle.cbor_look.proofs.RowLaws.{row_few}
 use Rattle.cbor_look.proofs.PullLaws.{passes_idle, passes_alike}
 use Rattle.cbor_look.proofs.PieceLaws.{alike_here, passed_row, within_no_title, within_other, within_body}
 use Rattle.cbor_look.proofs.PieceLaws.{within_first, within_fails, within_open, within_break, within_ends, within_title}
@@ -40,10 +40,12 @@ returns-in-Err g c = record {
         bytes = so_far.bytes ++ row;
         shows = within_fails g.R.Read c.args.strict depth start _ _ nests items title
             (kind_of c.args.kind) c.parts.inner _ _ stands
-            so_far at _ row c.offset-place.result _ takes place (c.fault.ensures.draws all)
-            (rw c.in-Err.is at c.read_title.ensures.within)
-            (fault_ends c.in-Err.error c.fault.result c.parts.inner c.offset-place.result row c.fault.ensures.says all
-            (rw c.in-Err.is at c.read_title.ensures.fault));
+            so_far at c.in-Err.error c.fault.result _ row c.offset-place.result _ c.fault.ensures.says all takes place
+            (c.fault.ensures.draws all)
+            (title_row c.args.strict (kind_of c.args.kind) (suc so_far.opens) c.in-Err.error row
+            (rw c.in-Err.is at c.read_title.ensures.row)) (row_few c.read_title.new.self)
+            (rw c.in-Err.is at c.read_title.ensures.fault)
+            (rw (c.offset-place.ensures.same, c.in-Err.is) at c.read_title.ensures.left);
         whole = tt;
         passed = λ alike. tt;
         stops = λ alike.
@@ -70,10 +72,11 @@ returns-in-Other g c = record {
         bytes = so_far.bytes ++ row;
         shows = within_fails g.R.Read c.args.strict depth start _ _ nests items title
             (kind_of c.args.kind) c.parts.inner _ _ stands
-            so_far at _ row c.offset-place.result _ takes place (c.fault-in-Other.ensures.draws all)
-            (title_within row c.in-Ok.header c.in-Ok.ensures.title)
-            (fault_ends (Syntax c.offset-place.result) c.fault-in-Other.result c.parts.inner c.offset-place.result row
-            c.fault-in-Other.ensures.says all (title_some row c.in-Ok.header c.in-Ok.ensures.title));
+            so_far at (Syntax c.offset-place.result) c.fault-in-Other.result _ row c.offset-place.result _
+            c.fault-in-Other.ensures.says all takes place (c.fault-in-Other.ensures.draws all)
+            (λ any. inr (omega arith, (c.in-Ok.header, c.in-Ok.ensures.title, c.in-Other.ensures)))
+            (row_few c.read_title.new.self) (title_some row c.in-Ok.header c.in-Ok.ensures.title)
+            (λ idle. IfSome-all _ _ (λ any. tt));
         whole = tt;
         passed = λ alike. tt;
         stops = λ alike.

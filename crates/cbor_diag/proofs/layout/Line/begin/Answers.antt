@@ -1,4 +1,7 @@
-use Rattle.cbor_diag.proofs.ItemTextLaws.{line_more, line_stops}
+use Rattle.std.proofs.Common.{codes, arith}
+use Rattle.ciborium_ll.proofs.EncodingLaws.{WritesBytes-stopped}
+use Rattle.cbor_diag.specs.ItemTexts.{indent}
+use Rattle.cbor_diag.proofs.ItemTextLaws.{line_begun, line_ends, line_more, line_stops}
 use Rattle.cbor_diag.proofs.layout.Line.begin.Goals as goal
 
 pub returns-in_err-put-2 : goal.returns-in_err-put-2
@@ -8,3 +11,17 @@ returns-in_err-put-2 g c =
 
 pub levels-preserved : goal.levels-preserved
 levels-preserved g c = line_more g.W.Write c.levels._level _ _ _ c.levels.invariant c.in_ok-put-2.ensures
+
+pub returns-in_err-put : goal.returns-in_err-put
+returns-in_err-put g c =
+    WritesBytes-stopped g.W.Write _ _ c.from_residual.result (codes "\n") (indent c.args.self.level)
+    c.from_residual.ensures.0 c.in_err-put.ensures
+
+pub levels-init : goal.levels-init
+levels-init g c = line_begun g.W.Write _ _ c.in_ok-put.ensures
+
+pub returns : goal.returns
+returns g c =
+    let far = c.levels-test.false in
+    let most = c.levels.auto._level-end in
+    line_ends g.W.Write c.args.self.level c.levels._level _ _ (omega (arith, far, most)) c.levels.invariant

@@ -1,4 +1,4 @@
-use Rattle.std.proofs.Common.{◌≡◌, ◌+◌, ◌-◌, length, ◌<◌, ◌≤◌, None}
+use Rattle.std.proofs.Common.{◌≡◌, ◌+◌, ◌-◌, length, ◌<◌, ◌≤◌, min, None}
 use Rattle.ciborium_ll.specs.Decoding.{Passes}
 use Rattle.ciborium_ll_text.specs.States.{after}
 use Rattle.ciborium_ll_text.specs.declared.state.State.TheVariants.{Between}
@@ -12,6 +12,7 @@ invariant-more g l = record {
   most : length (taken_bytes l.self) ≤ l.left;
   some : 0 < l.left → 0 < length (taken_bytes l.self);
   room : length (taken_bytes l.self) + due (after Between (taken_bytes l.self)) ≤ 16;
+  many : min l.left 13 ≤ length (taken_bytes l.self);
   passed : l.fn.decoder.waiting ≡ None → Passes g.R.Read l.fn.decoder (taken_bytes l.self) l.decoder;
 }
 
