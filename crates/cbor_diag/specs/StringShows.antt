@@ -124,15 +124,15 @@ is_indefinite (Some len) = false
 -- ---- one string
 
 -- behind the header of a string these bytes are a beginning of it, with these bodies
-abbrev pub IsBegun : Kind → Option ℕ → List ℕ → List (List ℕ) → Type 0
-IsBegun kind (Some len) behind bodies = (behind ≡ []) × (bodies ≡ [])
-IsBegun kind None behind bodies = IsInside kind (shortest_title (kind_header kind None) ++ behind) bodies
+abbrev pub BeginsBodies : Kind → Option ℕ → List ℕ → List (List ℕ) → Type 0
+BeginsBodies kind (Some len) behind bodies = (behind ≡ []) × (bodies ≡ [])
+BeginsBodies kind None behind bodies = IsInside kind (shortest_title (kind_header kind None) ++ behind) bodies
 
 -- they end with the title of one more body, of so many bytes: of a definite string that is its header
 abbrev pub IsTitled : Kind → Option ℕ → List ℕ → List (List ℕ) → ℕ → Type 0
 IsTitled kind (Some len) behind bodies count = (behind ≡ []) × (bodies ≡ []) × (count ≡ len)
 IsTitled kind None behind bodies count =
-    (strings : List ℕ) × (title : List ℕ) × (behind ≡ strings ++ title) × IsBegun kind None strings bodies
+    (strings : List ℕ) × (title : List ℕ) × (behind ≡ strings ++ title) × BeginsBodies kind None strings bodies
     × IsTitle title (kind_header kind (Some count))
 
 -- where a title is due none came, or one that is that of no body
@@ -161,7 +161,7 @@ module _ {R E W F : Type 0} (source : Reader R E) (sink : Writer W F) (kind : Ki
   pub record StringBegun (old now : Sides R W) : Type 0 where
     pub behind : List ℕ
     pub bodies : List (List ℕ)
-    pub begun : IsBegun kind len behind bodies
+    pub begun : BeginsBodies kind len behind bodies
     pub passed : Passes source old.decoder behind now.decoder
     pub written : WritesAll sink old.writer (bodies_text (is_indefinite len) quotes bodies) now.writer
 

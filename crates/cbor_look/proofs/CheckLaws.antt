@@ -22,11 +22,11 @@ use Rattle.cbor_look.specs.declared.dump.DumpError.TheVariants as d
 use Rattle.cbor_look.specs.declared.sequence.Sequence.{Sequence}
 use Rattle.cbor_look.specs.declared.sequence.Stopped.{Stopped}
 use Rattle.cbor_look.specs.declared.walk.Walk.{Walk}
-use Rattle.cbor_look.specs.Takings.{HasRoom, IsAlike, most_bytes}
+use Rattle.cbor_look.specs.Takings.{ThroughSomeRoom, IsAlike, most_bytes}
 use Rattle.cbor_look.specs.Levels.{Nest, StandsBehind, outside, inside, closes_one}
-use Rattle.cbor_look.specs.Dumps.{AreTaken, IsEndOf, IsTaken, EndsTitles}
+use Rattle.cbor_look.specs.Dumps.{AreRowsTaken, IsEndOf, IsTaken, EndsTitles}
 use Rattle.cbor_look.specs.Walks.{IsDue, IsDueBehind, whole_behind}
-use Rattle.cbor_look.specs.TitleRows.{StopsTitle}
+use Rattle.cbor_look.specs.TitleRows.{EndsAtTitle}
 use Rattle.cbor_look.specs.Sequences.{IsSequence, IsEnd}
 use Rattle.cbor_look.specs.Checking.{AnswersAs, AnswersTold, ReadsAsCheck}
 use Rattle.cbor_look.proofs.SequenceLaws.{one_more, check_told, check_exactly}
@@ -208,7 +208,7 @@ module _ {R E : Type 0} (source : Ghosts R E) where
     -- the end of it all, by the error of the title
     pub comes_end : {W : Type 0} (error : Error E) (len : ℕ) (new : Decoder R) (result : Result E (DumpError E W))
         → walk.used ≤ depth → PullsHeader source now (Err error) new → new.offset ≡ now.offset + len
-        → EndsTitles error walk.used len result → AreTaken result
+        → EndsTitles error walk.used len result → AreRowsTaken result
         → ReadsAsCheck source depth old result new
     comes_end error len new (Ok fault) few fails moved says taken =
         let used = come.due.keeps.used in
@@ -260,11 +260,11 @@ module _ {R E : Type 0} (source : Ghosts R E) where
 
     -- a title that was read, or the string behind it, by its error: through a buffer of some room
     abbrev Stops : SkipError E → Decoder R → Type 0
-    Stops error new = HasRoom (λ room. StopsItem source false depth room come.between error new)
+    Stops error new = ThroughSomeRoom (λ room. StopsItem source false depth room come.between error new)
 
     title_stops : (error : SkipError E) (W : Type 0) (header : Header) (place : ℕ) (titled new : Decoder R)
         → PullsTitle source now header titled → (IsSteady source now → IsSteady source titled) → place ≡ now.offset
-        → StopsTitle {R = R} {E = E} {W = W} source strict depth 0 header place come.bytes titled
+        → EndsAtTitle {R = R} {E = E} {W = W} source strict depth 0 header place come.bytes titled
         (Err (d.Item error)) new
         → Stops error new
     title_stops (s.Read error) W header place titled new pulled steady at stops =
@@ -316,7 +316,7 @@ module _ {R E : Type 0} (source : Ghosts R E) where
     pub comes_title : {W : Type 0} (error : DumpError E W) (header : Header) (place : ℕ) (titled new : Decoder R)
         → PullsTitle source now header titled → (IsSteady source now → IsSteady source titled) → place ≡ now.offset
         → titled.offset ≤ new.offset → now.offset < titled.offset
-        → StopsTitle source strict depth 0 header place come.bytes titled (Err error) new → IsTaken error
+        → EndsAtTitle source strict depth 0 header place come.bytes titled (Err error) new → IsTaken error
         → ReadsAsCheck source depth old (Err error) new
     comes_title {W = W} (d.Item why) header place titled new pulled steady at rises some stops taken =
         let there = title_stops why W header place titled new pulled steady at stops in

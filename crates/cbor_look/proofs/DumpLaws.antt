@@ -3,9 +3,9 @@ use Rattle.std.proofs.Common.{◌≡◌, ℕ, ◌+◌, List, [], ◌∷◌, ◌+
 use Rattle.std.proofs.Common.{append_assoc, append-nil, inl, inr, arith, ◌<◌, ◌≤◌, Bool, IfSome}
 use Rattle.ciborium_ll.specs.Types.Read.{Ghosts}
 use Rattle.ciborium_ll.specs.Types.Decoder.{Decoder}
-use Rattle.cbor_look.specs.Levels.{Line, bytes_of, IsFilled, Stands, AllStand, Ending, Meant, Refused, Failed, Stopped}
+use Rattle.cbor_look.specs.Levels.{Line, bytes_of, FitsRow, Stands, AllStand, Ending, Meant, Refused, Failed, Stopped}
 use Rattle.cbor_look.specs.Levels.{IsTitleFault, IsTextFault}
-use Rattle.cbor_look.specs.Endings.{IsMeant, AreMeant, EndAtFault, EndAs, LeavesAs, ending_before, ending_of}
+use Rattle.cbor_look.specs.Endings.{HasMeaning, AreMeant, EndAtFault, EndAs, LeavesAs, ending_before, ending_of}
 use Rattle.cbor_look.specs.Endings.{bytes_at_fault, fault_part}
 use Rattle.cbor_look.specs.Parts.{IsPartRow}
 use Rattle.cbor_look.specs.declared.rows.Meaning.{Meaning}
@@ -16,7 +16,7 @@ use Rattle.ciborium_ll.proofs.DecodingLaws.{IfSome-all}
 use Rattle.ciborium_ll.specs.Types.Error.{Error}
 use Rattle.ciborium_ll.specs.Types.Error.TheVariants as e
 use Rattle.cbor_skip.specs.declared.SkipError.TheVariants as s
-use Rattle.cbor_look.specs.Takings.{HasFault, IsIdle, IsTitleRow, LeavesBehind, Takes, most_bytes}
+use Rattle.cbor_look.specs.Takings.{HasBytesAtFault, IsIdle, IsTitleRow, LeavesBehind, TakesBytes, most_bytes}
 use Rattle.cbor_look.specs.Dumps.{Draws, IsRefusal, IsTaken, Lines, SaysFault, Shows, ShowsBehind, fault_lines}
 use Rattle.cbor_look.specs.declared.dump.DumpError.{DumpError}
 use Rattle.cbor_look.specs.declared.dump.DumpError.TheVariants as d
@@ -77,7 +77,8 @@ meant_then : (first second : List Line) → AreMeant first → AreMeant second �
 meant_then [] second a b = b
 meant_then (line ∷ first) second a b = (a.0, meant_then first second a.1 b)
 
-fault_behind : (line : Line) (lines : List Line) → IsMeant line.meaning → EndAtFault lines → EndAtFault (line ∷ lines)
+fault_behind : (line : Line) (lines : List Line) → HasMeaning line.meaning → EndAtFault lines
+    → EndAtFault (line ∷ lines)
 fault_behind line [] a b = absurd b
 fault_behind line (next ∷ lines) a b = (a, b)
 
@@ -97,7 +98,7 @@ ends_then Stopped first second a (inr b) = inr (fault_then first second a b)
 
 -- what was read before a read stopped
 pub read_ends : {E : Type 0} (strict : Bool) (error : Error E) (level offset : ℕ) (bytes : List ℕ)
-    → HasFault error bytes → EndAs (ending_of strict error) (fault_lines level offset bytes)
+    → HasBytesAtFault error bytes → EndAs (ending_of strict error) (fault_lines level offset bytes)
 read_ends strict (e.Syntax at) level offset [] some = absurd (omega (arith, some))
 read_ends strict (e.Syntax at) level offset (byte ∷ bytes) some = refl
 read_ends strict (e.Io fault) level offset [] some = inl tt
@@ -142,7 +143,7 @@ leaves_as strict e.TooLong bytes known left = IfSome-all known _ (λ any. tt)
 leaves_as strict e.Waiting bytes known left = IfSome-all known _ (λ any. tt)
 
 -- lines that are meant have nothing at fault
-no_fault : (meaning : Meaning) (bytes : List ℕ) → IsMeant meaning → fault_part meaning bytes ≡ []
+no_fault : (meaning : Meaning) (bytes : List ℕ) → HasMeaning meaning → fault_part meaning bytes ≡ []
 no_fault (m.Header header) bytes meant = refl
 no_fault m.Bytes bytes meant = refl
 no_fault m.Text bytes meant = refl
@@ -178,7 +179,7 @@ lines_then {how} depth start old middle new before first second a b = record {
 
 -- one line
 pub lines_one : {how : Ending} (depth start : ℕ) (old new : Option (List Line)) (before : List ℕ) (line : Line)
-    → Draws old new (line ∷ []) → line.offset ≡ start + length before → IsFilled line.bytes
+    → Draws old new (line ∷ []) → line.offset ≡ start + length before → FitsRow line.bytes
     → Stands how depth before line.meaning line → EndAs how (line ∷ [])
     → Lines depth start old new before line.bytes how
 lines_one depth start old new before line drawn offset filled stands ends = record {
@@ -214,7 +215,7 @@ module _ {R E : Type 0} (source : Ghosts R E) where
 
   -- bytes that were read, and what was shown of them and behind them
   pub shows_read : {how : Ending} (depth start : ℕ) (drawn then_drawn : Option (List Line)) (before row bytes : List ℕ)
-      (old between new : Decoder R) → Takes source old row between
+      (old between new : Decoder R) → TakesBytes source old row between
       → ShowsBehind source depth start drawn then_drawn before row bytes how between new
       → Shows source depth start drawn then_drawn before (row ++ bytes) how old new
   shows_read depth start drawn then_drawn before row bytes old between new takes behind = record {
@@ -254,11 +255,11 @@ module _ {R E : Type 0} (source : Ghosts R E) where
 
   -- what was read before a read stopped, in a row at fault where there is some
   pub shows_fault : (strict : Bool) (error : Error E) (depth start : ℕ) (drawn then_drawn : Option (List Line))
-      (before : List ℕ) (level offset : ℕ) (row : List ℕ) (old new : Decoder R) → Takes source old row new
+      (before : List ℕ) (level offset : ℕ) (row : List ℕ) (old new : Decoder R) → TakesBytes source old row new
       → Draws drawn then_drawn (fault_lines level offset row) → offset ≡ start + length before
       → (0 < length row → Stands (ending_of strict error) depth before m.Fault
       (record { level = level; offset = offset; bytes = row; meaning = m.Fault }))
-      → length row ≤ most_bytes → HasFault error row
+      → length row ≤ most_bytes → HasBytesAtFault error row
       → (IsIdle source old → IfSome (view source new) (LeavesBehind error row))
       → Shows source depth start drawn then_drawn before row (ending_of strict error) old new
   unfolding lines_one
@@ -285,7 +286,7 @@ module _ {R E : Type 0} (source : Ghosts R E) where
 
   -- where nothing was read
   pub shows_nothing : (depth start : ℕ) (drawn then_drawn : Option (List Line)) (before : List ℕ) (level offset : ℕ)
-      (row : List ℕ) (old new : Decoder R) → Takes source old row new
+      (row : List ℕ) (old new : Decoder R) → TakesBytes source old row new
       → Draws drawn then_drawn (fault_lines level offset row) → length row ≡ 0
       → Shows source depth start drawn then_drawn before row Meant old new
   shows_nothing depth start drawn then_drawn before level offset [] old new takes draws none = record {

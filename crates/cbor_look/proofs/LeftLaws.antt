@@ -14,7 +14,7 @@ use Rattle.cbor_look.proofs.ItemRows.{nothing}
 use Rattle.ciborium_ll.proofs.CopyingTold.{consumes_told}
 use Rattle.cbor_look.specs.Dumps.{Draws, ShowsLeft, fault_lines}
 use Rattle.cbor_look.specs.Levels.{Line}
-use Rattle.cbor_look.specs.Takings.{EndsRow, IsIdle, Keeps, ReadsOn, Takes, most_bytes}
+use Rattle.cbor_look.specs.Takings.{EndsRow, IsIdle, Keeps, ReadsMore, TakesBytes, most_bytes}
 
 -- what follows where all went well
 pub on_ok : {A E : Type 0} {P Q : Type 0} (result : Result A E) → (P → Q) → OnOk result P → OnOk result Q
@@ -66,7 +66,7 @@ module _ {R E : Type 0} (source : Ghosts R E) where
 
   -- one byte more came
   pub one_passed : (old between new : Decoder R) (before after : List ℕ) → Passes source old before between
-      → ReadsOn source 1 before after between (Ok tt) new → Passes source old after new
+      → ReadsMore source 1 before after between (Ok tt) new → Passes source old after new
   one_passed old between new before after passed reads =
       subst (λ (z : List ℕ). Passes source old z new) (sym reads.behind)
       (Passes-read source old between new before reads.bytes passed reads.reads.read reads.reads.steady)
@@ -81,7 +81,7 @@ module _ {R E : Type 0} (source : Ghosts R E) where
     bytes = bytes;
     draws = draws;
     few = few;
-    takes = subst (λ (z : List ℕ). Takes source old z new) (sym keeps.appended) keeps.takes;
+    takes = subst (λ (z : List ℕ). TakesBytes source old z new) (sym keeps.appended) keeps.takes;
     between = between;
     passed = passed;
     ends = ends;

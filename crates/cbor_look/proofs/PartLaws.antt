@@ -20,8 +20,8 @@ use Rattle.ciborium_ll_text.specs.declared.state.State.{State}
 use Rattle.ciborium_ll_text.specs.declared.state.State.TheVariants as t
 use Rattle.ciborium_ll_text.proofs.StateLaws.{after-append, text_ends, text_from, none_goes_on, some_goes_on}
 use Rattle.ciborium_ll_text.proofs.LastEndLaws.{due, back, Back, begins, goes_on}
-use Rattle.cbor_look.specs.Takings.{ReadsOn, most_text}
-use Rattle.cbor_look.specs.Parts.{is_between, is_inside, FailsInBody, IsCutText, IsSound, ReadsPart, ReadsText}
+use Rattle.cbor_look.specs.Takings.{ReadsMore, most_text}
+use Rattle.cbor_look.specs.Parts.{is_between, is_inside, FailsInBody, IsCutText, IsSound, ReadsPart, ReadsTextPart}
 use Rattle.cbor_look.proofs.PullLaws.{passes_idle, first_passed}
 
 -- ---- states
@@ -231,7 +231,7 @@ module _ {R E : Type 0} (source : Ghosts R E) where
   -- the first read of a part
   pub first_part : (kind : Kind) (left place count : ℕ) (before row : List ℕ) (old new : Decoder R) (error : Error E)
       → before ≡ [] → old.waiting ≡ None → 0 < left → 0 < count → count ≤ left
-      → ReadsOn source count before row old (Err error) new → FailsInBody source kind left place old error new
+      → ReadsMore source count before row old (Err error) new → FailsInBody source kind left place old error new
   first_part kind left place count before row old new error empty none some any most reads =
       let counted = reads.counted in
       let zero = ap length empty in
@@ -243,7 +243,7 @@ module _ {R E : Type 0} (source : Ghosts R E) where
   -- a further one, behind bytes of a text that are cut
   pub next_part : (left place : ℕ) (row next : List ℕ) (old between new : Decoder R) (error : Error E)
       → Passes source old row between → old.waiting ≡ None → length row < left → length row < 16
-      → is_inside (after t.Between row) ≡ true → ReadsOn source 1 row next between (Err error) new
+      → is_inside (after t.Between row) ≡ true → ReadsMore source 1 row next between (Err error) new
       → FailsInBody source Text left place old error new
   next_part left place row next old between new error passed none more room inside reads =
       let cut = cut_of row inside in
@@ -256,7 +256,7 @@ module _ {R E : Type 0} (source : Ghosts R E) where
 
   -- the bytes of a part of a text are none: as one read of them finds
   pub fault_part : (left place : ℕ) (row : List ℕ) (old new : Decoder R) → length row ≤ left → length row ≤ 16
-      → ReadsText source left row old (Ok false) new → FailsInBody source Text left place old (e.Syntax place) new
+      → ReadsTextPart source left row old (Ok false) new → FailsInBody source Text left place old (e.Syntax place) new
   fault_part left place row old new most few reads = record {
     room = length row;
     held = few;
@@ -332,7 +332,7 @@ module _ {R E : Type 0} (source : Ghosts R E) where
   -- a part of the body of a byte string
   pub bytes_part : (left place count : ℕ) (before row : List ℕ) (old new : Decoder R)
       (result : Result (Unit {0}) (Error E)) → before ≡ [] → old.waiting ≡ None → 0 < left → 0 < count → count ≤ left
-      → ReadsOn source count before row old result new → ReadsPart source Bytes left place row old result new
+      → ReadsMore source count before row old result new → ReadsPart source Bytes left place row old result new
   bytes_part left place count before row old new (Ok done) empty none some any most reads =
       first_passed source count before row old new empty none reads
   bytes_part left place count before row old new (Err error) empty none some any most reads =

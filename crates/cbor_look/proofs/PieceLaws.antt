@@ -25,12 +25,12 @@ use Rattle.ciborium_ll.specs.Strings.{Kind, kind_header, definite, IsWritable}
 use Rattle.ciborium_ll.specs.Elements.{AreWritable}
 use Rattle.ciborium_ll.proofs.ElementLaws.{AreWritable-append}
 use Rattle.cbor_look.specs.declared.rows.Meaning.TheVariants as m
-use Rattle.cbor_look.specs.Takings.{HasFault, IsAlike, IsIdle, LeavesBehind, most_bytes, Takes}
+use Rattle.cbor_look.specs.Takings.{HasBytesAtFault, IsAlike, IsIdle, LeavesBehind, most_bytes, TakesBytes}
 use Rattle.cbor_look.specs.Levels.{Ending, IsTitleFault, Meant}
 use Rattle.cbor_look.specs.Levels.{Line, Nest, StandsWithin, AreOpen, none, more, TitleDue, title_level}
 use Rattle.cbor_look.specs.Dumps.{Draws, fault_lines, IsTaken, SaysFault, Shows}
 use Rattle.cbor_look.specs.Endings.{ending_before, ending_of}
-use Rattle.cbor_look.specs.StringRows.{EndsString, IsPart, StopsRest}
+use Rattle.cbor_look.specs.StringRows.{EndsString, IsPart, StopsBehindTitle}
 use Rattle.cbor_look.specs.declared.strings.Part.{Part}
 use Rattle.cbor_look.specs.declared.strings.Part.TheVariants as p
 use Rattle.cbor_look.proofs.DumpLaws.{shows_fault, shows_none, shows_says, shows_then}
@@ -154,10 +154,10 @@ module _ {R E : Type 0} (source : Ghosts R E) where
     -- what was read before a fault
     pub within_fails : {W : Type 0} (error : Error E) (why : DumpError E W) (then_drawn : Option (List Line))
         (row : List ℕ) (offset : ℕ) (new : Decoder R) → SaysFault error why → IsTaken why
-        → Takes source between row new → offset ≡ between.offset
+        → TakesBytes source between row new → offset ≡ between.offset
         → Draws middle then_drawn (fault_lines inner offset row)
         → (0 < length row → IsTitleFault (ending_of strict error) kind (suc so_far.opens) row)
-        → length row ≤ most_bytes → HasFault error row
+        → length row ≤ most_bytes → HasBytesAtFault error row
         → (IsIdle source between → IfSome (view source new) (LeavesBehind error row))
         → Shows source depth start drawn then_drawn (items ++ title) (so_far.bytes ++ row) (ending_before strict why)
         old new
@@ -179,7 +179,7 @@ module _ {R E : Type 0} (source : Ghosts R E) where
 
     -- a title
     pub within_title : (then_drawn : Option (List Line)) (row : List ℕ) (x : Header) (offset level : ℕ)
-        (new : Decoder R) → Takes source between row new → offset ≡ between.offset → IsTitle row x
+        (new : Decoder R) → TakesBytes source between row new → offset ≡ between.offset → IsTitle row x
         → level ≡ title_level x nests (suc so_far.opens)
         → Draws middle then_drawn (record { level = level; offset = offset; bytes = row; meaning = m.Header x } ∷ [])
         → Shows source depth start drawn then_drawn (items ++ title) (so_far.bytes ++ row) Meant old new
@@ -321,7 +321,7 @@ module _ {R E : Type 0} (source : Ghosts R E) where
       is = refl;
     }
 
-    pub piece_offset : (row : List ℕ) (new : Decoder R) → Takes source between row new
+    pub piece_offset : (row : List ℕ) (new : Decoder R) → TakesBytes source between row new
         → new.offset ≡ start + length ((items ++ so_far.parts) ++ row)
     piece_offset row new takes =
         let moved = takes.offset in
@@ -362,7 +362,7 @@ module _ {R E : Type 0} (source : Ghosts R E) where
     -- no title came
     pub within_no_title : {W : Type 0} → IsTitle title (kind_header kind None) → (error : Error E)
         (new : Decoder R) → PullsHeader source between (Err error) new → (why : DumpError E W) → SaysFault error why
-        → IsAlike strict old → StopsRest source kind None 0 old (Err why) new
+        → IsAlike strict old → StopsBehindTitle source kind None 0 old (Err why) new
     within_no_title p error new fails (d.Item (s.Read other)) says alike =
         let same : other ≡ error = cc in
         record {
@@ -383,7 +383,7 @@ module _ {R E : Type 0} (source : Ghosts R E) where
     pub within_other : {W : Type 0} → IsTitle title (kind_header kind None) → (header : Header)
         (place : ℕ) (new : Decoder R) → PullsTitle source between header new → IsRefusedIn strict kind header
         → place ≡ between.offset → (why : DumpError E W) → SaysFault (e.Syntax place) why
-        → IsAlike strict old → StopsRest source kind None 0 old (Err why) new
+        → IsAlike strict old → StopsBehindTitle source kind None 0 old (Err why) new
     within_other p header place new pulled refused at (d.Item (s.Read other)) says alike =
         let same : other ≡ e.Syntax place = cc in
         record {
@@ -410,8 +410,8 @@ module _ {R E : Type 0} (source : Ghosts R E) where
     pub within_body : {W : Type 0} → IsTitle title (kind_header kind None) → (len place : ℕ)
         (titled new : Decoder R) → PullsTitle source between (kind_header kind (Some len)) titled
         → (IsSteady source between → IsSteady source titled) → (why : DumpError E W)
-        → StopsRest source kind (Some len) place titled (Err why) new → place ≡ between.offset → IsAlike strict old
-        → StopsRest source kind None 0 old (Err why) new
+        → StopsBehindTitle source kind (Some len) place titled (Err why) new → place ≡ between.offset
+        → IsAlike strict old → StopsBehindTitle source kind None 0 old (Err why) new
     within_body p len place titled new pulled steady (d.Item (s.Read error)) stops at alike =
         record {
           room = stops.room;

@@ -16,7 +16,7 @@ use Rattle.ciborium_ll.proofs.DecodingLaws.{Passes-none}
 use Rattle.ciborium_ll.proofs.BodyLaws.{view_none, Passes-read}
 use Rattle.ciborium_ll.specs.Strings.{Kind, Text}
 use Rattle.cbor_look.specs.Parts.{IsCutText, IsPartRow}
-use Rattle.cbor_look.specs.Takings.{IsAlike, IsTitleRow, Leaves, LeavesBehind, Means, PullsRow, ReadsOn, RefusesRead}
+use Rattle.cbor_look.specs.Takings.{IsAlike, IsTitleRow, Leaves, LeavesBehind, Means, PullsRow, ReadsMore, RefusesRead}
 use Rattle.std.proofs.Common.{get_or, length-append, ◌++◌, ◌≤◌, Result}
 use Rattle.ciborium_ll.proofs.DecodingLaws.{IfSome-all}
 use Rattle.cbor_look.proofs.TakingLaws.{one_of}
@@ -96,7 +96,7 @@ module _ {R E : Type 0} (source : Ghosts R E) where
 
   -- bytes behind others
   pub more_passed : (count : ℕ) (before row : List ℕ) (old between new : Decoder R) → Passes source old before between
-      → between.waiting ≡ None → ReadsOn source count before row between (Ok tt) new
+      → between.waiting ≡ None → ReadsMore source count before row between (Ok tt) new
       → Passes source old row new
   more_passed count before row old between new passed none reads =
       subst (λ (z : List ℕ). Passes source old z new) (sym reads.behind)
@@ -104,7 +104,7 @@ module _ {R E : Type 0} (source : Ghosts R E) where
 
   -- the first bytes of a row
   pub first_passed : (count : ℕ) (before row : List ℕ) (old new : Decoder R) → before ≡ [] → old.waiting ≡ None
-      → ReadsOn source count before row old (Ok tt) new → Passes source old row new
+      → ReadsMore source count before row old (Ok tt) new → Passes source old row new
   first_passed count before row old new empty none reads =
       more_passed count before row old old new
       (subst (λ (z : List ℕ). Passes source old z old) (sym empty) (Passes-none source old)) none reads
@@ -113,11 +113,11 @@ module _ {R E : Type 0} (source : Ghosts R E) where
 
   -- no read is all right
   pub waits_no_read : (count : ℕ) (before after : List ℕ) (old new : Decoder R) → IsWaiting old
-      → ReadsOn source count before after old (Ok tt) new → ⊥
+      → ReadsMore source count before after old (Ok tt) new → ⊥
   waits_no_read count before after old new waits reads = let never = rw reads.reads.read.none_waited at waits in cc
 
   pub waits_refused : (count : ℕ) (before after : List ℕ) (error : Error E) (old new : Decoder R) → IsWaiting old
-      → ReadsOn source count before after old (Err error) new → (error ≡ e.Waiting) × RefusesRead old new
+      → ReadsMore source count before after old (Err error) new → (error ≡ e.Waiting) × RefusesRead old new
   waits_refused count before after (e.Io fault) old new waits reads =
       absurd (let never = rw reads.reads.read.none_waited at waits in cc)
   waits_refused count before after (e.Syntax place) old new waits reads = absurd reads.reads.read
@@ -128,7 +128,7 @@ module _ {R E : Type 0} (source : Ghosts R E) where
 
   -- a row that one byte was read for
   pub first_byte : (before row : List ℕ) (old new : Decoder R) → before ≡ []
-      → ReadsOn source 1 before row old (Ok tt) new → row ≡ get_or row 0 0 ∷ []
+      → ReadsMore source 1 before row old (Ok tt) new → row ≡ get_or row 0 0 ∷ []
   first_byte before row old new none reads =
       let empty = ap length none in
       let counted = reads.counted in
@@ -137,8 +137,8 @@ module _ {R E : Type 0} (source : Ghosts R E) where
 
   -- what a decoder says of a first byte and its affix, which were read one behind the other
   pub row_means : (strict : Bool) (count : ℕ) (before one row shown : List ℕ) (old between new : Decoder R)
-      (result : Option Header) → before ≡ [] → ReadsOn source 1 before one old (Ok tt) between
-      → count ≡ affix_len (get_or one 0 0 % 32) → count ≤ 8 → ReadsOn source count one row between (Ok tt) new
+      (result : Option Header) → before ≡ [] → ReadsMore source 1 before one old (Ok tt) between
+      → count ≡ affix_len (get_or one 0 0 % 32) → count ≤ 8 → ReadsMore source count one row between (Ok tt) new
       → shown ≡ row
       → ((first : ℕ) (affix : List ℕ) → shown ≡ first ∷ affix → length affix ≡ affix_len (first % 32)
       → Means strict shown result) → Means strict row result
@@ -155,14 +155,15 @@ module _ {R E : Type 0} (source : Ghosts R E) where
 
   -- of a title nothing, or its first byte
   pub row_nothing : (strict : Bool) (count : ℕ) (before after : List ℕ) (error : Error E) (old new : Decoder R)
-      → ReadsOn source count before after old (Err error) new → (row : List ℕ) → row ≡ [] → IsTitleRow strict error row
+      → ReadsMore source count before after old (Err error) new → (row : List ℕ) → row ≡ []
+      → IsTitleRow strict error row
   row_nothing strict count before after (e.Io fault) old new reads row none = inl none
   row_nothing strict count before after (e.Syntax at) old new reads row none = absurd reads.reads.read
   row_nothing strict count before after e.TooLong old new reads row none = inl none
   row_nothing strict count before after e.Waiting old new reads row none = inl none
 
   pub row_first : (strict : Bool) (count : ℕ) (before after : List ℕ) (error : Error E) (old new : Decoder R)
-      → ReadsOn source count before after old (Err error) new → (byte : ℕ) (row : List ℕ) → row ≡ byte ∷ []
+      → ReadsMore source count before after old (Err error) new → (byte : ℕ) (row : List ℕ) → row ≡ byte ∷ []
       → IsTitleRow strict error row
   row_first strict count before after (e.Io fault) old new reads byte row one = inr (byte, one)
   row_first strict count before after (e.Syntax at) old new reads byte row one = absurd reads.reads.read
@@ -171,7 +172,7 @@ module _ {R E : Type 0} (source : Ghosts R E) where
 
   -- of a body nothing, or the front of a text
   pub part_nothing : (kind : Kind) (left count : ℕ) (before after : List ℕ) (error : Error E) (old new : Decoder R)
-      → ReadsOn source count before after old (Err error) new → (row : List ℕ) → row ≡ []
+      → ReadsMore source count before after old (Err error) new → (row : List ℕ) → row ≡ []
       → IsPartRow kind left error row
   part_nothing kind left count before after (e.Io fault) old new reads row none = inl none
   part_nothing kind left count before after (e.Syntax at) old new reads row none = absurd reads.reads.read
@@ -179,7 +180,7 @@ module _ {R E : Type 0} (source : Ghosts R E) where
   part_nothing kind left count before after e.Waiting old new reads row none = inl none
 
   pub part_cut : (left count : ℕ) (before after : List ℕ) (error : Error E) (old new : Decoder R)
-      → ReadsOn source count before after old (Err error) new → (row : List ℕ) → IsCutText left row
+      → ReadsMore source count before after old (Err error) new → (row : List ℕ) → IsCutText left row
       → IsPartRow Text left error row
   part_cut left count before after (e.Io fault) old new reads row cut = inr (refl, cut)
   part_cut left count before after (e.Syntax at) old new reads row cut = absurd reads.reads.read
@@ -188,7 +189,7 @@ module _ {R E : Type 0} (source : Ghosts R E) where
 
   -- and behind it a steady reader leaves less than was asked for
   pub less_left : (count : ℕ) (before after : List ℕ) (error : Error E) (old new : Decoder R)
-      → (reads : ReadsOn source count before after old (Err error) new) → IsSteady source old → (row : List ℕ)
+      → (reads : ReadsMore source count before after old (Err error) new) → IsSteady source old → (row : List ℕ)
       → ((left : List ℕ) → length left < length reads.bytes → Leaves row left)
       → IfSome (view source new) (LeavesBehind error row)
   less_left count before after (e.Io fault) old new reads steady row follows =
@@ -300,8 +301,8 @@ module _ {R E : Type 0} (source : Ghosts R E) where
 
   -- and so behind a first byte that was read for a row
   pub second_fails : (error : Error E) (count : ℕ) (before one after : List ℕ) (old between new : Decoder R)
-      → before ≡ [] → ReadsOn source 1 before one old (Ok tt) between → count ≡ affix_len (get_or one 0 0 % 32)
-      → count ≤ 8 → ReadsOn source count one after between (Err error) new → PullsHeader source old (Err error) new
+      → before ≡ [] → ReadsMore source 1 before one old (Ok tt) between → count ≡ affix_len (get_or one 0 0 % 32)
+      → count ≤ 8 → ReadsMore source count one after between (Err error) new → PullsHeader source old (Err error) new
   second_fails error count before one after old between new none first announced few second =
       let is = first_byte before one old between none first in
       let all : first.bytes ≡ get_or one 0 0 ∷ [] =

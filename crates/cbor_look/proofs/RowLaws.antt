@@ -7,7 +7,7 @@ use Rattle.ciborium_ll.specs.Title.{IsTitle, affix_len}
 use Rattle.ciborium_ll.proofs.AffixLaws.{announced}
 use Rattle.ciborium_ll.proofs.NestLaws.{title_some}
 use Rattle.cbor_look.specs.declared.taken.Taken.{Taken}
-use Rattle.cbor_look.specs.Levels.{IsFilled}
+use Rattle.cbor_look.specs.Levels.{FitsRow}
 use Rattle.cbor_look.specs.Takings.{most_bytes, taken_bytes}
 
 -- what was read for a row fits it
@@ -33,5 +33,5 @@ title_few title x p =
     let few = affix_few (front.byte % 32) in
     omega (arith, long, all, few)
 
-pub title_filled : (title : List ℕ) (x : Header) → IsTitle title x → IsFilled title
+pub title_filled : (title : List ℕ) (x : Header) → IsTitle title x → FitsRow title
 title_filled title x p = (title_some title x p, title_few title x p)

@@ -7,16 +7,16 @@ use Rattle.ciborium_ll.specs.Strings.{Kind, kind_header}
 use Rattle.cbor_skip.specs.declared.SkipError.TheVariants as s
 use Rattle.cbor_look.specs.declared.dump.DumpError.{DumpError}
 use Rattle.cbor_look.specs.declared.dump.DumpError.TheVariants as d
-use Rattle.cbor_look.specs.StringRows.{StopsRest}
-use Rattle.cbor_look.specs.TitleRows.{IsStringDue, StopsTitle}
+use Rattle.cbor_look.specs.StringRows.{StopsBehindTitle}
+use Rattle.cbor_look.specs.TitleRows.{IsStringDue, EndsAtTitle}
 
 module _ {R E W : Type 0} (source : Ghosts R E) where
   -- the rest of a string stopped as a skip of it does
   pub rest_stops : (strict : Bool) (depth whole : ℕ) (kind : Kind) (len : Option ℕ) (place : ℕ) (before : List ℕ)
       (old new : Decoder R) (why : DumpError E W) → IsStringDue strict depth whole before (kind_header kind len)
       kind len
-      → StopsRest source kind len (old.offset - title_len (kind_header kind len)) old (Err why) new
-      → StopsTitle source strict depth whole (kind_header kind len) place before old (Err why) new
+      → StopsBehindTitle source kind len (old.offset - title_len (kind_header kind len)) old (Err why) new
+      → EndsAtTitle source strict depth whole (kind_header kind len) place before old (Err why) new
   rest_stops strict depth whole kind None place before old new (d.Item (s.Read error)) due stops =
       (kind, None, due, stops)
   rest_stops strict depth whole kind (Some len) place before old new (d.Item (s.Read error)) due stops =

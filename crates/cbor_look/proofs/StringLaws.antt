@@ -24,15 +24,15 @@ use Rattle.cbor_look.specs.declared.rows.Meaning.TheVariants as m
 use Rattle.cbor_look.specs.declared.strings.Kind.{Kind as CodeKind}
 use Rattle.cbor_look.specs.declared.strings.Kind.TheVariants as k
 use Rattle.cbor_look.specs.Parts.{FailsInBody}
-use Rattle.cbor_look.specs.Takings.{HasFault, IsIdle, LeavesBehind, most_bytes, Takes, Keeps}
-use Rattle.cbor_look.specs.Levels.{Line, Nest, AreOpen, none, more, TitleDue, HasBody, HasNoText, IsFilled, Stands}
+use Rattle.cbor_look.specs.Takings.{HasBytesAtFault, IsIdle, LeavesBehind, most_bytes, TakesBytes, Keeps}
+use Rattle.cbor_look.specs.Levels.{Line, Nest, AreOpen, none, more, TitleDue, HasBody, HasNoText, FitsRow, Stands}
 use Rattle.cbor_look.specs.Levels.{Ending, IsTextFault, Meant}
 use Rattle.cbor_look.specs.Parts.{IsPartRow}
 use Rattle.ciborium_ll.specs.Decoding.{view}
 use Rattle.ciborium_ll.proofs.DecodingLaws.{IfSome-all}
 use Rattle.cbor_look.specs.Dumps.{Draws, fault_lines, SaysFault, Shows}
-use Rattle.cbor_look.specs.Endings.{IsMeant, ending_of}
-use Rattle.cbor_look.specs.StringRows.{EndsString, StopsRest, kind_of, meaning_of}
+use Rattle.cbor_look.specs.Endings.{HasMeaning, ending_of}
+use Rattle.cbor_look.specs.StringRows.{EndsString, StopsBehindTitle, kind_of, meaning_of}
 use Rattle.cbor_look.proofs.DumpLaws.{lines_one, part_row, shows_fault, shows_then}
 use Rattle.cbor_look.proofs.PullLaws.{passes_idle}
 
@@ -79,7 +79,7 @@ no_text : (how : Ending) (kind : Kind) (depth : ℕ) (before : List ℕ) (line :
 no_text how Bytes depth before line is body fault = absurd cc
 no_text how Text depth before line is body fault = record { body = body; fault = fault }
 
-part_meant : (kind : CodeKind) → IsMeant (meaning_of kind)
+part_meant : (kind : CodeKind) → HasMeaning (meaning_of kind)
 part_meant k.Bytes = tt
 part_meant k.Text = tt
 
@@ -92,10 +92,10 @@ part_stands k.Text depth before line body written = (body, written)
 module _ {R E : Type 0} (source : Ghosts R E) where
   -- all that was taken for a row was read for it
   pub taken_all : (nothing row : List ℕ) (old new : Decoder R) → nothing ≡ [] → Keeps source nothing row old new
-      → Takes source old row new
+      → TakesBytes source old row new
   taken_all nothing row old new empty keeps =
       let same : row ≡ keeps.bytes = subst (λ (z : List ℕ). row ≡ z ++ keeps.bytes) empty keeps.appended in
-      subst (λ (z : List ℕ). Takes source old z new) (sym same) keeps.takes
+      subst (λ (z : List ℕ). TakesBytes source old z new) (sym same) keeps.takes
 
   -- a front of a body was shown, and so much is left
   pub record SoFar (depth start : ℕ) (drawn then_drawn : Option (List Line)) (before : List ℕ) (kind : Kind)
@@ -119,9 +119,9 @@ module _ {R E : Type 0} (source : Ghosts R E) where
       (old between new : Decoder R) → AtBody depth opens nests outer title kind len level
       → old.offset ≡ start + length (outer ++ title)
       → (so_far : SoFar depth start drawn middle (outer ++ title) kind len left old between)
-      → Takes source between bytes new → length bytes ≤ left → offset ≡ between.offset
+      → TakesBytes source between bytes new → length bytes ≤ left → offset ≡ between.offset
       → Draws middle then_drawn (fault_lines level offset bytes) → IsPartRow kind left error bytes
-      → length bytes ≤ most_bytes → HasFault error bytes
+      → length bytes ≤ most_bytes → HasBytesAtFault error bytes
       → (IsIdle source between → IfSome (view source new) (LeavesBehind error bytes))
       → Shows source depth start drawn then_drawn (outer ++ title) (so_far.front ++ bytes) (ending_of strict error) old
       new
@@ -145,10 +145,10 @@ module _ {R E : Type 0} (source : Ghosts R E) where
       (old between new : Decoder R) → AtBody depth opens nests outer title (kind_of kind) len level
       → old.offset ≡ start + length (outer ++ title)
       → (so_far : SoFar depth start drawn middle (outer ++ title) (kind_of kind) len left old between)
-      → Takes source between bytes new → length bytes ≤ left → offset ≡ between.offset
+      → TakesBytes source between bytes new → length bytes ≤ left → offset ≡ between.offset
       → IsWritable (kind_of kind) bytes → (between.waiting ≡ None → Passes source between bytes new)
       → Draws middle then_drawn (record { level = level; offset = offset; bytes = bytes; meaning = meaning_of kind } ∷
-      []) → IsFilled bytes
+      []) → FitsRow bytes
       → SoFar depth start drawn then_drawn (outer ++ title) (kind_of kind) len (left - length bytes) old new
   part_shown depth start opens nests outer title kind len left level offset drawn middle then_drawn bytes old between
       new at begun so_far takes few here written went drawn_line filled =
@@ -262,7 +262,7 @@ module _ {R E W : Type 0} (source : Ghosts R E) where
   -- the body failed
   pub body_stops : (kind : Kind) (len place : ℕ) (old new : Decoder R) (error : Error E) (why : DumpError E W)
       → SaysFault error why → FailsInBody source kind len place old error new
-      → StopsRest source kind (Some len) place old (Err why) new
+      → StopsBehindTitle source kind (Some len) place old (Err why) new
   body_stops kind len place old new error (d.Item (s.Read other)) says ends =
       let same : other ≡ error = cc in
       subst (λ (x : Error E). FailsInBody source kind len place old x new) (sym same) ends
@@ -272,7 +272,7 @@ module _ {R E W : Type 0} (source : Ghosts R E) where
 
   -- the place is that of a body alone
   pub any_place : (kind : Kind) (place other : ℕ) (old new : Decoder R) (result : Result (Unit {0}) (DumpError E W))
-      → StopsRest source kind None place old result new → StopsRest source kind None other old result new
+      → StopsBehindTitle source kind None place old result new → StopsBehindTitle source kind None other old result new
   any_place kind place other old new (Ok done) stops = tt
   any_place kind place other old new (Err (d.Item (s.Read error))) stops = stops
   any_place kind place other old new (Err (d.Item (s.Break at))) stops = absurd stops

@@ -19,7 +19,7 @@ use Rattle.ciborium_ll.specs.Decoding.{PullsHeader, PullsTitle}
 use Rattle.ciborium_ll.proofs.AffixLaws.{announced, refused_affix}
 use Rattle.ciborium_ll.proofs.CopyingTold.{consumes_told, next_read_small}
 use Rattle.cbor_look.proofs.ItemRows.{nothing}
-use Rattle.cbor_look.specs.Takings.{Takes, Keeps, Means}
+use Rattle.cbor_look.specs.Takings.{TakesBytes, Keeps, Means}
 
 -- what stands behind a front leaves it
 pub same_front : (n : ℕ) (xs ys : List ℕ) → n ≤ length xs → take n (take n xs ++ ys) ≡ take n xs
@@ -34,15 +34,15 @@ less_room before after one most = omega (arith, one, most)
 
 module _ {R E : Type 0} (source : Ghosts R E) where
   -- nothing was read
-  pub takes_none : (decoder : Decoder R) → Takes source decoder [] decoder
+  pub takes_none : (decoder : Decoder R) → TakesBytes source decoder [] decoder
   takes_none decoder = record {
     offset = omega arith;
     consumed = λ idle. (Consumes-nil (view source decoder), idle);
   }
 
   -- one read behind another
-  pub takes_then : (old middle new : Decoder R) (first second : List ℕ) → Takes source old first middle
-      → Takes source middle second new → Takes source old (first ++ second) new
+  pub takes_then : (old middle new : Decoder R) (first second : List ℕ) → TakesBytes source old first middle
+      → TakesBytes source middle second new → TakesBytes source old (first ++ second) new
   takes_then old middle new first second a b = record {
     offset = let p = a.offset in let q = b.offset in omega (arith, p, q, length-append first second);
     consumed = λ idle.
@@ -56,7 +56,7 @@ module _ {R E : Type 0} (source : Ghosts R E) where
   keeps_none before after old new same still = record {
     bytes = [];
     appended = same ∙ sym (append-nil before);
-    takes = subst (λ (z : Decoder R). Takes source old [] z) (sym still) (takes_none old);
+    takes = subst (λ (z : Decoder R). TakesBytes source old [] z) (sym still) (takes_none old);
   }
 
   pub keeps_then : (before between after : List ℕ) (old middle new : Decoder R) → Keeps source before between old middle
@@ -85,7 +85,7 @@ module _ {R E : Type 0} (source : Ghosts R E) where
 
   -- a read that failed consumes nothing
   failed_takes : (old new : Decoder R) (count : ℕ) → ReadFails source old count new
-      → (IsSteady source old → IsSteady source new) → Takes source old [] new
+      → (IsSteady source old → IsSteady source new) → TakesBytes source old [] new
   failed_takes old new count fails steady = record {
     offset = let p = fails.offset in omega (arith, p);
     consumed = λ idle. (
@@ -95,7 +95,7 @@ module _ {R E : Type 0} (source : Ghosts R E) where
   }
 
   untouched_takes : (old new : Decoder R) → IsUntouched old new → (IsSteady source old → IsSteady source new)
-      → Takes source old [] new
+      → TakesBytes source old [] new
   untouched_takes old new same steady = record {
     offset = let p = same.offset in omega (arith, p);
     consumed = λ idle. (

@@ -15,14 +15,14 @@ use Rattle.cbor_skip.specs.Due.{IsNest}
 use Rattle.cbor_skip.proofs.ItemSteps.{item_of}
 use Rattle.cbor_look.specs.declared.rows.Meaning.TheVariants as m
 use Rattle.cbor_look.specs.declared.walk.Walk.{Walk}
-use Rattle.cbor_look.specs.Takings.{HasFault, IsIdle, IsTitleRow, LeavesBehind, Takes, most_bytes}
+use Rattle.cbor_look.specs.Takings.{HasBytesAtFault, IsIdle, IsTitleRow, LeavesBehind, TakesBytes, most_bytes}
 use Rattle.ciborium_ll.specs.Decoding.{view}
 use Rattle.ciborium_ll.proofs.DecodingLaws.{IfSome-all}
 use Rattle.cbor_look.specs.Endings.{LeavesAs, ending, ending_of}
 use Rattle.cbor_look.specs.Levels.{Line, Nest, StandsBehind, StandsWithin, outside, inside, none, TitleDue}
 use Rattle.cbor_look.specs.Levels.{Ending, Meant, title_level}
 use Rattle.ciborium_ll.specs.Types.Error.{Error}
-use Rattle.cbor_look.specs.Dumps.{AreTaken, Draws, EndsTitles, fault_lines, Lines, Shows, ShowsBehind}
+use Rattle.cbor_look.specs.Dumps.{AreRowsTaken, Draws, EndsTitles, fault_lines, Lines, Shows, ShowsBehind}
 use Rattle.cbor_skip.specs.declared.SkipError.TheVariants as s
 use Rattle.cbor_look.specs.declared.dump.DumpError.TheVariants as d
 use Rattle.ciborium_ll.specs.Decoding.{Passes}
@@ -30,9 +30,9 @@ use Rattle.ciborium_ll.proofs.DecodingLaws.{Passes-none}
 use Rattle.cbor_look.specs.Sequences.{ReadsItems}
 use Rattle.cbor_look.specs.StringRows.{IsRest}
 use Rattle.cbor_look.specs.declared.dump.DumpError.{DumpError}
-use Rattle.cbor_look.specs.TitleRows.{DrawsTitle, ShowsAll, ShowsTitle, StopsAlone, StopsTitle}
+use Rattle.cbor_look.specs.TitleRows.{DrawsTitle, ShowsAll, ShowsTitle, StopsAlone, EndsAtTitle}
 use Rattle.cbor_look.specs.Takings.{IsAlike}
-use Rattle.cbor_look.specs.Walks.{IsValue, IsDue, IsBehindItem, Breaks}
+use Rattle.cbor_look.specs.Walks.{IsItemAlone, IsDue, IsBehindItem, Breaks}
 use Rattle.cbor_look.proofs.ItemRows.{nothing}
 use Rattle.cbor_look.proofs.RowLaws.{title_filled}
 use Rattle.cbor_look.proofs.WalkLaws.{stands_any}
@@ -49,7 +49,7 @@ nest_level (h.Array n) nests opens nest = refl
 nest_level (h.Map n) nests opens nest = refl
 nest_level x nests opens nest = absurd nest
 
-pub value_level : (x : Header) (nests : List Nest) (opens : ℕ) → IsValue x
+pub value_level : (x : Header) (nests : List Nest) (opens : ℕ) → IsItemAlone x
     → title_level x nests opens ≡ length nests + opens
 value_level (h.Positive n) nests opens value = refl
 value_level (h.Negative n) nests opens value = refl
@@ -132,14 +132,14 @@ behind_item strict depth whole walk before item due within is_item =
       is = refl;
     }
 
-value_completes : (strict : Bool) (x : Header) → IsValue x → (levels : ℕ) → Completes strict levels x []
+value_completes : (strict : Bool) (x : Header) → IsItemAlone x → (levels : ℕ) → Completes strict levels x []
 value_completes strict (h.Positive n) value levels = positive
 value_completes strict (h.Negative n) value levels = negative
 value_completes strict (h.Float n) value levels = float
 value_completes strict (h.Simple n) value levels = simple
 value_completes strict x value levels = absurd value
 
-pub value_item : (strict : Bool) (x : Header) (title : List ℕ) → IsValue x → IsTitle title x
+pub value_item : (strict : Bool) (x : Header) (title : List ℕ) → IsItemAlone x → IsTitle title x
     → IsTakenTitle strict title x → (levels : ℕ) → IsItem strict levels title
 value_item strict x title value p g levels =
     subst (λ (z : List ℕ). IsItem strict levels z) (append-nil title)
@@ -231,7 +231,7 @@ module _ {R E : Type 0} (source : Ghosts R E) where
   alone_stops : {W : Type 0} (strict : Bool) (depth whole : ℕ) (header : Header) (place : ℕ) (before : List ℕ)
       (decoder : Decoder R)
       (result : Result (Unit {0}) (DumpError E W)) → StopsAlone strict depth whole header place before result
-      → StopsTitle source strict depth whole header place before decoder result decoder
+      → EndsAtTitle source strict depth whole header place before decoder result decoder
   alone_stops strict depth whole header place before decoder (Ok done) stops = tt
   alone_stops strict depth whole header place before decoder (Err (d.Item (s.Read error))) stops = absurd stops
   alone_stops strict depth whole header place before decoder (Err (d.Item (s.Break at))) stops =
@@ -264,9 +264,9 @@ module _ {R E : Type 0} (source : Ghosts R E) where
   pub up_fails : (strict : Bool) (error : Error E) (depth : ℕ) (drawn middle then_drawn : Option (List Line))
       (walk : Walk) (row : List ℕ) (place level : ℕ) (old between new : Decoder R)
       → (up : UpTo strict depth drawn middle walk old between)
-      → Takes source between row new → place ≡ between.offset → level ≡ walk.used
+      → TakesBytes source between row new → place ≡ between.offset → level ≡ walk.used
       → Draws middle then_drawn (fault_lines level place row) → IsTitleRow strict error row
-      → length row ≤ most_bytes → HasFault error row
+      → length row ≤ most_bytes → HasBytesAtFault error row
       → (IsIdle source between → IfSome (view source new) (LeavesBehind error row))
       → Shows source depth old.offset drawn then_drawn [] (up.bytes ++ row) (ending_of strict error) old new
   up_fails strict error depth drawn middle then_drawn walk row place level old between new up takes at same drawn_fault
@@ -290,7 +290,7 @@ module _ {R E : Type 0} (source : Ghosts R E) where
   pub up_title : {W : Type 0} (strict : Bool) (depth whole place : ℕ) (header : Header) (drawn middle then_drawn :
       Option (List Line)) (before : List ℕ)
       (walk : Walk) (row : List ℕ) (result : Result (Unit {0}) (DumpError E W)) (old between titled new : Decoder R)
-      → Shows source depth old.offset drawn middle [] before Meant old between → Takes source between row titled
+      → Shows source depth old.offset drawn middle [] before Meant old between → TakesBytes source between row titled
       → (title : ShowsTitle source depth whole old.offset middle then_drawn before row header walk strict place result
       titled new)
       → Shows source depth old.offset drawn then_drawn [] (before ++ (row ++ title.bytes)) (ending strict result) old
@@ -305,10 +305,10 @@ module _ {R E : Type 0} (source : Ghosts R E) where
   pub up_ended : {W : Type 0} (strict : Bool) (depth : ℕ) (drawn middle then_drawn : Option (List Line)) (walk : Walk)
       (row : List ℕ) (place level : ℕ) (old between new : Decoder R) (error : Error E)
       (result : Result E (DumpError E W)) → (up : UpTo strict depth drawn middle walk old between)
-      → Takes source between row new → place ≡ between.offset → level ≡ walk.used
+      → TakesBytes source between row new → place ≡ between.offset → level ≡ walk.used
       → Draws middle then_drawn (fault_lines level place row) → EndsTitles error level (length row) result
-      → IsTitleRow strict error row → length row ≤ most_bytes → HasFault error row
-      → (IsIdle source between → IfSome (view source new) (LeavesBehind error row)) → AreTaken result
+      → IsTitleRow strict error row → length row ≤ most_bytes → HasBytesAtFault error row
+      → (IsIdle source between → IfSome (view source new) (LeavesBehind error row)) → AreRowsTaken result
       → ShowsAll source strict depth drawn then_drawn result old new
   up_ended strict depth drawn middle then_drawn walk row place level old between new error (Ok fault) up takes at same
       drawn_fault ends row_fault few some left taken =

@@ -7,7 +7,7 @@ use Rattle.cbor_look.specs.declared.sequence.Stopped.{Stopped}
 use Rattle.cbor_look.specs.declared.dump.DumpError.{DumpError}
 use Rattle.cbor_look.specs.declared.dump.DumpError.TheVariants as d
 use Rattle.cbor_look.specs.Sequences.{ChecksItems, ChecksTold}
-use Rattle.cbor_look.specs.Takings.{HasRoom}
+use Rattle.cbor_look.specs.Takings.{ThroughSomeRoom}
 
 -- A dump answers as a check that answers so: with the same end, or the same error
 abbrev pub AnswersAs : {E W : Type 0} → Result (Sequence E) (Stopped E) → Result E (DumpError E W) → Type 0
@@ -22,7 +22,7 @@ module _ {R E W : Type 0} (source : Ghosts R E) where
       : Type 0 where
     pub checked : Result (Sequence E) (Stopped E)
     pub answers : AnswersAs checked result
-    pub checks : HasRoom (λ room. ChecksItems source depth room old checked new)
+    pub checks : ThroughSomeRoom (λ room. ChecksItems source depth room old checked new)
 
   -- a dump where the bytes are told: it does what a check does, and answers the same
   pub record AnswersTold (depth : ℕ) (due : List ℕ) (old : Decoder R) (result : Result E (DumpError E W))

@@ -11,7 +11,7 @@ use Rattle.cbor_look.specs.declared.dump.DumpError.{DumpError}
 use Rattle.cbor_look.specs.declared.dump.DumpError.TheVariants as d
 use Rattle.cbor_look.specs.declared.rows.Meaning.TheVariants as m
 use Rattle.ciborium_ll.specs.Decoding.{offset_limit, view, Passes}
-use Rattle.cbor_look.specs.Takings.{EndsRow, IsIdle, RefusesRead, Takes, most_bytes}
+use Rattle.cbor_look.specs.Takings.{EndsRow, IsIdle, RefusesRead, TakesBytes, most_bytes}
 use Rattle.cbor_look.specs.Levels.{Line, Ending, bytes_of, AllStand}
 use Rattle.cbor_look.specs.Endings.{EndAs, LeavesAs, bytes_at_fault}
 
@@ -21,9 +21,9 @@ IsTaken (d.Item error) = Unit {0}
 IsTaken (d.Rows fault) = ⊥
 
 -- each line was taken, whatever else was answered
-abbrev pub AreTaken : {A E W : Type 0} → Result A (DumpError E W) → Type 0
-AreTaken (Ok value) = Unit {0}
-AreTaken (Err error) = IsTaken error
+abbrev pub AreRowsTaken : {A E W : Type 0} → Result A (DumpError E W) → Type 0
+AreRowsTaken (Ok value) = Unit {0}
+AreRowsTaken (Err error) = IsTaken error
 
 -- what was answered is this error of the read, unless a row was not taken
 abbrev pub SaysFault : {E W : Type 0} → Error E → DumpError E W → Type 0
@@ -81,14 +81,14 @@ module _ {R E : Type 0} (source : Ghosts R E) where
   pub record Shows (depth start : ℕ) (drawn then_drawn : Option (List Line)) (before bytes : List ℕ)
       (ending : Ending) (old new : Decoder R) : Type 0 where
     pub lines : Lines depth start drawn then_drawn before bytes ending
-    pub takes : Takes source old bytes new
+    pub takes : TakesBytes source old bytes new
     pub left : IsIdle source old → IfSome (view source new) (LeavesAs ending (bytes_at_fault lines.lines))
 
   -- the bytes consumed before were drawn, and then that
   pub record ShowsBehind (depth start : ℕ) (drawn then_drawn : Option (List Line)) (before row bytes : List ℕ)
       (ending : Ending) (old new : Decoder R) : Type 0 where
     pub lines : Lines depth start drawn then_drawn before (row ++ bytes) ending
-    pub takes : Takes source old bytes new
+    pub takes : TakesBytes source old bytes new
     pub left : IsIdle source old → IfSome (view source new) (LeavesAs ending (bytes_at_fault lines.lines))
 
   -- What was left behind a dump is shown at the level: in a line, where there is some, are just bytes that were
@@ -99,7 +99,7 @@ module _ {R E : Type 0} (source : Ghosts R E) where
     pub bytes : List ℕ
     pub draws : Draws drawn then_drawn (fault_lines level old.offset bytes)
     pub few : length bytes ≤ most_bytes
-    pub takes : Takes source old bytes new
+    pub takes : TakesBytes source old bytes new
     pub between : Decoder R
     pub passed : Passes source old bytes between
     pub ends : EndsRow source (length bytes) between new

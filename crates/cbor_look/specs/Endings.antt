@@ -11,20 +11,20 @@ use Rattle.cbor_look.specs.Levels.{Line, Ending, Meant, Refused, Failed, Stopped
 use Rattle.cbor_look.specs.Takings.{Leaves}
 
 -- a line says what its bytes mean, and not that they are at fault
-abbrev pub IsMeant : Meaning → Type 0
-IsMeant m.Fault = ⊥
-IsMeant meaning = Unit {0}
+abbrev pub HasMeaning : Meaning → Type 0
+HasMeaning m.Fault = ⊥
+HasMeaning meaning = Unit {0}
 
 -- each of the lines does
 abbrev pub AreMeant : List Line → Type 0
 AreMeant [] = Unit {0}
-AreMeant (line ∷ lines) = IsMeant line.meaning × AreMeant lines
+AreMeant (line ∷ lines) = HasMeaning line.meaning × AreMeant lines
 
 -- each of them does but the last one, which is at fault
 abbrev pub EndAtFault : List Line → Type 0
 EndAtFault [] = ⊥
 EndAtFault (line ∷ []) = line.meaning ≡ m.Fault
-EndAtFault (line ∷ (next ∷ lines)) = IsMeant line.meaning × EndAtFault (next ∷ lines)
+EndAtFault (line ∷ (next ∷ lines)) = HasMeaning line.meaning × EndAtFault (next ∷ lines)
 
 -- the lines end so
 abbrev pub EndAs : Ending → List Line → Type 0

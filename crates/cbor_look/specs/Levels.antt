@@ -156,11 +156,11 @@ Stands how depth before m.Text line = HasBody depth before Text line × IsWritab
 Stands how depth before m.Fault line = HasNoTitle how depth before line ⊎ HasNoText how depth before line
 
 -- a line has a byte, and no more than 16
-abbrev pub IsFilled : List ℕ → Type 0
-IsFilled bytes = (0 < length bytes) × (length bytes ≤ most_bytes)
+abbrev pub FitsRow : List ℕ → Type 0
+FitsRow bytes = (0 < length bytes) × (length bytes ≤ most_bytes)
 
 -- each of the lines does, is filled, and has the offset of its first byte, where the bytes before begin at the start
 abbrev pub AllStand : Ending → ℕ → ℕ → List ℕ → List Line → Type 0
 AllStand how depth start before [] = Unit {0}
-AllStand how depth start before (line ∷ lines) = (line.offset ≡ start + length before) × IsFilled line.bytes
+AllStand how depth start before (line ∷ lines) = (line.offset ≡ start + length before) × FitsRow line.bytes
     × Stands how depth before line.meaning line × AllStand how depth start (before ++ line.bytes) lines

@@ -10,7 +10,7 @@ use Rattle.ciborium_ll.specs.Finishing.{EndsBody, IsNoText}
 use Rattle.ciborium_ll_text.specs.Text.{IsCharacters}
 use Rattle.ciborium_ll_text.specs.declared.state.State.{State}
 use Rattle.ciborium_ll_text.specs.declared.state.State.TheVariants as t
-use Rattle.cbor_look.specs.Takings.{HasRoom, most_text}
+use Rattle.cbor_look.specs.Takings.{ThroughSomeRoom, most_text}
 
 -- the bytes so far end between two characters (Unicode, Table 3-7)
 abbrev pub is_between : State → Bool
@@ -47,13 +47,13 @@ module _ {R E : Type 0} (source : Ghosts R E) where
   -- of no more than a row has (RFC 7049, 2.1; RFC 3629, 4)
   abbrev pub FailsInBody : Kind → ℕ → ℕ → Decoder R → Error E → Decoder R → Type 0
   FailsInBody kind left place old error new =
-      HasRoom (λ room. EndsBody source kind [] left room place old (Err error) new)
+      ThroughSomeRoom (λ room. EndsBody source kind [] left room place old (Err error) new)
 
   -- bytes of a text were read, of which so many were left, or the read of them failed as that of the whole body does
   -- (RFC 7049, 2.1; RFC 3629, 4)
-  abbrev pub ReadsText : ℕ → List ℕ → Decoder R → Result Bool (Error E) → Decoder R → Type 0
-  ReadsText left bytes old (Ok whole) new = Passes source old bytes new × IsSound left bytes whole
-  ReadsText left bytes old (Err error) new = (place : ℕ) → FailsInBody Text left place old error new
+  abbrev pub ReadsTextPart : ℕ → List ℕ → Decoder R → Result Bool (Error E) → Decoder R → Type 0
+  ReadsTextPart left bytes old (Ok whole) new = Passes source old bytes new × IsSound left bytes whole
+  ReadsTextPart left bytes old (Err error) new = (place : ℕ) → FailsInBody Text left place old error new
 
   -- the same of a body of either kind (RFC 7049, 2.1; RFC 3629, 4)
   abbrev pub ReadsPart : Kind → ℕ → ℕ → List ℕ → Decoder R → Result (Unit {0}) (Error E) → Decoder R → Type 0

@@ -26,7 +26,7 @@ use Rattle.cbor_look.specs.Levels.{Line}
 use Rattle.cbor_look.specs.Dumps.{Shows}
 use Rattle.cbor_look.specs.Endings.{ending}
 use Rattle.cbor_look.specs.Parts.{FailsInBody}
-use Rattle.cbor_look.specs.Takings.{HasRoom, IsAlike}
+use Rattle.cbor_look.specs.Takings.{ThroughSomeRoom, IsAlike}
 
 -- a kind of string in the code, as the grammar has it
 abbrev pub kind_of : CodeKind → Kind
@@ -64,27 +64,27 @@ module _ {R E : Type 0} (source : Ghosts R E) where
   -- behind an open the read of a string failed as that of a skip does, through a buffer of some room, but of no more
   -- than a row has (RFC 7049, 2.2.2)
   abbrev pub FailsInside : Kind → Decoder R → Error E → Decoder R → Type 0
-  FailsInside kind old error new = HasRoom (λ room. StopsInside source kind room old error new)
+  FailsInside kind old error new = ThroughSomeRoom (λ room. StopsInside source kind room old error new)
 
 module _ {R E W : Type 0} (source : Ghosts R E) where
   -- how the read of what follows a string's title stops: as a skip of it does; the place is that of the title of a body
   -- (RFC 7049, 2.2)
-  abbrev pub StopsRest : Kind → Option ℕ → ℕ → Decoder R → Result (Unit {0}) (DumpError E W) → Decoder R → Type 0
-  StopsRest kind len place old (Ok done) new = Unit {0}
-  StopsRest kind (Some len) place old (Err (d.Item (s.Read error))) new =
+  abbrev pub StopsBehindTitle : Kind → Option ℕ → ℕ → Decoder R → Result (Unit {0}) (DumpError E W) → Decoder R → Type 0
+  StopsBehindTitle kind len place old (Ok done) new = Unit {0}
+  StopsBehindTitle kind (Some len) place old (Err (d.Item (s.Read error))) new =
       FailsInBody source kind len place old error new
-  StopsRest kind None place old (Err (d.Item (s.Read error))) new = FailsInside source kind old error new
-  StopsRest kind len place old (Err (d.Item (s.Break at))) new = ⊥
-  StopsRest kind len place old (Err (d.Item (s.Deep at))) new = ⊥
-  StopsRest kind len place old (Err (d.Rows fault)) new = Unit {0}
+  StopsBehindTitle kind None place old (Err (d.Item (s.Read error))) new = FailsInside source kind old error new
+  StopsBehindTitle kind len place old (Err (d.Item (s.Break at))) new = ⊥
+  StopsBehindTitle kind len place old (Err (d.Item (s.Deep at))) new = ⊥
+  StopsBehindTitle kind len place old (Err (d.Rows fault)) new = Unit {0}
 
   -- What follows a string's title was shown, or a beginning of it: of a definite length the body, which is text where
   -- it has to be, and else strings and a break
-  pub record ShowsRest (depth start : ℕ) (drawn then_drawn : Option (List Line)) (before : List ℕ) (kind : Kind)
+  pub record ShowsBehindTitle (depth start : ℕ) (drawn then_drawn : Option (List Line)) (before : List ℕ) (kind : Kind)
       (len : Option ℕ) (strict : Bool) (place : ℕ) (result : Result (Unit {0}) (DumpError E W)) (old new : Decoder R)
       : Type 0 where
     pub bytes : List ℕ
     pub shows : Shows source depth start drawn then_drawn before bytes (ending strict result) old new
     pub whole : OnOk result (IsRest strict kind len bytes)
     pub passed : IsAlike strict old → OnOk result (Passes source old bytes new)
-    pub stops : IsAlike strict old → StopsRest kind len place old result new
+    pub stops : IsAlike strict old → StopsBehindTitle kind len place old result new

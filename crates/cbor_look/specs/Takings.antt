@@ -22,7 +22,7 @@ abbrev pub most_bytes : ℕ
 most_bytes = 16
 
 -- this holds of some room of a buffer, which is no more than a row has
-pub record HasRoom (Holds : ℕ → Type 0) : Type 0 where
+pub record ThroughSomeRoom (Holds : ℕ → Type 0) : Type 0 where
   pub room : ℕ
   pub held : room ≤ most_bytes
   pub holds : Holds room
@@ -61,9 +61,9 @@ LeavesBehind (e.Io fault) bytes left = Leaves bytes left
 LeavesBehind error bytes left = Unit {0}
 
 -- where bytes are at fault, some were read
-abbrev pub HasFault : {E : Type 0} → Error E → List ℕ → Type 0
-HasFault (e.Syntax at) bytes = 0 < length bytes
-HasFault error bytes = Unit {0}
+abbrev pub HasBytesAtFault : {E : Type 0} → Error E → List ℕ → Type 0
+HasBytesAtFault (e.Syntax at) bytes = 0 < length bytes
+HasBytesAtFault error bytes = Unit {0}
 
 -- no header waits, and the decoder is as strict
 pub record IsAlike {R : Type 0} (strict : Bool) (decoder : Decoder R) : Type 0 where
@@ -77,7 +77,7 @@ pub record RefusesRead {R : Type 0} (old new : Decoder R) : Type 0 where
 
 module _ {R E : Type 0} (source : Ghosts R E) where
   -- so many bytes were read behind those before, or as many as there was room for
-  pub record ReadsOn (count : ℕ) (before after : List ℕ) (old : Decoder R) (result : Result (Unit {0}) (Error E))
+  pub record ReadsMore (count : ℕ) (before after : List ℕ) (old : Decoder R) (result : Result (Unit {0}) (Error E))
       (new : Decoder R) : Type 0 where
     pub bytes : List ℕ
     pub counted : length bytes ≡ min count (most_bytes - length before)
@@ -105,7 +105,7 @@ module _ {R E : Type 0} (source : Ghosts R E) where
     pub none_waits : decoder.waiting ≡ None
 
   -- these bytes were read: the offset rose by their number, and an idle decoder consumed just them
-  pub record Takes (old : Decoder R) (bytes : List ℕ) (new : Decoder R) : Type 0 where
+  pub record TakesBytes (old : Decoder R) (bytes : List ℕ) (new : Decoder R) : Type 0 where
     pub offset : new.offset ≡ old.offset + length bytes
     pub consumed : IsIdle old → Consumes (view source old) (view source new) bytes × IsIdle new
 
@@ -113,4 +113,4 @@ module _ {R E : Type 0} (source : Ghosts R E) where
   pub record Keeps (before after : List ℕ) (old new : Decoder R) : Type 0 where
     pub bytes : List ℕ
     pub appended : after ≡ before ++ bytes
-    pub takes : Takes old bytes new
+    pub takes : TakesBytes old bytes new

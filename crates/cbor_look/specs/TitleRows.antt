@@ -17,7 +17,7 @@ use Rattle.cbor_look.specs.Levels.{Line, Nest, StandsBehind, closes_one}
 use Rattle.cbor_look.specs.Dumps.{Lines, Shows, ShowsBehind}
 use Rattle.cbor_look.specs.Endings.{ending}
 use Rattle.cbor_look.specs.Walks.{IsDueBehind, IsDeepest}
-use Rattle.cbor_look.specs.Takings.{HasRoom, IsAlike}
+use Rattle.cbor_look.specs.Takings.{ThroughSomeRoom, IsAlike}
 use Rattle.cbor_look.specs.Sequences.{IsSequence}
 
 -- behind the bytes an item is due, in place of which no break may stand
@@ -57,21 +57,21 @@ module _ {R E : Type 0} (source : Ghosts R E) where
   -- a string of this length failed as a skip of it does, through a buffer of some room, but of no more than a row has
   -- (RFC 7049, 2.2)
   abbrev pub FailsInString : Kind → Option ℕ → Decoder R → Error E → Decoder R → Type 0
-  FailsInString kind len old error new = HasRoom (λ room. SkipsString source kind len room old (Err error) new)
+  FailsInString kind len old error new = ThroughSomeRoom (λ room. SkipsString source kind len room old (Err error) new)
 
 module _ {R E W : Type 0} (source : Ghosts R E) where
   -- how a title ends a dump, or the string that it begins, which stops as a skip of it does (RFC 7049, 2.2)
-  abbrev pub StopsTitle : Bool → ℕ → ℕ → Header → ℕ → List ℕ → Decoder R → Result (Unit {0}) (DumpError E W)
+  abbrev pub EndsAtTitle : Bool → ℕ → ℕ → Header → ℕ → List ℕ → Decoder R → Result (Unit {0}) (DumpError E W)
       → Decoder R → Type 0
-  StopsTitle strict depth whole header place before old (Ok done) new = Unit {0}
-  StopsTitle strict depth whole header place before old (Err (d.Item (s.Read error))) new =
+  EndsAtTitle strict depth whole header place before old (Ok done) new = Unit {0}
+  EndsAtTitle strict depth whole header place before old (Err (d.Item (s.Read error))) new =
       (kind : Kind) × (len : Option ℕ) × IsStringDue strict depth whole before header kind len
       × FailsInString source kind len old error new
-  StopsTitle strict depth whole header place before old (Err (d.Item (s.Break at))) new =
+  EndsAtTitle strict depth whole header place before old (Err (d.Item (s.Break at))) new =
       IsUnclosed strict depth whole before × (header ≡ h.Break) × (at ≡ place) × (new ≡ old)
-  StopsTitle strict depth whole header place before old (Err (d.Item (s.Deep at))) new =
+  EndsAtTitle strict depth whole header place before old (Err (d.Item (s.Deep at))) new =
       IsDeepest strict depth whole before × IsNest header × (at ≡ place) × (new ≡ old)
-  StopsTitle strict depth whole header place before old (Err (d.Rows fault)) new = Unit {0}
+  EndsAtTitle strict depth whole header place before old (Err (d.Rows fault)) new = Unit {0}
 
   -- a title was shown that was read before, and the string that it begins; where all is well an item is due behind it
   pub record ShowsTitle (depth whole start : ℕ) (drawn then_drawn : Option (List Line)) (before title : List ℕ)
@@ -81,7 +81,7 @@ module _ {R E W : Type 0} (source : Ghosts R E) where
     pub shows : ShowsBehind source depth start drawn then_drawn before title bytes (ending strict result) old new
     pub due : OnOk result (IsDueBehind strict depth whole walk (before ++ (title ++ bytes)))
     pub passed : IsAlike strict old → OnOk result (Passes source old bytes new)
-    pub stops : IsAlike strict old → StopsTitle strict depth whole header place before old result new
+    pub stops : IsAlike strict old → EndsAtTitle strict depth whole header place before old result new
 
 module _ {R E W : Type 0} (source : Ghosts R E) where
   -- Lines were drawn of just the bytes that were consumed, each stands at its level, and none is at fault but the last

@@ -12,12 +12,12 @@ use Rattle.cbor_look.specs.declared.walk.Entered.TheVariants as w
 use Rattle.cbor_look.specs.Levels.{Nest, StandsBehind, closes_one, title_level}
 
 -- a header that is an item by itself (RFC 7049, 2.1 and 2.3)
-abbrev pub IsValue : Header → Type 0
-IsValue (h.Positive number) = Unit {0}
-IsValue (h.Negative number) = Unit {0}
-IsValue (h.Float value) = Unit {0}
-IsValue (h.Simple number) = Unit {0}
-IsValue header = ⊥
+abbrev pub IsItemAlone : Header → Type 0
+IsItemAlone (h.Positive number) = Unit {0}
+IsItemAlone (h.Negative number) = Unit {0}
+IsItemAlone (h.Float value) = Unit {0}
+IsItemAlone (h.Simple number) = Unit {0}
+IsItemAlone header = ⊥
 
 -- what remains of the level of this number
 abbrev pub remaining_at : List Remaining → ℕ → Remaining

@@ -8,7 +8,7 @@ ghost use Rattle.ciborium_ll.specs.Decoding.{offset_of, strict_of, IsWaiting};
 ghost use Rattle.cbor_skip.specs.Due.{IsNest};
 ghost use Rattle.cbor_skip.specs.SkippingTold.{IsReadyToSkip};
 ghost use Rattle.cbor_look.specs.Checking.{AnswersTold, ReadsAsCheck};
-ghost use Rattle.cbor_look.specs.Dumps.{AnswersWaiting, AreTaken, Draws, EndsTitles, IsRefusal, IsTaken, SaysFault};
+ghost use Rattle.cbor_look.specs.Dumps.{AnswersWaiting, AreRowsTaken, Draws, EndsTitles, IsRefusal, IsTaken, SaysFault};
 ghost use Rattle.cbor_look.specs.Dumps.{fault_lines};
 ghost use Rattle.ciborium_ll.specs.Types.Error.TheVariants.{Waiting};
 ghost use Rattle.cbor_skip.specs.declared.SkipError.TheVariants as s;
@@ -17,9 +17,9 @@ ghost use Rattle.cbor_look.specs.Sequences.{IsSequence};
 ghost use Rattle.cbor_look.specs.Takings.{IsAlike, most_bytes, taken_bytes};
 ghost use Rattle.ciborium_ll.specs.Strings.{kind_header};
 ghost use Rattle.cbor_look.specs.Levels.{Nest, StandsWithin};
-ghost use Rattle.cbor_look.specs.StringRows.{ShowsRest, kind_of};
+ghost use Rattle.cbor_look.specs.StringRows.{ShowsBehindTitle, kind_of};
 ghost use Rattle.cbor_look.specs.TitleRows.{DrawsTitle, ShowsAll, ShowsTitle};
-ghost use Rattle.cbor_look.specs.Walks.{IsDue, IsValue};
+ghost use Rattle.cbor_look.specs.Walks.{IsDue, IsItemAlone};
 
 use crate::left::fault_row;
 use crate::rows::{Meaning, Row, Rows};
@@ -82,15 +82,15 @@ where
     R::Error: Drop,
     requires { depth ≤ 256 }
     ensures waits { IsWaiting decoder.old → AnswersWaiting rows.old decoder.old result rows.new decoder.new }
-    ensures shows { AreTaken result
+    ensures shows { AreRowsTaken result
         → ShowsAll R.Read strict depth (S.drawn rows.old) (S.drawn rows.new) result decoder.old decoder.new }
-    ensures reads { IsAlike strict decoder.old → AreTaken result
+    ensures reads { IsAlike strict decoder.old → AreRowsTaken result
         → ReadsAsCheck R.Read depth decoder.old result decoder.new }
     ensures told { (due : List ℕ) → IsAlike strict decoder.old
-        → IsReadyToSkip R.Read most_bytes decoder.old due → AreTaken result
+        → IsReadyToSkip R.Read most_bytes decoder.old due → AreRowsTaken result
         → AnswersTold R.Read depth due decoder.old result decoder.new }
     ensures exactly { (due : List ℕ) → IsAlike strict decoder.old
-        → IsReadyToSkip R.Read most_bytes decoder.old due → AreTaken result
+        → IsReadyToSkip R.Read most_bytes decoder.old due → AreRowsTaken result
         → (IsOk result ↔ IsSequence (strict_of decoder.old) depth due) }
 {
     let mut walk = Walk::new(depth);
@@ -116,7 +116,7 @@ fn ended<E: Drop, S: Rows>(
     level: usize,
     rows: &mut S,
 ) -> Result<E, DumpError<E, S::Error>>
-    ensures draws { AreTaken result
+    ensures draws { AreRowsTaken result
         → Draws (S.drawn rows.old) (S.drawn rows.new) (fault_lines level offset (taken_bytes taken.now)) }
     ensures ends { EndsTitles error level (length (taken_bytes taken.now)) result }
     ensures waits { error ≡ Waiting → taken_bytes taken.now ≡ []
@@ -155,7 +155,7 @@ pub(crate) fn shown<E, S: Rows>(
     level: usize,
     rows: &mut S,
 ) -> Result<(), DumpError<E, S::Error>>
-    ensures draws { AreTaken result → Draws (S.drawn rows.old) (S.drawn rows.new)
+    ensures draws { AreRowsTaken result → Draws (S.drawn rows.old) (S.drawn rows.new)
         (record { level = level; offset = offset; bytes = taken_bytes taken.now; meaning = meaning } ∷ []) }
     ensures refusal { IfErr result (λ error. IsRefusal error) }
 {
@@ -184,7 +184,7 @@ where
     ensures shows { (depth whole start : ℕ) (before : List ℕ) → IsDue strict depth whole walk.old before
         → IsTitle (taken_bytes taken.now) header → IsTakenTitle strict (taken_bytes taken.now) header
         → place ≡ start + length before
-        → offset_of decoder.old ≡ place + length (taken_bytes taken.now) → AreTaken result
+        → offset_of decoder.old ≡ place + length (taken_bytes taken.now) → AreRowsTaken result
         → ShowsTitle R.Read depth whole start (S.drawn rows.old) (S.drawn rows.new) before (taken_bytes taken.now)
         header walk.new strict place result decoder.old decoder.new }
 {
@@ -211,10 +211,10 @@ fn value<E, S: Rows>(
     place: usize,
     rows: &mut S,
 ) -> Result<(), DumpError<E, S::Error>>
-    requires value { IsValue header }
+    requires value { IsItemAlone header }
     ensures draws { (strict : Bool) (depth whole start : ℕ) (before : List ℕ)
         → IsDue strict depth whole walk.old before → IsTitle (taken_bytes taken.now) header
-        → IsTakenTitle strict (taken_bytes taken.now) header → place ≡ start + length before → AreTaken result
+        → IsTakenTitle strict (taken_bytes taken.now) header → place ≡ start + length before → AreRowsTaken result
         → DrawsTitle strict depth whole start (S.drawn rows.old) (S.drawn rows.new) before (taken_bytes taken.now)
         header walk.new place result }
 {
@@ -233,7 +233,7 @@ fn break_title<E, S: Rows>(
 ) -> Result<(), DumpError<E, S::Error>>
     ensures draws { (strict : Bool) (depth whole start : ℕ) (before : List ℕ)
         → IsDue strict depth whole walk.old before → IsTitle (taken_bytes taken.now) Header.Break
-        → place ≡ start + length before → AreTaken result
+        → place ≡ start + length before → AreRowsTaken result
         → DrawsTitle strict depth whole start (S.drawn rows.old) (S.drawn rows.new) before (taken_bytes taken.now)
         Header.Break walk.new place result }
 {
@@ -259,7 +259,7 @@ fn nest<E, S: Rows>(
     requires nest { IsNest header }
     ensures draws { (strict : Bool) (depth whole start : ℕ) (before : List ℕ)
         → IsDue strict depth whole walk.old before → IsTitle (taken_bytes taken.now) header
-        → IsTakenTitle strict (taken_bytes taken.now) header → place ≡ start + length before → AreTaken result
+        → IsTakenTitle strict (taken_bytes taken.now) header → place ≡ start + length before → AreRowsTaken result
         → DrawsTitle strict depth whole start (S.drawn rows.old) (S.drawn rows.new) before (taken_bytes taken.now)
         header walk.new place result }
 {
@@ -293,7 +293,7 @@ where
         → IsTitle (taken_bytes taken.now) (kind_header (kind_of kind) len)
         → IsTakenTitle strict (taken_bytes taken.now) (kind_header (kind_of kind) len)
         → place ≡ start + length before
-        → offset_of decoder.old ≡ place + length (taken_bytes taken.now) → AreTaken result
+        → offset_of decoder.old ≡ place + length (taken_bytes taken.now) → AreRowsTaken result
         → ShowsTitle R.Read depth whole start (S.drawn rows.old) (S.drawn rows.new) before (taken_bytes taken.now)
         (kind_header (kind_of kind) len) walk.new strict place result decoder.old decoder.new }
 {
@@ -320,8 +320,8 @@ where
     requires behind { level < offset_of decoder.old }
     ensures shows { (depth start : ℕ) (nests : List Nest) (items title : List ℕ) → StandsWithin depth nests items
         → IsTitle title (kind_header (kind_of kind) len) → level ≡ length nests
-        → offset_of decoder.old ≡ start + length (items ++ title) → AreTaken result
-        → ShowsRest R.Read depth start (S.drawn rows.old) (S.drawn rows.new) (items ++ title) (kind_of kind) len
+        → offset_of decoder.old ≡ start + length (items ++ title) → AreRowsTaken result
+        → ShowsBehindTitle R.Read depth start (S.drawn rows.old) (S.drawn rows.new) (items ++ title) (kind_of kind) len
         strict (offset_of decoder.old - title_len (kind_header (kind_of kind) len)) result decoder.old decoder.new }
 {
     match len {

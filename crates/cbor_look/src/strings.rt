@@ -5,11 +5,11 @@ ghost use Rattle.std.specs.Prelude.{None, Some};
 ghost use Rattle.ciborium_ll.specs.Title.{IsTitle};
 ghost use Rattle.ciborium_ll.specs.Strings.{IsWritable, kind_header};
 ghost use Rattle.ciborium_ll.specs.Decoding.{offset_of, view, waiting_of};
-ghost use Rattle.cbor_look.specs.Dumps.{AreTaken};
+ghost use Rattle.cbor_look.specs.Dumps.{AreRowsTaken};
 ghost use Rattle.cbor_look.specs.Levels.{Nest, StandsWithin, TitleDue, title_level};
 ghost use Rattle.cbor_look.specs.Parts.{IsPartRow, ReadsPart};
-ghost use Rattle.cbor_look.specs.Takings.{HasFault, IsIdle, Keeps, LeavesBehind, taken_bytes};
-ghost use Rattle.cbor_look.specs.StringRows.{IsPart, ShowsRest, kind_of, meaning_of};
+ghost use Rattle.cbor_look.specs.Takings.{HasBytesAtFault, IsIdle, Keeps, LeavesBehind, taken_bytes};
+ghost use Rattle.cbor_look.specs.StringRows.{IsPart, ShowsBehindTitle, kind_of, meaning_of};
 
 use crate::dump::{DumpError, fault, shown};
 use crate::rows::{Meaning, Rows};
@@ -62,9 +62,9 @@ where
     ensures shows { (depth start opens : ℕ) (nests : List Nest) (outer title : List ℕ) (strict : Bool)
         → TitleDue depth nests opens outer → IsTitle title (kind_header (kind_of kind) (Some len))
         → level ≡ length nests + opens + 1
-        → offset_of decoder.old ≡ start + length (outer ++ title) → AreTaken result
-        → ShowsRest R.Read depth start (S.drawn rows.old) (S.drawn rows.new) (outer ++ title) (kind_of kind) (Some len)
-        strict place result decoder.old decoder.new }
+        → offset_of decoder.old ≡ start + length (outer ++ title) → AreRowsTaken result
+        → ShowsBehindTitle R.Read depth start (S.drawn rows.old) (S.drawn rows.new) (outer ++ title) (kind_of kind)
+        (Some len) strict place result decoder.old decoder.new }
     ensures rises { offset_of decoder.old ≤ offset_of decoder.new }
 {
     let mut left = len;
@@ -92,7 +92,7 @@ fn read_part<R: Read>(
     ensures keeps { Keeps R.Read (taken_bytes taken.old) (taken_bytes taken.new) decoder.old decoder.new }
     ensures most { length (taken_bytes taken.new) ≤ left }
     ensures some { IfOk result (λ _. 0 < left → 0 < length (taken_bytes taken.new)) }
-    ensures fault { 0 < left → IfErr result (λ error. HasFault error (taken_bytes taken.new)) }
+    ensures fault { 0 < left → IfErr result (λ error. HasBytesAtFault error (taken_bytes taken.new)) }
     ensures row { 0 < left → IfErr result (λ error. IsPartRow (kind_of kind) left error (taken_bytes taken.new)) }
     ensures left { 0 < left → IfErr result (λ error. IsIdle R.Read decoder.old
         → IfSome (view R.Read decoder.new) (LeavesBehind error (taken_bytes taken.new))) }
@@ -168,8 +168,8 @@ where
     requires behind { level < offset_of decoder.old }
     ensures shows { (depth start : ℕ) (nests : List Nest) (items title : List ℕ) → StandsWithin depth nests items
         → IsTitle title (kind_header (kind_of kind) None) → level ≡ length nests
-        → offset_of decoder.old ≡ start + length (items ++ title) → AreTaken result
-        → ShowsRest R.Read depth start (S.drawn rows.old) (S.drawn rows.new) (items ++ title) (kind_of kind) None
+        → offset_of decoder.old ≡ start + length (items ++ title) → AreRowsTaken result
+        → ShowsBehindTitle R.Read depth start (S.drawn rows.old) (S.drawn rows.new) (items ++ title) (kind_of kind) None
         strict 0 result decoder.old decoder.new }
 {
     let mut inner = level + 1;

@@ -24,10 +24,10 @@ pub(crate) struct Taken {
 impl Taken {
     ghost use Rattle.ciborium_ll.specs.Items.{IsTakenTitle};
     ghost use Rattle.ciborium_ll.specs.Title.{IsTitle};
-    ghost use Rattle.cbor_look.specs.Takings.{EndsRow, HasFault, IsAlike, IsIdle, Keeps, PullsRow, ReadsOn};
+    ghost use Rattle.cbor_look.specs.Takings.{EndsRow, HasBytesAtFault, IsAlike, IsIdle, Keeps, PullsRow, ReadsMore};
     ghost use Rattle.cbor_look.specs.Takings.{IsTitleRow, LeavesBehind, RefusesRead, taken_bytes};
     ghost use Rattle.ciborium_ll.specs.Types.Error.TheVariants.{Waiting};
-    ghost use Rattle.cbor_look.specs.Parts.{IsPartRow, IsSound, ReadsText};
+    ghost use Rattle.cbor_look.specs.Parts.{IsPartRow, IsSound, ReadsTextPart};
     ghost use Rattle.ciborium_ll.specs.Strings.{Text};
 
     /// None.
@@ -65,7 +65,7 @@ impl Taken {
         ensures all { IfOk result (λ _. length (taken_bytes self.new)
             ≡ length (taken_bytes self.old) + min count (16 - length (taken_bytes self.old))) }
         ensures none { IfErr result (λ _. taken_bytes self.new ≡ taken_bytes self.old) }
-        ensures reads { ReadsOn R.Read count (taken_bytes self.old) (taken_bytes self.new) decoder.old result
+        ensures reads { ReadsMore R.Read count (taken_bytes self.old) (taken_bytes self.new) decoder.old result
             decoder.new }
     {
         let end = self.len + count.min(MOST_BYTES - self.len);
@@ -81,7 +81,7 @@ impl Taken {
         ensures keeps { Keeps R.Read (taken_bytes self.old) (taken_bytes self.new) decoder.old decoder.new }
         ensures one { IsTrue result → length (taken_bytes self.new) ≡ suc (length (taken_bytes self.old)) }
         ensures came { IsTrue result
-            → ReadsOn R.Read 1 (taken_bytes self.old) (taken_bytes self.new) decoder.old (Ok tt) decoder.new }
+            → ReadsMore R.Read 1 (taken_bytes self.old) (taken_bytes self.new) decoder.old (Ok tt) decoder.new }
         ensures ends { result ≡ false → (taken_bytes self.new ≡ taken_bytes self.old)
             × EndsRow R.Read (length (taken_bytes self.old)) decoder.old decoder.new }
     {
@@ -104,7 +104,7 @@ impl Taken {
         ensures taken { IfOk result (λ header. IsTakenTitle strict (taken_bytes self.new) header) }
         ensures passes { waiting_of decoder.old ≡ None
             → IfOk result (λ _. Passes R.Read decoder.old (taken_bytes self.new) decoder.new) }
-        ensures fault { IfErr result (λ error. HasFault error (taken_bytes self.new)) }
+        ensures fault { IfErr result (λ error. HasBytesAtFault error (taken_bytes self.new)) }
         ensures row { IfErr result (λ error. IsTitleRow strict error (taken_bytes self.new)) }
         ensures left { IfErr result (λ error. IsIdle R.Read decoder.old
             → IfSome (view R.Read decoder.new) (LeavesBehind error (taken_bytes self.new))) }
@@ -131,13 +131,13 @@ impl Taken {
         ensures keeps { Keeps R.Read (taken_bytes self.old) (taken_bytes self.new) decoder.old decoder.new }
         ensures most { length (taken_bytes self.new) ≤ left }
         ensures some { IfOk result (λ _. 0 < left → 0 < length (taken_bytes self.new)) }
-        ensures fault { IfErr result (λ error. HasFault error (taken_bytes self.new)) }
+        ensures fault { IfErr result (λ error. HasBytesAtFault error (taken_bytes self.new)) }
         ensures row { 0 < left → IfErr result (λ error. IsPartRow Text left error (taken_bytes self.new)) }
         ensures left { 0 < left → IfErr result (λ error. IsIdle R.Read decoder.old
             → IfSome (view R.Read decoder.new) (LeavesBehind error (taken_bytes self.new))) }
         ensures sound { IfOk result (λ whole. IsSound left (taken_bytes self.new) whole) }
         ensures reads { 0 < left → waiting_of decoder.old ≡ None
-            → ReadsText R.Read left (taken_bytes self.new) decoder.old result decoder.new }
+            → ReadsTextPart R.Read left (taken_bytes self.new) decoder.old result decoder.new }
     {
         self.read(decoder, left.min(MOST_BYTES - 3))?;
         // There is room: behind the first byte of a character at most three are due.

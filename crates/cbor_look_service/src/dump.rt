@@ -3,10 +3,10 @@
 ghost use Rattle.std.specs.Prelude.{◌≤◌, ◌↔◌, ℕ, List, length, IsOk, None};
 ghost use Rattle.ciborium_ll.specs.Decoding.{offset_of};
 ghost use Rattle.cbor_skip.specs.SkippingTold.{IsReadyToSkip};
-ghost use Rattle.cbor_look.specs.Dumps.{AreTaken};
+ghost use Rattle.cbor_look.specs.Dumps.{AreRowsTaken};
 ghost use Rattle.cbor_look.specs.Sequences.{IsSequence};
 ghost use Rattle.cbor_look.specs.Takings.{IsAlike, most_bytes};
-ghost use Rattle.cbor_look_verdicts.specs.Checking.{FindsEnd, dump_said};
+ghost use Rattle.cbor_look_verdicts.specs.Checking.{FindsBehindRows, dump_said};
 
 use crate::arguments::Options;
 use crate::patient::Patient;
@@ -168,10 +168,10 @@ where
     R::Error: Drop,
     requires shallow { depth ≤ 256 }
     requires alike { IsAlike strict decoder.old }
-    ensures exactly { (due : List ℕ) → IsReadyToSkip R.Read most_bytes decoder.old due → AreTaken result
+    ensures exactly { (due : List ℕ) → IsReadyToSkip R.Read most_bytes decoder.old due → AreRowsTaken result
         → (IsOk result ↔ IsSequence strict depth due) }
-    ensures told { (due : List ℕ) → IsReadyToSkip R.Read most_bytes decoder.old due → AreTaken result
-        → FindsEnd strict depth due (offset_of decoder.old) (dump_said result None (offset_of decoder.new)) }
+    ensures told { (due : List ℕ) → IsReadyToSkip R.Read most_bytes decoder.old due → AreRowsTaken result
+        → FindsBehindRows strict depth due (offset_of decoder.old) (dump_said result None (offset_of decoder.new)) }
 {
     dump(decoder, depth, strict, printer)
 }

@@ -17,8 +17,8 @@ use Rattle.cbor_look.specs.declared.dump.DumpError.{DumpError}
 use Rattle.cbor_look.specs.declared.dump.DumpError.TheVariants as u
 use Rattle.cbor_look.specs.Checking.{AnswersAs, AnswersTold}
 use Rattle.cbor_look.specs.Singles.{ChecksOneTold}
-use Rattle.cbor_look_verdicts.specs.Checking.{fault_said, sequence_said, single_said, Stops, StopsBehind}
-use Rattle.cbor_look_verdicts.specs.Checking.{FindsAll, FindsEnd, FindsOne, dump_said}
+use Rattle.cbor_look_verdicts.specs.Checking.{fault_said, sequence_said, single_said, StopsAsNamed, StopsBehind}
+use Rattle.cbor_look_verdicts.specs.Checking.{FindsAll, FindsBehindRows, FindsOne, dump_said}
 
 -- a fault that is named is found of a sequence, and of one item
 fault_found_all : {E : Type 0} (strict : Bool) (depth count : ℕ) (due : List ℕ) (start offset : ℕ) (error : SkipError E)
@@ -43,7 +43,7 @@ module _ {R E : Type 0} (source : Ghosts R E) where
   -- what the skip of an item met is what stops its read
   fault_met : (strict : Bool) (depth : ℕ) (due : List ℕ) (old new : Decoder R) (start : ℕ) (error : SkipError E)
       → SkipsTold source strict depth due old (Err error) new → old.offset ≡ start
-      → Stops strict depth due start (fault_said error new.offset)
+      → StopsAsNamed strict depth due start (fault_said error new.offset)
   fault_met strict depth due old new start (s.Break at) met from = (met.fault, omega (arith, met.place, from))
   fault_met strict depth due old new start (s.Deep at) met from = (met.fault, omega (arith, met.place, from))
   fault_met strict depth due old new start (s.Read (e.Io fault)) met from =
@@ -78,7 +78,7 @@ module _ {R E : Type 0} (source : Ghosts R E) where
   ends_found : (depth : ℕ) (due : List ℕ) (old new : Decoder R)
       (checked : Result (Sequence E) (Stopped E)) (result : Result E (DumpError E Error)) → AnswersAs checked result
       → ChecksTold source depth due old checked new
-      → FindsEnd old.strict depth due old.offset (dump_said result None new.offset)
+      → FindsBehindRows old.strict depth due old.offset (dump_said result None new.offset)
   ends_found depth due old new (Ok sequence) (Ok fault) answers told = (sequence.items, told.are_items)
   ends_found depth due old new (Err stopped) (Ok fault) answers told = absurd answers
   ends_found depth due old new (Ok sequence) (Err (u.Item error)) answers told = absurd answers
@@ -92,7 +92,7 @@ module _ {R E : Type 0} (source : Ghosts R E) where
 
   pub dump_found : (depth : ℕ) (due : List ℕ) (old new : Decoder R) (result : Result E (DumpError E Error))
       → AnswersTold source depth due old result new
-      → FindsEnd old.strict depth due old.offset (dump_said result None new.offset)
+      → FindsBehindRows old.strict depth due old.offset (dump_said result None new.offset)
   dump_found depth due old new result answers =
       ends_found depth due old new answers.checked result answers.answers answers.told
 

@@ -61,9 +61,9 @@ module _ {R E : Type 0} (source : Ghosts R E) where
     pub said : verdict ≡ single_said answer new.offset
 
   -- either, as is wanted
-  abbrev pub Says : Bool → ℕ → ℕ → Decoder R → Verdict → Decoder R → Type 0
-  Says true depth room old verdict new = SaysOne depth room old verdict new
-  Says false depth room old verdict new = SaysItems depth room old verdict new
+  abbrev pub SaysVerdict : Bool → ℕ → ℕ → Decoder R → Verdict → Decoder R → Type 0
+  SaysVerdict true depth room old verdict new = SaysOne depth room old verdict new
+  SaysVerdict false depth room old verdict new = SaysItems depth room old verdict new
 
 -- a read that failed for another reason than the end goes before what is found
 abbrev pub unless_failed : Option ReadFault → Verdict → Verdict
@@ -109,16 +109,16 @@ abbrev pub IsWanted : Bool → Bool → ℕ → List ℕ → Type 0
 IsWanted true strict depth due = IsItem strict depth due
 IsWanted false strict depth due = IsSequence strict depth due
 
--- `Stops strict depth due start verdict`: what stops the read of an item in front of these bytes, which begin at the
--- offset, is so named, with its offset (RFC 7049, 2.1 to 2.4)
-abbrev pub Stops : Bool → ℕ → List ℕ → ℕ → Verdict → Type 0
-Stops strict depth due start (v.Syntax place) = (fault : HasItemFault strict depth due) × (at : ℕ)
+-- `StopsAsNamed strict depth due start verdict`: what stops the read of an item in front of these bytes, which begin at
+-- the offset, is so named, with its offset (RFC 7049, 2.1 to 2.4)
+abbrev pub StopsAsNamed : Bool → ℕ → List ℕ → ℕ → Verdict → Type 0
+StopsAsNamed strict depth due start (v.Syntax place) = (fault : HasItemFault strict depth due) × (at : ℕ)
     × (fault.answer ≡ Syntax at) × (place ≡ start + at)
-Stops strict depth due start (v.Short place) = (fault : HasItemFault strict depth due)
+StopsAsNamed strict depth due start (v.Short place) = (fault : HasItemFault strict depth due)
     × (fault.answer ≡ Short) × (place ≡ start + length fault.before + fault.consumed)
-Stops strict depth due start (v.Break place) = (fault : HasEarlyBreak strict depth due) × (place ≡ start + length fault.before)
-Stops strict depth due start (v.Deep place) = (fault : HasDeepNest strict depth due) × (place ≡ start + length fault.before)
-Stops strict depth due start verdict = ⊥
+StopsAsNamed strict depth due start (v.Break place) = (fault : HasEarlyBreak strict depth due) × (place ≡ start + length fault.before)
+StopsAsNamed strict depth due start (v.Deep place) = (fault : HasDeepNest strict depth due) × (place ≡ start + length fault.before)
+StopsAsNamed strict depth due start verdict = ⊥
 
 -- so many items, and behind them bytes in which the read of a further one stops, of which the fault is named
 pub record StopsBehind (strict : Bool) (depth count : ℕ) (due : List ℕ) (start : ℕ) (verdict : Verdict) : Type 0 where
@@ -126,10 +126,10 @@ pub record StopsBehind (strict : Bool) (depth count : ℕ) (due : List ℕ) (sta
   pub ahead : List ℕ
   pub are_items : AreItems strict depth count before
   pub is : due ≡ before ++ ahead
-  pub stops : Stops strict depth ahead (start + length before) verdict
+  pub stops : StopsAsNamed strict depth ahead (start + length before) verdict
 
 -- one item, and from this offset on some bytes behind it
-pub record HasMore (strict : Bool) (depth : ℕ) (due : List ℕ) (start place : ℕ) : Type 0 where
+pub record IsFollowed (strict : Bool) (depth : ℕ) (due : List ℕ) (start place : ℕ) : Type 0 where
   pub front : ItemInFront strict depth due
   pub some : front.rest ≡ [] → ⊥
   pub at : place ≡ start + length front.item
@@ -140,14 +140,14 @@ FindsAll strict depth due start (v.Well items bytes) = AreItems strict depth ite
 FindsAll strict depth due start verdict = (count : ℕ) × StopsBehind strict depth count due start verdict
 
 -- what is found behind the rows of a dump: the end of a sequence, or its first fault
-abbrev pub FindsEnd : Bool → ℕ → List ℕ → ℕ → Result (Unit {0}) Verdict → Type 0
-FindsEnd strict depth due start (Ok done) = IsSequence strict depth due
-FindsEnd strict depth due start (Err verdict) = (count : ℕ) × StopsBehind strict depth count due start verdict
+abbrev pub FindsBehindRows : Bool → ℕ → List ℕ → ℕ → Result (Unit {0}) Verdict → Type 0
+FindsBehindRows strict depth due start (Ok done) = IsSequence strict depth due
+FindsBehindRows strict depth due start (Err verdict) = (count : ℕ) × StopsBehind strict depth count due start verdict
 
 -- what is found where one item is wanted
 abbrev pub FindsOne : Bool → ℕ → List ℕ → ℕ → Verdict → Type 0
 FindsOne strict depth due start (v.Well items bytes) = (items ≡ 1) × IsItem strict depth due × (bytes ≡ length due)
-FindsOne strict depth due start (v.More place) = HasMore strict depth due start place
+FindsOne strict depth due start (v.More place) = IsFollowed strict depth due start place
 FindsOne strict depth due start verdict = StopsBehind strict depth 0 due start verdict
 
 -- either, as is wanted

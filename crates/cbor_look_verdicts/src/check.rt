@@ -5,7 +5,7 @@ ghost use Rattle.ciborium_ll.specs.Decoding.{IsFreshAs, offset_of, strict_of};
 ghost use Rattle.ciborium_ll.specs.Items.{IsItem};
 ghost use Rattle.cbor_skip.specs.SkippingTold.{IsReadyToSkip};
 ghost use Rattle.cbor_look.specs.Sequences.{IsSequence};
-ghost use Rattle.cbor_look_verdicts.specs.Checking.{Finds, FindsAll, FindsOne, IsWanted, IsWell, Says, SaysItems, SaysOne};
+ghost use Rattle.cbor_look_verdicts.specs.Checking.{Finds, FindsAll, FindsOne, IsWanted, IsWell, SaysVerdict, SaysItems, SaysOne};
 ghost use Rattle.cbor_look_verdicts.specs.Checking.{end_said, fault_said, sequence_said, single_said, unless_failed};
 
 use crate::verdict::Verdict;
@@ -62,7 +62,7 @@ pub fn wanted<R: Read>(decoder: &mut Decoder<R>, one: bool, depth: usize) -> Ver
 where
     R::Error: Drop,
     requires { depth ≤ 256 }
-    ensures says { Says R.Read one depth 512 decoder.old result decoder.new }
+    ensures says { SaysVerdict R.Read one depth 512 decoder.old result decoder.new }
     ensures exactly { (due : List ℕ) → IsReadyToSkip R.Read 512 decoder.old due
         → (IsWell result ↔ IsWanted one (strict_of decoder.old) depth due) }
     ensures told { (due : List ℕ) → IsReadyToSkip R.Read 512 decoder.old due

@@ -1,7 +1,7 @@
 //! What is found by a dump, behind its rows.
 
 ghost use Rattle.std.specs.Prelude.{◌≡◌};
-ghost use Rattle.cbor_look.specs.Dumps.{AreTaken, ShowsLeft};
+ghost use Rattle.cbor_look.specs.Dumps.{AreRowsTaken, ShowsLeft};
 ghost use Rattle.cbor_look_verdicts.specs.Checking.{IsCutShort, dump_said};
 
 use crate::check::{end_verdict, failed_or, fault_of};
@@ -25,8 +25,8 @@ pub fn left_shown<R: Read, S: Rows>(
 where
     R::Error: Drop,
     S::Error: Drop,
-    ensures stays { AreTaken result → result ≡ outcome }
-    ensures shows { IsCutShort outcome → AreTaken result
+    ensures stays { AreRowsTaken result → result ≡ outcome }
+    ensures shows { IsCutShort outcome → AreRowsTaken result
         → ShowsLeft R.Read level (S.drawn rows.old) (S.drawn rows.new) decoder.old decoder.new }
     ensures keeps { (IsCutShort outcome → ⊥) → (decoder.new ≡ decoder.old) × (rows.new ≡ rows.old) }
 {

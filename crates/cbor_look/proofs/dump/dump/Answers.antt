@@ -1,7 +1,7 @@
 use Rattle.std.proofs.Common.{[], ◌++◌, length, Err, refl, ◌∙◌, arith}
 use Rattle.ciborium_ll.proofs.DecodingLaws.{exit_is}
 use Rattle.cbor_look.specs.Checking.{ReadsAsCheck}
-use Rattle.cbor_look.specs.Dumps.{AreTaken, IsTaken}
+use Rattle.cbor_look.specs.Dumps.{AreRowsTaken, IsTaken}
 use Rattle.ciborium_ll.specs.Items.{IsTakenTitle}
 use Rattle.ciborium_ll.specs.Title.{IsTitle}
 use Rattle.ciborium_ll.proofs.NestLaws.{title_some}
@@ -37,7 +37,7 @@ returns-in-Err g c =
     let level = c.level-level.ensures.value in
     let place = c.offset-place.ensures.value in
     let ended = c.ended.ensures.ends in
-    let reads : IsAlike c.args.strict c.args.decoder.now → AreTaken c.ended.result
+    let reads : IsAlike c.args.strict c.args.decoder.now → AreRowsTaken c.ended.result
     → ReadsAsCheck g.R.Read c.args.depth c.args.decoder.now c.ended.result c.read_title.new.decoder =
     λ alike all.
     let come = up.came alike in
