@@ -63,8 +63,9 @@ module _ {R E : Type 0} (source : Ghosts R E) (kind : Kind) (kept : List ℕ) (u
     pub full : offset_limit ≤ between.offset + count
     pub untouched : IsUntouched between new
 
-  -- the body of a text is none (RFC 7049, 2.1): behind a beginning of it one more read, which with the bytes kept filled
-  -- the buffer, or took all that was left of the body, made what was read no text, as the whole body or however it goes on
+  -- the body of a text is none (RFC 7049, 2.1): behind a beginning of it one more read, which with the bytes kept
+  -- filled the buffer, or took all that was left of the body, made what was read no text, as the whole body or however
+  -- it goes on
   pub record RestDamaged (room : ℕ) (old new : Decoder R) : Type 0 where
     pub textual : kind ≡ Text
     pub between : Decoder R
