@@ -116,9 +116,9 @@ impl<'r, R: Read, P: Chunked> Segments<'r, R, P> {
     ///
     /// `Ok` says that the whole body was read, and that it is UTF-8 where it is of a text: the decoder is then behind
     /// it. The errors are `Syntax` with the body's place where it is no text; `Io` where the reader failed, and
-    /// `TooLong` where the offset would pass `usize::MAX`. The last read, which these two stop and behind which `Syntax`
-    /// comes, is one that fills the buffer, behind the bytes that are kept, or takes all that is left of the body, if
-    /// anything is. What was read before an error is consumed. The string goes on as before.
+    /// `TooLong` where the offset would pass `usize::MAX`. The last read, which these two stop and behind which
+    /// `Syntax` comes, is one that fills the buffer, behind the bytes that are kept, or takes all that is left of the
+    /// body, if anything is. What was read before an error is consumed. The string goes on as before.
     pub fn finish(&mut self, body: Body, buffer: &mut [u8]) -> Result<(), Error<R::Error>>
         requires room { 4 ≤ length buffer.old }
         requires none_waits { waiting_of (string_decoder self.old) ≡ None }
@@ -136,8 +136,8 @@ impl<'r, R: Read, P: Chunked> Segments<'r, R, P> {
 /// The errors are `Syntax` where the body is no text, with the byte from which the header's shortest title would reach
 /// it; `Io` where the reader failed, and `TooLong` where the offset would pass `usize::MAX`. The last read, which these
 /// two stop and behind which `Syntax` comes, is one that fills the buffer, behind the bytes that are kept, or takes all
-/// that is left of the body, if anything is: the whole body, where the buffer holds it. What was read before an error is
-/// consumed.
+/// that is left of the body, if anything is: the whole body, where the buffer holds it. What was read before an error
+/// is consumed.
 #[inline(always)]
 pub fn finish_body<R: Read, P: Chunked>(
     decoder: &mut Decoder<R>,
