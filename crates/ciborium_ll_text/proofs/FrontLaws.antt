@@ -1,13 +1,10 @@
 -- Longest fronts that are text, and what is stuck behind them.
-use Rattle.std.specs.Prelude.{IsUtf8}
 use Rattle.std.specs.Str.{IsValidUpTo}
 use Rattle.std.proofs.Common.{◌≡◌, ℕ, ◌≤◌, List, [], ◌∷◌, ◌++◌, length, take, drop, refl, sym, ap, subst, ◌∙◌, arith}
 use Rattle.std.proofs.Common.{append_assoc, append-nil, length-append, length-take-le}
-use Rattle.std.proofs.Math.Seq.{drop-length}
 use Rattle.ciborium_ll_text.specs.Text.{IsCharacters, IsFront, IsStuck, BeginsNoText}
 use Rattle.ciborium_ll_text.proofs.Lists.{length_zero}
-use Rattle.ciborium_ll_text.proofs.TextLaws.{IsCharacters-append, IsCharacters-nil, front_of_text, front_of_valid}
-use Rattle.ciborium_ll_text.proofs.Utf8Laws.{from_std}
+use Rattle.ciborium_ll_text.proofs.TextLaws.{IsCharacters-append, IsCharacters-nil, front_of_valid}
 
 -- nothing is stuck
 pub IsStuck-nil : IsStuck []
@@ -31,13 +28,6 @@ IsFront-stuck bytes stuck =
       longest = λ other more e text. let none = stuck other more (sym (append-nil bytes) ∙ e) text in let l =
           ap length none in omega (arith, l);
     }
-
--- text is its own front
-pub IsFront-text : (bytes text : List ℕ) → text ≡ bytes → IsUtf8 bytes → IsFront bytes text (drop (length text) bytes)
-IsFront-text bytes text e utf8 =
-    subst (λ (z : List ℕ). IsFront bytes z (drop (length z) bytes)) (sym e)
-    (subst (λ (z : List ℕ). IsFront bytes bytes z) (sym (drop-length bytes))
-    (front_of_text bytes (from_std bytes utf8)))
 
 -- the front that std finds
 pub IsFront-valid : (bytes text : List ℕ) (n : ℕ) → text ≡ take n bytes → n ≤ length bytes → IsValidUpTo bytes n
