@@ -91,6 +91,25 @@ impl Taken {
         self.read(decoder, 1).is_ok()
     }
 
+    /// Reads the affix of a title, of so many bytes: where it has none, nothing is read.
+    fn read_affix<R: Read>(
+        &mut self,
+        decoder: &mut Decoder<R>,
+        count: usize,
+    ) -> Result<(), Error<R::Error>>
+        requires none_waits { waiting_of decoder.old ≡ None }
+        ensures keeps { Keeps R.Read (taken_bytes self.old) (taken_bytes self.new) decoder.old decoder.new }
+        ensures none { IfErr result (λ _. taken_bytes self.new ≡ taken_bytes self.old) }
+        ensures some { IfErr result (λ _. 0 < count) }
+        ensures reads { ReadsOn R.Read count (taken_bytes self.old) (taken_bytes self.new) decoder.old result
+            decoder.new }
+    {
+        if count == 0 {
+            return Ok(());
+        }
+        self.read(decoder, count)
+    }
+
     /// Reads a title, of which a strict read takes the shortest alone. The error `Syntax` has this offset.
     pub(crate) fn read_title<R: Read>(
         &mut self,
@@ -114,7 +133,7 @@ impl Taken {
             → PullsRow R.Read decoder.old result decoder.new }
     {
         self.read(decoder, 1)?;
-        self.read(decoder, affix_len(self.bytes()[0]))?;
+        self.read_affix(decoder, affix_len(self.bytes()[0]))?;
         match header_of(self.bytes(), strict) {
             Some(header) => Ok(header),
             None => Err(Error::Syntax(place)),
