@@ -60,11 +60,6 @@ abbrev pub LeavesBehind : {E : Type 0} → Error E → List ℕ → List ℕ →
 LeavesBehind (e.Io fault) bytes left = Leaves bytes left
 LeavesBehind error bytes left = Unit {0}
 
--- where bytes are at fault, some were read
-abbrev pub HasFault : {E : Type 0} → Error E → List ℕ → Type 0
-HasFault (e.Syntax at) bytes = 0 < length bytes
-HasFault error bytes = Unit {0}
-
 -- no header waits, and the decoder is as strict
 pub record IsAlike {R : Type 0} (strict : Bool) (decoder : Decoder R) : Type 0 where
   pub none_waits : decoder.waiting ≡ None

@@ -24,7 +24,7 @@ pub(crate) struct Taken {
 impl Taken {
     ghost use Rattle.ciborium_ll.specs.Items.{IsTakenTitle};
     ghost use Rattle.ciborium_ll.specs.Title.{IsTitle};
-    ghost use Rattle.cbor_look.specs.Takings.{EndsRow, HasFault, IsAlike, IsIdle, Keeps, PullsRow, ReadsOn};
+    ghost use Rattle.cbor_look.specs.Takings.{EndsRow, IsAlike, IsIdle, Keeps, PullsRow, ReadsOn};
     ghost use Rattle.cbor_look.specs.Takings.{IsTitleRow, LeavesBehind, RefusesRead, taken_bytes};
     ghost use Rattle.ciborium_ll.specs.Types.Error.TheVariants.{Waiting};
     ghost use Rattle.cbor_look.specs.Parts.{IsPartRow, IsSound, ReadsText};
@@ -123,7 +123,6 @@ impl Taken {
         ensures taken { IfOk result (λ header. IsTakenTitle strict (taken_bytes self.new) header) }
         ensures passes { waiting_of decoder.old ≡ None
             → IfOk result (λ _. Passes R.Read decoder.old (taken_bytes self.new) decoder.new) }
-        ensures fault { IfErr result (λ error. HasFault error (taken_bytes self.new)) }
         ensures row { IfErr result (λ error. IsTitleRow strict error (taken_bytes self.new)) }
         ensures left { IfErr result (λ error. IsIdle R.Read decoder.old
             → IfSome (view R.Read decoder.new) (LeavesBehind error (taken_bytes self.new))) }
@@ -150,7 +149,6 @@ impl Taken {
         ensures keeps { Keeps R.Read (taken_bytes self.old) (taken_bytes self.new) decoder.old decoder.new }
         ensures most { length (taken_bytes self.new) ≤ left }
         ensures some { IfOk result (λ _. 0 < left → 0 < length (taken_bytes self.new)) }
-        ensures fault { IfErr result (λ error. HasFault error (taken_bytes self.new)) }
         ensures row { 0 < left → IfErr result (λ error. IsPartRow Text left error (taken_bytes self.new)) }
         ensures left { 0 < left → IfErr result (λ error. IsIdle R.Read decoder.old
             → IfSome (view R.Read decoder.new) (LeavesBehind error (taken_bytes self.new))) }
