@@ -1,7 +1,8 @@
 -- The show of an item behind its header, which was pulled, as a read of the item.
-use Rattle.std.proofs.Common.{◌≡◌, ℕ, suc, Bool, [], Option, Result, Err, IfErr, inr}
+use Rattle.std.proofs.Common.{◌≡◌, ◌⊎◌, ℕ, suc, Bool, [], Option, Result, Err, IfErr, inl, inr, subst, sym}
 use Rattle.ciborium_ll.specs.Types.Read.{Ghosts}
 use Rattle.ciborium_ll.specs.Types.Header.{Header}
+use Rattle.ciborium_ll.specs.Types.Header.TheVariants as h
 use Rattle.ciborium_ll.specs.Types.Decoder.{Decoder}
 use Rattle.ciborium_ll.specs.Types.Error.{Error}
 use Rattle.ciborium_ll.specs.Strings.{Kind, kind_header}
@@ -79,3 +80,10 @@ module _ {R E F : Type 0} (source : Ghosts R E) (outer : Bool) (depth : ℕ) (be
       λ answer. SkipsWithin source header levels 64 titled answer new in
       reading_stops Bool (Unit {0}) One (ItemRead source outer depth before new) error
       (λ stop stops. stops_nest source level pulled steady stops) reads
+
+-- what contains others is a nest
+pub nest_of : (header : Header) → ((number : ℕ) × (header ≡ h.Tag number)) ⊎ (((len : Option ℕ) × (header ≡ h.Array len))
+    ⊎ ((len : Option ℕ) × (header ≡ h.Map len))) → IsNest header
+nest_of header (inl is) = subst IsNest (sym is.1) tt
+nest_of header (inr (inl is)) = subst IsNest (sym is.1) tt
+nest_of header (inr (inr is)) = subst IsNest (sym is.1) tt

@@ -13,10 +13,12 @@ use Rattle.cbor_look.specs.declared.rows.Meaning.TheVariants as m
 use Rattle.ciborium_ll.specs.Strings.{Kind, Text}
 use Rattle.ciborium_ll.specs.Decoding.{view}
 use Rattle.ciborium_ll.proofs.DecodingLaws.{IfSome-all}
+use Rattle.ciborium_ll.proofs.NestLaws.{title_some}
+use Rattle.ciborium_ll.proofs.TextLaws.{IsCharacters-nil}
 use Rattle.ciborium_ll.specs.Types.Error.{Error}
 use Rattle.ciborium_ll.specs.Types.Error.TheVariants as e
 use Rattle.cbor_skip.specs.declared.SkipError.TheVariants as s
-use Rattle.cbor_look.specs.Takings.{HasBytesAtFault, IsIdle, IsTitleRow, LeavesBehind, TakesBytes, most_bytes}
+use Rattle.cbor_look.specs.Takings.{IsIdle, IsTitleRow, LeavesBehind, TakesBytes, most_bytes}
 use Rattle.cbor_look.specs.Dumps.{Draws, IsRefusal, IsTaken, Lines, SaysFault, Shows, ShowsBehind, fault_lines}
 use Rattle.cbor_look.specs.declared.dump.DumpError.{DumpError}
 use Rattle.cbor_look.specs.declared.dump.DumpError.TheVariants as d
@@ -95,6 +97,28 @@ ends_then Failed first second a (inl b) = inl (meant_then first second a b)
 ends_then Failed first second a (inr b) = inr (fault_then first second a b)
 ends_then Stopped first second a (inl b) = inl (meant_then first second a b)
 ends_then Stopped first second a (inr b) = inr (fault_then first second a b)
+
+-- where bytes are no item, some were read
+abbrev pub HasBytesAtFault : {E : Type 0} → Error E → List ℕ → Type 0
+HasBytesAtFault (e.Syntax at) bytes = 0 < length bytes
+HasBytesAtFault error bytes = Unit {0}
+
+pub title_fault : {E : Type 0} (strict : Bool) (error : Error E) (bytes : List ℕ) → IsTitleRow strict error bytes
+    → HasBytesAtFault error bytes
+title_fault strict (e.Syntax at) bytes (inl refused) = let one = ap length refused.2 in omega (arith, one)
+title_fault strict (e.Syntax at) bytes (inr longer) = title_some bytes longer.1.0 longer.1.1
+title_fault strict (e.Io fault) bytes row = tt
+title_fault strict e.TooLong bytes row = tt
+title_fault strict e.Waiting bytes row = tt
+
+pub part_fault : {E : Type 0} (kind : Kind) (left : ℕ) (error : Error E) (bytes : List ℕ) → 0 < left
+    → IsPartRow kind left error bytes → HasBytesAtFault error bytes
+part_fault kind left (e.Syntax at) [] some (is, inl all) = absurd (let whole = all.0 in omega (arith, whole, some))
+part_fault kind left (e.Syntax at) [] some (is, inr never) = absurd (never [] IsCharacters-nil)
+part_fault kind left (e.Syntax at) (byte ∷ bytes) some row = omega arith
+part_fault kind left (e.Io fault) bytes some row = tt
+part_fault kind left e.TooLong bytes some row = tt
+part_fault kind left e.Waiting bytes some row = tt
 
 -- what was read before a read stopped
 pub read_ends : {E : Type 0} (strict : Bool) (error : Error E) (level offset : ℕ) (bytes : List ℕ)

@@ -25,7 +25,7 @@ use Rattle.ciborium_ll.specs.Strings.{Kind, kind_header, definite, IsWritable}
 use Rattle.ciborium_ll.specs.Elements.{AreWritable}
 use Rattle.ciborium_ll.proofs.ElementLaws.{AreWritable-append}
 use Rattle.cbor_look.specs.declared.rows.Meaning.TheVariants as m
-use Rattle.cbor_look.specs.Takings.{HasBytesAtFault, IsAlike, IsIdle, LeavesBehind, most_bytes, TakesBytes}
+use Rattle.cbor_look.specs.Takings.{IsAlike, IsIdle, LeavesBehind, most_bytes, TakesBytes}
 use Rattle.cbor_look.specs.Levels.{Ending, IsTitleFault, Meant}
 use Rattle.cbor_look.specs.Levels.{Line, Nest, StandsWithin, AreOpen, none, more, TitleDue, title_level}
 use Rattle.cbor_look.specs.Dumps.{Draws, fault_lines, IsTaken, SaysFault, Shows}
@@ -33,7 +33,7 @@ use Rattle.cbor_look.specs.Endings.{ending_before, ending_of}
 use Rattle.cbor_look.specs.StringRows.{EndsString, IsPart, StopsBehindTitle}
 use Rattle.cbor_look.specs.declared.strings.Part.{Part}
 use Rattle.cbor_look.specs.declared.strings.Part.TheVariants as p
-use Rattle.cbor_look.proofs.DumpLaws.{shows_fault, shows_none, shows_says, shows_then}
+use Rattle.cbor_look.proofs.DumpLaws.{HasBytesAtFault, shows_fault, shows_none, shows_says, shows_then}
 use Rattle.cbor_look.proofs.TitleLaws.{title_line, break_bytes}
 use Rattle.cbor_look.proofs.StringLaws.{next_offset, add_string, add_open, close_inner, close_last}
 use Rattle.cbor_look.proofs.StringLaws.{not_open, taken_any, taken_none, taken_then}

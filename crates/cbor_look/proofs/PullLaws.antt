@@ -17,7 +17,7 @@ use Rattle.ciborium_ll.proofs.BodyLaws.{view_none, Passes-read}
 use Rattle.ciborium_ll.specs.Strings.{Kind, Text}
 use Rattle.cbor_look.specs.Parts.{IsCutText, IsPartRow}
 use Rattle.cbor_look.specs.Takings.{IsAlike, IsTitleRow, Leaves, LeavesBehind, Means, PullsRow, ReadsMore, RefusesRead}
-use Rattle.std.proofs.Common.{get_or, length-append, ◌++◌, ◌≤◌, Result}
+use Rattle.std.proofs.Common.{append-nil, get_or, length-append, ◌++◌, ◌≤◌, Result}
 use Rattle.ciborium_ll.proofs.DecodingLaws.{IfSome-all}
 use Rattle.cbor_look.proofs.TakingLaws.{one_of}
 use Rattle.cbor_look.proofs.ItemRows.{nothing}
@@ -135,6 +135,28 @@ module _ {R E : Type 0} (source : Ghosts R E) where
       let long = ap length reads.behind in
       one_of row (omega (arith, empty, counted, long, length-append before reads.bytes))
 
+  -- where nothing is read
+  pub reads_none : (before : List ℕ) (decoder : Decoder R) → decoder.waiting ≡ None
+      → ReadsMore source 0 before before decoder (Ok tt) decoder
+  reads_none before decoder none = record {
+    bytes = [];
+    counted = omega arith;
+    reads = record {
+      read = record {
+        bytes = Consumes-nil (source.ahead decoder.reader);
+        offset = omega arith;
+        none_waited = none;
+        none_waits = none;
+        failures = refl;
+        mode = refl;
+      };
+      steady = λ steady. steady;
+      mode = refl;
+      refusals = refl;
+    };
+    behind = sym (append-nil before);
+  }
+
   -- what a decoder says of a first byte and its affix, which were read one behind the other
   pub row_means : (strict : Bool) (count : ℕ) (before one row shown : List ℕ) (old between new : Decoder R)
       (result : Option Header) → before ≡ [] → ReadsMore source 1 before one old (Ok tt) between
@@ -164,11 +186,11 @@ module _ {R E : Type 0} (source : Ghosts R E) where
 
   pub row_first : (strict : Bool) (count : ℕ) (before after : List ℕ) (error : Error E) (old new : Decoder R)
       → ReadsMore source count before after old (Err error) new → (byte : ℕ) (row : List ℕ) → row ≡ byte ∷ []
-      → IsTitleRow strict error row
-  row_first strict count before after (e.Io fault) old new reads byte row one = inr (byte, one)
-  row_first strict count before after (e.Syntax at) old new reads byte row one = absurd reads.reads.read
-  row_first strict count before after e.TooLong old new reads byte row one = inr (byte, one)
-  row_first strict count before after e.Waiting old new reads byte row one = inr (byte, one)
+      → 0 < affix_len (byte % 32) → IsTitleRow strict error row
+  row_first strict count before after (e.Io fault) old new reads byte row one more = inr (byte, one, more)
+  row_first strict count before after (e.Syntax at) old new reads byte row one more = absurd reads.reads.read
+  row_first strict count before after e.TooLong old new reads byte row one more = inr (byte, one, more)
+  row_first strict count before after e.Waiting old new reads byte row one more = inr (byte, one, more)
 
   -- of a body nothing, or the front of a text
   pub part_nothing : (kind : Kind) (left count : ℕ) (before after : List ℕ) (error : Error E) (old new : Decoder R)

@@ -1,5 +1,5 @@
 -- The lines of a string, behind its title.
-use Rattle.std.proofs.Common.{◌≡◌, ℕ, zero, suc, ◌+◌, ◌-◌, ◌≤◌, List, [], ◌∷◌, ◌++◌, length, Option, Some, None}
+use Rattle.std.proofs.Common.{◌≡◌, ℕ, zero, suc, ◌+◌, ◌-◌, ◌<◌, ◌≤◌, List, [], ◌∷◌, ◌++◌, length, Option, Some, None}
 use Rattle.std.proofs.Common.{Result, Ok, Err, inr, refl, sym, ap, subst, ◌∙◌, arith, append-nil, append_assoc}
 use Rattle.std.proofs.Common.{length-append, Bool, IfSome, true, false}
 use Rattle.ciborium_ll.specs.Types.Read.{Ghosts}
@@ -24,7 +24,7 @@ use Rattle.cbor_look.specs.declared.rows.Meaning.TheVariants as m
 use Rattle.cbor_look.specs.declared.strings.Kind.{Kind as CodeKind}
 use Rattle.cbor_look.specs.declared.strings.Kind.TheVariants as k
 use Rattle.cbor_look.specs.Parts.{FailsInBody}
-use Rattle.cbor_look.specs.Takings.{HasBytesAtFault, IsIdle, LeavesBehind, most_bytes, TakesBytes, Keeps}
+use Rattle.cbor_look.specs.Takings.{IsIdle, LeavesBehind, most_bytes, TakesBytes, Keeps}
 use Rattle.cbor_look.specs.Levels.{Line, Nest, AreOpen, none, more, TitleDue, HasBody, HasNoText, FitsRow, Stands}
 use Rattle.cbor_look.specs.Levels.{Ending, IsTextFault, Meant}
 use Rattle.cbor_look.specs.Parts.{IsPartRow}
@@ -33,7 +33,7 @@ use Rattle.ciborium_ll.proofs.DecodingLaws.{IfSome-all}
 use Rattle.cbor_look.specs.Dumps.{Draws, fault_lines, SaysFault, Shows}
 use Rattle.cbor_look.specs.Endings.{HasMeaning, ending_of}
 use Rattle.cbor_look.specs.StringRows.{EndsString, StopsBehindTitle, kind_of, meaning_of}
-use Rattle.cbor_look.proofs.DumpLaws.{lines_one, part_row, shows_fault, shows_then}
+use Rattle.cbor_look.proofs.DumpLaws.{lines_one, part_fault, part_row, shows_fault, shows_then}
 use Rattle.cbor_look.proofs.PullLaws.{passes_idle}
 
 -- ---- bodies
@@ -121,7 +121,7 @@ module _ {R E : Type 0} (source : Ghosts R E) where
       → (so_far : SoFar depth start drawn middle (outer ++ title) kind len left old between)
       → TakesBytes source between bytes new → length bytes ≤ left → offset ≡ between.offset
       → Draws middle then_drawn (fault_lines level offset bytes) → IsPartRow kind left error bytes
-      → length bytes ≤ most_bytes → HasBytesAtFault error bytes
+      → length bytes ≤ most_bytes → 0 < left
       → (IsIdle source between → IfSome (view source new) (LeavesBehind error bytes))
       → Shows source depth start drawn then_drawn (outer ++ title) (so_far.front ++ bytes) (ending_of strict error) old
       new
@@ -138,7 +138,7 @@ module _ {R E : Type 0} (source : Ghosts R E) where
       inr (no_text (ending_of strict error) kind depth _ _ fault.0
       (body_here depth opens nests outer title kind len level at so_far.front bytes (omega (arith, counted, few)) offset
       m.Fault)
-      (subst (λ (n : ℕ). IsTextFault (ending_of strict error) n bytes) rest fault.1))) fit some left_behind)
+      (subst (λ (n : ℕ). IsTextFault (ending_of strict error) n bytes) rest fault.1))) fit (part_fault kind left error bytes some row) left_behind)
 
   pub part_shown : (depth start opens : ℕ) (nests : List Nest) (outer title : List ℕ) (kind : CodeKind)
       (len left level offset : ℕ) (drawn middle then_drawn : Option (List Line)) (bytes : List ℕ)

@@ -15,7 +15,7 @@ use Rattle.cbor_skip.specs.Due.{IsNest}
 use Rattle.cbor_skip.proofs.ItemSteps.{item_of}
 use Rattle.cbor_look.specs.declared.rows.Meaning.TheVariants as m
 use Rattle.cbor_look.specs.declared.walk.Walk.{Walk}
-use Rattle.cbor_look.specs.Takings.{HasBytesAtFault, IsIdle, IsTitleRow, LeavesBehind, TakesBytes, most_bytes}
+use Rattle.cbor_look.specs.Takings.{IsIdle, IsTitleRow, LeavesBehind, TakesBytes, most_bytes}
 use Rattle.ciborium_ll.specs.Decoding.{view}
 use Rattle.ciborium_ll.proofs.DecodingLaws.{IfSome-all}
 use Rattle.cbor_look.specs.Endings.{LeavesAs, ending, ending_of}
@@ -38,7 +38,7 @@ use Rattle.cbor_look.proofs.RowLaws.{title_filled}
 use Rattle.cbor_look.proofs.WalkLaws.{stands_any}
 use Rattle.cbor_look.proofs.TakingLaws.{takes_none}
 use Rattle.cbor_look.proofs.DumpLaws.{lines_one, shows_fault, shows_nothing, shows_read}
-use Rattle.cbor_look.proofs.DumpLaws.{shows_says, shows_then, title_row}
+use Rattle.cbor_look.proofs.DumpLaws.{shows_says, shows_then, title_fault, title_row}
 
 -- ---- levels
 
@@ -266,11 +266,11 @@ module _ {R E : Type 0} (source : Ghosts R E) where
       → (up : UpTo strict depth drawn middle walk old between)
       → TakesBytes source between row new → place ≡ between.offset → level ≡ walk.used
       → Draws middle then_drawn (fault_lines level place row) → IsTitleRow strict error row
-      → length row ≤ most_bytes → HasBytesAtFault error row
+      → length row ≤ most_bytes
       → (IsIdle source between → IfSome (view source new) (LeavesBehind error row))
       → Shows source depth old.offset drawn then_drawn [] (up.bytes ++ row) (ending_of strict error) old new
   up_fails strict error depth drawn middle then_drawn walk row place level old between new up takes at same drawn_fault
-      fault few some left =
+      fault few left =
       let used = up.due.keeps.used in
       let moved = up.shows.takes.offset in
       let due = due_here depth up.due.nests up.bytes
@@ -284,7 +284,7 @@ module _ {R E : Type 0} (source : Ghosts R E) where
         due = due;
         fault = title_row strict due.kind 0 error row fault any;
         level = omega (arith, same, used);
-      })) few some left)
+      })) few (title_fault strict error row fault) left)
 
   -- a title that was read, and what is shown of it and behind it
   pub up_title : {W : Type 0} (strict : Bool) (depth whole place : ℕ) (header : Header) (drawn middle then_drawn :
@@ -307,11 +307,11 @@ module _ {R E : Type 0} (source : Ghosts R E) where
       (result : Result E (DumpError E W)) → (up : UpTo strict depth drawn middle walk old between)
       → TakesBytes source between row new → place ≡ between.offset → level ≡ walk.used
       → Draws middle then_drawn (fault_lines level place row) → EndsTitles error level (length row) result
-      → IsTitleRow strict error row → length row ≤ most_bytes → HasBytesAtFault error row
+      → IsTitleRow strict error row → length row ≤ most_bytes
       → (IsIdle source between → IfSome (view source new) (LeavesBehind error row)) → AreRowsTaken result
       → ShowsAll source strict depth drawn then_drawn result old new
   up_ended strict depth drawn middle then_drawn walk row place level old between new error (Ok fault) up takes at same
-      drawn_fault ends row_fault few some left taken =
+      drawn_fault ends row_fault few left taken =
       let none = nothing row ends.2 in
       let shows = shows_then source depth old.offset drawn middle then_drawn [] up.bytes row old between new up.shows
       (shows_nothing source depth old.offset middle then_drawn up.bytes level place row between new takes drawn_fault
@@ -327,11 +327,11 @@ module _ {R E : Type 0} (source : Ghosts R E) where
         );
       }
   up_ended strict depth drawn middle then_drawn walk row place level old between new error (Err why) up takes at same
-      drawn_fault ends row_fault few some left taken = record {
+      drawn_fault ends row_fault few left taken = record {
         bytes = up.bytes ++ row;
         shows = shows_says source strict error why depth old.offset drawn then_drawn [] (up.bytes ++ row) old new ends.0
             taken
             (up_fails strict error depth drawn middle then_drawn walk row place level old between new up takes at same
-            drawn_fault row_fault few some left);
+            drawn_fault row_fault few left);
         whole = tt;
       }

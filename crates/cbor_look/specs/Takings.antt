@@ -39,9 +39,9 @@ Means strict bytes (Some header) = IsTitle bytes header × (IsTrue strict → Is
 Means strict bytes None = ((byte : ℕ) × IsRefused byte × (bytes ≡ byte ∷ []))
     ⊎ (IsTrue strict × ((header : Header) × IsTitle bytes header × (IsStrictTitle bytes header → ⊥)))
 
--- a first byte, which is all that came of a title
+-- the first byte of a title that was cut: it announces more (RFC 7049, 2.1)
 abbrev pub IsFirstByte : List ℕ → Type 0
-IsFirstByte bytes = (byte : ℕ) × (bytes ≡ byte ∷ [])
+IsFirstByte bytes = (byte : ℕ) × (bytes ≡ byte ∷ []) × (0 < affix_len (byte % 32))
 
 -- what was read of a title where the read stopped so: all of one that is refused, or nothing, or its first byte
 abbrev pub IsTitleRow : {E : Type 0} → Bool → Error E → List ℕ → Type 0
@@ -59,11 +59,6 @@ Leaves bytes left = left ≡ []
 abbrev pub LeavesBehind : {E : Type 0} → Error E → List ℕ → List ℕ → Type 0
 LeavesBehind (e.Io fault) bytes left = Leaves bytes left
 LeavesBehind error bytes left = Unit {0}
-
--- where bytes are at fault, some were read
-abbrev pub HasBytesAtFault : {E : Type 0} → Error E → List ℕ → Type 0
-HasBytesAtFault (e.Syntax at) bytes = 0 < length bytes
-HasBytesAtFault error bytes = Unit {0}
 
 -- no header waits, and the decoder is as strict
 pub record IsAlike {R : Type 0} (strict : Bool) (decoder : Decoder R) : Type 0 where

@@ -48,9 +48,9 @@ pub enum DumpError<E, W> {
 /// No row means a fault but the last one before an error. Where bytes are no item (`Error::Syntax`) that one does: it
 /// has all of a title that is refused, by its first byte, by a strict dump since it is not strict, or since it may not
 /// stand in its string; or bytes of a text that are none, as the rest of the body or however they go on. Where a read
-/// stopped for another reason it may: it has the first byte of a title, or 13 bytes or more of a text, which end inside
-/// a character, and more are due. A break where none may stand, and the title of a nest too deep, are shown as what
-/// they are.
+/// stopped for another reason it may: it has the first byte of a title, which announces more, or 13 bytes or more of a
+/// text, which end inside a character, and more are due. A break where none may stand, and the title of a nest too
+/// deep, are shown as what they are.
 ///
 /// Where a steady reader that tells its bytes fails within an item, and no header waited, few of them are left: behind
 /// a first byte at fault fewer than it announces, behind a text at fault none, and where no row is at fault at most 15.

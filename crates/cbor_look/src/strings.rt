@@ -8,7 +8,7 @@ ghost use Rattle.ciborium_ll.specs.Decoding.{offset_of, view, waiting_of};
 ghost use Rattle.cbor_look.specs.Dumps.{AreRowsTaken};
 ghost use Rattle.cbor_look.specs.Levels.{Nest, StandsWithin, TitleDue, title_level};
 ghost use Rattle.cbor_look.specs.Parts.{IsPartRow, ReadsPart};
-ghost use Rattle.cbor_look.specs.Takings.{HasBytesAtFault, IsIdle, Keeps, LeavesBehind, taken_bytes};
+ghost use Rattle.cbor_look.specs.Takings.{IsIdle, Keeps, LeavesBehind, taken_bytes};
 ghost use Rattle.cbor_look.specs.StringRows.{IsPart, ShowsBehindTitle, kind_of, meaning_of};
 
 use crate::dump::{DumpError, fault, shown};
@@ -92,7 +92,6 @@ fn read_part<R: Read>(
     ensures keeps { Keeps R.Read (taken_bytes taken.old) (taken_bytes taken.new) decoder.old decoder.new }
     ensures most { length (taken_bytes taken.new) ≤ left }
     ensures some { IfOk result (λ _. 0 < left → 0 < length (taken_bytes taken.new)) }
-    ensures fault { 0 < left → IfErr result (λ error. HasBytesAtFault error (taken_bytes taken.new)) }
     ensures row { 0 < left → IfErr result (λ error. IsPartRow (kind_of kind) left error (taken_bytes taken.new)) }
     ensures left { 0 < left → IfErr result (λ error. IsIdle R.Read decoder.old
         → IfSome (view R.Read decoder.new) (LeavesBehind error (taken_bytes taken.new))) }

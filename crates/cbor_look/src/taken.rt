@@ -24,7 +24,7 @@ pub(crate) struct Taken {
 impl Taken {
     ghost use Rattle.ciborium_ll.specs.Items.{IsTakenTitle};
     ghost use Rattle.ciborium_ll.specs.Title.{IsTitle};
-    ghost use Rattle.cbor_look.specs.Takings.{EndsRow, HasBytesAtFault, IsAlike, IsIdle, Keeps, PullsRow, ReadsMore};
+    ghost use Rattle.cbor_look.specs.Takings.{EndsRow, IsAlike, IsIdle, Keeps, PullsRow, ReadsMore};
     ghost use Rattle.cbor_look.specs.Takings.{IsTitleRow, LeavesBehind, RefusesRead, taken_bytes};
     ghost use Rattle.ciborium_ll.specs.Types.Error.TheVariants.{Waiting};
     ghost use Rattle.cbor_look.specs.Parts.{IsPartRow, IsSound, ReadsTextPart};
@@ -91,6 +91,25 @@ impl Taken {
         self.read(decoder, 1).is_ok()
     }
 
+    /// Reads the affix of a title, of so many bytes: where it has none, nothing is read.
+    fn read_affix<R: Read>(
+        &mut self,
+        decoder: &mut Decoder<R>,
+        count: usize,
+    ) -> Result<(), Error<R::Error>>
+        requires none_waits { waiting_of decoder.old ≡ None }
+        ensures keeps { Keeps R.Read (taken_bytes self.old) (taken_bytes self.new) decoder.old decoder.new }
+        ensures none { IfErr result (λ _. taken_bytes self.new ≡ taken_bytes self.old) }
+        ensures some { IfErr result (λ _. 0 < count) }
+        ensures reads { ReadsMore R.Read count (taken_bytes self.old) (taken_bytes self.new) decoder.old result
+            decoder.new }
+    {
+        if count == 0 {
+            return Ok(());
+        }
+        self.read(decoder, count)
+    }
+
     /// Reads a title, of which a strict read takes the shortest alone. The error `Syntax` has this offset.
     pub(crate) fn read_title<R: Read>(
         &mut self,
@@ -104,7 +123,6 @@ impl Taken {
         ensures taken { IfOk result (λ header. IsTakenTitle strict (taken_bytes self.new) header) }
         ensures passes { waiting_of decoder.old ≡ None
             → IfOk result (λ _. Passes R.Read decoder.old (taken_bytes self.new) decoder.new) }
-        ensures fault { IfErr result (λ error. HasBytesAtFault error (taken_bytes self.new)) }
         ensures row { IfErr result (λ error. IsTitleRow strict error (taken_bytes self.new)) }
         ensures left { IfErr result (λ error. IsIdle R.Read decoder.old
             → IfSome (view R.Read decoder.new) (LeavesBehind error (taken_bytes self.new))) }
@@ -114,7 +132,7 @@ impl Taken {
             → PullsRow R.Read decoder.old result decoder.new }
     {
         self.read(decoder, 1)?;
-        self.read(decoder, affix_len(self.bytes()[0]))?;
+        self.read_affix(decoder, affix_len(self.bytes()[0]))?;
         match header_of(self.bytes(), strict) {
             Some(header) => Ok(header),
             None => Err(Error::Syntax(place)),
@@ -131,7 +149,6 @@ impl Taken {
         ensures keeps { Keeps R.Read (taken_bytes self.old) (taken_bytes self.new) decoder.old decoder.new }
         ensures most { length (taken_bytes self.new) ≤ left }
         ensures some { IfOk result (λ _. 0 < left → 0 < length (taken_bytes self.new)) }
-        ensures fault { IfErr result (λ error. HasBytesAtFault error (taken_bytes self.new)) }
         ensures row { 0 < left → IfErr result (λ error. IsPartRow Text left error (taken_bytes self.new)) }
         ensures left { 0 < left → IfErr result (λ error. IsIdle R.Read decoder.old
             → IfSome (view R.Read decoder.new) (LeavesBehind error (taken_bytes self.new))) }

@@ -1,17 +1,16 @@
-use Rattle.std.proofs.Common.{◌≡◌, ◌-◌, ◌<◌, suc, Bool, true, false, Result, Err, sym, subst, refl, inl, inr}
+use Rattle.std.proofs.Common.{◌≡◌, ◌-◌, ◌<◌, suc, Bool, true, false, Result, Err, sym, subst, refl}
 use Rattle.std.proofs.Common.{arith}
 use Rattle.ciborium_ll.proofs.DecodingLaws.{exit_is, MovesOn-none, MovesOn-then, nearer}
 use Rattle.ciborium_ll_decoder.proofs.NestLaws.{title_some}
 use Rattle.cbor_skip.specs.declared.SkipError.{SkipError}
 use Rattle.cbor_skip.specs.declared.SkipError.TheVariants as s
 use Rattle.cbor_diag.specs.declared.DiagError.TheVariants as d
-use Rattle.cbor_skip.specs.Due.{IsNest}
 use Rattle.cbor_skip.specs.Remaining.{is_done, closes}
 use Rattle.cbor_skip.specs.Skipping.{SkipsWithin}
 use Rattle.cbor_skip.proofs.ItemSteps.{none_read, one_more, stops_here, pull_stops, stops_within, ended, closed}
 use Rattle.cbor_diag.specs.Showing.{ReadsFrom}
 use Rattle.cbor_diag.proofs.ShowLaws.{break_said, reading_stops, reading_unread, when_err, when_ok}
-use Rattle.cbor_diag.proofs.ItemLaws.{ItemRead, nest_deep, nest_read, nest_stops}
+use Rattle.cbor_diag.proofs.ItemLaws.{ItemRead, nest_deep, nest_of, nest_read, nest_stops}
 use Rattle.ciborium_ll.specs.Decoding.{PullsHeader}
 use Rattle.cbor_diag.specs.ItemStops.{deep}
 use Rattle.cbor_diag.proofs.ItemTextLaws.{break_shown, item_stops, items_begin, items_closed, items_done, items_more}
@@ -23,13 +22,8 @@ use Rattle.cbor_diag.proofs.nests.+items.Goals as goal
 
 pub show_item-returns-then-depth-eq0-clause-reads : goal.show_item-returns-then-depth-eq0-clause-reads
 show_item-returns-then-depth-eq0-clause-reads g t c = λ before outer at pulled steady.
-    let nest : IsNest c.args.header = elim c.in-Tag.is [
-      | inl is ↦ subst IsNest (sym is.1) tt
-      | inr (inl is) ↦ subst IsNest (sym is.1) tt
-      | inr (inr is) ↦ subst IsNest (sym is.1) tt
-    ] in
     nest_deep g.R.Read outer c.args.depth before c.args.decoder.now c.args.header c.args.place
-    c.if-depth-eq0.true at nest pulled
+    c.if-depth-eq0.true at (nest_of c.args.header c.in-Tag.is) pulled
 
 pub show_item-returns-in_err-is_empty-in-Tag-clause-reads : goal.show_item-returns-in_err-is_empty-in-Tag-clause-reads
 show_item-returns-in_err-is_empty-in-Tag-clause-reads g t c = λ before outer at pulled steady.
@@ -259,3 +253,19 @@ show_within-items-smaller g t c =
     let some = title_some pulled.title c.in_ok-next.next pulled.is_title in
     let risen : c.items.decoder.offset < c.pull.new.self.offset = omega (arith, pulled.offset, some) in
     nearer c.items.decoder c.pull.new.self c.show_item.new.decoder risen c.in_ok-show_item.ensures.moves_on.rises
+
+-- ---- what the calls require
+
+pub show_item-within-inner-requires : goal.show_item-within-inner-requires
+show_item-within-inner-requires g t c = omega (arith, c.requires.shallow, c.if-depth-eq0.false)
+
+pub show_within-behind-remaining-requires : goal.show_within-behind-remaining-requires
+show_within-behind-remaining-requires g t c = c.requires.nest
+
+pub show_within-after_item-remaining-requires : goal.show_within-after_item-remaining-requires
+show_within-after_item-remaining-requires g t c = sym c.items-test.ensures
+
+pub show_item-returns-in_ok-is_empty-in-Tag-clause-moves_on :
+    goal.show_item-returns-in_ok-is_empty-in-Tag-clause-moves_on
+show_item-returns-in_ok-is_empty-in-Tag-clause-moves_on g t c =
+    when_ok _ c.said-in-Tag.result c.in_ok-is_empty-in-Tag.ensures.moves_on

@@ -51,7 +51,7 @@ returns-in-Err g c =
       shows = λ all. up_ended g.R.Read c.args.strict c.args.depth _ _ _ c.titles.walk row c.offset-place.result
           c.level-level.result _ _ _ c.in-Err.error c.ended.result up takes place level (c.ended.ensures.draws all)
           ended (rw c.in-Err.is at c.read_title.ensures.row)
-          (row_few c.read_title.new.self) (rw c.in-Err.is at c.read_title.ensures.fault)
+          (row_few c.read_title.new.self)
           (rw (c.offset-place.ensures.same, c.in-Err.is) at c.read_title.ensures.left) all;
       waits = λ waits.
           let still = c.titles.invariant.1 waits in

@@ -37,7 +37,7 @@ returns-in-Err g c = record {
             (record { due = due; is_title = p; below = level }) at so_far takes c.read_part.ensures.most
             c.offset-offset.ensures.value (c.fault.ensures.draws all)
             ((rw c.in-Err.is at c.read_part.ensures.row) c.rows-test.true) (row_few c.read_part.new.taken)
-            ((rw c.in-Err.is at c.read_part.ensures.fault) c.rows-test.true)
+            c.rows-test.true
             ((rw (c.offset-offset.ensures.same, c.in-Err.is) at c.read_part.ensures.left) c.rows-test.true));
         whole = tt;
         passed = λ alike. tt;

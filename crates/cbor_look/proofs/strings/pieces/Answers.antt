@@ -9,7 +9,7 @@ use Rattle.ciborium_ll.proofs.NestLaws.{title_some}
 use Rattle.cbor_look.specs.Levels.{title_level}
 use Rattle.cbor_look.specs.Takings.{taken_bytes}
 use Rattle.cbor_look.specs.StringRows.{kind_of}
-use Rattle.cbor_look.proofs.DumpLaws.{not_taken, title_row}
+use Rattle.cbor_look.proofs.DumpLaws.{not_taken, title_fault, title_row}
 use Rattle.cbor_look.proofs.StringLaws.{taken_all}
 use Rattle.cbor_look.proofs.RowLaws.{row_few}
 use Rattle.cbor_look.proofs.PullLaws.{passes_idle, passes_alike}
@@ -44,7 +44,7 @@ returns-in-Err g c = record {
             (c.fault.ensures.draws all)
             (title_row c.args.strict (kind_of c.args.kind) (suc so_far.opens) c.in-Err.error row
             (rw c.in-Err.is at c.read_title.ensures.row)) (row_few c.read_title.new.self)
-            (rw c.in-Err.is at c.read_title.ensures.fault)
+            (title_fault c.args.strict c.in-Err.error row (rw c.in-Err.is at c.read_title.ensures.row))
             (rw (c.offset-place.ensures.same, c.in-Err.is) at c.read_title.ensures.left);
         whole = tt;
         passed = λ alike. tt;

@@ -24,8 +24,8 @@ returns-in_err-read-clause-waits g c = λ waits.
     let refused = waits_refused g.R.Read 1 _ _ c.in_err-read.field-0.0 _ _ waits c.in_err-read.ensures.reads in
     (same ∙ ap Err refused.0, c.in_err-read.ensures.none ∙ c.requires.none, refused.1)
 
-pub returns-in_err-read-2-clause-waits : goal.returns-in_err-read-2-clause-waits
-returns-in_err-read-2-clause-waits g c = λ waits.
+pub returns-in_err-read_affix-clause-waits : goal.returns-in_err-read_affix-clause-waits
+returns-in_err-read_affix-clause-waits g c = λ waits.
     absurd (waits_no_read g.R.Read 1 _ _ _ _ waits c.in_ok-read.ensures.reads)
 
 pub returns-in-Some-clause-waits : goal.returns-in-Some-clause-waits
@@ -52,41 +52,45 @@ returns-in_err-read-clause-left g c =
     rw same (λ idle. less_left g.R.Read 1 _ _ _ _ _ reads idle.steady _
     (λ left less. subst (λ (z : List ℕ). Leaves z left) (sym none) (omega (arith, less, counted, empty))))
 
-pub returns-in_err-read-2-clause-row : goal.returns-in_err-read-2-clause-row
-returns-in_err-read-2-clause-row g c =
-    let residual = c.from_residual-in_err-read-2 in
-    let same = exit_is residual.result c.in_err-read-2.field-0.0 residual.ensures.1 in
-    let one = first_byte g.R.Read _ _ _ _ c.requires.none c.in_ok-read.ensures.reads in
-    rw same (row_first g.R.Read c.args.strict _ _ _ _ _ _ c.in_err-read-2.ensures.reads _ _
-    (c.in_err-read-2.ensures.none ∙ one))
-
-pub returns-in_err-read-2-clause-left : goal.returns-in_err-read-2-clause-left
-returns-in_err-read-2-clause-left g c =
-    let residual = c.from_residual-in_err-read-2 in
-    let same = exit_is residual.result c.in_err-read-2.field-0.0 residual.ensures.1 in
+pub returns-in_err-read_affix-clause-row : goal.returns-in_err-read_affix-clause-row
+returns-in_err-read_affix-clause-row g c =
+    let residual = c.from_residual-in_err-read_affix in
+    let same = exit_is residual.result c.in_err-read_affix.field-0.0 residual.ensures.1 in
     let first = c.in_ok-read.ensures.reads in
     let announced : c.affix_len.result ≡ affix_len (get_or (taken_bytes c.read.new.self) 0 0 % 32) =
     rw c.bytes.ensures at c.affix_len.ensures.value in
     let one = first_byte g.R.Read _ _ _ _ c.requires.none first in
-    let row = c.in_err-read-2.ensures.none ∙ one in
-    let reads = c.in_err-read-2.ensures.reads in
+    let some = c.in_err-read_affix.ensures.some in
+    rw same (row_first g.R.Read c.args.strict _ _ _ _ _ _ c.in_err-read_affix.ensures.reads _ _
+    (c.in_err-read_affix.ensures.none ∙ one) (omega (arith, some, announced)))
+
+pub returns-in_err-read_affix-clause-left : goal.returns-in_err-read_affix-clause-left
+returns-in_err-read_affix-clause-left g c =
+    let residual = c.from_residual-in_err-read_affix in
+    let same = exit_is residual.result c.in_err-read_affix.field-0.0 residual.ensures.1 in
+    let first = c.in_ok-read.ensures.reads in
+    let announced : c.affix_len.result ≡ affix_len (get_or (taken_bytes c.read.new.self) 0 0 % 32) =
+    rw c.bytes.ensures at c.affix_len.ensures.value in
+    let one = first_byte g.R.Read _ _ _ _ c.requires.none first in
+    let row = c.in_err-read_affix.ensures.none ∙ one in
+    let reads = c.in_err-read_affix.ensures.reads in
     let counted = reads.counted in
     rw same (λ idle. less_left g.R.Read _ _ _ _ _ _ reads (first.reads.steady idle.steady) _
     (λ left less. subst (λ (z : List ℕ). Leaves z left) (sym row) (omega (arith, less, counted, announced))))
 
-pub returns-in_err-read-2-clause-keeps : goal.returns-in_err-read-2-clause-keeps
-returns-in_err-read-2-clause-keeps g c =
-    keeps_then g.R.Read _ _ _ _ _ _ c.read.ensures.keeps c.read-2.ensures.keeps
+pub returns-in_err-read_affix-clause-keeps : goal.returns-in_err-read_affix-clause-keeps
+returns-in_err-read_affix-clause-keeps g c =
+    keeps_then g.R.Read _ _ _ _ _ _ c.read.ensures.keeps c.read_affix.ensures.keeps
 
-pub returns-in_err-read-2-clause-pulls : goal.returns-in_err-read-2-clause-pulls
-returns-in_err-read-2-clause-pulls g c = λ alike at.
-    let residual = c.from_residual-in_err-read-2 in
-    let same = exit_is residual.result c.in_err-read-2.field-0.0 residual.ensures.1 in
+pub returns-in_err-read_affix-clause-pulls : goal.returns-in_err-read_affix-clause-pulls
+returns-in_err-read_affix-clause-pulls g c = λ alike at.
+    let residual = c.from_residual-in_err-read_affix in
+    let same = exit_is residual.result c.in_err-read_affix.field-0.0 residual.ensures.1 in
     let first = c.in_ok-read.ensures.reads in
     let announced : c.affix_len.result ≡ affix_len (get_or (taken_bytes c.read.new.self) 0 0 % 32) =
     rw c.bytes.ensures at c.affix_len.ensures.value in
     rw same (second_fails g.R.Read _ _ _ _ _ _ _ _ c.requires.none first announced c.affix_len.ensures.few
-    c.in_err-read-2.ensures.reads)
+    c.in_err-read_affix.ensures.reads)
 
 pub returns-in-None-clause-row : goal.returns-in-None-clause-row
 returns-in-None-clause-row g c =
@@ -94,7 +98,7 @@ returns-in-None-clause-row g c =
     let announced : c.affix_len.result ≡ affix_len (get_or (taken_bytes c.read.new.self) 0 0 % 32) =
     rw c.bytes.ensures at c.affix_len.ensures.value in
     let means = row_means g.R.Read c.args.strict _ _ _ _ _ _ _ _ None c.requires.none first announced
-    c.affix_len.ensures.few c.in_ok-read-2.ensures.reads c.bytes-2.ensures c.in-None.ensures in
+    c.affix_len.ensures.few c.in_ok-read_affix.ensures.reads c.bytes-2.ensures c.in-None.ensures in
     means
 
 pub returns-in-None-clause-left : goal.returns-in-None-clause-left
@@ -107,11 +111,11 @@ returns-in-None-clause-pulls g c = λ alike at.
     let announced : c.affix_len.result ≡ affix_len (get_or (taken_bytes c.read.new.self) 0 0 % 32) =
     rw c.bytes.ensures at c.affix_len.ensures.value in
     let means = row_means g.R.Read c.args.strict _ _ _ _ _ _ _ _ None c.requires.none first announced
-    c.affix_len.ensures.few c.in_ok-read-2.ensures.reads c.bytes-2.ensures c.in-None.ensures in
+    c.affix_len.ensures.few c.in_ok-read_affix.ensures.reads c.bytes-2.ensures c.in-None.ensures in
     let idle = alike.none_waits in
     let begun = first_passed g.R.Read 1 _ _ _ _ c.requires.none idle first in
     let passed = more_passed g.R.Read _ _ _ _ _ _ begun (passes_idle g.R.Read _ _ _ begun idle)
-    c.in_ok-read-2.ensures.reads in
+    c.in_ok-read_affix.ensures.reads in
     row_refused g.R.Read c.args.strict _ _ _ alike passed c.args.place at means
 
 pub returns-in-Some-clause-title : goal.returns-in-Some-clause-title
@@ -120,7 +124,7 @@ returns-in-Some-clause-title g c =
     let announced : c.affix_len.result ≡ affix_len (get_or (taken_bytes c.read.new.self) 0 0 % 32) =
     rw c.bytes.ensures at c.affix_len.ensures.value in
     let means = row_means g.R.Read c.args.strict _ _ _ _ _ _ _ _ (Some c.in-Some.header) c.requires.none first
-    announced c.affix_len.ensures.few c.in_ok-read-2.ensures.reads c.bytes-2.ensures c.in-Some.ensures in
+    announced c.affix_len.ensures.few c.in_ok-read_affix.ensures.reads c.bytes-2.ensures c.in-Some.ensures in
     means.0
 
 pub returns-in-Some-clause-taken : goal.returns-in-Some-clause-taken
@@ -129,13 +133,13 @@ returns-in-Some-clause-taken g c =
     let announced : c.affix_len.result ≡ affix_len (get_or (taken_bytes c.read.new.self) 0 0 % 32) =
     rw c.bytes.ensures at c.affix_len.ensures.value in
     let means = row_means g.R.Read c.args.strict _ _ _ _ _ _ _ _ (Some c.in-Some.header) c.requires.none first
-    announced c.affix_len.ensures.few c.in_ok-read-2.ensures.reads c.bytes-2.ensures c.in-Some.ensures in
+    announced c.affix_len.ensures.few c.in_ok-read_affix.ensures.reads c.bytes-2.ensures c.in-Some.ensures in
     taken_when c.args.strict _ c.in-Some.header means.1
 
 pub returns-in-Some-clause-passes : goal.returns-in-Some-clause-passes
 returns-in-Some-clause-passes g c = λ none.
     let one = first_passed g.R.Read 1 _ _ _ _ c.requires.none none c.in_ok-read.ensures.reads in
-    more_passed g.R.Read _ _ _ _ _ _ one (passes_idle g.R.Read _ _ _ one none) c.in_ok-read-2.ensures.reads
+    more_passed g.R.Read _ _ _ _ _ _ one (passes_idle g.R.Read _ _ _ one none) c.in_ok-read_affix.ensures.reads
 
 pub returns-in-Some-clause-pulls : goal.returns-in-Some-clause-pulls
 returns-in-Some-clause-pulls g c = λ alike at.
@@ -143,17 +147,20 @@ returns-in-Some-clause-pulls g c = λ alike at.
     let announced : c.affix_len.result ≡ affix_len (get_or (taken_bytes c.read.new.self) 0 0 % 32) =
     rw c.bytes.ensures at c.affix_len.ensures.value in
     let means = row_means g.R.Read c.args.strict _ _ _ _ _ _ _ _ (Some c.in-Some.header) c.requires.none first
-    announced c.affix_len.ensures.few c.in_ok-read-2.ensures.reads c.bytes-2.ensures c.in-Some.ensures in
+    announced c.affix_len.ensures.few c.in_ok-read_affix.ensures.reads c.bytes-2.ensures c.in-Some.ensures in
     let idle = alike.none_waits in
     let begun = first_passed g.R.Read 1 _ _ _ _ c.requires.none idle first in
     let passed = more_passed g.R.Read _ _ _ _ _ _ begun (passes_idle g.R.Read _ _ _ begun idle)
-    c.in_ok-read-2.ensures.reads in
+    c.in_ok-read_affix.ensures.reads in
     row_pulled g.R.Read c.args.strict _ _ _ alike passed c.in-Some.header means
 
 pub returns-in-None-clause-keeps : goal.returns-in-None-clause-keeps
 returns-in-None-clause-keeps g c =
-    keeps_then g.R.Read _ _ _ _ _ _ c.read.ensures.keeps c.read-2.ensures.keeps
+    keeps_then g.R.Read _ _ _ _ _ _ c.read.ensures.keeps c.read_affix.ensures.keeps
 
 pub returns-in-Some-clause-keeps : goal.returns-in-Some-clause-keeps
 returns-in-Some-clause-keeps g c =
-    keeps_then g.R.Read _ _ _ _ _ _ c.read.ensures.keeps c.read-2.ensures.keeps
+    keeps_then g.R.Read _ _ _ _ _ _ c.read.ensures.keeps c.read_affix.ensures.keeps
+
+pub read_affix-requires : goal.read_affix-requires
+read_affix-requires g c = record { none_waits = c.in_ok-read.ensures.reads.reads.read.none_waits }
