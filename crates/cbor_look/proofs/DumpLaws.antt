@@ -7,7 +7,7 @@ use Rattle.cbor_look.specs.Levels.{Line, bytes_of, FitsRow, Stands, AllStand, En
 use Rattle.cbor_look.specs.Levels.{IsTitleFault, IsTextFault}
 use Rattle.cbor_look.specs.Endings.{HasMeaning, AreMeant, EndAtFault, EndAs, LeavesAs, ending_before, ending_of}
 use Rattle.cbor_look.specs.Endings.{bytes_at_fault, fault_part}
-use Rattle.cbor_look.specs.Parts.{IsPartRow}
+use Rattle.cbor_look.specs.Parts.{IsCutText, IsFullPart, IsPartRow}
 use Rattle.cbor_look.specs.declared.rows.Meaning.{Meaning}
 use Rattle.cbor_look.specs.declared.rows.Meaning.TheVariants as m
 use Rattle.ciborium_ll.specs.Strings.{Kind, Text}
@@ -113,8 +113,9 @@ title_fault strict e.Waiting bytes row = tt
 
 pub part_fault : {E : Type 0} (kind : Kind) (left : ℕ) (error : Error E) (bytes : List ℕ) → 0 < left
     → IsPartRow kind left error bytes → HasBytesAtFault error bytes
-part_fault kind left (e.Syntax at) [] some (is, inl all) = absurd (let whole = all.0 in omega (arith, whole, some))
-part_fault kind left (e.Syntax at) [] some (is, inr never) = absurd (never [] IsCharacters-nil)
+part_fault kind left (e.Syntax at) [] some (is, inl all, full) =
+    absurd (let whole = all.0 in omega (arith, whole, some))
+part_fault kind left (e.Syntax at) [] some (is, inr never, full) = absurd (never [] IsCharacters-nil)
 part_fault kind left (e.Syntax at) (byte ∷ bytes) some row = omega arith
 part_fault kind left (e.Io fault) bytes some row = tt
 part_fault kind left e.TooLong bytes some row = tt
@@ -146,17 +147,20 @@ title_row strict kind opens e.TooLong bytes (inr first) some = first
 title_row strict kind opens e.Waiting bytes (inl none) some = absurd (let l = ap length none in omega (arith, l, some))
 title_row strict kind opens e.Waiting bytes (inr first) some = first
 
+full_cut : (left : ℕ) (bytes : List ℕ) → IsCutText left bytes → IsFullPart Text left bytes
+full_cut left bytes cut = let many = cut.many in omega (arith, many)
+
 -- what was read of a body
 pub part_row : {E : Type 0} (strict : Bool) (kind : Kind) (left : ℕ) (error : Error E) (bytes : List ℕ)
     → IsPartRow kind left error bytes → 0 < length bytes
-    → (kind ≡ Text) × IsTextFault (ending_of strict error) left bytes
+    → (kind ≡ Text) × IsTextFault (ending_of strict error) left bytes × IsFullPart Text left bytes
 part_row strict kind left (e.Syntax at) bytes row some = row
 part_row strict kind left (e.Io fault) bytes (inl none) some = absurd (let l = ap length none in omega (arith, l, some))
-part_row strict kind left (e.Io fault) bytes (inr cut) some = cut
+part_row strict kind left (e.Io fault) bytes (inr cut) some = (cut.0, cut.1, full_cut left bytes cut.1)
 part_row strict kind left e.TooLong bytes (inl none) some = absurd (let l = ap length none in omega (arith, l, some))
-part_row strict kind left e.TooLong bytes (inr cut) some = cut
+part_row strict kind left e.TooLong bytes (inr cut) some = (cut.0, cut.1, full_cut left bytes cut.1)
 part_row strict kind left e.Waiting bytes (inl none) some = absurd (let l = ap length none in omega (arith, l, some))
-part_row strict kind left e.Waiting bytes (inr cut) some = cut
+part_row strict kind left e.Waiting bytes (inr cut) some = (cut.0, cut.1, full_cut left bytes cut.1)
 
 -- what is left behind it
 pub leaves_as : {E : Type 0} (strict : Bool) (error : Error E) (bytes : List ℕ) (known : Option (List ℕ))

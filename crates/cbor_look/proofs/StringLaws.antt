@@ -27,7 +27,7 @@ use Rattle.cbor_look.specs.Parts.{FailsInBody}
 use Rattle.cbor_look.specs.Takings.{IsIdle, LeavesBehind, most_bytes, TakesBytes, Keeps}
 use Rattle.cbor_look.specs.Levels.{Line, Nest, AreOpen, none, more, TitleDue, HasBody, HasNoText, FitsRow, Stands}
 use Rattle.cbor_look.specs.Levels.{Ending, IsTextFault, Meant}
-use Rattle.cbor_look.specs.Parts.{IsPartRow}
+use Rattle.cbor_look.specs.Parts.{IsFullPart, IsPartRow}
 use Rattle.ciborium_ll.specs.Decoding.{view}
 use Rattle.ciborium_ll.proofs.DecodingLaws.{IfSome-all}
 use Rattle.cbor_look.specs.Dumps.{Draws, fault_lines, SaysFault, Shows}
@@ -56,10 +56,10 @@ pub record AtBody (depth opens : ℕ) (nests : List Nest) (outer title : List �
 
 body_here : (depth opens : ℕ) (nests : List Nest) (outer title : List ℕ) (kind : Kind) (len level : ℕ)
     → AtBody depth opens nests outer title kind len level → (front bytes : List ℕ)
-    → length front + length bytes ≤ len → (offset : ℕ) (meaning : Meaning)
+    → length front + length bytes ≤ len → IsFullPart kind (len - length front) bytes → (offset : ℕ) (meaning : Meaning)
     → HasBody depth ((outer ++ title) ++ front) kind
     (record { level = level; offset = offset; bytes = bytes; meaning = meaning })
-body_here depth opens nests outer title kind len level at front bytes fits offset meaning = record {
+body_here depth opens nests outer title kind len level at front bytes fits full offset meaning = record {
   nests = nests;
   opens = opens;
   outer = outer;
@@ -70,6 +70,7 @@ body_here depth opens nests outer title kind len level at front bytes fits offse
   is_title = at.is_title;
   is = append_assoc outer title front;
   fits = fits;
+  full = full;
   level = let e = at.below in omega (arith, e);
 }
 
@@ -136,9 +137,11 @@ module _ {R E : Type 0} (source : Ghosts R E) where
       (here ∙ next_offset depth start drawn middle (outer ++ title) so_far.front old between so_far.shows begun)
       (λ any. let fault = part_row strict kind left error bytes row any in
       inr (no_text (ending_of strict error) kind depth _ _ fault.0
-      (body_here depth opens nests outer title kind len level at so_far.front bytes (omega (arith, counted, few)) offset
-      m.Fault)
-      (subst (λ (n : ℕ). IsTextFault (ending_of strict error) n bytes) rest fault.1))) fit (part_fault kind left error bytes some row) left_behind)
+      (body_here depth opens nests outer title kind len level at so_far.front bytes (omega (arith, counted, few))
+      (subst (λ (k : Kind). IsFullPart k (len - length so_far.front) bytes) (sym fault.0)
+      (subst (λ (n : ℕ). IsFullPart Text n bytes) rest fault.2)) offset m.Fault)
+      (subst (λ (n : ℕ). IsTextFault (ending_of strict error) n bytes) rest fault.1))) fit
+      (part_fault kind left error bytes some row) left_behind)
 
   pub part_shown : (depth start opens : ℕ) (nests : List Nest) (outer title : List ℕ) (kind : CodeKind)
       (len left level offset : ℕ) (drawn middle then_drawn : Option (List Line)) (bytes : List ℕ)
@@ -146,13 +149,15 @@ module _ {R E : Type 0} (source : Ghosts R E) where
       → old.offset ≡ start + length (outer ++ title)
       → (so_far : SoFar depth start drawn middle (outer ++ title) (kind_of kind) len left old between)
       → TakesBytes source between bytes new → length bytes ≤ left → offset ≡ between.offset
-      → IsWritable (kind_of kind) bytes → (between.waiting ≡ None → Passes source between bytes new)
+      → IsWritable (kind_of kind) bytes → IsFullPart (kind_of kind) left bytes
+      → (between.waiting ≡ None → Passes source between bytes new)
       → Draws middle then_drawn (record { level = level; offset = offset; bytes = bytes; meaning = meaning_of kind } ∷
       []) → FitsRow bytes
       → SoFar depth start drawn then_drawn (outer ++ title) (kind_of kind) len (left - length bytes) old new
   part_shown depth start opens nests outer title kind len left level offset drawn middle then_drawn bytes old between
-      new at begun so_far takes few here written went drawn_line filled =
+      new at begun so_far takes few here written full went drawn_line filled =
       let counted = so_far.counted in
+      let rest : left ≡ len - length so_far.front = omega (arith, counted) in
       let fits : length so_far.front + length bytes ≤ len = omega (arith, counted, few) in
       record {
         front = so_far.front ++ bytes;
@@ -162,8 +167,9 @@ module _ {R E : Type 0} (source : Ghosts R E) where
                   (here ∙ next_offset depth start drawn middle (outer ++ title) so_far.front old between so_far.shows
                   begun) filled
                   (part_stands kind depth ((outer ++ title) ++ so_far.front) _
-                  (body_here depth opens nests outer title (kind_of kind) len level at so_far.front bytes fits offset
-                  (meaning_of kind)) written) (part_meant kind, tt);
+                  (body_here depth opens nests outer title (kind_of kind) len level at so_far.front bytes fits
+                  (subst (λ (n : ℕ). IsFullPart (kind_of kind) n bytes) rest full) offset (meaning_of kind)) written)
+                  (part_meant kind, tt);
               takes = takes;
               left = λ idle. IfSome-all (view source new) _ (λ any. tt);
             });

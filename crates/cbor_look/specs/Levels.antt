@@ -13,7 +13,7 @@ use Rattle.cbor_skip.specs.Due.{TakesMore, may_close}
 use Rattle.cbor_look.specs.declared.rows.Meaning.{Meaning}
 use Rattle.cbor_look.specs.declared.rows.Meaning.TheVariants as m
 use Rattle.cbor_look.specs.Takings.{IsFirstByte, Means, most_bytes}
-use Rattle.cbor_look.specs.Parts.{IsCutText}
+use Rattle.cbor_look.specs.Parts.{IsFullPart, IsCutText}
 
 -- ---- within what a title stands
 
@@ -92,7 +92,8 @@ pub record HasTitle (depth : ℕ) (before : List ℕ) (header : Header) (line : 
   pub is_title : IsTitle line.bytes header
   pub level : line.level ≡ title_level header nests opens
 
--- behind these bytes the line has a part of a string's body, a level deeper than the string's title
+-- behind these bytes the line has a part of a string's body, as much as a row has or all that is left, a level deeper
+-- than the string's title
 pub record HasBody (depth : ℕ) (before : List ℕ) (kind : Kind) (line : Line) : Type 0 where
   pub nests : List Nest
   pub opens : ℕ
@@ -104,6 +105,7 @@ pub record HasBody (depth : ℕ) (before : List ℕ) (kind : Kind) (line : Line)
   pub is_title : IsTitle title (kind_header kind (Some len))
   pub is : before ≡ outer ++ (title ++ front)
   pub fits : length front + length line.bytes ≤ len
+  pub full : IsFullPart kind (len - length front) line.bytes
   pub level : line.level ≡ suc (length nests + opens)
 
 -- how lines end: all are meant; or the last one is at fault, since what it has is refused, by a strict dump or another

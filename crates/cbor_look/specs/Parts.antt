@@ -1,16 +1,16 @@
 -- What the read of a part of a body does, as a skip of the string does it.
-use Rattle.std.specs.Prelude.{◌≡◌, ℕ, ◌<◌, ◌≤◌, ◌⊎◌, Bool, true, false, List, [], ◌++◌, length, Result, Ok, Err}
+use Rattle.std.specs.Prelude.{◌≡◌, ℕ, ◌<◌, ◌≤◌, ◌⊎◌, min, Bool, true, false, List, [], ◌++◌, length, Result, Ok, Err}
 use Rattle.ciborium_ll.specs.Types.Read.{Ghosts}
 use Rattle.ciborium_ll.specs.Types.Decoder.{Decoder}
 use Rattle.ciborium_ll.specs.Types.Error.{Error}
 use Rattle.ciborium_ll.specs.Types.Error.TheVariants as e
-use Rattle.ciborium_ll.specs.Strings.{Kind, Text}
+use Rattle.ciborium_ll.specs.Strings.{Kind, Bytes, Text}
 use Rattle.ciborium_ll.specs.Decoding.{Passes}
 use Rattle.ciborium_ll.specs.Finishing.{EndsBody, IsNoText}
 use Rattle.ciborium_ll_text.specs.Text.{IsCharacters}
 use Rattle.ciborium_ll_text.specs.declared.state.State.{State}
 use Rattle.ciborium_ll_text.specs.declared.state.State.TheVariants as t
-use Rattle.cbor_look.specs.Takings.{ThroughSomeRoom, most_text}
+use Rattle.cbor_look.specs.Takings.{ThroughSomeRoom, most_bytes, most_text}
 
 -- the bytes so far end between two characters (Unicode, Table 3-7)
 abbrev pub is_between : State → Bool
@@ -36,10 +36,16 @@ pub record IsCutText (left : ℕ) (bytes : List ℕ) : Type 0 where
   pub more : List ℕ
   pub goes_on : IsCharacters (bytes ++ more)
 
+-- the bytes are as many of a body, of which so much is left, as a row has: 16, and of a text 13 at least; or they are
+-- all that is left
+abbrev pub IsFullPart : Kind → ℕ → List ℕ → Type 0
+IsFullPart Bytes left bytes = min left most_bytes ≤ length bytes
+IsFullPart Text left bytes = min left most_text ≤ length bytes
+
 -- what was read of a body of which so much is left, where the read stopped so: of a text all that is none or begins
 -- none, or nothing, or the front of one that was cut
 abbrev pub IsPartRow : {E : Type 0} → Kind → ℕ → Error E → List ℕ → Type 0
-IsPartRow kind left (e.Syntax at) bytes = (kind ≡ Text) × IsNoText [] left bytes
+IsPartRow kind left (e.Syntax at) bytes = (kind ≡ Text) × IsNoText [] left bytes × IsFullPart Text left bytes
 IsPartRow kind left error bytes = (bytes ≡ []) ⊎ ((kind ≡ Text) × IsCutText left bytes)
 
 module _ {R E : Type 0} (source : Ghosts R E) where

@@ -57,10 +57,10 @@ pub enum DumpError<E, W> {
 ///
 /// Each row has from 1 to 16 bytes, stands at its level, and has the offset of its first byte. The level of a title is
 /// the number of tags, arrays, maps and opens that it stands within in the grammar, and a break that closes one has the
-/// level of its title; a part of a body stands a level deeper than its string's title. This holds after a fault too,
-/// unless a row was not taken. Where the reader is steady and no header waits, the bytes of the rows, one behind the
-/// other, are just those that were consumed, and on `Ok` they are a sequence of items to the depth, of a strict dump in
-/// their shortest spelling.
+/// level of its title; a part of a body stands a level deeper than its string's title, and has 16 bytes, of a text at
+/// least 13, or all that is left of the body. This holds after a fault too, unless a row was not taken. Where the
+/// reader is steady and no header waits, the bytes of the rows, one behind the other, are just those that were
+/// consumed, and on `Ok` they are a sequence of items to the depth, of a strict dump in their shortest spelling.
 ///
 /// Where no header waits, and the decoder is as strict as the dump, it does what `check` would do through a buffer of
 /// some room, which is 16 bytes at most and may be less than `check` asks for, and answers the same, unless a row was

@@ -7,7 +7,7 @@ ghost use Rattle.ciborium_ll.specs.Strings.{IsWritable, kind_header};
 ghost use Rattle.ciborium_ll.specs.Decoding.{offset_of, view, waiting_of};
 ghost use Rattle.cbor_look.specs.Dumps.{AreRowsTaken};
 ghost use Rattle.cbor_look.specs.Levels.{Nest, StandsWithin, TitleDue, title_level};
-ghost use Rattle.cbor_look.specs.Parts.{IsPartRow, ReadsPart};
+ghost use Rattle.cbor_look.specs.Parts.{IsFullPart, IsPartRow, ReadsPart};
 ghost use Rattle.cbor_look.specs.Takings.{IsIdle, Keeps, LeavesBehind, taken_bytes};
 ghost use Rattle.cbor_look.specs.StringRows.{IsPart, ShowsBehindTitle, kind_of, meaning_of};
 
@@ -96,6 +96,7 @@ fn read_part<R: Read>(
     ensures left { 0 < left → IfErr result (λ error. IsIdle R.Read decoder.old
         → IfSome (view R.Read decoder.new) (LeavesBehind error (taken_bytes taken.new))) }
     ensures written { IfOk result (λ _. IsWritable (kind_of kind) (taken_bytes taken.new)) }
+    ensures full { IfOk result (λ _. IsFullPart (kind_of kind) left (taken_bytes taken.new)) }
     ensures reads { 0 < left → waiting_of decoder.old ≡ None
         → ReadsPart R.Read (kind_of kind) left place (taken_bytes taken.new) decoder.old result decoder.new }
 {

@@ -27,7 +27,7 @@ impl Taken {
     ghost use Rattle.cbor_look.specs.Takings.{EndsRow, IsAlike, IsIdle, Keeps, PullsRow, ReadsMore};
     ghost use Rattle.cbor_look.specs.Takings.{IsTitleRow, LeavesBehind, RefusesRead, taken_bytes};
     ghost use Rattle.ciborium_ll.specs.Types.Error.TheVariants.{Waiting};
-    ghost use Rattle.cbor_look.specs.Parts.{IsPartRow, IsSound, ReadsTextPart};
+    ghost use Rattle.cbor_look.specs.Parts.{IsFullPart, IsPartRow, IsSound, ReadsTextPart};
     ghost use Rattle.ciborium_ll.specs.Strings.{Text};
 
     /// None.
@@ -153,6 +153,7 @@ impl Taken {
         ensures left { 0 < left → IfErr result (λ error. IsIdle R.Read decoder.old
             → IfSome (view R.Read decoder.new) (LeavesBehind error (taken_bytes self.new))) }
         ensures sound { IfOk result (λ whole. IsSound left (taken_bytes self.new) whole) }
+        ensures full { IfOk result (λ _. IsFullPart Text left (taken_bytes self.new)) }
         ensures reads { 0 < left → waiting_of decoder.old ≡ None
             → ReadsTextPart R.Read left (taken_bytes self.new) decoder.old result decoder.new }
     {

@@ -80,11 +80,12 @@ rows-preserved g c = record {
       let keeps = rw c.offset-offset.ensures.same at c.read_part.ensures.keeps in
       let takes = taken_all g.R.Read _ row _ _ c.new-taken.ensures keeps in
       let ok = rw c.in_default.is at c.read_part.ensures.written in
+      let full = rw c.in_default.is at c.read_part.ensures.full in
       let went = (rw (c.offset-offset.ensures.same, c.in_default.is) at c.read_part.ensures.reads) c.rows-test.true in
       let shown = part_shown g.R.Read depth start opens nests outer title c.args.kind c.args.len c.rows.left
       c.args.level
       c.offset-offset.result _ _ _ row _ _ _ (record { due = due; is_title = p; below = level }) at so_far takes
-      c.read_part.ensures.most c.offset-offset.ensures.value ok went
+      c.read_part.ensures.most c.offset-offset.ensures.value ok full went
       (rw c.meaning.ensures at (c.in_ok-shown.ensures.draws tt))
       ((rw c.in_default.is at c.read_part.ensures.some) c.rows-test.true, row_few c.read_part.new.taken) in
       rw c.len-left.ensures.value shown;

@@ -1,4 +1,4 @@
-use Rattle.std.proofs.Common.{arith}
+use Rattle.std.proofs.Common.{arith, rules}
 use Rattle.cbor_look.proofs.PartLaws.{bytes_part, fault_part}
 use Rattle.cbor_look.proofs.RowLaws.{row_few}
 use Rattle.cbor_look.proofs.strings.read_part.Goals as goal
@@ -16,3 +16,6 @@ returns-else-branch-clause-reads g c = λ some none.
     rw c.in-Text.is
     (fault_part g.R.Read c.args.left c.args.place _ _ _ read.most (row_few c.read_text.new.self)
     (rw c.if-branch.false at (read.reads some none)))
+
+pub returns-in-Bytes-clause-full : goal.returns-in-Bytes-clause-full
+returns-in-Bytes-clause-full g c = search rules

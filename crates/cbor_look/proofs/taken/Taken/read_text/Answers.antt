@@ -153,3 +153,6 @@ returns-clause-sound g c =
 
 pub returns-clause-reads : goal.returns-clause-reads
 returns-clause-reads g c = λ some none. (c.more.invariant.passed none, returns-clause-sound g c)
+
+pub returns-clause-full : goal.returns-clause-full
+returns-clause-full g c = c.more.invariant.many
