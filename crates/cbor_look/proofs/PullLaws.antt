@@ -127,13 +127,13 @@ module _ {R E : Type 0} (source : Ghosts R E) where
       (refl, record { untouched = reads.reads.read.1; counted = reads.reads.refusals })
 
   -- a row that one byte was read for
-  pub first_byte : (before row : List ℕ) (old new : Decoder R) → before ≡ []
-      → ReadsMore source 1 before row old (Ok tt) new → row ≡ get_or row 0 0 ∷ []
-  first_byte before row old new none reads =
+  pub first_byte : (before one : List ℕ) (old new : Decoder R) → before ≡ []
+      → ReadsMore source 1 before one old (Ok tt) new → one ≡ get_or one 0 0 ∷ []
+  first_byte before one old new none reads =
       let empty = ap length none in
       let counted = reads.counted in
       let long = ap length reads.behind in
-      one_of row (omega (arith, empty, counted, long, length-append before reads.bytes))
+      one_of one (omega (arith, empty, counted, long, length-append before reads.bytes))
 
   -- where nothing is read
   pub reads_none : (before : List ℕ) (decoder : Decoder R) → decoder.waiting ≡ None
