@@ -3,7 +3,6 @@ pub mod CopyingTold
 pub mod DrainLaws
 pub mod DrainTold
 pub mod PiecesWritten
-mod StrictRunLaws
 pub mod StringReads
 pub use Rattle.ciborium_ll_text.proofs.FrontLaws
 pub use Rattle.ciborium_ll_text.proofs.Lists

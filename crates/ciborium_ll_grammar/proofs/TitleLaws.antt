@@ -146,7 +146,7 @@ one_title w w' v v' h h' (alone m x o) (alone m' x' o') e = same_alone m m' x x'
 -- ---- the shortest
 
 -- a number fits into its least size
-least_fits : (n : ℕ) → n < 2 ^ 64 → n < size_limit (least_size n)
+pub least_fits : (n : ℕ) → n < 2 ^ 64 → n < size_limit (least_size n)
 least_fits n p =
     elim (cases_lt n 24) [
       | inl a ↦ rw (lt-ltb n 24 a) a

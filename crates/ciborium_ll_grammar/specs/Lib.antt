@@ -2,6 +2,7 @@ pub mod Elements
 pub mod Faults
 pub mod Items
 pub mod Parts
+pub mod Shortening
 pub mod Starts
 pub mod StrictElements
 pub mod Strings

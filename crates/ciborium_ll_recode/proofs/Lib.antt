@@ -1,4 +1,6 @@
 pub mod CopyLaws
+pub mod ExactlyLaws
+pub mod NumberTitles
 pub mod RecodeAnyhowLaws
 pub mod RecodeFaultLaws
 pub mod RecodeLaws
@@ -6,5 +8,8 @@ pub mod RecodeReadyLaws
 pub mod RoomLaws
 pub mod RunLaws
 pub mod SegmentCopyLaws
+pub mod ShortenedLaws
+pub mod ShortensLaws
+pub mod StrictRunLaws
 pub mod ThroughEncoder
 pub mod UnderWay

@@ -1,3 +1,4 @@
+pub mod Exactly
 pub mod Recoding
 pub mod RecodingTold
 pub mod Sides

@@ -6,6 +6,7 @@ ghost use Rattle.ciborium_ll_grammar.specs.Strings.{kind_header};
 ghost use Rattle.ciborium_ll_decoder.specs.Decoding.{MovesOn, offset_of, waiting_of};
 ghost use Rattle.ciborium_ll_encoder.specs.Encoding.{writer_of};
 ghost use Rattle.ciborium_ll_grammar.specs.Faults.{RunInFront};
+ghost use Rattle.ciborium_ll_recode.specs.Exactly.{CopiesExactly, OnlyBytesStop};
 ghost use Rattle.ciborium_ll_recode.specs.RecodingTold.{IsReady, IsTold, RecodesAnyhow, RecodesTold};
 ghost use Rattle.ciborium_ll_recode.specs.Recoding.{CopiesBehind, CopiesOne, Recodes};
 ghost use Rattle.ciborium_ll_recode.specs.Recoding.{CopiesSegments, WritesHeader};
@@ -195,6 +196,9 @@ pub fn recode<R: Read, W: Write>(
         → RecodesTold R.Read W.Write strict count due written decoder.old result
         (sides_of decoder.new encoder.new) }
     ensures exactly { (strict : Bool) (due written : List ℕ)
+        → OnlyBytesStop R.Read W.Write strict count (length buffer.old) decoder.old (writer_of encoder.old) due written
+        → CopiesExactly R.Read W.Write strict count due written result decoder.new (writer_of encoder.new) }
+    ensures front { (strict : Bool) (due written : List ℕ)
         → IsReady R.Read W.Write strict count (length buffer.old) (sides_of decoder.old encoder.old) due written
         → (IsOk result ↔ RunInFront strict count due) }
     ensures anyhow { (strict : Bool) (due written : List ℕ)

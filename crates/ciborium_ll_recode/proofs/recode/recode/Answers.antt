@@ -4,6 +4,7 @@ use Rattle.ciborium_ll_recode.specs.Sides.{sides_of}
 use Rattle.ciborium_ll_decoder.proofs.DecodingLaws.{exit_is, MovesOn-none, MovesOn-then}
 use Rattle.ciborium_ll_recode.proofs.CopyLaws.{run_none, run_behind, added_run, copies_all}
 use Rattle.ciborium_ll_recode.proofs.RecodeReadyLaws.{recode_told, recode_exactly}
+use Rattle.ciborium_ll_recode.proofs.ExactlyLaws.{exactly}
 use Rattle.ciborium_ll_recode.proofs.RecodeAnyhowLaws.{recode_anyhow}
 use Rattle.ciborium_ll_recode.proofs.recode.recode.Goals as goal
 
@@ -49,7 +50,9 @@ returns-in_err-copy_element g c =
       };
       told = λ strict due written ready. recode_told g.R.Read g.W.Write c.args.count (length c.args.buffer.now) old due
           written ready _ c.from_residual.result all;
-      exactly = λ strict due written ready. recode_exactly g.R.Read g.W.Write c.args.count (length c.args.buffer.now) old due
+      exactly = λ strict due written alone. exactly g.R.Read g.W.Write c.args.count (length c.args.buffer.now) old due
+          written alone _ c.from_residual.result all;
+      front = λ strict due written ready. recode_exactly g.R.Read g.W.Write c.args.count (length c.args.buffer.now) old due
           written ready _ c.from_residual.result all;
       anyhow = λ strict due written told. recode_anyhow g.R.Read g.W.Write c.args.count (length c.args.buffer.now) old due
           written told _ c.from_residual.result all;
@@ -71,7 +74,9 @@ returns g c =
       };
       told = λ strict due written ready. recode_told g.R.Read g.W.Write c.args.count (length c.args.buffer.now) old due
           written ready _ (Ok (tt {0})) all;
-      exactly = λ strict due written ready. recode_exactly g.R.Read g.W.Write c.args.count (length c.args.buffer.now) old due
+      exactly = λ strict due written alone. exactly g.R.Read g.W.Write c.args.count (length c.args.buffer.now) old due
+          written alone _ (Ok (tt {0})) all;
+      front = λ strict due written ready. recode_exactly g.R.Read g.W.Write c.args.count (length c.args.buffer.now) old due
           written ready _ (Ok (tt {0})) all;
       anyhow = λ strict due written told. recode_anyhow g.R.Read g.W.Write c.args.count (length c.args.buffer.now) old due
           written told _ (Ok (tt {0})) all;

@@ -5,7 +5,7 @@ pub returns-in-Err-clause-none : goal.returns-in-Err-clause-none
 returns-in-Err-clause-none c = λ front.
     let due = c.args.bytes.now in
     let fresh = c.strict-decoder.ensures in
-    let exact = c.recode.ensures.exactly true due [] (record {
+    let exact = c.recode.ensures.front true due [] (record {
       steady = search rules;
       told = record {
         mode = search rules;

@@ -1,0 +1,87 @@
+-- When a copy succeeds, and what it then wrote and left, in the words of `Shortens`.
+use Rattle.std.proofs.Common.{◌≡◌, ℕ, zero, suc, ◌≤◌, inl, inr, Bool, false, List, ◌++◌, length, Some, None, Result, Ok, Err}
+use Rattle.std.proofs.Common.{IsOk, refl, sym, ap, subst, ◌∙◌, arith}
+use Rattle.ciborium_ll_io.specs.declared.io.Read.{Ghosts as Reader}
+use Rattle.ciborium_ll_io.specs.declared.io.Write.{Ghosts as Writer}
+use Rattle.ciborium_ll_decoder.specs.declared.dec.Decoder.{Decoder}
+use Rattle.ciborium_ll_decoder.specs.declared.copy.RecodeError.{RecodeError}
+use Rattle.ciborium_ll_grammar.specs.Elements.{Mark, spelling}
+use Rattle.ciborium_ll_grammar.specs.Faults.{RunInFront}
+use Rattle.ciborium_ll_grammar.specs.Shortening.{Shortens}
+use Rattle.ciborium_ll_decoder.specs.BodyCopies.{Sides, sides}
+use Rattle.ciborium_ll_recode.specs.Recoding.{CopiesElements}
+use Rattle.ciborium_ll_recode.specs.RecodingTold.{IsReady, CopiesFront, RecodesTold}
+use Rattle.ciborium_ll_recode.specs.Exactly.{OnlyBytesStop, CopiesExactly}
+use Rattle.ciborium_ll_grammar.proofs.ElementLaws.{one_run}
+use Rattle.ciborium_ll_decoder.proofs.BodyLaws.{view_none}
+use Rattle.ciborium_ll_recode.proofs.RecodeReadyLaws.{recode_told, recode_exactly}
+use Rattle.ciborium_ll_recode.proofs.ShortenedLaws.{front_shortened}
+use Rattle.ciborium_ll_recode.proofs.ShortensLaws.{shortened_front, shortened_again}
+
+module _ {R E W F : Type 0} {strict : Bool} (source : Reader R E) (sink : Writer W F) (count room : ℕ)
+    (old : Sides R W) (due written : List ℕ)
+    (alone : OnlyBytesStop source sink strict count room old.decoder old.writer due written) where
+  ready : IsReady source sink strict count room old due written
+  ready =
+      record {
+        steady = alone.steady;
+        told = record {
+          mode = alone.mode;
+          due-told = view_none old.decoder.waiting (source.ahead old.decoder.reader) alone.none_waits ∙ alone.due-told;
+          written-told = alone.written-told;
+          none_waits = λ on. alone.none_waits;
+        };
+        room = alone.room;
+        room-told = alone.room-told;
+        enough = elim alone.enough [
+          | inl copy ↦ (
+              let front = shortened_front false count due copy.0 copy.1 copy.2 in
+              let long = ap length front.1 in
+              let fits = copy.3 in
+              inl (front.0, omega (arith, long, fits))
+              )
+          | inr fits ↦ inr fits
+        ];
+        fits-title = alone.fits-title;
+        fits-chunk = alone.fits-chunk;
+      }
+
+  module _ (new : Sides R W) where
+    -- behind a copy no header waits
+    none_waits : CopiesFront source sink strict count due written old.decoder new → new.decoder.waiting ≡ None
+    none_waits front = by_count count refl
+      where
+        by_count : (n : ℕ) → count ≡ n → new.decoder.waiting ≡ None
+        by_count zero is = front.still is ∙ alone.none_waits
+        by_count (suc n) is = front.settled (omega (arith, is))
+
+    copies_front : (result : Result (Unit {0}) (RecodeError E F)) → RecodesTold source sink strict count due written
+        old.decoder result new → IsOk result → CopiesFront source sink strict count due written old.decoder new
+    copies_front (Ok done) told ok = told
+    copies_front (Err error) told ok = absurd cc
+
+    pub exactly : (result : Result (Unit {0}) (RecodeError E F)) → CopiesElements source sink count room old result new
+        → CopiesExactly source sink strict count due written result new.decoder new.writer
+    exactly result all =
+        let ok = recode_exactly source sink count room old due written ready new result all in
+        let told = recode_told source sink count room old due written ready new result all in
+        record {
+          just = (
+            λ is. let front = ok.0 is in (spelling front.marks, front.rest, front_shortened strict count due front),
+            λ copy. ok.1 (shortened_front strict count due copy.0 copy.1 copy.2).0,
+          );
+          copied = λ copy rest is. (
+              let found = shortened_front strict count due copy rest is in
+              let front = found.0 in
+              let copies = copies_front result told (ok.1 front) in
+              let all = copies.front in
+              let one = one_run count front.elements front.marks front.run all.elements front.rest all.rest all.marks all.run
+              (sym front.is ∙ all.is) in (
+                copies.output
+                ∙ ap (λ (z : List ℕ). Some (written ++ z)) (ap spelling (sym one.1) ∙ sym found.1),
+                sym (view_none new.decoder.waiting (source.ahead new.decoder.reader) (none_waits copies)) ∙ copies.left
+                ∙ ap (λ (z : List ℕ). Some z) (sym one.2 ∙ sym found.2),
+              )
+              );
+          again = λ copy rest is. shortened_again strict count due copy rest is;
+        }

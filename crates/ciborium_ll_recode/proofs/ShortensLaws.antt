@@ -1,0 +1,336 @@
+-- From what `Shortens` says to elements and their marks: what is written is their spelling.
+use Rattle.std.proofs.Common.{◌≡◌, ℕ, zero, suc, ◌+◌, ◌*◌, ◌<◌, ◌≤◌, ◌⊎◌, inl, inr, Bool, true, false, List, [], ◌∷◌, ◌++◌}
+use Rattle.std.proofs.Common.{length, Some, None, refl, sym, ap, subst, ◌∙◌, arith, append-nil, append_assoc}
+use Rattle.std.specs.List.{AllByRecursion}
+use Rattle.ciborium_ll_grammar.specs.declared.hdr.Header.{Header}
+use Rattle.ciborium_ll_grammar.specs.declared.hdr.Header.TheVariants as h
+use Rattle.ciborium_ll_grammar.specs.declared.hdr.Float.TheVariants as f
+use Rattle.ciborium_ll_grammar.specs.Title.{Major, Unsigned, Negative, ByteString, TextString, Array, Map, Tag, Other}
+use Rattle.ciborium_ll_grammar.specs.Title.{major_code, Size, Small, One, Two, Four, Eight, size_limit, numbered_title}
+use Rattle.ciborium_ll_grammar.specs.Title.{numbered_header, IsTitle, numbered, alone as alone_title, shortest_title}
+use Rattle.ciborium_ll_grammar.specs.Title.{shortest_numbered, IsSmallSimple}
+use Rattle.ciborium_ll_text.specs.Text.{IsCharacters}
+use Rattle.ciborium_ll_grammar.specs.Strings.{Kind, Bytes, Text, kind_header, AreStrings, none, more, IsWritable}
+use Rattle.ciborium_ll_grammar.specs.Strings.{IsString}
+use Rattle.ciborium_ll_grammar.specs.Strings.IsString.{definite, indefinite}
+use Rattle.ciborium_ll_grammar.specs.Elements.{AreWritable, IsPlain, Mark, Plain, Whole, pieces, open_marks, spelling}
+use Rattle.ciborium_ll_grammar.specs.Elements.{body_spelling, IsMeant, IsElement, plain, string, IsRun, done, next}
+use Rattle.ciborium_ll_grammar.specs.Faults.{RunInFront}
+use Rattle.ciborium_ll_grammar.specs.Shortening.{IsNumberTitle, IsBody, bytes, text, ShortensString, titled}
+use Rattle.ciborium_ll_grammar.specs.Shortening.{ShortensStrings, no_more, definite_more, open_more, ShortensElement}
+use Rattle.ciborium_ll_grammar.specs.Shortening.{number, simple, float, alone, whole, parts, Shortens}
+use Rattle.ciborium_ll_grammar.specs.Shortening.{done as shortens_done, next as shortens_next}
+use Rattle.ciborium_ll_grammar.proofs.ElementLaws.{AreWritable-append, spelling-append, pieces-append, run_again}
+use Rattle.ciborium_ll_grammar.proofs.SpelledLaws.{meant_append, open_meant}
+use Rattle.ciborium_ll_recode.proofs.NumberTitles.{HasNumber, has_number, fewest_is}
+use Rattle.ciborium_ll_recode.proofs.ShortenedLaws.{string_code, open_byte, parts_spelled, front_shortened}
+
+-- ---- strings
+
+-- a string of a definite length, its body, and what is written of it
+record Single (b : Bool) (k : Kind) (w written : List ℕ) : Type 0 where
+  title : List ℕ
+  body : List ℕ
+  is : w ≡ title ++ body
+  is_title : IsTitle title (kind_header k (Some (length body)))
+  sound : IsWritable k body
+  spelled : written ≡ body_spelling k body
+  same : b ≡ true → w ≡ body_spelling k body
+
+text_body : (body : List ℕ) → IsBody 3 body → IsCharacters body
+text_body body (text sound) = sound
+
+single : (b : Bool) (k : Kind) (w written : List ℕ) → ShortensString b (string_code k) w written → Single b k w written
+single b Bytes w written (titled {title = t} {shortest = s} {body = x} p q y) =
+    let n = length x in
+    let z = has_number b ByteString n t p in
+    record {
+      title = t;
+      body = x;
+      is = refl;
+      is_title = subst (λ (v : List ℕ). IsTitle v (h.Bytes (Some n))) (sym z.2) (numbered ByteString z.0 n z.1);
+      sound = tt;
+      spelled = ap (λ (v : List ℕ). v ++ x) (fewest_is ByteString n s q);
+      same = λ on. ap (λ (v : List ℕ). v ++ x) (fewest_is ByteString n t (subst (λ (c : Bool). IsNumberTitle c 2 n t) on p));
+    }
+single b Text w written (titled {title = t} {shortest = s} {body = x} p q y) =
+    let n = length x in
+    let z = has_number b TextString n t p in
+    record {
+      title = t;
+      body = x;
+      is = refl;
+      is_title = subst (λ (v : List ℕ). IsTitle v (h.Text (Some n))) (sym z.2) (numbered TextString z.0 n z.1);
+      sound = text_body x y;
+      spelled = ap (λ (v : List ℕ). v ++ x) (fewest_is TextString n s q);
+      same = λ on. ap (λ (v : List ℕ). v ++ x) (fewest_is TextString n t (subst (λ (c : Bool). IsNumberTitle c 3 n t) on p));
+    }
+
+-- strings within an open, their bodies, and what is written of them
+record Within (b : Bool) (k : Kind) (w written : List ℕ) : Type 0 where
+  bodies : List (List ℕ)
+  are : AreStrings k w bodies
+  sound : AreWritable k bodies
+  spelled : written ≡ spelling (pieces k bodies)
+  same : b ≡ true → w ≡ spelling (pieces k bodies)
+
+open_is_title : (k : Kind) → IsTitle (open_byte k ∷ []) (kind_header k None)
+open_is_title Bytes = alone_title ByteString (h.Bytes None) refl
+open_is_title Text = alone_title TextString (h.Text None) refl
+
+within : (b : Bool) (k : Kind) (w written : List ℕ) → ShortensStrings b (string_code k) w written → Within b k w written
+within b k w written no_more =
+    record { bodies = []; are = none; sound = tt; spelled = refl; same = λ on. refl }
+within b k w written (definite_more {first = x} {rest = y} {written = u} {more = v} s others) =
+    let one = single b k x u s in
+    let all = within b k y v others in
+    record {
+      bodies = one.body ∷ all.bodies;
+      are = more (subst (λ (z : List ℕ). IsString k z (one.body ∷ [])) (sym one.is) (definite one.is_title)) all.are;
+      sound = (one.sound, all.sound);
+      spelled = ap (λ (z : List ℕ). z ++ v) one.spelled
+      ∙ ap (λ (z : List ℕ). body_spelling k one.body ++ z) all.spelled;
+      same = λ on. ap (λ (z : List ℕ). z ++ y) (one.same on)
+          ∙ ap (λ (z : List ℕ). body_spelling k one.body ++ z) (all.same on);
+    }
+within b k w written (open_more {within = x} {rest = y} {written = u} {more = v} off inner others) =
+    let one = within b k x u inner in
+    let all = within b k y v others in
+    let joined = ap spelling (pieces-append k one.bodies all.bodies)
+    ∙ spelling-append (pieces k one.bodies) (pieces k all.bodies) in
+    record {
+      bodies = one.bodies ++ all.bodies;
+      are = more (indefinite (open_is_title k) one.are) all.are;
+      sound = AreWritable-append k one.bodies all.bodies one.sound all.sound;
+      spelled = ap (λ (z : List ℕ). z ++ v) one.spelled
+      ∙ (ap (λ (z : List ℕ). spelling (pieces k one.bodies) ++ z) all.spelled ∙ sym joined);
+      same = λ on. absurd cc;
+    }
+
+-- the kind of a body
+which_kind : (major : ℕ) (body : List ℕ) → IsBody major body → (k : Kind) × (major ≡ string_code k)
+which_kind major body bytes = (Bytes, refl)
+which_kind major body (text sound) = (Text, refl)
+
+-- ---- elements
+
+-- an element, its marks, and what is written of it
+record Marked (b : Bool) (w written : List ℕ) : Type 0 where
+  marks : List Mark
+  element : IsElement w marks
+  spelled : written ≡ spelling marks
+  same : b ≡ true → w ≡ spelling marks
+  meant : b ≡ true → AllByRecursion IsMeant marks
+
+plain_marked : (b : Bool) (header : Header) (w written : List ℕ) → IsTitle w header → IsPlain header
+    → written ≡ shortest_title header → (b ≡ true → w ≡ shortest_title header)
+    → (b ≡ true → IsSmallSimple header → ⊥) → Marked b w written
+plain_marked b header w written p q is same meant =
+    record {
+      marks = Plain header ∷ [];
+      element = plain header p q;
+      spelled = is ∙ sym (append-nil (shortest_title header));
+      same = λ on. same on ∙ sym (append-nil (shortest_title header));
+      meant = λ on. (meant on, tt);
+    }
+
+-- a title that is the one with the fewest bytes
+fewest_on : (b : Bool) (m : Major) (n : ℕ) (w : List ℕ) → IsNumberTitle b (major_code m) n w → b ≡ true
+    → w ≡ shortest_numbered m n
+fewest_on b m n w p on = fewest_is m n w (subst (λ (c : Bool). IsNumberTitle c (major_code m) n w) on p)
+
+number_marked : (b : Bool) (m : Major) (header : Header) (n : ℕ) (w written : List ℕ)
+    → ((s : Size) → numbered_header m s n ≡ header) → IsPlain header → shortest_numbered m n ≡ shortest_title header
+    → (IsSmallSimple header → ⊥) → IsNumberTitle b (major_code m) n w → IsNumberTitle true (major_code m) n written
+    → Marked b w written
+number_marked b m header n w written named q shortest meant p least =
+    let z = has_number b m n w p in
+    let title : IsTitle (numbered_title m z.0 n) header = subst (λ (x : Header). IsTitle (numbered_title m z.0 n) x)
+    (named z.0) (numbered m z.0 n z.1) in
+    plain_marked b header w written (subst (λ (v : List ℕ). IsTitle v header) (sym z.2) title) q
+    (fewest_is m n written least ∙ shortest) (λ on. fewest_on b m n w p on ∙ shortest) (λ on. meant)
+
+by_major : (b : Bool) (major n : ℕ) (w written : List ℕ) → (major < 2) ⊎ ((3 < major) × (major < 7))
+    → IsNumberTitle b major n w → IsNumberTitle true major n written → Marked b w written
+by_major b zero n w written c p q =
+    number_marked b Unsigned (h.Positive n) n w written (λ s. refl) tt refl (λ x. x) p q
+by_major b (suc zero) n w written c p q =
+    number_marked b Negative (h.Negative n) n w written (λ s. refl) tt refl (λ x. x) p q
+by_major b (suc (suc zero)) n w written c p q =
+    absurd (elim c [ inl l ↦ omega (arith, l) | inr l ↦ omega (arith, l.0) ])
+by_major b (suc (suc (suc zero))) n w written c p q =
+    absurd (elim c [ inl l ↦ omega (arith, l) | inr l ↦ omega (arith, l.0) ])
+by_major b (suc (suc (suc (suc zero)))) n w written c p q =
+    number_marked b Array (h.Array (Some n)) n w written (λ s. refl) tt refl (λ x. x) p q
+by_major b (suc (suc (suc (suc (suc zero))))) n w written c p q =
+    number_marked b Map (h.Map (Some n)) n w written (λ s. refl) tt refl (λ x. x) p q
+by_major b (suc (suc (suc (suc (suc (suc zero)))))) n w written c p q =
+    number_marked b Tag (h.Tag n) n w written (λ s. refl) tt refl (λ x. x) p q
+by_major b (suc (suc (suc (suc (suc (suc (suc k))))))) n w written c p q =
+    absurd (elim c [ inl l ↦ omega (arith, l) | inr l ↦ omega (arith, l.1) ])
+
+simple_title : (s : Size) (n : ℕ) (w : List ℕ) → n < size_limit s → w ≡ numbered_title Other s n → length w ≤ 2
+    → IsTitle w (h.Simple n)
+simple_title Small n w l e short =
+    subst (λ (v : List ℕ). IsTitle v (h.Simple n)) (sym e) (numbered Other Small n l)
+simple_title One n w l e short = subst (λ (v : List ℕ). IsTitle v (h.Simple n)) (sym e) (numbered Other One n l)
+simple_title Two n w l e short = absurd (let k = ap length e in omega (arith, k, short))
+simple_title Four n w l e short = absurd (let k = ap length e in omega (arith, k, short))
+simple_title Eight n w l e short = absurd (let k = ap length e in omega (arith, k, short))
+
+float_marked : (b : Bool) (s : Size) (n : ℕ) (w : List ℕ) → n < size_limit s → w ≡ numbered_title Other s n
+    → 2 < length w → Marked b w w
+float_marked b Small n w l e long = absurd (let k = ap length e in omega (arith, k, long))
+float_marked b One n w l e long = absurd (let k = ap length e in omega (arith, k, long))
+float_marked b Two n w l e long =
+    let header = h.Float (f.Half n) in
+    plain_marked b header w w (subst (λ (v : List ℕ). IsTitle v header) (sym e) (numbered Other Two n l)) tt e (λ on. e)
+    (λ on x. x)
+float_marked b Four n w l e long =
+    let header = h.Float (f.Single n) in
+    plain_marked b header w w (subst (λ (v : List ℕ). IsTitle v header) (sym e) (numbered Other Four n l)) tt e (λ on. e)
+    (λ on x. x)
+float_marked b Eight n w l e long =
+    let header = h.Float (f.Double n) in
+    plain_marked b header w w (subst (λ (v : List ℕ). IsTitle v header) (sym e) (numbered Other Eight n l)) tt e
+    (λ on. e) (λ on x. x)
+
+-- a byte that is a title of its own
+byte_marked : (b : Bool) (m : Major) (header : Header) (byte : ℕ) → IsTitle (byte ∷ []) header → IsPlain header
+    → byte ∷ [] ≡ shortest_title header → (IsSmallSimple header → ⊥) → Marked b (byte ∷ []) (byte ∷ [])
+byte_marked b m header byte p q is meant = plain_marked b header (byte ∷ []) (byte ∷ []) p q is (λ on. is) (λ on. meant)
+
+alone_marked : (b : Bool) (byte : ℕ) → (byte ≡ 0x9f) ⊎ (byte ≡ 0xbf) ⊎ (byte ≡ 0xff)
+    → Marked b (byte ∷ []) (byte ∷ [])
+alone_marked b byte which =
+    elim which [
+      | inl e ↦ subst (λ (v : ℕ). Marked b (v ∷ []) (v ∷ [])) (sym e)
+          (byte_marked b Array (h.Array None) 0x9f (alone_title Array (h.Array None) refl) tt refl (λ x. x))
+      | inr other ↦ elim other [
+        | inl e ↦ subst (λ (v : ℕ). Marked b (v ∷ []) (v ∷ [])) (sym e)
+            (byte_marked b Map (h.Map None) 0xbf (alone_title Map (h.Map None) refl) tt refl (λ x. x))
+        | inr e ↦ subst (λ (v : ℕ). Marked b (v ∷ []) (v ∷ [])) (sym e)
+            (byte_marked b Other h.Break 0xff (alone_title Other h.Break refl) tt refl (λ x. x))
+      ]
+    ]
+
+string_marked : (b : Bool) (k : Kind) (w written : List ℕ) → ShortensString b (string_code k) w written
+    → Marked b w written
+string_marked b k w written s =
+    let one = single b k w written s in
+    record {
+      marks = Whole k one.body ∷ [];
+      element = subst (λ (z : List ℕ). IsElement z (Whole k one.body ∷ [])) (sym one.is)
+          (string k (definite one.is_title) (one.sound, tt));
+      spelled = one.spelled ∙ sym (append-nil (body_spelling k one.body));
+      same = λ on. one.same on ∙ sym (append-nil (body_spelling k one.body));
+      meant = λ on. (tt, tt);
+    }
+
+parts_marked : (b : Bool) (k : Kind) (strings written : List ℕ) → ShortensStrings b (string_code k) strings written
+    → Marked b (open_byte k ∷ (strings ++ 0xff ∷ [])) (open_byte k ∷ (written ++ 0xff ∷ []))
+parts_marked b k strings written s =
+    let all = within b k strings written s in
+    record {
+      marks = open_marks k all.bodies;
+      element = string k (indefinite (open_is_title k) all.are) all.sound;
+      spelled = ap (λ (z : List ℕ). open_byte k ∷ (z ++ 0xff ∷ [])) all.spelled ∙ sym (parts_spelled k all.bodies);
+      same = λ on. ap (λ (z : List ℕ). open_byte k ∷ (z ++ 0xff ∷ [])) (all.same on) ∙ sym (parts_spelled k all.bodies);
+      meant = λ on. open_meant k all.bodies;
+    }
+
+whole_marked : (b : Bool) (major : ℕ) (w written : List ℕ) → ShortensString b major w written → Marked b w written
+whole_marked b major w written (titled {title = t} {shortest = s} {body = x} p q y) =
+    let k = which_kind major x y in
+    string_marked b k.0 (t ++ x) (s ++ x)
+    (subst (λ (c : ℕ). ShortensString b c (t ++ x) (s ++ x)) k.1 (titled p q y))
+
+element_marked : (b : Bool) (w written : List ℕ) → ShortensElement b w written → Marked b w written
+element_marked b w written (number {major = major} {n = n} c p q) = by_major b major n w written c p q
+element_marked b w written (simple {n = n} short meant p q) =
+    let z = has_number b Other n w p in
+    plain_marked b (h.Simple n) w written (simple_title z.0 n w z.1 z.2 short) tt (fewest_is Other n written q)
+    (fewest_on b Other n w p)
+    (λ on small. elim (meant on) [ inl a ↦ omega (arith, a, small.0) | inr a ↦ omega (arith, a, small.1) ])
+element_marked b w written (float {bits = n} long p) =
+    let z = has_number false Other n w p in float_marked b z.0 n w z.1 z.2 long
+element_marked b w written (alone {byte = byte} which) = alone_marked b byte which
+element_marked b w written (whole {major = major} s) = whole_marked b major w written s
+element_marked b w written (parts {major = major} {strings = x} {written = y} kind s) =
+    let k = which_kind major [] kind in
+    subst (λ (c : ℕ). Marked b ((32 * c + 31) ∷ (x ++ 0xff ∷ [])) ((32 * c + 31) ∷ (y ++ 0xff ∷ []))) (sym k.1)
+    (parts_marked b k.0 x y (subst (λ (c : ℕ). ShortensStrings b c x y) k.1 s))
+
+-- ---- in front of bytes
+
+-- the elements in front, their marks, and what is written of them
+record Fronted (b : Bool) (count : ℕ) (due written rest : List ℕ) : Type 0 where
+  elements : List ℕ
+  marks : List Mark
+  run : IsRun count elements marks
+  is : due ≡ elements ++ rest
+  spelled : written ≡ spelling marks
+  same : b ≡ true → elements ≡ spelling marks
+  meant : b ≡ true → AllByRecursion IsMeant marks
+
+fronted : (b : Bool) (count : ℕ) (due written rest : List ℕ) → Shortens b count due written rest
+    → Fronted b count due written rest
+fronted b count due written rest shortens_done =
+    record {
+      elements = [];
+      marks = [];
+      run = done;
+      is = refl;
+      spelled = refl;
+      same = λ on. refl;
+      meant = λ on. tt;
+    }
+fronted b count due written rest
+    (shortens_next {count = m} {element = x} {bytes = y} {written = u} {more = v} e others) =
+    let one = element_marked b x u e in
+    let all = fronted b m y v rest others in
+    let joined = spelling-append one.marks all.marks in
+    record {
+      elements = x ++ all.elements;
+      marks = one.marks ++ all.marks;
+      run = next one.element all.run;
+      is = ap (λ (z : List ℕ). x ++ z) all.is ∙ sym (append_assoc x all.elements rest);
+      spelled = ap (λ (z : List ℕ). z ++ v) one.spelled
+      ∙ (ap (λ (z : List ℕ). spelling one.marks ++ z) all.spelled ∙ sym joined);
+      same = λ on. ap (λ (z : List ℕ). z ++ all.elements) (one.same on)
+          ∙ (ap (λ (z : List ℕ). spelling one.marks ++ z) (all.same on) ∙ sym joined);
+      meant = λ on. meant_append one.marks all.marks (one.meant on) (all.meant on);
+    }
+
+-- so many elements stand in front, what is written is their spelling, and the rest is what follows
+pub shortened_front : (strict : Bool) (count : ℕ) (due written rest : List ℕ) → Shortens strict count due written rest
+    → (front : RunInFront strict count due) × (written ≡ spelling front.marks) × (rest ≡ front.rest)
+shortened_front strict count due written rest s =
+    let all = fronted strict count due written rest s in (
+      record {
+        elements = all.elements;
+        marks = all.marks;
+        rest = rest;
+        run = all.run;
+        is = all.is;
+        spelled = λ on. record { same = all.same on ∙ sym (append-nil (spelling all.marks)); meant = all.meant on };
+      },
+      all.spelled,
+      refl,
+    )
+
+-- what is written of elements is written of itself again
+pub shortened_again : (strict : Bool) (count : ℕ) (due written rest : List ℕ) → Shortens strict count due written rest
+    → Shortens strict count written written []
+shortened_again strict count due written rest s =
+    let all = fronted strict count due written rest s in
+    let spelled = spelling all.marks in
+    let front : RunInFront strict count spelled = record {
+      elements = spelled;
+      marks = all.marks;
+      rest = [];
+      run = (run_again count all.elements all.marks all.run).run;
+      is = sym (append-nil spelled);
+      spelled = λ on. record { same = sym (append-nil spelled); meant = all.meant on };
+    } in
+    subst (λ (z : List ℕ). Shortens strict count z z []) (sym all.spelled) (front_shortened strict count spelled front)

@@ -1,0 +1,35 @@
+-- When a copy of elements succeeds, and what it then wrote and left, in the words of `Shortens` alone.
+use Rattle.std.specs.Prelude.{◌≡◌, ℕ, ◌+◌, ◌<◌, ◌≤◌, ◌^◌, ◌⊎◌, ◌↔◌, Bool, false, List, [], ◌++◌, length, Some, None}
+use Rattle.std.specs.Prelude.{Result, IsOk, IsTrue}
+use Rattle.ciborium_ll_io.specs.declared.io.Read.{Ghosts as Reader}
+use Rattle.ciborium_ll_io.specs.declared.io.Write.{Ghosts as Writer}
+use Rattle.ciborium_ll_grammar.specs.Shortening.{Shortens}
+use Rattle.ciborium_ll_decoder.specs.declared.dec.Decoder.{Decoder}
+use Rattle.ciborium_ll_decoder.specs.declared.copy.RecodeError.{RecodeError}
+
+module _ {R E W F : Type 0} (source : Reader R E) (sink : Writer W F) where
+  -- only the bytes can stop a copy: no header waits, the reader gives the bytes that it tells, and the offset fits them,
+  -- with 8 and with the buffer's length to spare. The writer has room for what is written of the elements where that
+  -- many are next, else for as many bytes as are due
+  pub record OnlyBytesStop (strict : Bool) (count room-in : ℕ) (decoder : Decoder R) (writer : W)
+      (due written : List ℕ) : Type 0 where
+    pub mode : decoder.strict ≡ strict
+    pub none_waits : decoder.waiting ≡ None
+    pub due-told : source.ahead decoder.reader ≡ Some due
+    pub steady : IsTrue (source.steady decoder.reader)
+    pub written-told : sink.written writer ≡ Some written
+    pub room : ℕ
+    pub room-told : sink.room writer ≡ Some room
+    pub enough : ((copy : List ℕ) × (rest : List ℕ) × Shortens false count due copy rest × (length copy ≤ room))
+        ⊎ (length due ≤ room)
+    pub fits-title : decoder.offset + length due + 8 < 2 ^ 64
+    pub fits-chunk : decoder.offset + length due + room-in < 2 ^ 64
+
+  -- `Ok` comes just where so many elements are next. Then just what is written of them was appended, and just what
+  -- follows is ahead; and what was written is copied as it is
+  pub record CopiesExactly (strict : Bool) (count : ℕ) (due written : List ℕ)
+      (result : Result (Unit {0}) (RecodeError E F)) (decoder : Decoder R) (writer : W) : Type 0 where
+    pub just : IsOk result ↔ ((copy : List ℕ) × (rest : List ℕ) × Shortens strict count due copy rest)
+    pub copied : (copy rest : List ℕ) → Shortens strict count due copy rest
+        → (sink.written writer ≡ Some (written ++ copy)) × (source.ahead decoder.reader ≡ Some rest)
+    pub again : (copy rest : List ℕ) → Shortens strict count due copy rest → Shortens strict count copy copy []
