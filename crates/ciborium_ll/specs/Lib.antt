@@ -11,6 +11,7 @@ pub use Rattle.ciborium_ll_grammar.specs.Elements
 pub use Rattle.ciborium_ll_grammar.specs.Faults
 pub use Rattle.ciborium_ll_grammar.specs.Items
 pub use Rattle.ciborium_ll_grammar.specs.Parts
+pub use Rattle.ciborium_ll_grammar.specs.Shortening
 pub use Rattle.ciborium_ll_grammar.specs.StrictElements
 pub use Rattle.ciborium_ll_grammar.specs.Strings
 pub use Rattle.ciborium_ll_grammar.specs.Title
@@ -33,6 +34,7 @@ pub use Rattle.ciborium_ll_decoder.specs.Kept
 pub use Rattle.ciborium_ll_decoder.specs.Lend
 pub use Rattle.ciborium_ll_decoder.specs.Progress
 pub use Rattle.ciborium_ll_decoder.specs.Segments
+pub use Rattle.ciborium_ll_recode.specs.Exactly
 pub use Rattle.ciborium_ll_recode.specs.Recoding
 pub use Rattle.ciborium_ll_recode.specs.RecodingTold
 pub use Rattle.ciborium_ll_recode.specs.Sides

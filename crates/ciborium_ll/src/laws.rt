@@ -3,19 +3,21 @@
 //! The functions for laws are empty: their contracts are the laws.
 //!
 //! The laws on strings, elements, runs, faults and items are about the definitions alone. `recode` is tied to
-//! elements, runs and faults by its clauses `exactly` and `told`, `Encoder::bytes` and `Encoder::text` to elements,
+//! elements, runs and faults by its clauses `front` and `told`, `Encoder::bytes` and `Encoder::text` to elements,
 //! and `skip_item` of `cbor_skip` to items.
 
 mod copy;
 mod drains;
 mod headers;
 mod pieces;
+mod shortening;
 mod strict;
 
 pub use self::copy::copy_headers;
 pub use self::drains::{Drained, End, drain_bytes, drain_text, drained_in_all, enough_sizes};
 pub use self::headers::{pull_again, same_header};
 pub use self::pieces::{Piece, copy_spelled, write_pieces};
+pub use self::shortening::shortened_run;
 pub use self::strict::strict_run;
 pub use ciborium_ll_decoder::skip::{skip_bytes, skip_text};
 pub use ciborium_ll_laws::{

@@ -15,6 +15,7 @@ use Rattle.ciborium_ll_grammar.specs.Title.{IsTitle, IsInRange, numbered, alone,
 use Rattle.ciborium_ll_grammar.specs.Title.{TextString, Array, Map, Tag, Other, major_code, Size, Small, One, Two}
 use Rattle.ciborium_ll_grammar.specs.Title.{Four, Eight, numbered_title, size_limit, affix_of, first_byte, open_header}
 use Rattle.ciborium_ll_grammar.proofs.TitleLaws.{title_in_range}
+use Rattle.ciborium_ll_recode.proofs.NumberTitles.{HasNumber, IsTitleOf, title_of}
 use Rattle.ciborium_ll_calls.specs.declared.answer.CllAnswer.{CllAnswer}
 use Rattle.ciborium_ll_calls.specs.declared.answer.CllAnswer.TheVariants as a
 use Rattle.ciborium_ll_calls.specs.declared.answer.CllReport.{CllReport}
@@ -93,60 +94,6 @@ decided width n below =
     (λ not. let n8 = eqb-false width 8 not in
     none_decided width n (λ e. absurd (n0 e)) (λ e. absurd (n1 e)) (λ e. absurd (n2 e)) (λ e. absurd (n4 e))
     (λ e. absurd (n8 e)))))))
-
--- ---- the titles that a header has
-
-abbrev HasNumber : Major → ℕ → List ℕ → Type 0
-HasNumber major n title = (size : Size) × (n < size_limit size) × (title ≡ numbered_title major size n)
-
-abbrev HasLength : Major → Option ℕ → List ℕ → Type 0
-HasLength major (Some n) title = HasNumber major n title
-HasLength major None title = title ≡ first_byte major 31 ∷ []
-
-abbrev IsTitleOf : Header → List ℕ → Type 0
-IsTitleOf (h.Positive n) title = HasNumber Unsigned n title
-IsTitleOf (h.Negative n) title = HasNumber Negative n title
-IsTitleOf (h.Bytes len) title = HasLength ByteString len title
-IsTitleOf (h.Text len) title = HasLength TextString len title
-IsTitleOf (h.Array len) title = HasLength Array len title
-IsTitleOf (h.Map len) title = HasLength Map len title
-IsTitleOf (h.Tag n) title = HasNumber Tag n title
-IsTitleOf (h.Simple n) title = (numbers : HasNumber Other n title) × (length title ≤ 2)
-IsTitleOf (h.Float (f.Half n)) title = title ≡ numbered_title Other Two n
-IsTitleOf (h.Float (f.Single n)) title = title ≡ numbered_title Other Four n
-IsTitleOf (h.Float (f.Double n)) title = title ≡ numbered_title Other Eight n
-IsTitleOf h.Break title = title ≡ first_byte Other 31 ∷ []
-
-alone_of : (major : Major) (header : Header) → open_header major ≡ Some header
-    → IsTitleOf header (first_byte major 31 ∷ [])
-alone_of Unsigned header is = absurd cc
-alone_of Negative header is = absurd cc
-alone_of ByteString header is =
-    let same : h.Bytes None ≡ header = cc in subst (λ x. IsTitleOf x (first_byte ByteString 31 ∷ [])) same refl
-alone_of TextString header is =
-    let same : h.Text None ≡ header = cc in subst (λ x. IsTitleOf x (first_byte TextString 31 ∷ [])) same refl
-alone_of Array header is =
-    let same : h.Array None ≡ header = cc in subst (λ x. IsTitleOf x (first_byte Array 31 ∷ [])) same refl
-alone_of Map header is =
-    let same : h.Map None ≡ header = cc in subst (λ x. IsTitleOf x (first_byte Map 31 ∷ [])) same refl
-alone_of Tag header is = absurd cc
-alone_of Other header is =
-    let same : h.Break ≡ header = cc in subst (λ x. IsTitleOf x (first_byte Other 31 ∷ [])) same refl
-
-title_of : (title : List ℕ) (header : Header) → IsTitle title header → IsTitleOf header title
-title_of title header (numbered Unsigned size n below) = (size, below, refl)
-title_of title header (numbered Negative size n below) = (size, below, refl)
-title_of title header (numbered ByteString size n below) = (size, below, refl)
-title_of title header (numbered TextString size n below) = (size, below, refl)
-title_of title header (numbered Array size n below) = (size, below, refl)
-title_of title header (numbered Map size n below) = (size, below, refl)
-title_of title header (numbered Tag size n below) = (size, below, refl)
-title_of title header (numbered Other Small n below) = ((Small, below, refl), omega arith)
-title_of title header (numbered Other One n below) = ((One, below, refl), omega arith)
-title_of title header (numbered Other Two n below) = refl
-title_of title header (numbered Other Four n below) = refl
-title_of title header (numbered Other Eight n below) = refl
-title_of title header (alone major named is) = alone_of major named is
 
 -- ---- the title in a width
 

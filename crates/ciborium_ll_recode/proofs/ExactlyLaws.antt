@@ -78,9 +78,9 @@ module _ {R E W F : Type 0} {strict : Bool} (source : Reader R E) (sink : Writer
               let one = one_run count front.elements front.marks front.run all.elements front.rest all.rest all.marks all.run
               (sym front.is ∙ all.is) in (
                 copies.output
-                ∙ ap (λ (z : List ℕ). Some (written ++ z)) (ap spelling (sym one.1) ∙ sym found.1),
+                    ∙ ap (λ (z : List ℕ). Some (written ++ z)) (ap spelling (sym one.1) ∙ sym found.1),
                 sym (view_none new.decoder.waiting (source.ahead new.decoder.reader) (none_waits copies)) ∙ copies.left
-                ∙ ap (λ (z : List ℕ). Some z) (sym one.2 ∙ sym found.2),
+                    ∙ ap (λ (z : List ℕ). Some z) (sym one.2 ∙ sym found.2),
               )
               );
           again = λ copy rest is. shortened_again strict count due copy rest is;

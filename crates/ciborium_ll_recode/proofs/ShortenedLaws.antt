@@ -147,7 +147,7 @@ mutual
   any_one k w bs (indefinite {title = t} {strings = x} {bodies = cs} p q) sound rest written others =
       subst
       (λ (z : List ℕ). ShortensStrings false (string_code k) ((z ++ (x ++ 0xff ∷ [])) ++ rest)
-          (spelling (pieces k cs) ++ written))
+      (spelling (pieces k cs) ++ written))
       (sym (open_title k t p)) (open_more refl (any_all k x cs q sound) others)
 
   any_all : (k : Kind) (w : List ℕ) (bs : List (List ℕ)) → AreStrings k w bs → AreWritable k bs

@@ -1,6 +1,7 @@
 -- From what `Shortens` says to elements and their marks: what is written is their spelling.
-use Rattle.std.proofs.Common.{◌≡◌, ℕ, zero, suc, ◌+◌, ◌*◌, ◌<◌, ◌≤◌, ◌⊎◌, inl, inr, Bool, true, false, List, [], ◌∷◌, ◌++◌}
-use Rattle.std.proofs.Common.{length, Some, None, refl, sym, ap, subst, ◌∙◌, arith, append-nil, append_assoc}
+use Rattle.std.proofs.Common.{◌≡◌, ℕ, zero, suc, ◌+◌, ◌*◌, ◌<◌, ◌≤◌, ◌⊎◌, ◌↔◌, inl, inr, Bool, true, false, List, []}
+use Rattle.std.proofs.Common.{◌∷◌, ◌++◌, length, Some, None, refl, sym, ap, subst, ◌∙◌, arith, append-nil}
+use Rattle.std.proofs.Common.{append_assoc, length-append}
 use Rattle.std.specs.List.{AllByRecursion}
 use Rattle.ciborium_ll_grammar.specs.declared.hdr.Header.{Header}
 use Rattle.ciborium_ll_grammar.specs.declared.hdr.Header.TheVariants as h
@@ -20,7 +21,7 @@ use Rattle.ciborium_ll_grammar.specs.Shortening.{IsNumberTitle, IsBody, bytes, t
 use Rattle.ciborium_ll_grammar.specs.Shortening.{ShortensStrings, no_more, definite_more, open_more, ShortensElement}
 use Rattle.ciborium_ll_grammar.specs.Shortening.{number, simple, float, alone, whole, parts, Shortens}
 use Rattle.ciborium_ll_grammar.specs.Shortening.{done as shortens_done, next as shortens_next}
-use Rattle.ciborium_ll_grammar.proofs.ElementLaws.{AreWritable-append, spelling-append, pieces-append, run_again}
+use Rattle.ciborium_ll_grammar.proofs.ElementLaws.{AreWritable-append, spelling-append, pieces-append, run_again, one_run}
 use Rattle.ciborium_ll_grammar.proofs.SpelledLaws.{meant_append, open_meant}
 use Rattle.ciborium_ll_recode.proofs.NumberTitles.{HasNumber, has_number, fewest_is}
 use Rattle.ciborium_ll_recode.proofs.ShortenedLaws.{string_code, open_byte, parts_spelled, front_shortened}
@@ -89,7 +90,7 @@ within b k w written (definite_more {first = x} {rest = y} {written = u} {more =
       are = more (subst (λ (z : List ℕ). IsString k z (one.body ∷ [])) (sym one.is) (definite one.is_title)) all.are;
       sound = (one.sound, all.sound);
       spelled = ap (λ (z : List ℕ). z ++ v) one.spelled
-      ∙ ap (λ (z : List ℕ). body_spelling k one.body ++ z) all.spelled;
+          ∙ ap (λ (z : List ℕ). body_spelling k one.body ++ z) all.spelled;
       same = λ on. ap (λ (z : List ℕ). z ++ y) (one.same on)
           ∙ ap (λ (z : List ℕ). body_spelling k one.body ++ z) (all.same on);
     }
@@ -103,7 +104,7 @@ within b k w written (open_more {within = x} {rest = y} {written = u} {more = v}
       are = more (indefinite (open_is_title k) one.are) all.are;
       sound = AreWritable-append k one.bodies all.bodies one.sound all.sound;
       spelled = ap (λ (z : List ℕ). z ++ v) one.spelled
-      ∙ (ap (λ (z : List ℕ). spelling (pieces k one.bodies) ++ z) all.spelled ∙ sym joined);
+          ∙ (ap (λ (z : List ℕ). spelling (pieces k one.bodies) ++ z) all.spelled ∙ sym joined);
       same = λ on. absurd cc;
     }
 
@@ -296,7 +297,7 @@ fronted b count due written rest
       run = next one.element all.run;
       is = ap (λ (z : List ℕ). x ++ z) all.is ∙ sym (append_assoc x all.elements rest);
       spelled = ap (λ (z : List ℕ). z ++ v) one.spelled
-      ∙ (ap (λ (z : List ℕ). spelling one.marks ++ z) all.spelled ∙ sym joined);
+          ∙ (ap (λ (z : List ℕ). spelling one.marks ++ z) all.spelled ∙ sym joined);
       same = λ on. ap (λ (z : List ℕ). z ++ all.elements) (one.same on)
           ∙ (ap (λ (z : List ℕ). spelling one.marks ++ z) (all.same on) ∙ sym joined);
       meant = λ on. meant_append one.marks all.marks (one.meant on) (all.meant on);
@@ -334,3 +335,49 @@ shortened_again strict count due written rest s =
       spelled = λ on. record { same = sym (append-nil spelled); meant = all.meant on };
     } in
     subst (λ (z : List ℕ). Shortens strict count z z []) (sym all.spelled) (front_shortened strict count spelled front)
+
+-- ---- what the laws say besides
+
+-- elements in front, with what `Shortens` says of them
+abbrev pub WritesFront : Bool → ℕ → List ℕ → List ℕ → List ℕ → Type 0
+WritesFront strict count due written rest =
+    (front : RunInFront strict count due) × (written ≡ spelling front.marks) × (rest ≡ front.rest)
+
+pub shortened_is : (strict : Bool) (count : ℕ) (due written rest : List ℕ)
+    → Shortens strict count due written rest ↔ WritesFront strict count due written rest
+shortened_is strict count due written rest = (
+  shortened_front strict count due written rest,
+  λ found. (
+      let front = found.0 in
+      subst (λ (z : List ℕ). Shortens strict count due z rest) (sym found.1)
+      (subst (λ (z : List ℕ). Shortens strict count due (spelling front.marks) z) (sym found.2)
+      (front_shortened strict count due front))
+      ),
+)
+
+-- at most one copy and one rest, however strict the decoder is
+pub shortened_one : (strict other : Bool) (count : ℕ) (due written rest copy left : List ℕ)
+    → Shortens strict count due written rest → Shortens other count due copy left → (written ≡ copy) × (rest ≡ left)
+shortened_one strict other count due written rest copy left s t =
+    let a = fronted strict count due written rest s in
+    let b = fronted other count due copy left t in
+    let one = one_run count a.elements a.marks a.run b.elements rest left b.marks b.run (sym a.is ∙ b.is) in
+    (a.spelled ∙ (ap spelling one.1 ∙ sym b.spelled), one.2)
+
+-- the copy is no longer than what was copied
+pub shortened_no_longer : (strict : Bool) (count : ℕ) (due written rest : List ℕ)
+    → Shortens strict count due written rest → length written + length rest ≤ length due
+shortened_no_longer strict count due written rest s =
+    let all = fronted strict count due written rest s in
+    let again = run_again count all.elements all.marks all.run in
+    let shorter = again.shorter in
+    let long = ap length all.is in
+    let spelled = ap length all.spelled in
+    omega (arith, shorter, long, spelled, length-append all.elements rest)
+
+-- what a strict decoder takes is written as it was
+pub shortened_same : (count : ℕ) (due written rest : List ℕ) → Shortens true count due written rest
+    → due ≡ written ++ rest
+shortened_same count due written rest s =
+    let all = fronted true count due written rest s in
+    all.is ∙ ap (λ (z : List ℕ). z ++ rest) (all.same refl ∙ sym all.spelled)

@@ -5,7 +5,7 @@ use Rattle.ciborium_ll.specs.Types.Write.{Ghosts as Writer}
 use Rattle.ciborium_ll.specs.Types.Decoder.{Decoder}
 use Rattle.ciborium_ll.specs.Decoding.{IsFresh, offset_limit, view}
 use Rattle.ciborium_ll.specs.Copying.{IsReadyForTitles}
-use Rattle.ciborium_ll.specs.RecodingTold.{IsReady}
+use Rattle.ciborium_ll.specs.Exactly.{OnlyBytesStop}
 use Rattle.ciborium_ll.specs.Sides.{sides}
 use Rattle.ciborium_ll.proofs.BodyLaws.{view_none}
 
@@ -25,17 +25,15 @@ module _ {D S E F : Type 0} (source : Reader D E) (sink : Writer S F) where
       → source.ahead reader ≡ Some due → sink.written writer ≡ Some written → sink.room writer ≡ Some room
       → length due ≤ room
       → length due + 8 < offset_limit → length due + size < offset_limit
-      → IsReady source sink false count size (sides decoder writer) due written
+      → OnlyBytesStop source sink false count size decoder writer due written
   ready_for_elements count size room reader decoder writer due written fresh steady ahead output space enough title
       chunk =
       record {
+        mode = fresh.mode;
+        none_waits = fresh.none_waits;
+        due-told = ap source.ahead fresh.reader ∙ ahead;
         steady = still_steady reader decoder fresh steady;
-        told = record {
-          mode = fresh.mode;
-          due-told = due_ahead reader decoder due fresh ahead;
-          written-told = output;
-          none_waits = λ on. fresh.none_waits;
-        };
+        written-told = output;
         room = room;
         room-told = space;
         enough = inr enough;

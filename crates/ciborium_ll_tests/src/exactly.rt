@@ -1,9 +1,9 @@
 // Copies between slices, of which it is proved here, outside the library, when they succeed. So what the library asks
 // of the reader, the writer and the offset can be met.
 
-ghost use Rattle.std.specs.Prelude.{◌≤◌, ◌+◌, ◌<◌, ◌^◌, ◌↔◌, IsTrue, false, length};
+ghost use Rattle.std.specs.Prelude.{◌≤◌, ◌+◌, ◌<◌, ◌^◌, ◌↔◌, ℕ, List, IsTrue, false, length};
 ghost use Rattle.ciborium_ll.specs.Copying.{TitlesInFront};
-ghost use Rattle.ciborium_ll.specs.Faults.{RunInFront};
+ghost use Rattle.ciborium_ll.specs.Shortening.{Shortens};
 
 use ciborium_ll::io::{SliceReader, SliceWriter};
 use ciborium_ll::laws::copy_headers;
@@ -14,7 +14,7 @@ use ciborium_ll::{Decoder, Encoder};
 fn copies_elements(bytes: &[u8], space: &mut [u8], count: usize) -> bool
     requires room { length bytes.now ≤ length space.old }
     requires fits { length bytes.now + 8 < 2 ^ 64 }
-    ensures { IsTrue result ↔ RunInFront false count bytes.now }
+    ensures { IsTrue result ↔ ((copy : List ℕ) × (rest : List ℕ) × Shortens false count bytes.now copy rest) }
 {
     let mut decoder = Decoder::from(SliceReader::new(bytes));
     let mut encoder = Encoder::from(SliceWriter::new(space));

@@ -1,4 +1,4 @@
-use Rattle.ciborium_ll.proofs.StrictRunLaws.{titles, unchanged, as_long}
+use Rattle.ciborium_ll_recode.proofs.StrictRunLaws.{titles, unchanged, as_long}
 use Rattle.ciborium_ll.proofs.laws.strict.strict_run.Goals as goal
 
 pub returns-clause-unchanged : goal.returns-clause-unchanged
