@@ -15,7 +15,7 @@ use Rattle.ciborium_ll_grammar.specs.Title.{IsTitle, IsInRange, numbered, alone,
 use Rattle.ciborium_ll_grammar.specs.Title.{TextString, Array, Map, Tag, Other, major_code, Size, Small, One, Two}
 use Rattle.ciborium_ll_grammar.specs.Title.{Four, Eight, numbered_title, size_limit, affix_of, first_byte, open_header}
 use Rattle.ciborium_ll_grammar.proofs.TitleLaws.{title_in_range}
-use Rattle.ciborium_ll_recode.proofs.NumberTitles.{HasNumber, IsTitleOf, title_of}
+use Rattle.ciborium_ll_recode.proofs.NumberTitles.{HasNumber, title_of}
 use Rattle.ciborium_ll_calls.specs.declared.answer.CllAnswer.{CllAnswer}
 use Rattle.ciborium_ll_calls.specs.declared.answer.CllAnswer.TheVariants as a
 use Rattle.ciborium_ll_calls.specs.declared.answer.CllReport.{CllReport}

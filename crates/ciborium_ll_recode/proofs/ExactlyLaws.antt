@@ -1,14 +1,11 @@
 -- When a copy succeeds, and what it then wrote and left, in the words of `Shortens`.
-use Rattle.std.proofs.Common.{◌≡◌, ℕ, zero, suc, ◌≤◌, inl, inr, Bool, false, List, ◌++◌, length, Some, None, Result, Ok, Err}
-use Rattle.std.proofs.Common.{IsOk, refl, sym, ap, subst, ◌∙◌, arith}
+use Rattle.std.proofs.Common.{◌≡◌, ℕ, zero, suc, inl, inr, Bool, false, List, ◌++◌, length, Some, None, Result, Ok, Err}
+use Rattle.std.proofs.Common.{IsOk, refl, sym, ap, ◌∙◌, arith}
 use Rattle.ciborium_ll_io.specs.declared.io.Read.{Ghosts as Reader}
 use Rattle.ciborium_ll_io.specs.declared.io.Write.{Ghosts as Writer}
-use Rattle.ciborium_ll_decoder.specs.declared.dec.Decoder.{Decoder}
 use Rattle.ciborium_ll_decoder.specs.declared.copy.RecodeError.{RecodeError}
-use Rattle.ciborium_ll_grammar.specs.Elements.{Mark, spelling}
-use Rattle.ciborium_ll_grammar.specs.Faults.{RunInFront}
-use Rattle.ciborium_ll_grammar.specs.Shortening.{Shortens}
-use Rattle.ciborium_ll_decoder.specs.BodyCopies.{Sides, sides}
+use Rattle.ciborium_ll_grammar.specs.Elements.{spelling}
+use Rattle.ciborium_ll_decoder.specs.BodyCopies.{Sides}
 use Rattle.ciborium_ll_recode.specs.Recoding.{CopiesElements}
 use Rattle.ciborium_ll_recode.specs.RecodingTold.{IsReady, CopiesFront, RecodesTold}
 use Rattle.ciborium_ll_recode.specs.Exactly.{OnlyBytesStop, CopiesExactly}

@@ -23,7 +23,7 @@ use Rattle.ciborium_ll_grammar.specs.Shortening.{number, simple, float, alone, w
 use Rattle.ciborium_ll_grammar.specs.Shortening.{done as shortens_done, next as shortens_next}
 use Rattle.ciborium_ll_grammar.proofs.ElementLaws.{AreWritable-append, spelling-append, pieces-append, run_again, one_run}
 use Rattle.ciborium_ll_grammar.proofs.SpelledLaws.{meant_append, open_meant}
-use Rattle.ciborium_ll_recode.proofs.NumberTitles.{HasNumber, has_number, fewest_is}
+use Rattle.ciborium_ll_recode.proofs.NumberTitles.{has_number, fewest_is}
 use Rattle.ciborium_ll_recode.proofs.ShortenedLaws.{string_code, open_byte, parts_spelled, front_shortened}
 
 -- ---- strings
