@@ -1,191 +1,121 @@
 // The notation of items: the rows of RFC 8949, and items that were worked by hand.
 
+use crate::shared::{MOST, decoded};
 use cbor_diag::{DiagError, Layout, diagnose};
 use cbor_skip::SkipError;
 use ciborium_ll::io::{EndOfFile, SliceReader, SliceWriter};
 use ciborium_ll::{Decoder, Error};
+use std::process::Abort;
 
-// RFC 8949, appendix A, but for the rows of the next table.
-static VECTORS: [(&[u8], &str); 73] = [
-    (b"\x00", "0"),
-    (b"\x01", "1"),
-    (b"\x0a", "10"),
-    (b"\x17", "23"),
-    (b"\x18\x18", "24"),
-    (b"\x18\x19", "25"),
-    (b"\x18\x64", "100"),
-    (b"\x19\x03\xe8", "1000"),
-    (b"\x1a\x00\x0f\x42\x40", "1000000"),
-    (b"\x1b\x00\x00\x00\xe8\xd4\xa5\x10\x00", "1000000000000"),
-    (
-        b"\x1b\xff\xff\xff\xff\xff\xff\xff\xff",
-        "18446744073709551615",
-    ),
-    (
-        b"\x3b\xff\xff\xff\xff\xff\xff\xff\xff",
-        "-18446744073709551616",
-    ),
-    (b"\x20", "-1"),
-    (b"\x29", "-10"),
-    (b"\x38\x63", "-100"),
-    (b"\x39\x03\xe7", "-1000"),
-    (b"\xf9\x00\x00", "0.0"),
-    (b"\xf9\x80\x00", "-0.0"),
-    (b"\xf9\x3c\x00", "1.0"),
-    (b"\xfb\x3f\xf1\x99\x99\x99\x99\x99\x9a", "1.1"),
-    (b"\xf9\x3e\x00", "1.5"),
-    (b"\xf9\x7b\xff", "65504.0"),
-    (b"\xfa\x47\xc3\x50\x00", "100000.0"),
-    (b"\xfa\x7f\x7f\xff\xff", "3.4028234663852886e+38"),
-    (b"\xfb\x7e\x37\xe4\x3c\x88\x00\x75\x9c", "1.0e+300"),
-    (b"\xf9\x00\x01", "5.960464477539063e-8"),
-    (b"\xf9\x04\x00", "0.00006103515625"),
-    (b"\xf9\xc4\x00", "-4.0"),
-    (b"\xfb\xc0\x10\x66\x66\x66\x66\x66\x66", "-4.1"),
-    (b"\xf9\x7c\x00", "Infinity"),
-    (b"\xf9\x7e\x00", "NaN"),
-    (b"\xf9\xfc\x00", "-Infinity"),
-    (b"\xf4", "false"),
-    (b"\xf5", "true"),
-    (b"\xf6", "null"),
-    (b"\xf7", "undefined"),
-    (b"\xf0", "simple(16)"),
-    (b"\xf8\xff", "simple(255)"),
-    (
-        b"\xc0\x74\x32\x30\x31\x33\x2d\x30\x33\x2d\x32\x31\x54\x32\x30\x3a\x30\x34\x3a\x30\x30\x5a",
-        "0(\"2013-03-21T20:04:00Z\")",
-    ),
-    (b"\xc1\x1a\x51\x4b\x67\xb0", "1(1363896240)"),
-    (
-        b"\xc1\xfb\x41\xd4\x52\xd9\xec\x20\x00\x00",
-        "1(1363896240.5)",
-    ),
-    (b"\xd7\x44\x01\x02\x03\x04", "23(h'01020304')"),
-    (b"\xd8\x18\x45\x64\x49\x45\x54\x46", "24(h'6449455446')"),
-    (
-        b"\xd8\x20\x76\x68\x74\x74\x70\x3a\x2f\x2f\x77\x77\x77\x2e\x65\x78\x61\x6d\x70\x6c\x65\x2e\x63\x6f\x6d",
-        "32(\"http://www.example.com\")",
-    ),
-    (b"\x40", "h''"),
-    (b"\x44\x01\x02\x03\x04", "h'01020304'"),
-    (b"\x60", "\"\""),
-    (b"\x61\x61", "\"a\""),
-    (b"\x64\x49\x45\x54\x46", "\"IETF\""),
-    (b"\x62\x22\x5c", "\"\\\"\\\\\""),
-    (b"\x62\xc3\xbc", "\"ü\""),
-    (b"\x63\xe6\xb0\xb4", "\"水\""),
-    (b"\x64\xf0\x90\x85\x91", "\"𐅑\""),
-    (b"\x80", "[]"),
-    (b"\x83\x01\x02\x03", "[1, 2, 3]"),
-    (b"\x83\x01\x82\x02\x03\x82\x04\x05", "[1, [2, 3], [4, 5]]"),
-    (
-        b"\x98\x19\x01\x02\x03\x04\x05\x06\x07\x08\x09\x0a\x0b\x0c\
-          \x0d\x0e\x0f\x10\x11\x12\x13\x14\x15\x16\x17\x18\x18\x18\x19",
-        "[1, 2, 3, 4, 5, 6, 7, 8, 9, 10, 11, 12, 13, 14, 15, 16, 17, 18, 19, 20, 21, 22, 23, 24, 25]",
-    ),
-    (b"\xa0", "{}"),
-    (b"\xa2\x01\x02\x03\x04", "{1: 2, 3: 4}"),
-    (
-        b"\xa2\x61\x61\x01\x61\x62\x82\x02\x03",
-        "{\"a\": 1, \"b\": [2, 3]}",
-    ),
-    (
-        b"\x82\x61\x61\xa1\x61\x62\x61\x63",
-        "[\"a\", {\"b\": \"c\"}]",
-    ),
-    (
-        b"\xa5\x61\x61\x61\x41\x61\x62\x61\x42\x61\x63\x61\x43\x61\x64\x61\x44\x61\x65\x61\x45",
-        "{\"a\": \"A\", \"b\": \"B\", \"c\": \"C\", \"d\": \"D\", \"e\": \"E\"}",
-    ),
-    (
-        b"\x5f\x42\x01\x02\x43\x03\x04\x05\xff",
-        "(_ h'0102', h'030405')",
-    ),
-    (
-        b"\x7f\x65\x73\x74\x72\x65\x61\x64\x6d\x69\x6e\x67\xff",
-        "(_ \"strea\", \"ming\")",
-    ),
-    (b"\x9f\xff", "[_ ]"),
-    (
-        b"\x9f\x01\x82\x02\x03\x9f\x04\x05\xff\xff",
-        "[_ 1, [2, 3], [_ 4, 5]]",
-    ),
-    (
-        b"\x9f\x01\x82\x02\x03\x82\x04\x05\xff",
-        "[_ 1, [2, 3], [4, 5]]",
-    ),
-    (
-        b"\x83\x01\x82\x02\x03\x9f\x04\x05\xff",
-        "[1, [2, 3], [_ 4, 5]]",
-    ),
-    (
-        b"\x83\x01\x9f\x02\x03\xff\x82\x04\x05",
-        "[1, [_ 2, 3], [4, 5]]",
-    ),
-    (
-        b"\x9f\x01\x02\x03\x04\x05\x06\x07\x08\x09\x0a\x0b\x0c\x0d\
-          \x0e\x0f\x10\x11\x12\x13\x14\x15\x16\x17\x18\x18\x18\x19\xff",
-        "[_ 1, 2, 3, 4, 5, 6, 7, 8, 9, 10, 11, 12, 13, 14, 15, 16, 17, 18, 19, 20, 21, 22, 23, 24, 25]",
-    ),
-    (
-        b"\xbf\x61\x61\x01\x61\x62\x9f\x02\x03\xff\xff",
-        "{_ \"a\": 1, \"b\": [_ 2, 3]}",
-    ),
-    (
-        b"\x82\x61\x61\xbf\x61\x62\x61\x63\xff",
-        "[\"a\", {_ \"b\": \"c\"}]",
-    ),
-    (
-        b"\xbf\x63\x46\x75\x6e\xf5\x63\x41\x6d\x74\x21\xff",
-        "{_ \"Fun\": true, \"Amt\": -2}",
-    ),
-];
+// Rows of an item's bytes and its notation: RFC 8949, appendix A, but for the rows of the next table.
+static VECTORS: &str = "\
+00 0
+01 1
+0a 10
+17 23
+1818 24
+1819 25
+1864 100
+1903e8 1000
+1a000f4240 1000000
+1b000000e8d4a51000 1000000000000
+1bffffffffffffffff 18446744073709551615
+3bffffffffffffffff -18446744073709551616
+20 -1
+29 -10
+3863 -100
+3903e7 -1000
+f90000 0.0
+f98000 -0.0
+f93c00 1.0
+fb3ff199999999999a 1.1
+f93e00 1.5
+f97bff 65504.0
+fa47c35000 100000.0
+fa7f7fffff 3.4028234663852886e+38
+fb7e37e43c8800759c 1.0e+300
+f90001 5.960464477539063e-8
+f90400 0.00006103515625
+f9c400 -4.0
+fbc010666666666666 -4.1
+f97c00 Infinity
+f97e00 NaN
+f9fc00 -Infinity
+f4 false
+f5 true
+f6 null
+f7 undefined
+f0 simple(16)
+f8ff simple(255)
+c074323031332d30332d32315432303a30343a30305a 0(\"2013-03-21T20:04:00Z\")
+c11a514b67b0 1(1363896240)
+c1fb41d452d9ec200000 1(1363896240.5)
+d74401020304 23(h'01020304')
+d818456449455446 24(h'6449455446')
+d82076687474703a2f2f7777772e6578616d706c652e636f6d 32(\"http://www.example.com\")
+40 h''
+4401020304 h'01020304'
+60 \"\"
+6161 \"a\"
+6449455446 \"IETF\"
+62225c \"\\\"\\\\\"
+62c3bc \"ü\"
+63e6b0b4 \"水\"
+64f0908591 \"𐅑\"
+80 []
+83010203 [1, 2, 3]
+8301820203820405 [1, [2, 3], [4, 5]]
+98190102030405060708090a0b0c0d0e0f101112131415161718181819 [1, 2, 3, 4, 5, 6, 7, 8, 9, 10, 11, 12, 13, 14, 15, 16, 17, 18, 19, 20, 21, 22, 23, 24, 25]
+a0 {}
+a201020304 {1: 2, 3: 4}
+a26161016162820203 {\"a\": 1, \"b\": [2, 3]}
+826161a161626163 [\"a\", {\"b\": \"c\"}]
+a56161614161626142616361436164614461656145 {\"a\": \"A\", \"b\": \"B\", \"c\": \"C\", \"d\": \"D\", \"e\": \"E\"}
+5f42010243030405ff (_ h'0102', h'030405')
+7f657374726561646d696e67ff (_ \"strea\", \"ming\")
+9fff [_ ]
+9f018202039f0405ffff [_ 1, [2, 3], [_ 4, 5]]
+9f01820203820405ff [_ 1, [2, 3], [4, 5]]
+83018202039f0405ff [1, [2, 3], [_ 4, 5]]
+83019f0203ff820405 [1, [_ 2, 3], [4, 5]]
+9f0102030405060708090a0b0c0d0e0f101112131415161718181819ff [_ 1, 2, 3, 4, 5, 6, 7, 8, 9, 10, 11, 12, 13, 14, 15, 16, 17, 18, 19, 20, 21, 22, 23, 24, 25]
+bf61610161629f0203ffff {_ \"a\": 1, \"b\": [_ 2, 3]}
+826161bf61626163ff [\"a\", {_ \"b\": \"c\"}]
+bf6346756ef563416d7421ff {_ \"Fun\": true, \"Amt\": -2}";
 
 // The other rows of that appendix, which has no marks of widths, and gives bignums as numbers.
-static OTHER_VECTORS: [(&[u8], &str); 8] = [
-    (b"\xfa\x7f\x80\x00\x00", "Infinity_2"),
-    (b"\xfa\x7f\xc0\x00\x00", "NaN_2"),
-    (b"\xfa\xff\x80\x00\x00", "-Infinity_2"),
-    (b"\xfb\x7f\xf0\x00\x00\x00\x00\x00\x00", "Infinity_3"),
-    (b"\xfb\x7f\xf8\x00\x00\x00\x00\x00\x00", "NaN_3"),
-    (b"\xfb\xff\xf0\x00\x00\x00\x00\x00\x00", "-Infinity_3"),
-    (
-        b"\xc2\x49\x01\x00\x00\x00\x00\x00\x00\x00\x00",
-        "2(h'010000000000000000')",
-    ),
-    (
-        b"\xc3\x49\x01\x00\x00\x00\x00\x00\x00\x00\x00",
-        "3(h'010000000000000000')",
-    ),
-];
+static OTHER_VECTORS: &str = "\
+fa7f800000 Infinity_2
+fa7fc00000 NaN_2
+faff800000 -Infinity_2
+fb7ff0000000000000 Infinity_3
+fb7ff8000000000000 NaN_3
+fbfff0000000000000 -Infinity_3
+c249010000000000000000 2(h'010000000000000000')
+c349010000000000000000 3(h'010000000000000000')";
 
 // Floats whose value a shorter one holds, or just not (RFC 8949, 8.1).
-static MARKS: [(&[u8], &str); 10] = [
-    (b"\xfa\x3f\xc0\x00\x00", "1.5_2"),
-    (b"\xfb\x3f\xf8\x00\x00\x00\x00\x00\x00", "1.5_3"),
-    (b"\xfb\x40\xf8\x6a\x00\x00\x00\x00\x00", "100000.0_3"),
-    (b"\xfa\x33\x80\x00\x00", "5.960464477539063e-8_2"),
-    (b"\xfa\x33\x00\x00\x00", "2.9802322387695312e-8"),
-    (b"\xfa\x38\x80\x00\x00", "0.00006103515625_2"),
-    (b"\xfa\x38\x80\x10\x00", "0.0000610649585723877"),
-    (b"\xfa\x47\x7f\xe0\x00", "65504.0_2"),
-    (b"\xfa\x47\x80\x00\x00", "65536.0"),
-    (b"\xfa\x80\x00\x00\x00", "-0.0_2"),
-];
+static MARKS: &str = "\
+fa3fc00000 1.5_2
+fb3ff8000000000000 1.5_3
+fb40f86a0000000000 100000.0_3
+fa33800000 5.960464477539063e-8_2
+fa33000000 2.9802322387695312e-8
+fa38800000 0.00006103515625_2
+fa38801000 0.0000610649585723877
+fa477fe000 65504.0_2
+fa47800000 65536.0
+fa80000000 -0.0_2";
 
 // Strings and maps of the indefinite form without bodies, and with empty ones; nested opens; escapes (RFC 8259, 7).
-static STRINGS: [(&[u8], &str); 7] = [
-    (b"\x5f\xff", "''_"),
-    (b"\x7f\xff", "\"\"_"),
-    (b"\x5f\x40\xff", "(_ h'')"),
-    (b"\x7f\x60\xff", "(_ \"\")"),
-    (b"\x7f\x7f\x61\x61\xff\x61\x62\xff", "(_ \"a\", \"b\")"),
-    (b"\xbf\xff", "{_ }"),
-    (
-        b"\x69\x08\x09\x0a\x0c\x0d\x00\x1f\x7f\x2f",
-        "\"\\b\\t\\n\\f\\r\\u0000\\u001f\x7f/\"",
-    ),
-];
+static STRINGS: &str = "\
+5fff ''_
+7fff \"\"_
+5f40ff (_ h'')
+7f60ff (_ \"\")
+7f7f6161ff6162ff (_ \"a\", \"b\")
+bfff {_ }
+6908090a0c0d001f7f2f \"\\b\\t\\n\\f\\r\\u0000\\u001f\x7f/\"";
 
 // What a show answers, with the offset behind it.
 #[derive(Clone, Copy, Debug, PartialEq, Eq, Drop)]
@@ -227,30 +157,35 @@ fn is_shown(bytes: &[u8], layout: Layout, notation: &str) -> bool {
     outcome == Outcome::Shown(bytes.len()) && space.get(..written) == Some(notation.as_bytes())
 }
 
-// Whether each row is shown so.
-fn are_shown(rows: &[(&[u8], &str)]) -> bool {
-    for (bytes, notation) in rows {
-        if !is_shown(bytes, Layout::OneLine, notation) {
-            return false;
-        }
+// The bytes of a row are one item with the notation behind them.
+fn row_is_shown(rt: &impl Abort, row: &str) {
+    let (digits, notation) = row.split_once(' ').unwrap_or((row, ""));
+    let mut space = [0; MOST];
+    let bytes = decoded(rt, digits, &mut space);
+    assert!(rt; is_shown(bytes, Layout::OneLine, notation), "{row}");
+}
+
+// Each row is shown so.
+fn are_shown(rt: &impl Abort, rows: &str) {
+    for row in rows.lines() {
+        row_is_shown(rt, row);
     }
-    true
 }
 
 #[test]
 fn vectors(rt: HostRuntime) {
-    assert!(rt; are_shown(&VECTORS));
-    assert!(rt; are_shown(&OTHER_VECTORS));
+    are_shown(&rt, VECTORS);
+    are_shown(&rt, OTHER_VECTORS);
 }
 
 #[test]
 fn marks_of_widths(rt: HostRuntime) {
-    assert!(rt; are_shown(&MARKS));
+    are_shown(&rt, MARKS);
 }
 
 #[test]
 fn strings_and_escapes(rt: HostRuntime) {
-    assert!(rt; are_shown(&STRINGS));
+    are_shown(&rt, STRINGS);
 }
 
 // Whether each beginning of the bytes is cut, and none is an item.
@@ -267,8 +202,9 @@ fn is_cut(bytes: &[u8]) -> bool {
 
 #[test]
 fn cut_items(rt: HostRuntime) {
-    for (bytes, _) in &VECTORS {
-        assert!(rt; is_cut(bytes));
+    for row in VECTORS.lines() {
+        let (digits, _) = row.split_once(' ').unwrap_or((row, ""));
+        assert!(rt; is_cut(decoded(&rt, digits, &mut [0; MOST])), "{row}");
     }
 }
 
