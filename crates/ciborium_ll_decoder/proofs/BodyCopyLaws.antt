@@ -1,11 +1,13 @@
 -- The copy of a body, chunk by chunk.
-use Rattle.std.proofs.Common.{◌≡◌, ℕ, ◌≤◌, List, [], ◌++◌, length, Ok, Err, refl, sym, ap, subst}
+use Rattle.std.proofs.Common.{◌≡◌, ℕ, ◌≤◌, List, [], ◌++◌, length, Result, Ok, Err, refl, sym, ap, subst}
 use Rattle.std.proofs.Common.{◌∙◌, arith, append_assoc, append-nil, length-append}
 use Rattle.std.proofs.KnownBytes.{Appends-nil}
+use Rattle.std.specs.Result.{IsErrAnd, MatchResult}
 use Rattle.ciborium_ll_io.specs.declared.io.Read.{Ghosts as Reader}
 use Rattle.ciborium_ll_io.specs.declared.io.Write.{Ghosts as Writer}
 use Rattle.ciborium_ll_decoder.specs.declared.dec.Decoder.{Decoder}
 use Rattle.ciborium_ll_decoder.specs.declared.dec.Error.{Error}
+use Rattle.ciborium_ll_decoder.specs.declared.copy.RecodeError.{RecodeError}
 use Rattle.ciborium_ll_decoder.specs.declared.copy.RecodeError.TheVariants as r
 use Rattle.ciborium_ll_decoder.specs.declared.seg.Body.{Body}
 use Rattle.ciborium_ll_decoder.specs.declared.seg.Parser.{Ghosts as Parser}
@@ -19,6 +21,14 @@ use Rattle.ciborium_ll_decoder.specs.BodyCopies.{BodyWritten, BodyUnwritten, Cop
 use Rattle.ciborium_ll_decoder.proofs.BodyLaws.{few_kept, split_parts, three_kept}
 use Rattle.ciborium_ll_decoder.proofs.FinishLaws.{RestSoFar, rest_start, rest_chunk, rest_ends}
 use Rattle.ciborium_ll_io.proofs.WriteLaws.{Shrinks-zero, WritesBytes-then}
+
+-- a write that failed, behind an answer that hands its error on
+pub write_refused : {E F : Type 0} (wrote : Result (Unit {0}) F) (answer : Result (Unit {0}) (RecodeError E F))
+    (error : RecodeError E F) → answer ≡ Err error
+    → MatchResult wrote (λ done. answer ≡ Ok done) (λ fault. IsErrAnd answer (λ error. error ≡ r.Write fault))
+    → (fault : F) × (wrote ≡ Err fault) × (error ≡ r.Write fault)
+write_refused (Ok done) answer error is cases = absurd cc
+write_refused (Err fault) answer error is cases = (fault, refl, rw is at cases)
 
 module _ {R E P W F : Type 0} {parser : Parser P} (source : Reader R E) (sink : Writer W F) where
   -- of the body of the first segment the chunks so far were written

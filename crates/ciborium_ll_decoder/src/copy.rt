@@ -96,9 +96,9 @@ fn copy_chunks<R: Read, W: Write, P: Chunked>(
     ensures target { W.target writer.new ≡ W.target writer.old }
 {
     'chunks: while let Some(chunk) = P::chunk(segment, buffer)? {
-        if let Err(fault) = writer.write_all(chunk) {
-            return Err(RecodeError::Write(fault));
-        }
+        writer
+            .write_all(chunk)
+            .map_err(|fault| RecodeError::Write(fault))?;
     }
     Ok(())
 }

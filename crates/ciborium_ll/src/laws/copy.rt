@@ -36,9 +36,9 @@ pub fn copy_headers<R: Read, W: Write>(
 {
     'headers: for _copied in 0..count {
         let header = decoder.pull()?;
-        if let Err(fault) = encoder.push(header) {
-            return Err(RecodeError::Write(fault));
-        }
+        encoder
+            .push(header)
+            .map_err(|fault| RecodeError::Write(fault))?;
     }
     Ok(())
 }

@@ -54,9 +54,8 @@ fn drain<R: Read, W: Write, P: Chunked>(
                 end: End::Ended,
             });
         };
-        if let Err(fault) = sink.write_all(chunk) {
-            return Err(RecodeError::Write(fault));
-        }
+        sink.write_all(chunk)
+            .map_err(|fault| RecodeError::Write(fault))?;
     }
     Ok(Drained {
         calls: sizes.len(),

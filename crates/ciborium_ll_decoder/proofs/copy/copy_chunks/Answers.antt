@@ -3,7 +3,7 @@ use Rattle.ciborium_ll_decoder.specs.declared.copy.RecodeError.TheVariants as r
 use Rattle.ciborium_ll_decoder.specs.Chunks.{GivesChunk, PullsChunk}
 use Rattle.ciborium_ll_decoder.proofs.DecodingLaws.{exit_is, MovesOn-none, MovesOn-then}
 use Rattle.ciborium_ll_decoder.proofs.BodyCopyLaws.{so_far_start, so_far_chunk, so_far_unwritten, so_far_whole}
-use Rattle.ciborium_ll_decoder.proofs.BodyCopyLaws.{so_far_error}
+use Rattle.ciborium_ll_decoder.proofs.BodyCopyLaws.{so_far_error, write_refused}
 use Rattle.ciborium_ll_decoder.proofs.copy.copy_chunks.Goals as goal
 
 pub chunks-init : goal.chunks-init
@@ -49,12 +49,20 @@ returns-in_err-chunk-clause-copied g c =
     c.chunks.invariant.so_far _ c.in_err-chunk.field-0.0 c.chunk.new.segment c.requires.room pulled.moves_on.steady
     chunk)
 
-pub returns-in-Err-clause-copied : goal.returns-in-Err-clause-copied
-returns-in-Err-clause-copied g c =
+pub returns-in_err-map_err-clause-copied : goal.returns-in_err-map_err-clause-copied
+returns-in_err-map_err-clause-copied g c =
     let pulled = c.in_ok-chunk.ensures in
     let gives = subst (λ (room : ℕ). GivesChunk g.R.Read room c.chunks.segment c.in-Some.chunk.now
     c.chunk.new.segment) c.chunks.auto.buffer (rw c.in-Some.is at pulled.chunk) in
-    let wrote = c.in-Err.ensures in
-    so_far_unwritten g.R.Read g.W.Write c.args.body _ _ _ _ c.requires.whole c.chunks.invariant.so_far
-    (length c.args.buffer.now) _ c.chunk.new.segment _ gives c.requires.room pulled.moves_on.steady
-    (record { front = wrote.front; full = wrote.full; failures = wrote.err })
+    let error = c.in_err-map_err.field-0.0 in
+    let same = exit_is c.from_residual-in_err-map_err.result error c.from_residual-in_err-map_err.ensures.1 in
+    let failed = write_refused c.write_all.result c.map_err.result error c.in_err-map_err.was (search rules) in
+    let wrote = failed.1 in
+    rw (same, failed.2) (so_far_unwritten g.R.Read g.W.Write c.args.body _ _ _ _ c.requires.whole
+    c.chunks.invariant.so_far (length c.args.buffer.now) _ c.chunk.new.segment _ gives c.requires.room
+    pulled.moves_on.steady
+    (record {
+      front = rw wrote at c.write_all.ensures.front;
+      full = rw wrote at c.write_all.ensures.full;
+      failures = rw wrote at c.write_all.ensures.err;
+    }))

@@ -3,7 +3,8 @@ use Rattle.std.proofs.lemmas.Result.{err_from_is_err_and}
 use Rattle.ciborium_ll_decoder.specs.declared.copy.RecodeError.TheVariants as r
 use Rattle.ciborium_ll.specs.Copying.{CopiesEach, StopsAtPull, StopsAtPush}
 use Rattle.ciborium_ll_recode.specs.Sides.{sides_of}
-use Rattle.ciborium_ll_decoder.proofs.DecodingLaws.{MovesOn-none, MovesOn-then}
+use Rattle.ciborium_ll_decoder.proofs.BodyCopyLaws.{write_refused}
+use Rattle.ciborium_ll_decoder.proofs.DecodingLaws.{exit_is, MovesOn-none, MovesOn-then}
 use Rattle.ciborium_ll.proofs.CopyingLaws.{Copies-none, Copies-push, AreTitles-shortest}
 use Rattle.ciborium_ll.proofs.CopyingTold.{told, exactly}
 use Rattle.ciborium_ll.proofs.laws.copy.copy_headers.Goals as goal
@@ -58,8 +59,14 @@ returns-in_err-header g c =
           ready copied;
     })
 
-pub returns-in-Err : goal.returns-in-Err
-returns-in-Err g c =
+pub returns-in_err-map_err : goal.returns-in_err-map_err
+returns-in_err-map_err g c =
+    let error = c.in_err-map_err.field-0.0 in
+    let from = exit_is c.from_residual-in_err-map_err.result error c.from_residual-in_err-map_err.ensures.1 in
+    let failed = write_refused c.push.result c.map_err.result error c.in_err-map_err.was (search rules) in
+    let fault = failed.0 in
+    let is_write = failed.2 in
+    let same : c.from_residual-in_err-map_err.result ≡ Err (r.Write fault) = cc in
     let copied : StopsAtPush g.R.Read g.W.Write c.args.count (sides_of c.args.decoder.now c.args.encoder.now)
     (sides_of c.pull.new.self c.push.new.self) =
     record {
@@ -69,19 +76,19 @@ returns-in-Err g c =
       copied = c.headers.invariant.2;
       last = c.in_ok-header.header;
       pulled = c.in_ok-header.ensures.header;
-      stopped = c.in-Err.ensures.title;
+      stopped = rw failed.1 at c.push.ensures.title;
     } in
-    record {
+    rw same (record {
       copied = record {
         copied = copied;
         moves_on = MovesOn-then g.R.Read _ _ _ c.headers.invariant.3 c.in_ok-header.ensures.moves_on;
-        target = c.in-Err.ensures.target ∙ c.headers.invariant.4;
+        target = c.push.ensures.target ∙ c.headers.invariant.4;
       };
-      told = λ due written ready. told g.R.Read g.W.Write c.args.count _ _ due written
-          (Err (r.Write c.in-Err.fault)) ready copied;
-      exactly = λ due written ready. exactly g.R.Read g.W.Write c.args.count _ _ due written
-          (Err (r.Write c.in-Err.fault)) ready copied;
-    }
+      told = λ due written ready. told g.R.Read g.W.Write c.args.count _ _ due written (Err (r.Write fault)) ready
+          copied;
+      exactly = λ due written ready. exactly g.R.Read g.W.Write c.args.count _ _ due written (Err (r.Write fault))
+          ready copied;
+    })
 
 pub returns : goal.returns
 returns g c =
