@@ -72,8 +72,8 @@ module _ {R E W F : Type 0} {strict : Bool} (source : Reader R E) (sink : Writer
               let front = found.0 in
               let copies = copies_front result told (ok.1 front) in
               let all = copies.front in
-              let one = one_run count front.elements front.marks front.run all.elements front.rest all.rest all.marks all.run
-              (sym front.is ∙ all.is) in (
+              let one = one_run count front.elements front.marks front.run all.elements front.rest all.rest all.marks
+              all.run (sym front.is ∙ all.is) in (
                 copies.output
                     ∙ ap (λ (z : List ℕ). Some (written ++ z)) (ap spelling (sym one.1) ∙ sym found.1),
                 sym (view_none new.decoder.waiting (source.ahead new.decoder.reader) (none_waits copies)) ∙ copies.left

@@ -14,12 +14,13 @@ use Rattle.ciborium_ll_grammar.specs.Strings.IsString.{definite, indefinite}
 use Rattle.ciborium_ll_grammar.specs.Elements.{AreWritable, IsPlain, Mark, pieces, open_marks, spelling, body_spelling}
 use Rattle.ciborium_ll_grammar.specs.Elements.{IsElement, plain, string, IsRun, done, next}
 use Rattle.ciborium_ll_grammar.specs.StrictElements.{AreFlat, none as no_flat, more as more_flat, IsStrictElement}
-use Rattle.ciborium_ll_grammar.specs.StrictElements.{plain as strict_plain, whole as strict_whole, parts as strict_parts}
+use Rattle.ciborium_ll_grammar.specs.StrictElements.{plain as strict_plain, whole as strict_whole}
+use Rattle.ciborium_ll_grammar.specs.StrictElements.{parts as strict_parts}
 use Rattle.ciborium_ll_grammar.specs.StrictElements.{AreStrictElements, done as strict_done, next as strict_next}
 use Rattle.ciborium_ll_grammar.specs.Faults.{RunInFront}
 use Rattle.ciborium_ll_grammar.specs.Shortening.{IsBody, bytes, text, ShortensString, titled, ShortensStrings, no_more}
-use Rattle.ciborium_ll_grammar.specs.Shortening.{definite_more, open_more, ShortensElement, number, simple, float, alone}
-use Rattle.ciborium_ll_grammar.specs.Shortening.{whole, parts, Shortens, done as shortens_done, next as shortens_next}
+use Rattle.ciborium_ll_grammar.specs.Shortening.{definite_more, open_more, ShortensElement, number, simple, float}
+use Rattle.ciborium_ll_grammar.specs.Shortening.{alone, whole, parts, Shortens, done as shortens_done, next as shortens_next}
 use Rattle.ciborium_ll_grammar.proofs.TitleLaws.{title_in_range}
 use Rattle.ciborium_ll_grammar.proofs.ElementLaws.{AreWritable-left, AreWritable-right, spelling-append, pieces-append}
 use Rattle.ciborium_ll_grammar.proofs.ElementLaws.{open_spelled}
@@ -42,8 +43,8 @@ meant_simple n small = elim (cases_lt n 24)
     [ inl a ↦ inl a | inr a ↦ elim (cases_lt n 32) [ inl b ↦ absurd (small (a, b)) | inr b ↦ inr b ] ]
 
 -- of a float, by its size
-float_shortens : (b : Bool) (s : Size) (n : ℕ) (title : List ℕ) → n < size_limit s → 2 < length (numbered_title Other s n)
-    → title ≡ numbered_title Other s n → ShortensElement b title (numbered_title Other s n)
+float_shortens : (b : Bool) (s : Size) (n : ℕ) (title : List ℕ) → n < size_limit s
+    → 2 < length (numbered_title Other s n) → title ≡ numbered_title Other s n → ShortensElement b title (numbered_title Other s n)
 float_shortens b s n title below long is =
     subst (λ (z : List ℕ). ShortensElement b z (numbered_title Other s n)) (sym is)
     (float long (taken_title false Other n (numbered_title Other s n) (s, below, refl) (λ on. absurd cc)))
@@ -122,9 +123,11 @@ open_shortest Text = refl
 
 pub parts_spelled : (k : Kind) (bs : List (List ℕ))
     → spelling (open_marks k bs) ≡ open_byte k ∷ (spelling (pieces k bs) ++ 0xff ∷ [])
-parts_spelled k bs = open_spelled k bs ∙ ap (λ (z : List ℕ). z ++ (spelling (pieces k bs) ++ 0xff ∷ [])) (open_shortest k)
+parts_spelled k bs = open_spelled k bs
+    ∙ ap (λ (z : List ℕ). z ++ (spelling (pieces k bs) ++ 0xff ∷ [])) (open_shortest k)
 
-parts_shortened : (b : Bool) (k : Kind) (title strings : List ℕ) (bs : List (List ℕ)) → IsTitle title (kind_header k None)
+parts_shortened : (b : Bool) (k : Kind) (title strings : List ℕ) (bs : List (List ℕ))
+    → IsTitle title (kind_header k None)
     → ShortensStrings b (string_code k) strings (spelling (pieces k bs))
     → ShortensElement b (title ++ (strings ++ 0xff ∷ [])) (spelling (open_marks k bs))
 parts_shortened b k title strings bs p within =

@@ -21,15 +21,23 @@ use Rattle.ciborium_ll_grammar.specs.Shortening.{IsNumberTitle, IsBody, bytes, t
 use Rattle.ciborium_ll_grammar.specs.Shortening.{ShortensStrings, no_more, definite_more, open_more, ShortensElement}
 use Rattle.ciborium_ll_grammar.specs.Shortening.{number, simple, float, alone, whole, parts, Shortens}
 use Rattle.ciborium_ll_grammar.specs.Shortening.{done as shortens_done, next as shortens_next}
-use Rattle.ciborium_ll_grammar.proofs.ElementLaws.{AreWritable-append, spelling-append, pieces-append, run_again, one_run}
+use Rattle.ciborium_ll_grammar.proofs.ElementLaws.{AreWritable-append, spelling-append, pieces-append, run_again}
+use Rattle.ciborium_ll_grammar.proofs.ElementLaws.{one_run}
 use Rattle.ciborium_ll_grammar.proofs.SpelledLaws.{meant_append, open_meant}
 use Rattle.ciborium_ll_recode.proofs.NumberTitles.{has_number, fewest_is}
 use Rattle.ciborium_ll_recode.proofs.ShortenedLaws.{string_code, open_byte, parts_spelled, front_shortened}
 
+-- ---- titles
+
+-- a title that is the one with the fewest bytes
+fewest_on : (b : Bool) (m : Major) (n : ℕ) (w : List ℕ) → IsNumberTitle b (major_code m) n w → b ≡ true
+    → w ≡ shortest_numbered m n
+fewest_on b m n w p on = fewest_is m n w (subst (λ (c : Bool). IsNumberTitle c (major_code m) n w) on p)
+
 -- ---- strings
 
 -- a string of a definite length, its body, and what is written of it
-record Single (b : Bool) (k : Kind) (w written : List ℕ) : Type 0 where
+record OneString (b : Bool) (k : Kind) (w written : List ℕ) : Type 0 where
   title : List ℕ
   body : List ℕ
   is : w ≡ title ++ body
@@ -41,7 +49,8 @@ record Single (b : Bool) (k : Kind) (w written : List ℕ) : Type 0 where
 text_body : (body : List ℕ) → IsBody 3 body → IsCharacters body
 text_body body (text sound) = sound
 
-single : (b : Bool) (k : Kind) (w written : List ℕ) → ShortensString b (string_code k) w written → Single b k w written
+single : (b : Bool) (k : Kind) (w written : List ℕ) → ShortensString b (string_code k) w written
+    → OneString b k w written
 single b Bytes w written (titled {title = t} {shortest = s} {body = x} p q y) =
     let n = length x in
     let z = has_number b ByteString n t p in
@@ -52,7 +61,7 @@ single b Bytes w written (titled {title = t} {shortest = s} {body = x} p q y) =
       is_title = subst (λ (v : List ℕ). IsTitle v (h.Bytes (Some n))) (sym z.2) (numbered ByteString z.0 n z.1);
       sound = tt;
       spelled = ap (λ (v : List ℕ). v ++ x) (fewest_is ByteString n s q);
-      same = λ on. ap (λ (v : List ℕ). v ++ x) (fewest_is ByteString n t (subst (λ (c : Bool). IsNumberTitle c 2 n t) on p));
+      same = λ on. ap (λ (v : List ℕ). v ++ x) (fewest_on b ByteString n t p on);
     }
 single b Text w written (titled {title = t} {shortest = s} {body = x} p q y) =
     let n = length x in
@@ -64,11 +73,11 @@ single b Text w written (titled {title = t} {shortest = s} {body = x} p q y) =
       is_title = subst (λ (v : List ℕ). IsTitle v (h.Text (Some n))) (sym z.2) (numbered TextString z.0 n z.1);
       sound = text_body x y;
       spelled = ap (λ (v : List ℕ). v ++ x) (fewest_is TextString n s q);
-      same = λ on. ap (λ (v : List ℕ). v ++ x) (fewest_is TextString n t (subst (λ (c : Bool). IsNumberTitle c 3 n t) on p));
+      same = λ on. ap (λ (v : List ℕ). v ++ x) (fewest_on b TextString n t p on);
     }
 
 -- strings within an open, their bodies, and what is written of them
-record Within (b : Bool) (k : Kind) (w written : List ℕ) : Type 0 where
+record StringsWithin (b : Bool) (k : Kind) (w written : List ℕ) : Type 0 where
   bodies : List (List ℕ)
   are : AreStrings k w bodies
   sound : AreWritable k bodies
@@ -79,7 +88,8 @@ open_is_title : (k : Kind) → IsTitle (open_byte k ∷ []) (kind_header k None)
 open_is_title Bytes = alone_title ByteString (h.Bytes None) refl
 open_is_title Text = alone_title TextString (h.Text None) refl
 
-within : (b : Bool) (k : Kind) (w written : List ℕ) → ShortensStrings b (string_code k) w written → Within b k w written
+within : (b : Bool) (k : Kind) (w written : List ℕ) → ShortensStrings b (string_code k) w written
+    → StringsWithin b k w written
 within b k w written no_more =
     record { bodies = []; are = none; sound = tt; spelled = refl; same = λ on. refl }
 within b k w written (definite_more {first = x} {rest = y} {written = u} {more = v} s others) =
@@ -116,7 +126,7 @@ which_kind major body (text sound) = (Text, refl)
 -- ---- elements
 
 -- an element, its marks, and what is written of it
-record Marked (b : Bool) (w written : List ℕ) : Type 0 where
+record MarkedElement (b : Bool) (w written : List ℕ) : Type 0 where
   marks : List Mark
   element : IsElement w marks
   spelled : written ≡ spelling marks
@@ -125,7 +135,7 @@ record Marked (b : Bool) (w written : List ℕ) : Type 0 where
 
 plain_marked : (b : Bool) (header : Header) (w written : List ℕ) → IsTitle w header → IsPlain header
     → written ≡ shortest_title header → (b ≡ true → w ≡ shortest_title header)
-    → (b ≡ true → IsSmallSimple header → ⊥) → Marked b w written
+    → (b ≡ true → IsSmallSimple header → ⊥) → MarkedElement b w written
 plain_marked b header w written p q is same meant =
     record {
       marks = Plain header ∷ [];
@@ -135,15 +145,10 @@ plain_marked b header w written p q is same meant =
       meant = λ on. (meant on, tt);
     }
 
--- a title that is the one with the fewest bytes
-fewest_on : (b : Bool) (m : Major) (n : ℕ) (w : List ℕ) → IsNumberTitle b (major_code m) n w → b ≡ true
-    → w ≡ shortest_numbered m n
-fewest_on b m n w p on = fewest_is m n w (subst (λ (c : Bool). IsNumberTitle c (major_code m) n w) on p)
-
 number_marked : (b : Bool) (m : Major) (header : Header) (n : ℕ) (w written : List ℕ)
     → ((s : Size) → numbered_header m s n ≡ header) → IsPlain header → shortest_numbered m n ≡ shortest_title header
     → (IsSmallSimple header → ⊥) → IsNumberTitle b (major_code m) n w → IsNumberTitle true (major_code m) n written
-    → Marked b w written
+    → MarkedElement b w written
 number_marked b m header n w written named q shortest meant p least =
     let z = has_number b m n w p in
     let title : IsTitle (numbered_title m z.0 n) header = subst (λ (x : Header). IsTitle (numbered_title m z.0 n) x)
@@ -152,7 +157,7 @@ number_marked b m header n w written named q shortest meant p least =
     (fewest_is m n written least ∙ shortest) (λ on. fewest_on b m n w p on ∙ shortest) (λ on. meant)
 
 by_major : (b : Bool) (major n : ℕ) (w written : List ℕ) → (major < 2) ⊎ ((3 < major) × (major < 7))
-    → IsNumberTitle b major n w → IsNumberTitle true major n written → Marked b w written
+    → IsNumberTitle b major n w → IsNumberTitle true major n written → MarkedElement b w written
 by_major b zero n w written c p q =
     number_marked b Unsigned (h.Positive n) n w written (λ s. refl) tt refl (λ x. x) p q
 by_major b (suc zero) n w written c p q =
@@ -180,7 +185,7 @@ simple_title Four n w l e short = absurd (let k = ap length e in omega (arith, k
 simple_title Eight n w l e short = absurd (let k = ap length e in omega (arith, k, short))
 
 float_marked : (b : Bool) (s : Size) (n : ℕ) (w : List ℕ) → n < size_limit s → w ≡ numbered_title Other s n
-    → 2 < length w → Marked b w w
+    → 2 < length w → MarkedElement b w w
 float_marked b Small n w l e long = absurd (let k = ap length e in omega (arith, k, long))
 float_marked b One n w l e long = absurd (let k = ap length e in omega (arith, k, long))
 float_marked b Two n w l e long =
@@ -189,34 +194,34 @@ float_marked b Two n w l e long =
     (λ on x. x)
 float_marked b Four n w l e long =
     let header = h.Float (f.Single n) in
-    plain_marked b header w w (subst (λ (v : List ℕ). IsTitle v header) (sym e) (numbered Other Four n l)) tt e (λ on. e)
-    (λ on x. x)
+    plain_marked b header w w (subst (λ (v : List ℕ). IsTitle v header) (sym e) (numbered Other Four n l)) tt e
+    (λ on. e) (λ on x. x)
 float_marked b Eight n w l e long =
     let header = h.Float (f.Double n) in
     plain_marked b header w w (subst (λ (v : List ℕ). IsTitle v header) (sym e) (numbered Other Eight n l)) tt e
     (λ on. e) (λ on x. x)
 
 -- a byte that is a title of its own
-byte_marked : (b : Bool) (m : Major) (header : Header) (byte : ℕ) → IsTitle (byte ∷ []) header → IsPlain header
-    → byte ∷ [] ≡ shortest_title header → (IsSmallSimple header → ⊥) → Marked b (byte ∷ []) (byte ∷ [])
-byte_marked b m header byte p q is meant = plain_marked b header (byte ∷ []) (byte ∷ []) p q is (λ on. is) (λ on. meant)
+byte_marked : (b : Bool) (header : Header) (byte : ℕ) → IsTitle (byte ∷ []) header → IsPlain header
+    → byte ∷ [] ≡ shortest_title header → (IsSmallSimple header → ⊥) → MarkedElement b (byte ∷ []) (byte ∷ [])
+byte_marked b header byte p q is meant = plain_marked b header (byte ∷ []) (byte ∷ []) p q is (λ on. is) (λ on. meant)
 
 alone_marked : (b : Bool) (byte : ℕ) → (byte ≡ 0x9f) ⊎ (byte ≡ 0xbf) ⊎ (byte ≡ 0xff)
-    → Marked b (byte ∷ []) (byte ∷ [])
+    → MarkedElement b (byte ∷ []) (byte ∷ [])
 alone_marked b byte which =
     elim which [
-      | inl e ↦ subst (λ (v : ℕ). Marked b (v ∷ []) (v ∷ [])) (sym e)
-          (byte_marked b Array (h.Array None) 0x9f (alone_title Array (h.Array None) refl) tt refl (λ x. x))
+      | inl e ↦ subst (λ (v : ℕ). MarkedElement b (v ∷ []) (v ∷ [])) (sym e)
+          (byte_marked b (h.Array None) 0x9f (alone_title Array (h.Array None) refl) tt refl (λ x. x))
       | inr other ↦ elim other [
-        | inl e ↦ subst (λ (v : ℕ). Marked b (v ∷ []) (v ∷ [])) (sym e)
-            (byte_marked b Map (h.Map None) 0xbf (alone_title Map (h.Map None) refl) tt refl (λ x. x))
-        | inr e ↦ subst (λ (v : ℕ). Marked b (v ∷ []) (v ∷ [])) (sym e)
-            (byte_marked b Other h.Break 0xff (alone_title Other h.Break refl) tt refl (λ x. x))
+        | inl e ↦ subst (λ (v : ℕ). MarkedElement b (v ∷ []) (v ∷ [])) (sym e)
+            (byte_marked b (h.Map None) 0xbf (alone_title Map (h.Map None) refl) tt refl (λ x. x))
+        | inr e ↦ subst (λ (v : ℕ). MarkedElement b (v ∷ []) (v ∷ [])) (sym e)
+            (byte_marked b h.Break 0xff (alone_title Other h.Break refl) tt refl (λ x. x))
       ]
     ]
 
 string_marked : (b : Bool) (k : Kind) (w written : List ℕ) → ShortensString b (string_code k) w written
-    → Marked b w written
+    → MarkedElement b w written
 string_marked b k w written s =
     let one = single b k w written s in
     record {
@@ -229,7 +234,7 @@ string_marked b k w written s =
     }
 
 parts_marked : (b : Bool) (k : Kind) (strings written : List ℕ) → ShortensStrings b (string_code k) strings written
-    → Marked b (open_byte k ∷ (strings ++ 0xff ∷ [])) (open_byte k ∷ (written ++ 0xff ∷ []))
+    → MarkedElement b (open_byte k ∷ (strings ++ 0xff ∷ [])) (open_byte k ∷ (written ++ 0xff ∷ []))
 parts_marked b k strings written s =
     let all = within b k strings written s in
     record {
@@ -240,13 +245,14 @@ parts_marked b k strings written s =
       meant = λ on. open_meant k all.bodies;
     }
 
-whole_marked : (b : Bool) (major : ℕ) (w written : List ℕ) → ShortensString b major w written → Marked b w written
+whole_marked : (b : Bool) (major : ℕ) (w written : List ℕ) → ShortensString b major w written
+    → MarkedElement b w written
 whole_marked b major w written (titled {title = t} {shortest = s} {body = x} p q y) =
     let k = which_kind major x y in
     string_marked b k.0 (t ++ x) (s ++ x)
     (subst (λ (c : ℕ). ShortensString b c (t ++ x) (s ++ x)) k.1 (titled p q y))
 
-element_marked : (b : Bool) (w written : List ℕ) → ShortensElement b w written → Marked b w written
+element_marked : (b : Bool) (w written : List ℕ) → ShortensElement b w written → MarkedElement b w written
 element_marked b w written (number {major = major} {n = n} c p q) = by_major b major n w written c p q
 element_marked b w written (simple {n = n} short meant p q) =
     let z = has_number b Other n w p in
@@ -259,13 +265,13 @@ element_marked b w written (alone {byte = byte} which) = alone_marked b byte whi
 element_marked b w written (whole {major = major} s) = whole_marked b major w written s
 element_marked b w written (parts {major = major} {strings = x} {written = y} kind s) =
     let k = which_kind major [] kind in
-    subst (λ (c : ℕ). Marked b ((32 * c + 31) ∷ (x ++ 0xff ∷ [])) ((32 * c + 31) ∷ (y ++ 0xff ∷ []))) (sym k.1)
+    subst (λ (c : ℕ). MarkedElement b ((32 * c + 31) ∷ (x ++ 0xff ∷ [])) ((32 * c + 31) ∷ (y ++ 0xff ∷ []))) (sym k.1)
     (parts_marked b k.0 x y (subst (λ (c : ℕ). ShortensStrings b c x y) k.1 s))
 
 -- ---- in front of bytes
 
 -- the elements in front, their marks, and what is written of them
-record Fronted (b : Bool) (count : ℕ) (due written rest : List ℕ) : Type 0 where
+record FrontElements (b : Bool) (count : ℕ) (due written rest : List ℕ) : Type 0 where
   elements : List ℕ
   marks : List Mark
   run : IsRun count elements marks
@@ -275,7 +281,7 @@ record Fronted (b : Bool) (count : ℕ) (due written rest : List ℕ) : Type 0 w
   meant : b ≡ true → AllByRecursion IsMeant marks
 
 fronted : (b : Bool) (count : ℕ) (due written rest : List ℕ) → Shortens b count due written rest
-    → Fronted b count due written rest
+    → FrontElements b count due written rest
 fronted b count due written rest shortens_done =
     record {
       elements = [];
@@ -339,12 +345,12 @@ shortened_again strict count due written rest s =
 -- ---- what the laws say besides
 
 -- elements in front, with what `Shortens` says of them
-abbrev pub WritesFront : Bool → ℕ → List ℕ → List ℕ → List ℕ → Type 0
-WritesFront strict count due written rest =
+abbrev pub SpellsFront : Bool → ℕ → List ℕ → List ℕ → List ℕ → Type 0
+SpellsFront strict count due written rest =
     (front : RunInFront strict count due) × (written ≡ spelling front.marks) × (rest ≡ front.rest)
 
 pub shortened_is : (strict : Bool) (count : ℕ) (due written rest : List ℕ)
-    → Shortens strict count due written rest ↔ WritesFront strict count due written rest
+    → Shortens strict count due written rest ↔ SpellsFront strict count due written rest
 shortened_is strict count due written rest = (
   shortened_front strict count due written rest,
   λ found. (

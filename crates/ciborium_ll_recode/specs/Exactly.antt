@@ -8,9 +8,9 @@ use Rattle.ciborium_ll_decoder.specs.declared.dec.Decoder.{Decoder}
 use Rattle.ciborium_ll_decoder.specs.declared.copy.RecodeError.{RecodeError}
 
 module _ {R E W F : Type 0} (source : Reader R E) (sink : Writer W F) where
-  -- only the bytes can stop a copy: no header waits, the reader gives the bytes that it tells, and the offset fits them,
-  -- with 8 and with the buffer's length to spare. The writer has room for what is written of the elements where that
-  -- many are next, else for as many bytes as are due
+  -- only the bytes can stop a copy: no header waits, the reader gives the bytes that it tells, and the offset fits
+  -- them, with 8 and with the buffer's length to spare. The writer has room for what is written of the elements where
+  -- that many are next, else for as many bytes as are due
   pub record OnlyBytesStop (strict : Bool) (count room-in : ℕ) (decoder : Decoder R) (writer : W)
       (due written : List ℕ) : Type 0 where
     pub mode : decoder.strict ≡ strict
