@@ -1,7 +1,6 @@
 -- What a copy by a fresh decoder says of the bytes ahead.
 use Rattle.std.proofs.Common.{◌≡◌, ℕ, ◌+◌, ◌<◌, ◌≤◌, ◌^◌, ◌∙◌, ◌↔◌, IsTrue, IsOk, Bool, true, false, max, List, [], ◌++◌}
-use Rattle.std.proofs.Common.{take, drop}
-use Rattle.std.proofs.lemmas.List.{take-append-drop}
+use Rattle.std.proofs.Common.{drop}
 use Rattle.std.proofs.Common.{length, Option, Result, Ok, Err, Some, ap, sym, subst, refl, arith, length-append}
 use Rattle.ciborium_ll.specs.Types.Read.{Ghosts as Reader}
 use Rattle.ciborium_ll.specs.Types.Write.{Ghosts as Writer}
@@ -25,8 +24,8 @@ use Rattle.ciborium_ll_calls.specs.Answers.{ReportsCopy}
 use Rattle.ciborium_ll_calls.specs.Checking.{Checks}
 use Rattle.ciborium_ll_calls.specs.Copying.{CopiesInto, CopiesAnyhow, HasRoom, StandInFront, StopsForRoom, buffer_size}
 use Rattle.ciborium_ll_calls.specs.Copying.{copy_answer, copy_place}
-use Rattle.ciborium_ll.proofs.CopyingTold.{appends_told, consumes_told, shrinks_told}
-use Rattle.ciborium_ll_recode.proofs.RecodeAnyhowLaws.{recode_anyhow}
+use Rattle.ciborium_ll.proofs.CopyingTold.{shrinks_told}
+use Rattle.ciborium_ll_recode.proofs.RecodeAnyhowLaws.{recode_anyhow, unwritten}
 use Rattle.ciborium_ll_recode.proofs.RecodeReadyLaws.{short_told}
 use Rattle.ciborium_ll_calls.proofs.PullLaws.{due_ahead, still_steady}
 
@@ -144,29 +143,12 @@ module _ {R E W F : Type 0} (source : Reader R E) (sink : Writer W F) where
       → (for_room : StopsForRoom count due room) × (sink.written new.writer ≡ Some for_room.stop.written)
       × (new.decoder.offset ≡ old.decoder.offset + (length for_room.stop.before + length for_room.stop.read))
   room_stops count room due old new told space stops =
-      let gone = consumes_told _ _ due (stops.bytes ++ stops.read) told.due-told stops.passed.consumed in
-      let between = appends_told _ _ [] stops.whole told.written-told stops.written.appended in
+      let all = unwritten source sink count buffer_size old due [] told new stops in
       let left = shrinks_told _ _ room (length stops.whole) space stops.written.room in
-      let less : left.0 < length stops.next = rw left.1 at stops.fails.full in
-      let front = stops.fails.front in
-      let part = take front.0 stops.next in (
-        record {
-          stop = record {
-            before = stops.bytes;
-            read = stops.read;
-            rest = gone.0;
-            is = gone.2;
-            whole = stops.whole;
-            next = stops.next;
-            next_write = stops.next_write;
-            written = stops.whole ++ part;
-            begun = (part, refl, (drop front.0 stops.next, sym (take-append-drop front.0 stops.next)));
-          };
-          fits = omega (arith, left.2);
-          lacks = omega (arith, left.2, less);
-        },
-        appends_told _ _ stops.whole part between front.1.0,
-        omega (arith, stops.passed.offset, length-append stops.bytes stops.read),
+      let less : left.0 < length stops.next = rw left.1 at stops.fails.full in (
+        record { stop = all.stop; fits = omega (arith, left.2); lacks = omega (arith, left.2, less) },
+        all.output,
+        omega (arith, all.offset),
       )
 
   -- no bytes in memory make the offset pass its greatest number

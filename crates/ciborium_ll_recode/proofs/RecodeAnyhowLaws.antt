@@ -151,7 +151,7 @@ module _ {R E W F : Type 0} {strict : Bool} (source : Reader R E) (sink : Writer
           omega (arith, full, passes.filled, passes.stops.1.offset, le-max_right 8 room),
         )
 
-    pub unwritten : (new : Sides R W) → StopsWriting source sink count room old new
+    abbrev pub unwritten : (new : Sides R W) → StopsWriting source sink count room old new
         → StopsUnwritten source sink count room due written old.decoder new
     unwritten new stops =
         let gone = consumes_told _ _ due (stops.bytes ++ stops.read) told.due-told stops.passed.consumed in
