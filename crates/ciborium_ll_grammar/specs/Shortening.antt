@@ -1,7 +1,7 @@
--- What a copy takes and what it writes, on whole lists, with no word of the other definitions: elements, each title of
--- which becomes its shortest one, and the strings within an open that are joined in one. Major types are numbers from 0
--- to 7, as a first byte has them (RFC 7049, 2.1). By the law `shortened_run` these are the runs of elements and their
--- spelling.
+-- What a copy takes and what it writes, on whole lists: elements, each title of which becomes its shortest one, and the
+-- strings within an open that are joined in one. Of the other definitions it has `IsCharacters` alone, which says what
+-- UTF-8 is. Major types are numbers from 0 to 7, as a first byte has them (RFC 7049, 2.1). By the law `shortened_run`
+-- these are the runs of elements and their spelling.
 use Rattle.std.specs.Prelude.{◌≡◌, ℕ, zero, suc, ◌+◌, ◌*◌, ◌<◌, ◌≤◌, ◌^◌, ◌⊎◌, Bool, true, false, List, [], ◌∷◌, ◌++◌}
 use Rattle.std.specs.Prelude.{length}
 use Rattle.std.specs.Int.{to_be_bytes, w8, w16, w32, w64}

@@ -172,13 +172,19 @@ any_element w ms (string k (definite {title = t} {body = b} p) sound) =
 any_element w ms (string k (indefinite {title = t} {strings = x} {bodies = bs} p q) sound) =
     parts_shortened false k t x bs p (any_all k x bs q sound)
 
+-- an element more
+next_shortened : (b : Bool) (m : ℕ) (x y rest : List ℕ) (ns os : List Mark) → ShortensElement b x (spelling ns)
+    → Shortens b m (y ++ rest) (spelling os) rest → Shortens b (suc m) ((x ++ y) ++ rest) (spelling (ns ++ os)) rest
+next_shortened b m x y rest ns os e others =
+    subst (λ (z : List ℕ). Shortens b (suc m) z (spelling (ns ++ os)) rest) (sym (append_assoc x y rest))
+    (subst (λ (z : List ℕ). Shortens b (suc m) (x ++ (y ++ rest)) z rest) (sym (spelling-append ns os))
+    (shortens_next e others))
+
 any_run : (n : ℕ) (w : List ℕ) (ms : List Mark) → IsRun n w ms → (rest : List ℕ)
     → Shortens false n (w ++ rest) (spelling ms) rest
 any_run n w ms done rest = shortens_done
 any_run n w ms (next {count = m} {first = x} {rest = y} {marks = ns} {others = os} e run) rest =
-    subst (λ (z : List ℕ). Shortens false (suc m) z (spelling (ns ++ os)) rest) (sym (append_assoc x y rest))
-    (subst (λ (z : List ℕ). Shortens false (suc m) (x ++ (y ++ rest)) z rest) (sym (spelling-append ns os))
-    (shortens_next (any_element x ns e) (any_run m y os run rest)))
+    next_shortened false m x y rest ns os (any_element x ns e) (any_run m y os run rest)
 
 -- ---- those in their shortest spelling
 
@@ -202,9 +208,7 @@ strict_elements : (n : ℕ) (w : List ℕ) (ms : List Mark) → AreStrictElement
     → Shortens true n (w ++ rest) (spelling ms) rest
 strict_elements n w ms strict_done rest = shortens_done
 strict_elements n w ms (strict_next {count = m} {first = x} {rest = y} {marks = ns} {others = os} e run) rest =
-    subst (λ (z : List ℕ). Shortens true (suc m) z (spelling (ns ++ os)) rest) (sym (append_assoc x y rest))
-    (subst (λ (z : List ℕ). Shortens true (suc m) (x ++ (y ++ rest)) z rest) (sym (spelling-append ns os))
-    (shortens_next (strict_element x ns e) (strict_elements m y os run rest)))
+    next_shortened true m x y rest ns os (strict_element x ns e) (strict_elements m y os run rest)
 
 -- ---- in front of bytes
 

@@ -46,35 +46,34 @@ record OneString (b : Bool) (k : Kind) (w written : List ℕ) : Type 0 where
   spelled : written ≡ body_spelling k body
   same : b ≡ true → w ≡ body_spelling k body
 
+-- by the major type of its kind
+one_string : (b : Bool) (k : Kind) (m : Major) (t s x : List ℕ)
+    → ((z : Size) → numbered_header m z (length x) ≡ kind_header k (Some (length x)))
+    → shortest_numbered m (length x) ++ x ≡ body_spelling k x → IsNumberTitle b (major_code m) (length x) t
+    → IsNumberTitle true (major_code m) (length x) s → IsWritable k x → OneString b k (t ++ x) (s ++ x)
+one_string b k m t s x named shortest p q sound =
+    let n = length x in
+    let z = has_number b m n t p in
+    let title = subst (λ (v : Header). IsTitle (numbered_title m z.0 n) v) (named z.0) (numbered m z.0 n z.1) in
+    record {
+      title = t;
+      body = x;
+      is = refl;
+      is_title = subst (λ (v : List ℕ). IsTitle v (kind_header k (Some n))) (sym z.2) title;
+      sound = sound;
+      spelled = ap (λ (v : List ℕ). v ++ x) (fewest_is m n s q) ∙ shortest;
+      same = λ on. ap (λ (v : List ℕ). v ++ x) (fewest_on b m n t p on) ∙ shortest;
+    }
+
 text_body : (body : List ℕ) → IsBody 3 body → IsCharacters body
 text_body body (text sound) = sound
 
 single : (b : Bool) (k : Kind) (w written : List ℕ) → ShortensString b (string_code k) w written
     → OneString b k w written
 single b Bytes w written (titled {title = t} {shortest = s} {body = x} p q y) =
-    let n = length x in
-    let z = has_number b ByteString n t p in
-    record {
-      title = t;
-      body = x;
-      is = refl;
-      is_title = subst (λ (v : List ℕ). IsTitle v (h.Bytes (Some n))) (sym z.2) (numbered ByteString z.0 n z.1);
-      sound = tt;
-      spelled = ap (λ (v : List ℕ). v ++ x) (fewest_is ByteString n s q);
-      same = λ on. ap (λ (v : List ℕ). v ++ x) (fewest_on b ByteString n t p on);
-    }
+    one_string b Bytes ByteString t s x (λ z. refl) refl p q tt
 single b Text w written (titled {title = t} {shortest = s} {body = x} p q y) =
-    let n = length x in
-    let z = has_number b TextString n t p in
-    record {
-      title = t;
-      body = x;
-      is = refl;
-      is_title = subst (λ (v : List ℕ). IsTitle v (h.Text (Some n))) (sym z.2) (numbered TextString z.0 n z.1);
-      sound = text_body x y;
-      spelled = ap (λ (v : List ℕ). v ++ x) (fewest_is TextString n s q);
-      same = λ on. ap (λ (v : List ℕ). v ++ x) (fewest_on b TextString n t p on);
-    }
+    one_string b Text TextString t s x (λ z. refl) refl p q (text_body x y)
 
 -- strings within an open, their bodies, and what is written of them
 record StringsWithin (b : Bool) (k : Kind) (w written : List ℕ) : Type 0 where
