@@ -259,28 +259,36 @@ fn a_flush_passes_on_what_was_kept_back(rt: HostRuntime) {
     assert!(rt; steps == [true; 4], "{steps:?}");
 }
 
-// What a failed write could not pass on is kept back still.
+// What a failed write could not pass on is kept back still, and its fault is told once.
+fn keeps_what_failed(writer: &mut BufferedWriter<PartWriter>, kind: io::ErrorKind) -> bool {
+    let is_kept = !takes(writer, &[5]) && keeps(writer, &[2, 3, 4]);
+    let is_told = write_fault(writer) == Failure::Failed(kind);
+    is_kept && is_told && write_fault(writer) == Failure::Never
+}
+
+// A sink that takes one byte a call, three in all, and fails at its second call.
+fn failing_sink(alloc: Global, kind: io::ErrorKind) -> PartWriter {
+    let sink = PartWriter::new(alloc, 1).within(3);
+    sink.failing_at(2, Some(kind))
+}
+
+// Writes more than is kept back, twice, to that sink. It tells of each step whether it went as is due.
+fn fails_twice(alloc: Global) -> [bool; 4] {
+    let mut lent = [0; 4];
+    let kind = io::ErrorKind::Interrupted;
+    let mut writer = writer_to(failing_sink(alloc, kind), &mut lent);
+    let is_taken = takes(&mut writer, &[1, 2, 3, 4]);
+    let is_kept = keeps_what_failed(&mut writer, kind);
+    let has_failed = !passes_on(&mut writer);
+    let parts = take_apart(writer);
+    let is_right = parts.failure == Failure::Stopped && has_parts(&parts, &[1, 2, 3], &[4], 0);
+    [is_taken, is_kept, has_failed, is_right]
+}
+
 #[test]
 fn nothing_that_was_kept_back_is_lost(rt: HostRuntime) {
-    let mut lent = [0; 4];
-    let interrupted = io::ErrorKind::Interrupted;
-    let sink = PartWriter::new(rt.alloc(), 1).within(3);
-    let mut writer = writer_to(sink.failing_at(2, Some(interrupted)), &mut lent);
-    let is_taken = takes(&mut writer, &[1, 2, 3, 4]);
-    holds(&rt, is_taken, "four bytes are kept back");
-    let is_taken = takes(&mut writer, &[5]);
-    let is_kept = keeps(&writer, &[2, 3, 4]);
-    holds(&rt, !is_taken && is_kept, "three stay where a write fails");
-    let is_told = write_fault(&mut writer) == Failure::Failed(interrupted);
-    holds(&rt, is_told, "the fault is kept");
-    let failure = write_fault(&mut writer);
-    holds(&rt, failure == Failure::Never, "it is taken");
-    holds(&rt, !passes_on(&mut writer), "the flush fails");
-    let parts = take_apart(writer);
-    let is_told = parts.failure == Failure::Stopped;
-    holds(&rt, is_told, "no byte was taken");
-    let is_kept = has_parts(&parts, &[1, 2, 3], &[4], 0);
-    holds(&rt, is_kept, "the last byte stays");
+    let steps = fails_twice(rt.alloc());
+    assert!(rt; steps == [true; 4], "{steps:?}");
 }
 
 #[test]

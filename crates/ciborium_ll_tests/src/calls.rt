@@ -146,6 +146,22 @@ fn failures(_rt: HostRuntime) {
     failures.raise();
 }
 
+// A decoder of bytes that begin at an offset.
+pub fn decoder_at(bytes: &[u8], start: usize) -> Decoder<SliceReader<'_>> {
+    Decoder::with_offset(SliceReader::new(bytes), start)
+}
+
+// An encoder into so much of a space.
+pub fn encoder_into(space: &mut [u8], room: usize) -> Encoder<SliceWriter<'_>> {
+    let room = room.min(space.len());
+    Encoder::from(SliceWriter::new(&mut space[..room]))
+}
+
+// Whether a decoder has come to this offset, and these bytes are left behind it.
+pub fn has_read(mut decoder: Decoder<SliceReader>, offset: usize, left: Option<&[u8]>) -> bool {
+    decoder.offset() == offset && left.is_some_and(|left| has_left(decoder, left))
+}
+
 // Whether these bytes are left behind a decoder.
 pub fn has_left(decoder: Decoder<SliceReader>, left: &[u8]) -> bool {
     decoder.into_inner().left() == left
@@ -310,26 +326,35 @@ fn reader_of<R: Read>(decoder: Decoder<R>) -> R {
     decoder.into_inner()
 }
 
+// A decoder over this one gives the number 1, and behind that the bytes have ended. It gives this one back.
+fn gives_the_last(inner: Decoder<SliceReader<'_>>) -> (bool, Decoder<SliceReader<'_>>) {
+    let mut outer = decoder_over(inner);
+    let is_given = gives_number(&mut outer, 1) && outer.offset() == 1;
+    let has_ended = within_stop(&mut outer) == Some(Stop::Short);
+    (is_given && has_ended, reader_of(outer))
+}
+
+// The header of a number comes first, and the offset behind it.
+fn gives_first(decoder: &mut Decoder<SliceReader>, number: u64, offset: usize) -> bool {
+    next_header(decoder) == Ok(Header::Positive(number)) && decoder.offset() == offset
+}
+
+// A decoder takes a header back, and a decoder over it has no bytes then.
+fn waits_within(mut inner: Decoder<SliceReader>) -> bool {
+    let is_back = takes_back(&mut inner, Header::Positive(1)) && inner.offset() == 2;
+    is_back && within_stop(&mut decoder_over(inner)) == Some(Stop::Waiting)
+}
+
 #[test]
 fn a_decoder_over_a_decoder(rt: HostRuntime) {
     let mut inner = decoder_over(SliceReader::new(&[0x18, 24, 1]));
-    let is_first = next_header(&mut inner) == Ok(Header::Positive(24));
-    let is_right = is_first && inner.offset() == 2;
-    holds(&rt, is_right, "the one within gives a header");
-    let mut outer = decoder_over(inner);
-    let is_given = gives_number(&mut outer, 1);
-    let is_right = is_given && outer.offset() == 1;
-    holds(&rt, is_right, "the other one gives the next");
-    let is_right = within_stop(&mut outer) == Some(Stop::Short);
-    holds(&rt, is_right, "the bytes have ended");
-    let mut inner = reader_of(outer);
+    let is_first = gives_first(&mut inner, 24, 2);
+    holds(&rt, is_first, "the one within gives a header");
+    let (is_last, mut inner) = gives_the_last(inner);
+    holds(&rt, is_last, "the other one gives the next, the last");
     holds(&rt, inner.offset() == 3, "the one within has read all");
-    let is_back = takes_back(&mut inner, Header::Positive(1));
-    let is_right = is_back && inner.offset() == 2;
-    holds(&rt, is_right, "it takes a header back");
-    let stop = within_stop(&mut decoder_over(inner));
-    let is_right = stop == Some(Stop::Waiting);
-    holds(&rt, is_right, "no bytes while that waits");
+    let is_waiting = waits_within(inner);
+    holds(&rt, is_waiting, "no bytes while a header waits");
 }
 
 // Writes a string of three bytes in its parts.

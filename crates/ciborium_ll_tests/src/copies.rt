@@ -1,4 +1,4 @@
-use crate::calls::has_left;
+use crate::calls::{decoder_at, encoder_into, has_left, has_read};
 use crate::checks::{Stop, holds, holds_at, stop_of};
 use ciborium_ll::io::{Read, SliceReader, SliceWriter};
 use ciborium_ll::{Decoder, Encoder, Float, Header, laws, simple, tag};
@@ -38,13 +38,12 @@ fn copy_row(
     offset: usize,
 ) {
     let mut space = [0; 8];
-    let mut decoder = Decoder::from(SliceReader::new(bytes));
-    let mut encoder = Encoder::from(SliceWriter::new(&mut space[..room.min(8)]));
+    let mut decoder = decoder_at(bytes, 0);
+    let mut encoder = encoder_into(&mut space, room);
     let is_stopped = copies_headers(&mut decoder, &mut encoder, count) == stop;
-    let is_read = decoder.offset() == offset;
-    let is_left = Some(decoder.into_inner().left()) == bytes.get(offset..);
+    let is_read = has_read(decoder, offset, bytes.get(offset..));
     let is_written = encoder.into_inner().written() == written;
-    holds_at(rt, is_written && is_stopped && is_read && is_left, bytes);
+    holds_at(rt, is_written && is_stopped && is_read, bytes);
 }
 
 #[test]

@@ -1,3 +1,4 @@
+use crate::calls::{decoder_at, encoder_into, has_read};
 use crate::checks::{Stop, stop_of};
 use ciborium_ll::io::{SliceReader, SliceWriter};
 use ciborium_ll::recode::recode;
@@ -26,17 +27,13 @@ fn copies(rt: &impl Abort, bytes: &[u8], row: Row) {
     let (start, count, size, room, written, offset, stop) = row;
     let mut buffer = [0; 64];
     let mut space = [0; 16];
-    let mut decoder = Decoder::with_offset(SliceReader::new(bytes), start);
-    let mut encoder = Encoder::from(SliceWriter::new(&mut space[..room.min(16)]));
+    let mut decoder = decoder_at(bytes, start);
+    let mut encoder = encoder_into(&mut space, room);
     let buffer = &mut buffer[..size.min(64)];
     let is_stopped = recodes(rt, &mut decoder, &mut encoder, count, buffer) == stop;
-    let is_read = decoder.offset() == offset;
-    let is_left = Some(decoder.into_inner().left()) == bytes.get(offset.saturating_sub(start)..);
+    let is_read = has_read(decoder, offset, bytes.get(offset.saturating_sub(start)..));
     let is_written = encoder.into_inner().written() == written;
-    assert!(rt;
-        is_stopped && is_read && is_left && is_written,
-        "to {offset}"
-    );
+    assert!(rt; is_stopped && is_read && is_written, "to {offset}");
 }
 
 const ALL: &[u8] = &[0x18, 5, 0x58, 1, 1, 0x5f, 0x5f, 0x42, 2, 3, 0xff, 0xff, 0];
