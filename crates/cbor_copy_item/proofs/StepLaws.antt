@@ -11,7 +11,7 @@ use Rattle.cbor_copy.specs.Telling.{NoneGoOn}
 use Rattle.cbor_feed.specs.Spots.{Spot}
 use Rattle.cbor_feed.specs.Steps.{IsFed}
 use Rattle.cbor_feed.specs.Telling.{is_due, IsAtFault}
-use Rattle.cbor_copy_item.specs.Copying.{most, AreFed, rest_of}
+use Rattle.cbor_copy_item.specs.Copying.{most, AreFed, pending_of}
 use Rattle.cbor_copy_item.proofs.TakenLaws.{fed_bytes, front_bytes, back_bytes, due_all, less_last, fault_fed, sound_fed}
 use Rattle.cbor_copy_item.proofs.TellLaws.{sound_goes, before_goes}
 
@@ -49,8 +49,8 @@ module _ (s : Bool) (d : ℕ) (fed bytes : List ℕ) (taken kept : ℕ) (old new
 
   pub step_fed : AreKept new taken kept → (given out : List ℕ) (copier copier' : Copier)
       → (IsCopied most fed given copier → IsCopied most (fed ++ take kept bytes) (given ++ out) copier')
-      → AreFed s d fed old (putting [] (copy.spot_of copier)) (given ++ rest_of copier)
-      → AreFed s d (fed ++ take taken bytes) new (putting [] (copy.spot_of copier')) ((given ++ out) ++ rest_of copier')
+      → AreFed s d fed old (putting [] (copy.spot_of copier)) (given ++ pending_of copier)
+      → AreFed s d (fed ++ take taken bytes) new (putting [] (copy.spot_of copier')) ((given ++ out) ++ pending_of copier')
   step_fed are given out copier copier' goes was =
       let all = due_all old.phase fed was.bytes due was.taken in
       let copied = goes (subst (λ (z : List ℕ). IsCopied most z given copier) (sym all) was.copied) in

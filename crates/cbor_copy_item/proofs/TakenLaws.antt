@@ -28,7 +28,7 @@ use Rattle.cbor_feed.specs.Spots.{Spot}
 use Rattle.cbor_feed.specs.Steps.{IsFed, fresh, more, start}
 use Rattle.cbor_feed.specs.Telling.{is_due, progress_in, IsAnswer, IsMore, Tells, FaultIn, IsAtFault}
 use Rattle.cbor_feed.proofs.OneSpot.{one_spot}
-use Rattle.cbor_copy_item.specs.Copying.{most, AreTaken, AreFed, rest_of}
+use Rattle.cbor_copy_item.specs.Copying.{most, AreTaken, AreFed, pending_of}
 use Rattle.cbor_copy_item.proofs.RunLaws.{run_long}
 
 -- ---- what is fed is bytes
@@ -103,21 +103,21 @@ room_pending [] cp.Ended none e = cc
 room_pending [] (cp.Faulted place) none e = cc
 
 -- where it takes none of them, none is pending
-no_room : (fed given out : List ℕ) (old new : Copier) → IsCopied most fed given old → rest_of old ≡ []
-    → IsCopied most fed (given ++ out) new → cr.Room ≡ told.progress_of (rest_of new) (copy.spot_of new).phase → ⊥
+no_room : (fed given out : List ℕ) (old new : Copier) → IsCopied most fed given old → pending_of old ≡ []
+    → IsCopied most fed (given ++ out) new → cr.Room ≡ told.progress_of (pending_of new) (copy.spot_of new).phase → ⊥
 no_room fed given out old new was none is answer =
-    let same = (one_copy.one_spot most fed (given ++ rest_of old) ((given ++ out) ++ rest_of new)
+    let same = (one_copy.one_spot most fed (given ++ pending_of old) ((given ++ out) ++ pending_of new)
     (putting [] (copy.spot_of old)) (putting [] (copy.spot_of new)) was is).1 in
     let long = ap length same in
     let clear = ap length none in
-    room_pending (rest_of new) (copy.spot_of new).phase
-    (length_zero (rest_of new)
+    room_pending (pending_of new) (copy.spot_of new).phase
+    (length_zero (pending_of new)
     (omega (
       arith,
       long,
       clear,
-      length-append given (rest_of old),
-      length-append (given ++ out) (rest_of new),
+      length-append given (pending_of old),
+      length-append (given ++ out) (pending_of new),
       length-append given out,
     ))) answer
 
@@ -151,10 +151,10 @@ behind_all fed bytes rest taken =
 module _ (fed given bytes out : List ℕ) (taken room : ℕ) (progress : Copied) (old new : Copier)
     (within : taken ≤ length bytes) (are : AreBytes bytes) (goes : NoneGoOn most (fed ++ bytes) → ⊥)
     (counted : length fed + length bytes ≤ most) (fits : (length bytes ≤ 1) ⊎ (length bytes + 8 ≤ room))
-    (was : IsCopied most fed given old) (none : rest_of old ≡ [])
+    (was : IsCopied most fed given old) (none : pending_of old ≡ [])
     (is : IsCopied most (fed ++ take taken bytes) (given ++ out) new)
     (says : told.Tells most (fed ++ take taken bytes) (given ++ out) progress)
-    (answer : told.IsAnswer progress (rest_of new) (copy.spot_of new).phase)
+    (answer : told.IsAnswer progress (pending_of new) (copy.spot_of new).phase)
     (all : told.IsMore progress → taken ≡ length bytes)
     (has_room : length bytes + 8 ≤ room → told.IsRoom progress → ⊥) where
   some_go : NoneGoOn most (fed ++ take taken bytes) → ⊥
@@ -172,7 +172,7 @@ module _ (fed given bytes out : List ℕ) (taken room : ℕ) (progress : Copied)
             let zero : taken ≡ 0 = omega (arith, short, one) in
             let same : fed ++ take taken bytes ≡ fed = ap (λ (n : ℕ). fed ++ take n bytes) zero ∙ append-nil fed in
             no_room fed given out old new was none (subst (λ (z : List ℕ). IsCopied most z (given ++ out) new) same is)
-            (is_room progress (rest_of new) (copy.spot_of new).phase on answer)
+            (is_room progress (pending_of new) (copy.spot_of new).phase on answer)
             )
         | inr wide ↦ has_room wide on
       ]
@@ -224,10 +224,10 @@ less_last fed bytes taken kept one within =
 module _ (s : Bool) (d : ℕ) (fed bytes : List ℕ) (taken kept : ℕ) (old new : Spot) (due : is_due old.phase ≡ true)
     (checked : IsFed s d (fed ++ take taken bytes) new) (given out : List ℕ) (copier copier' : Copier)
     (copied : IsCopied most (fed ++ take kept bytes) (given ++ out) copier')
-    (was : AreFed s d fed old (putting [] (copy.spot_of copier)) (given ++ rest_of copier)) where
+    (was : AreFed s d fed old (putting [] (copy.spot_of copier)) (given ++ pending_of copier)) where
   -- the byte at fault isn't copied
   pub fault_fed : IsAtFault new → kept + 1 ≡ taken → taken ≤ length bytes
-      → AreFed s d (fed ++ take taken bytes) new (putting [] (copy.spot_of copier')) ((given ++ out) ++ rest_of copier')
+      → AreFed s d (fed ++ take taken bytes) new (putting [] (copy.spot_of copier')) ((given ++ out) ++ pending_of copier')
   fault_fed has one within = record {
     checked = checked;
     bytes = fed ++ take kept bytes;
@@ -238,7 +238,7 @@ module _ (s : Bool) (d : ℕ) (fed bytes : List ℕ) (taken kept : ℕ) (old new
 
   -- each other one is
   pub sound_fed : (IsAtFault new → ⊥) → kept ≡ taken
-      → AreFed s d (fed ++ take taken bytes) new (putting [] (copy.spot_of copier')) ((given ++ out) ++ rest_of copier')
+      → AreFed s d (fed ++ take taken bytes) new (putting [] (copy.spot_of copier')) ((given ++ out) ++ pending_of copier')
   sound_fed sound all = record {
     checked = checked;
     bytes = fed ++ take kept bytes;

@@ -30,12 +30,12 @@ pub record AreFed (strict : Bool) (depth : ℕ) (fed : List ℕ) (item : Spot) (
   pub copied : AreElementsFed most bytes elements output
 
 -- what is to be written of what was put out
-abbrev pub rest_of : Copier → List ℕ
-rest_of copier = (copy.spot_of copier).put
+abbrev pub pending_of : Copier → List ℕ
+pending_of copier = (copy.spot_of copier).put
 
 -- the same of a copier of an item
 abbrev pub pending : ItemCopier → List ℕ
-pending c = rest_of c.copier
+pending c = pending_of c.copier
 
 -- what the checker has come to
 abbrev pub item_spot : ItemCopier → Spot

@@ -9,7 +9,7 @@ ghost use Rattle.cbor_feed.specs.Checking.{spot_of};
 ghost use Rattle.cbor_feed.specs.Spots.{Spot};
 ghost use Rattle.cbor_feed.specs.Steps.{IsFed};
 ghost use Rattle.cbor_feed.specs.Telling.{IsAtFault, is_due};
-ghost use Rattle.cbor_copy_item.specs.Copying.{most, rest_of};
+ghost use Rattle.cbor_copy_item.specs.Copying.{most, pending_of};
 
 use crate::progress::{Copied, End, Progress};
 use crate::snapshot::Snapshot;
@@ -18,8 +18,8 @@ use cbor_feed::{Checker, End as CheckedEnd, Progress as Checked};
 
 /// Whether bytes of the spelling are to be written.
 fn lacks_room(copier: &Copier) -> bool
-    ensures yes { result ≡ true → rest_of copier.now ≢ [] }
-    ensures no { result ≡ false → rest_of copier.now ≡ [] }
+    ensures yes { result ≡ true → pending_of copier.now ≢ [] }
+    ensures no { result ≡ false → pending_of copier.now ≡ [] }
 {
     matches!(copier.end(), cbor_copy::End::Room)
 }
@@ -68,11 +68,11 @@ fn step_len(left: usize, room: usize) -> usize
 /// Copies bytes with which some elements begin, and says how many bytes were written. Of what was put out before all is
 /// given.
 fn copy(copier: &mut Copier, bytes: &[u8], out: &mut [u8]) -> usize
-    requires given { rest_of copier.old ≡ [] }
+    requires given { pending_of copier.old ≡ [] }
     requires fits { (length bytes.now ≤ 1) ⊎ (length bytes.now + 8 ≤ length out.old) }
     ensures written { result ≤ length out.old }
     ensures kept { drop result out.new ≡ drop result out.old }
-    ensures full { (rest_of copier.new ≡ []) ⊎ (result ≡ length out.old) }
+    ensures full { (pending_of copier.new ≡ []) ⊎ (result ≡ length out.old) }
     ensures copied { (fed given : List ℕ) → (NoneGoOn most (fed ++ bytes.now) → ⊥) → AreBytes bytes.now
         → length fed + length bytes.now ≤ most → IsCopied most fed given copier.old
         → IsCopied most (fed ++ bytes.now) (given ++ take result out.new) copier.new }

@@ -24,7 +24,7 @@ use Rattle.cbor_diag.specs.declared.DiagError.{DiagError}
 use Rattle.cbor_diag.specs.declared.DiagError.TheVariants as d
 use Rattle.cbor_diag.specs.declared.layout.Layout.{Layout}
 use Rattle.cbor_diag.specs.Floats.{IsFloatText}
-use Rattle.cbor_diag.specs.Notation.{header_text}
+use Rattle.cbor_diag.specs.Notation.{header_notation}
 use Rattle.cbor_diag.specs.Showing.{ShowsHeader, said_of}
 use Rattle.cbor_diag.specs.StringShows.{ShowsString}
 use Rattle.cbor_diag.specs.Writing.{ShowsOne}
@@ -116,7 +116,7 @@ said_failed sink old new (Err fault) said error text same is wrote = (fault, cc,
 module _ {R E W F : Type 0} (source : Reader R E) (sink : Writer W F) (layout : Layout) (level : ℕ) where
   -- a header whose text was written
   pub scalar_shown : (header : Header) (text : List ℕ) (decoder : Decoder R) (old new : W)
-      (answer : Result (Unit {0}) F) (result : Result (Unit {0}) (DiagError E F)) → header_text header ≡ Some text
+      (answer : Result (Unit {0}) F) (result : Result (Unit {0}) (DiagError E F)) → header_notation header ≡ Some text
       → result ≡ said_of answer → WritesBytes sink old answer text new
       → OnOk result (RestShown source sink layout level header (sides decoder old) (sides decoder new))
   scalar_shown header text decoder old new (Ok done) result is same wrote = rw same (record {

@@ -36,33 +36,33 @@ use Rattle.cbor_diag.specs.declared.strings.quotes.Quotes.{Quotes}
 use Rattle.cbor_diag.specs.Showing.{ShowsText}
 use Rattle.cbor_diag.specs.StringShows.{BodyAnnounced, IsTitled, StringRead, ShowsBody, ShowsString}
 use Rattle.cbor_diag.specs.StringShows.{MeetsNoBody, StringStops, bodies_text, end_text, is_indefinite, is_none}
-use Rattle.cbor_diag.specs.StringShows.{lead_text, more_text, quoted_text, string_text}
+use Rattle.cbor_diag.specs.StringShows.{lead_text, more_bodies, quoted_body, string_text}
 use Rattle.cbor_diag.specs.StringShows.StringStops.{at_title, in_body}
 use Rattle.cbor_diag.specs.StringShows.StringUnshown.{at_body, at_end, at_lead}
 use Rattle.cbor_diag.proofs.QuoteLaws.{writes_nothing}
 
 -- ---- one body more
 
-more_text-push : (opens : Bool) (quotes : Quotes) (bodies : List (List ℕ)) (body : List ℕ)
-    → more_text opens quotes (bodies ++ body ∷ [])
-    ≡ more_text opens quotes bodies ++ (lead_text opens false ++ quoted_text quotes body)
-more_text-push opens quotes [] body = append-nil (lead_text opens false ++ quoted_text quotes body)
-more_text-push opens quotes (b ∷ bs) body =
-    let first = lead_text opens false ++ quoted_text quotes b in
-    ap (λ (z : List ℕ). first ++ z) (more_text-push opens quotes bs body)
-    ∙ sym (append_assoc first (more_text opens quotes bs) (lead_text opens false ++ quoted_text quotes body))
+more_bodies-push : (opens : Bool) (quotes : Quotes) (bodies : List (List ℕ)) (body : List ℕ)
+    → more_bodies opens quotes (bodies ++ body ∷ [])
+    ≡ more_bodies opens quotes bodies ++ (lead_text opens false ++ quoted_body quotes body)
+more_bodies-push opens quotes [] body = append-nil (lead_text opens false ++ quoted_body quotes body)
+more_bodies-push opens quotes (b ∷ bs) body =
+    let first = lead_text opens false ++ quoted_body quotes b in
+    ap (λ (z : List ℕ). first ++ z) (more_bodies-push opens quotes bs body)
+    ∙ sym (append_assoc first (more_bodies opens quotes bs) (lead_text opens false ++ quoted_body quotes body))
 
 bodies_text-push : (opens : Bool) (quotes : Quotes) (bodies : List (List ℕ)) (body : List ℕ)
     → bodies_text opens quotes (bodies ++ body ∷ [])
-    ≡ (bodies_text opens quotes bodies ++ lead_text opens (is_none bodies)) ++ quoted_text quotes body
-bodies_text-push opens quotes [] body = append-nil (lead_text opens true ++ quoted_text quotes body)
+    ≡ (bodies_text opens quotes bodies ++ lead_text opens (is_none bodies)) ++ quoted_body quotes body
+bodies_text-push opens quotes [] body = append-nil (lead_text opens true ++ quoted_body quotes body)
 bodies_text-push opens quotes (b ∷ bs) body =
-    let first = lead_text opens true ++ quoted_text quotes b in
-    let more = more_text opens quotes bs in
+    let first = lead_text opens true ++ quoted_body quotes b in
+    let more = more_bodies opens quotes bs in
     let lead = lead_text opens false in
-    ap (λ (z : List ℕ). first ++ z) (more_text-push opens quotes bs body)
-    ∙ sym (append_assoc first more (lead ++ quoted_text quotes body))
-    ∙ sym (append_assoc (first ++ more) lead (quoted_text quotes body))
+    ap (λ (z : List ℕ). first ++ z) (more_bodies-push opens quotes bs body)
+    ∙ sym (append_assoc first more (lead ++ quoted_body quotes body))
+    ∙ sym (append_assoc (first ++ more) lead (quoted_body quotes body))
 
 push_some : (bodies : List (List ℕ)) (body : List ℕ) → is_none (bodies ++ body ∷ []) ≡ false
 push_some [] body = refl
@@ -382,7 +382,7 @@ module _ {R E W F : Type 0} (source : Reader R E) (sink : Writer W F) (k : Kind)
                   (sym (bodies_text-push opens quotes so_far.bodies read))
                   (WritesBytes-then sink {T = Unit {0}} w lead last (Ok (tt {0}))
                   (bodies_text opens quotes so_far.bodies ++ lead_text opens (is_none so_far.bodies))
-                  (quoted_text quotes read) written_lead shown.written);
+                  (quoted_body quotes read) written_lead shown.written);
               steady = λ s. steady' (steady_new s);
             }
 

@@ -16,7 +16,7 @@ use Rattle.cbor_diag.specs.declared.layout.Layout.TheVariants as l
 use Rattle.cbor_diag.specs.declared.strings.quotes.Quotes.{Quotes}
 use Rattle.cbor_diag.specs.declared.strings.quotes.Quotes.TheVariants as q
 use Rattle.cbor_diag.specs.Floats.{IsFloatText}
-use Rattle.cbor_diag.specs.Notation.{header_text}
+use Rattle.cbor_diag.specs.Notation.{header_notation}
 use Rattle.cbor_diag.specs.StringShows.{string_text, is_indefinite}
 
 -- ---- what stands around the items of a tag, an array or a map
@@ -127,7 +127,7 @@ mutual
   -- `IsShown layout level header rest text`: the text shows an item of this level, of which the rest stands behind a
   -- title of the header (RFC 8949, 8)
   pub data IsShown (layout : Layout) : ℕ → Header → List ℕ → List ℕ → Type 0 where
-    scalar : {level : ℕ} {header : Header} {text : List ℕ} → header_text header ≡ Some text
+    scalar : {level : ℕ} {header : Header} {text : List ℕ} → header_notation header ≡ Some text
         → IsShown layout level header [] text
     float : {level : ℕ} {value : Float} {text : List ℕ} → IsFloatText value text
         → IsShown layout level (h.Float value) [] text

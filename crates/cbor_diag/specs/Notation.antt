@@ -8,8 +8,8 @@ use Rattle.cbor_diag.specs.declared.strings.quotes.Quotes.{Quotes}
 use Rattle.cbor_diag.specs.declared.strings.quotes.Quotes.TheVariants as q
 
 -- a simple value: the four that have names by these, and others as `simple(N)` (RFC 8949, 8)
-abbrev pub simple_text : ℕ → List ℕ
-simple_text number =
+abbrev pub simple_notation : ℕ → List ℕ
+simple_notation number =
     if number == 20 then codes "false"
     else (if number == 21 then codes "true"
     else (if number == 22 then codes "null"
@@ -18,11 +18,11 @@ simple_text number =
 
 -- the text of a header that is an integer or a simple value, which is the whole item: an integer by its digits in base
 -- 10, where a negative one is -1 - n (RFC 7049, 2.1)
-abbrev pub header_text : Header → Option (List ℕ)
-header_text (h.Positive number) = Some (decimal number)
-header_text (h.Negative number) = Some (signed_decimal (negsuc number))
-header_text (h.Simple number) = Some (simple_text number)
-header_text header = None
+abbrev pub header_notation : Header → Option (List ℕ)
+header_notation (h.Positive number) = Some (decimal number)
+header_notation (h.Negative number) = Some (signed_decimal (negsuc number))
+header_notation (h.Simple number) = Some (simple_notation number)
+header_notation header = None
 
 -- the hexadecimal digit of a number below 16, in lower case
 abbrev pub hex_digit : ℕ → ℕ

@@ -17,7 +17,7 @@ use Rattle.cbor_diag.specs.declared.DiagError.{DiagError}
 use Rattle.cbor_diag.specs.declared.DiagError.TheVariants as d
 use Rattle.cbor_diag.specs.Floats.{IsFloatText}
 use Rattle.cbor_diag.specs.declared.strings.quotes.Quotes.TheVariants as q
-use Rattle.cbor_diag.specs.Notation.{header_text}
+use Rattle.cbor_diag.specs.Notation.{header_notation}
 use Rattle.cbor_diag.specs.StringShows.{ShowsString}
 
 module _ {E F : Type 0} where
@@ -73,4 +73,4 @@ module _ {R E W F : Type 0} (source : Ghosts R E) (sink : Sink W F) where
       (text : List ℕ) × IsFloatText float text × ShowsText sink (Some text) old.writer result new.writer
   ShowsHeader (h.Bytes len) old result new = ShowsString source sink Bytes q.Hex len 64 old result new
   ShowsHeader (h.Text len) old result new = ShowsString source sink Text q.Text len 64 old result new
-  ShowsHeader header old result new = ShowsText sink (header_text header) old.writer result new.writer
+  ShowsHeader header old result new = ShowsText sink (header_notation header) old.writer result new.writer

@@ -35,8 +35,8 @@ closing q.Hex = codes "'"
 closing q.Text = 34 ∷ []
 
 -- a body in quotes
-abbrev pub quoted_text : Quotes → List ℕ → List ℕ
-quoted_text quotes body = (opening quotes ++ body_text quotes body) ++ closing quotes
+abbrev pub quoted_body : Quotes → List ℕ → List ℕ
+quoted_body quotes body = (opening quotes ++ body_text quotes body) ++ closing quotes
 
 -- one whose end is missing
 abbrev pub begun_text : Quotes → List ℕ → List ℕ
@@ -74,11 +74,11 @@ module _ {R E W F : Type 0} (source : Reader R E) (sink : Writer W F) (kind : Ki
 
   -- a body was shown in quotes. Where its read stopped, the text ends behind what was handed out
   abbrev pub ShowsBody : Quotes → Sides R W → Result (Unit {0}) (DiagError E F) → Sides R W → Type 0
-  ShowsBody quotes old (Ok done) new = BodyShown (quoted_text quotes) old new
+  ShowsBody quotes old (Ok done) new = BodyShown (quoted_body quotes) old new
   ShowsBody quotes old (Err (d.Read (s.Read error))) new = BodyStopped (begun_text quotes) old error new
   ShowsBody quotes old (Err (d.Read (s.Break at))) new = ⊥
   ShowsBody quotes old (Err (d.Read (s.Deep at))) new = ⊥
-  ShowsBody quotes old (Err (d.Write fault)) new = BodyUnshown source sink kind len (quoted_text quotes) old new
+  ShowsBody quotes old (Err (d.Write fault)) new = BodyUnshown source sink kind len (quoted_body quotes) old new
 
 -- ---- the text of a string
 
@@ -94,16 +94,16 @@ is_none [] = true
 is_none (body ∷ bodies) = false
 
 -- bodies behind a first one, each in quotes
-abbrev pub more_text : Bool → Quotes → List (List ℕ) → List ℕ
-more_text opens quotes [] = []
-more_text opens quotes (body ∷ bodies) =
-    (lead_text opens false ++ quoted_text quotes body) ++ more_text opens quotes bodies
+abbrev pub more_bodies : Bool → Quotes → List (List ℕ) → List ℕ
+more_bodies opens quotes [] = []
+more_bodies opens quotes (body ∷ bodies) =
+    (lead_text opens false ++ quoted_body quotes body) ++ more_bodies opens quotes bodies
 
 -- all that stand in a string
 abbrev pub bodies_text : Bool → Quotes → List (List ℕ) → List ℕ
 bodies_text opens quotes [] = []
 bodies_text opens quotes (body ∷ bodies) =
-    (lead_text opens true ++ quoted_text quotes body) ++ more_text opens quotes bodies
+    (lead_text opens true ++ quoted_body quotes body) ++ more_bodies opens quotes bodies
 
 -- what stands behind them: a string of the indefinite form that has no body is told by its quotes (RFC 8949, 8.1)
 abbrev pub end_text : Bool → Quotes → Bool → List ℕ
@@ -190,7 +190,7 @@ module _ {R E W F : Type 0} (source : Reader R E) (sink : Writer W F) (kind : Ki
         (bodies_text (is_indefinite len) quotes bodies ++ lead_text (is_indefinite len) (is_none bodies)) new.writer
         → StringUnshown old new
     at_body : (count : ℕ) (between : Sides R W) → BodyAnnounced count old between
-        → BodyUnshown source sink kind count (quoted_text quotes) between new → StringUnshown old new
+        → BodyUnshown source sink kind count (quoted_body quotes) between new → StringUnshown old new
     at_end : (reads : StringRead source kind len old.decoder new.decoder)
         → WritesFront sink old.writer (string_text (is_indefinite len) quotes reads.bodies) new.writer
         → StringUnshown old new

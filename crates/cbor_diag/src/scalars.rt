@@ -5,7 +5,7 @@ ghost use Rattle.std.specs.Fmt.{signed_decimal};
 ghost use Rattle.ciborium_ll.specs.Encoding.{WritesBytes};
 ghost use Rattle.cbor_diag.specs.Floats.{IsFloatText, IsNumberText, half_size, half_value, holds, is_held};
 ghost use Rattle.cbor_diag.specs.Floats.{power_of_two, with_point};
-ghost use Rattle.cbor_diag.specs.Notation.{simple_text};
+ghost use Rattle.cbor_diag.specs.Notation.{simple_notation};
 ghost use Rattle.cbor_diag.specs.Writing.{ShowsMarked, ShowsOne};
 
 use crate::put::{put, put_three, put_two};
@@ -33,7 +33,7 @@ pub(crate) fn show_negative<W: Write>(writer: &mut W, number: u64) -> Result<(),
 
 /// Shows a simple value, by its name if it has one.
 pub(crate) fn show_simple<W: Write>(writer: &mut W, number: u8) -> Result<(), W::Error>
-    ensures { WritesBytes W.Write writer.old result (simple_text number) writer.new }
+    ensures { WritesBytes W.Write writer.old result (simple_notation number) writer.new }
 {
     match number {
         simple::FALSE => put(writer, b"false"),

@@ -21,9 +21,9 @@ use Rattle.ciborium_ll_calls.specs.declared.answer.CllAnswer.TheVariants as a
 use Rattle.ciborium_ll_calls.specs.declared.answer.CllReport.{CllReport}
 use Rattle.ciborium_ll_calls.specs.declared.header.CllHeader.{CllHeader}
 use Rattle.ciborium_ll_calls.specs.Answers.{Reports}
-use Rattle.ciborium_ll_calls.specs.Headers.{IsNoHeader, Says, kind_of, open_of, rebuilt, value_of}
+use Rattle.ciborium_ll_calls.specs.Headers.{IsNoHeader, Says, kind_number, open_of, rebuilt, value_of}
 use Rattle.ciborium_ll_calls.specs.Pushing.{Puts}
-use Rattle.ciborium_ll_calls.specs.Widths.{PushesWide, Wide, WideOf, WideTitle, held, minor_in, with_major, numbered_in}
+use Rattle.ciborium_ll_calls.specs.Widths.{PushesWide, Wide, WideOf, WideTitle, minor_where, minor_in, with_major, numbered_in}
 use Rattle.ciborium_ll_calls.specs.Widths.{open_in, title_in}
 
 -- ---- a number in a width
@@ -55,14 +55,14 @@ choose P true x y first second = first refl
 choose P false x y first second = second refl
 
 hold : (P : Option Minor → Type 0) (test : Bool) (minor : Minor) → (test ≡ true → P (Some minor))
-    → (test ≡ false → P None) → P (held test minor)
+    → (test ≡ false → P None) → P (minor_where test minor)
 hold P true minor first second = first refl
 hold P false minor first second = second refl
 
 -- a width in which the number may stand
 at_width : (size : Size) (width n : ℕ) → length (affix_of size n) ≡ width
     → (size_limit size ≤ n → Decided width n None)
-    → Decided width n (held (nat_lt n (size_limit size)) (sized size n))
+    → Decided width n (minor_where (nat_lt n (size_limit size)) (sized size n))
 at_width size width n wide none = hold (Decided width n) (nat_lt n (size_limit size)) (sized size n)
     (λ fits. (size, ltb-true n (size_limit size) fits, refl, wide))
     (λ fails. none (ltb-false n (size_limit size) fails))
@@ -269,7 +269,7 @@ wide_found h.Break width below = wide_open Other h.Break width refl (λ title is
 
 -- ---- the header that has the parts
 
-rebuilt_of : (header : Header) → IsInRange header → rebuilt (kind_of header) (open_of header) (value_of header)
+rebuilt_of : (header : Header) → IsInRange header → rebuilt (kind_number header) (open_of header) (value_of header)
     ≡ Some header
 rebuilt_of (h.Positive n) below = refl
 rebuilt_of (h.Negative n) below = refl

@@ -7,19 +7,19 @@ use Rattle.ciborium_ll.specs.Title.{IsInRange}
 use Rattle.ciborium_ll_calls.specs.declared.header.CllHeader.{CllHeader}
 
 -- the number of a header's kind (RFC 7049, 2.1 to 2.4)
-abbrev pub kind_of : Header → ℕ
-kind_of (h.Positive n) = 0
-kind_of (h.Negative n) = 1
-kind_of (h.Bytes len) = 2
-kind_of (h.Text len) = 3
-kind_of (h.Array len) = 4
-kind_of (h.Map len) = 5
-kind_of (h.Tag n) = 6
-kind_of (h.Simple n) = 7
-kind_of (h.Float (f.Half bits)) = 8
-kind_of (h.Float (f.Single bits)) = 9
-kind_of (h.Float (f.Double bits)) = 10
-kind_of h.Break = 11
+abbrev pub kind_number : Header → ℕ
+kind_number (h.Positive n) = 0
+kind_number (h.Negative n) = 1
+kind_number (h.Bytes len) = 2
+kind_number (h.Text len) = 3
+kind_number (h.Array len) = 4
+kind_number (h.Map len) = 5
+kind_number (h.Tag n) = 6
+kind_number (h.Simple n) = 7
+kind_number (h.Float (f.Half bits)) = 8
+kind_number (h.Float (f.Single bits)) = 9
+kind_number (h.Float (f.Double bits)) = 10
+kind_number h.Break = 11
 
 -- a length, or 0 for the indefinite form
 abbrev pub length_or_none : Option ℕ → ℕ
@@ -56,7 +56,7 @@ open_of header = 0
 
 -- the parts are those of the header: its kind, its number, and 1 for its indefinite form (RFC 7049, 2.1 to 2.4)
 pub record Says (parts : CllHeader) (header : Header) : Type 0 where
-  pub kind : parts.kind ≡ kind_of header
+  pub kind : parts.kind ≡ kind_number header
   pub value : parts.value ≡ value_of header
   pub indefinite : parts.indefinite ≡ open_of header
 

@@ -49,17 +49,17 @@ PushesWide parts width old answer new report = ⊥
 -- ---- the title that the code makes
 
 -- the minor where it holds its number
-abbrev pub held : Bool → Minor → Option Minor
-held true minor = Some minor
-held false minor = None
+abbrev pub minor_where : Bool → Minor → Option Minor
+minor_where true minor = Some minor
+minor_where false minor = None
 
 -- a number in so many bytes behind a first one, where it fits them
 abbrev pub minor_in : ℕ → ℕ → Option Minor
 minor_in width n =
-    if width == 0 then held (nat_lt n 24) (m.Small n) else
-    (if width == 1 then held (nat_lt n (2 ^ 8)) (m.One n) else
-    (if width == 2 then held (nat_lt n (2 ^ 16)) (m.Two n) else
-    (if width == 4 then held (nat_lt n (2 ^ 32)) (m.Four n) else
+    if width == 0 then minor_where (nat_lt n 24) (m.Small n) else
+    (if width == 1 then minor_where (nat_lt n (2 ^ 8)) (m.One n) else
+    (if width == 2 then minor_where (nat_lt n (2 ^ 16)) (m.Two n) else
+    (if width == 4 then minor_where (nat_lt n (2 ^ 32)) (m.Four n) else
     (if width == 8 then Some (m.Eight n) else None))))
 
 -- a minor under a major type

@@ -1,7 +1,7 @@
 //! Titles of a header in a given width.
 
 ghost use Rattle.std.specs.Prelude.{◌≡◌, None, if◌then◌else◌};
-ghost use Rattle.ciborium_ll_calls.specs.Widths.{Wide, WideOf, held, length_in, minor_in, numbered_in, open_in, title_in};
+ghost use Rattle.ciborium_ll_calls.specs.Widths.{Wide, WideOf, minor_where, length_in, minor_in, numbered_in, open_in, title_in};
 
 use crate::header::CllHeader;
 use ciborium_ll::{Float, Header};
@@ -78,7 +78,7 @@ fn minor(width: u32, number: u64) -> Option<Minor>
 
 /// The minor where it holds its number.
 fn held(fits: bool, minor: Minor) -> Option<Minor>
-    ensures { result ≡ held fits minor }
+    ensures { result ≡ minor_where fits minor }
 {
     fits.then_some(minor)
 }

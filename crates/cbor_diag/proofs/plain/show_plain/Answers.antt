@@ -5,7 +5,7 @@ use Rattle.ciborium_ll.specs.Strings.{Bytes, Text}
 use Rattle.ciborium_ll.proofs.DecodingLaws.{MovesOn-none}
 use Rattle.cbor_skip.specs.Skipping.{strictness}
 use Rattle.cbor_diag.proofs.ShowLaws.{float_said, said_text, when_ok}
-use Rattle.cbor_diag.specs.Notation.{header_text}
+use Rattle.cbor_diag.specs.Notation.{header_notation}
 use Rattle.cbor_diag.proofs.ItemLaws.{scalar_read, string_read}
 use Rattle.cbor_diag.proofs.ItemTextLaws.{float_shown, scalar_shown, string_shown}
 use Rattle.cbor_diag.proofs.plain.show_plain.Goals as goal
@@ -104,17 +104,17 @@ returns-in-Simple-clause-moves_on g c =
 pub returns-in-Positive-clause-shown : goal.returns-in-Positive-clause-shown
 returns-in-Positive-clause-shown g c = λ layout level.
     scalar_shown g.R.Read g.W.Write layout level c.args.header _ _ _ _ c.show_positive.result c.said.result
-    (ap header_text c.in-Positive.is) c.said.ensures.same c.show_positive.ensures
+    (ap header_notation c.in-Positive.is) c.said.ensures.same c.show_positive.ensures
 
 pub returns-in-Negative-clause-shown : goal.returns-in-Negative-clause-shown
 returns-in-Negative-clause-shown g c = λ layout level.
     scalar_shown g.R.Read g.W.Write layout level c.args.header _ _ _ _ c.show_negative.result c.said-in-Negative.result
-    (ap header_text c.in-Negative.is) c.said-in-Negative.ensures.same c.show_negative.ensures
+    (ap header_notation c.in-Negative.is) c.said-in-Negative.ensures.same c.show_negative.ensures
 
 pub returns-in-Simple-clause-shown : goal.returns-in-Simple-clause-shown
 returns-in-Simple-clause-shown g c = λ layout level.
     scalar_shown g.R.Read g.W.Write layout level c.args.header _ _ _ _ c.show_simple.result c.said-in-Simple.result
-    (ap header_text c.in-Simple.is) c.said-in-Simple.ensures.same c.show_simple.ensures
+    (ap header_notation c.in-Simple.is) c.said-in-Simple.ensures.same c.show_simple.ensures
 
 pub returns-in-Float-clause-shown : goal.returns-in-Float-clause-shown
 returns-in-Float-clause-shown g c = λ layout level.
