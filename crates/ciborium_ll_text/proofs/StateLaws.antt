@@ -1,6 +1,6 @@
 -- The states of a text: the state behind each byte, and that a list is text just where it ends between two characters.
 use Rattle.std.proofs.Common.{◌≡◌, ℕ, zero, suc, ◌+◌, ◌-◌, ◌<◌, ◌≤◌, ◌⊎◌, true, false, List, [], ◌∷◌, ◌++◌, length}
-use Rattle.std.proofs.Common.{take, drop, get_or, refl, sym, ap, ◌∙◌, subst, inl, inr, arith, le-leb}
+use Rattle.std.proofs.Common.{if◌then◌else◌, take, drop, get_or, refl, sym, ap, ◌∙◌, subst, inl, inr, arith, le-leb}
 use Rattle.std.proofs.lemmas.Bool.{cases_lt, lt-leb}
 use Rattle.std.proofs.lemmas.List.{take_more, take-append-drop, take_rest}
 use Rattle.std.proofs.lemmas.Str.{IsUtf8-from_ascii}
@@ -44,81 +44,40 @@ pub data First : ℕ → State → Type 0 where
   f4 : {a : ℕ} → IsFrom 0xf4 0xf4 a → First a s.BehindF4
   none : {a : ℕ} → (a < 0xc2) ⊎ (0xf4 < a) → First a s.Damaged
 
+-- where a byte is no lower than a range: what holds within the range, and what holds behind it
+by_range : {lowest highest byte : ℕ} {x y : State} (P : State → Type 0) → lowest ≤ byte → (byte ≤ highest → P x)
+    → (highest < byte → P y) → P (if is_from lowest highest byte then x else y)
+by_range {lowest} {highest} {byte} P low within behind =
+    elim (cases_lt highest byte) [
+      | inl q ↦ rw (from_out lowest highest byte (inr q)) (behind q)
+      | inr q ↦ rw (from_in lowest highest byte (low, q)) (within q)
+    ]
+
 -- each first byte is of a row, or of none
 pub first_view : (a : ℕ) → First a (after_first a)
 unfolding after_first
 first_view a =
-    elim (cases_lt a 0x80) [
-      | inl q0 ↦ rw (from_in 0x00 0x7f a (omega arith, omega arith)) (ascii {a = a} (omega arith, omega arith))
-      | inr q0 ↦ rw (from_out 0x00 0x7f a (inr (omega arith))) (
-          elim (cases_lt a 0xc2) [
-            | inl q ↦ rw (
-              from_out 0xc2 0xdf a (inl (omega arith)),
-              from_out 0xe0 0xe0 a (inl (omega arith)),
-              from_out 0xe1 0xec a (inl (omega arith)),
-              from_out 0xed 0xed a (inl (omega arith)),
-              from_out 0xee 0xef a (inl (omega arith)),
-              from_out 0xf0 0xf0 a (inl (omega arith)),
-              from_out 0xf1 0xf3 a (inl (omega arith)),
-              from_out 0xf4 0xf4 a (inl (omega arith)),
-            ) (none {a = a} (inl q))
-            | inr q ↦ (
-                elim (cases_lt a 0xe0) [
-                  | inl q1 ↦ rw (from_in 0xc2 0xdf a (omega arith, omega arith))
-                      (two {a = a} (omega arith, omega arith))
-                  | inr q1 ↦ rw (from_out 0xc2 0xdf a (inr (omega arith))) (
-                      elim (cases_lt a 0xe1) [
-                        | inl q2 ↦ rw (from_in 0xe0 0xe0 a (omega arith, omega arith))
-                            (e0 {a = a} (omega arith, omega arith))
-                        | inr q2 ↦ rw (from_out 0xe0 0xe0 a (inr (omega arith))) (
-                            elim (cases_lt a 0xed) [
-                              | inl q3 ↦ rw (from_in 0xe1 0xec a (omega arith, omega arith))
-                                  (three_low {a = a} (omega arith, omega arith))
-                              | inr q3 ↦ rw (from_out 0xe1 0xec a (inr (omega arith))) (
-                                  elim (cases_lt a 0xee) [
-                                    | inl q4 ↦ rw (from_in 0xed 0xed a (omega arith, omega arith))
-                                        (ed {a = a} (omega arith, omega arith))
-                                    | inr q4 ↦ rw (from_out 0xed 0xed a (inr (omega arith))) (
-                                        elim (cases_lt a 0xf0) [
-                                          | inl q5 ↦ rw (from_in 0xee 0xef a (omega arith, omega arith))
-                                              (three_high {a = a} (omega arith, omega arith))
-                                          | inr q5 ↦ rw (from_out 0xee 0xef a (inr (omega arith))) (
-                                              elim (cases_lt a 0xf1) [
-                                                | inl q6 ↦ rw (from_in 0xf0 0xf0 a (omega arith, omega arith))
-                                                    (f0 {a = a} (omega arith, omega arith))
-                                                | inr q6 ↦ rw (from_out 0xf0 0xf0 a (inr (omega arith))) (
-                                                    elim (cases_lt a 0xf4) [
-                                                      | inl q7 ↦ rw (from_in 0xf1 0xf3 a (omega arith, omega arith))
-                                                          (four {a = a} (omega arith, omega arith))
-                                                      | inr q7 ↦ rw (from_out 0xf1 0xf3 a (inr (omega arith))) (
-                                                          elim (cases_lt a 0xf5) [
-                                                            | inl q8 ↦ rw (from_in 0xf4 0xf4 a (
-                                                              omega arith,
-                                                              omega
-                                                                  arith,
-                                                            ))
-                                                                (f4 {a = a} (omega arith, omega arith))
-                                                            | inr q8 ↦ rw (from_out 0xf4 0xf4 a (inr (omega arith)))
-                                                                (none {a = a} (inr (omega arith)))
-                                                          ]
-                                                          )
-                                                    ]
-                                                    )
-                                              ]
-                                              )
-                                        ]
-                                        )
-                                  ]
-                                  )
-                            ]
-                            )
-                      ]
-                      )
-                ]
-                )
-          ]
-          )
-    ]
+    by_range (First a) (omega arith) (λ q. ascii (omega arith, q)) (λ q0.
+    elim (cases_lt a 0xc2) [
+      | inl q ↦ rw (
+        from_out 0xc2 0xdf a (inl (omega arith)),
+        from_out 0xe0 0xe0 a (inl (omega arith)),
+        from_out 0xe1 0xec a (inl (omega arith)),
+        from_out 0xed 0xed a (inl (omega arith)),
+        from_out 0xee 0xef a (inl (omega arith)),
+        from_out 0xf0 0xf0 a (inl (omega arith)),
+        from_out 0xf1 0xf3 a (inl (omega arith)),
+        from_out 0xf4 0xf4 a (inl (omega arith)),
+      ) (none (inl q))
+      | inr p1 ↦ by_range (First a) p1 (λ q. two (p1, q)) (λ p2.
+          by_range (First a) p2 (λ q. e0 (p2, q)) (λ p3.
+          by_range (First a) p3 (λ q. three_low (p3, q)) (λ p4.
+          by_range (First a) p4 (λ q. ed (p4, q)) (λ p5.
+          by_range (First a) p5 (λ q. three_high (p5, q)) (λ p6.
+          by_range (First a) p6 (λ q. f0 (p6, q)) (λ p7.
+          by_range (First a) p7 (λ q. four (p7, q)) (λ p8.
+          by_range (First a) p8 (λ q. f4 (p8, q)) (λ p9. none (inr p9)))))))))
+    ])
 
 -- a later byte and the state behind it: the byte is within its range, or no text goes on
 pub data Next (lowest highest : ℕ) (state : State) (b : ℕ) : State → Type 0 where
@@ -144,67 +103,39 @@ pub next_in : (lowest highest : ℕ) (state : State) (b : ℕ)
 unfolding after_next
 next_in lowest highest state b p = rw (from_in lowest highest b p) refl
 
+-- the state of a range that a byte is in, and of what is behind a range that it is above
+in_range : {lowest highest byte : ℕ} {x : State} (y : State) → IsFrom lowest highest byte
+    → (if is_from lowest highest byte then x else y) ≡ x
+in_range {lowest} {highest} {byte} y p = rw (from_in lowest highest byte p) refl
+
+above : (lowest : ℕ) {highest byte : ℕ} (x : State) {y z : State} → highest < byte → y ≡ z
+    → (if is_from lowest highest byte then x else y) ≡ z
+above lowest {highest} {byte} x p e = rw (from_out lowest highest byte (inr p)) e
+
 -- the state behind a first byte that is of a row
 pub first_is : (a : ℕ) (state : State) → First a state → (state ≡ s.Damaged → ⊥) → after_first a ≡ state
 unfolding after_first
-first_is a s.Between (ascii p) n = rw (from_in 0x00 0x7f a p) refl
-first_is a s.OneDue (two p) n = rw (from_out 0x00 0x7f a (inr (omega arith)), from_in 0xc2 0xdf a p) refl
-first_is a s.BehindE0 (e0 p) n = rw (
-  from_out 0x00 0x7f a (inr (omega arith)),
-  from_out 0xc2 0xdf a (inr (omega arith)),
-  from_in 0xe0 0xe0 a p,
-) refl
-first_is a s.TwoDue (three_low p) n = rw (
-  from_out 0x00 0x7f a (inr (omega arith)),
-  from_out 0xc2 0xdf a (inr (omega arith)),
-  from_out 0xe0 0xe0 a (inr (omega arith)),
-  from_in 0xe1 0xec a p,
-) refl
-first_is a s.BehindEd (ed p) n = rw (
-  from_out 0x00 0x7f a (inr (omega arith)),
-  from_out 0xc2 0xdf a (inr (omega arith)),
-  from_out 0xe0 0xe0 a (inr (omega arith)),
-  from_out 0xe1 0xec a (inr (omega arith)),
-  from_in 0xed 0xed a p,
-) refl
-first_is a s.TwoDue (three_high p) n = rw (
-  from_out 0x00 0x7f a (inr (omega arith)),
-  from_out 0xc2 0xdf a (inr (omega arith)),
-  from_out 0xe0 0xe0 a (inr (omega arith)),
-  from_out 0xe1 0xec a (inr (omega arith)),
-  from_out 0xed 0xed a (inr (omega arith)),
-  from_in 0xee 0xef a p,
-) refl
-first_is a s.BehindF0 (f0 p) n = rw (
-  from_out 0x00 0x7f a (inr (omega arith)),
-  from_out 0xc2 0xdf a (inr (omega arith)),
-  from_out 0xe0 0xe0 a (inr (omega arith)),
-  from_out 0xe1 0xec a (inr (omega arith)),
-  from_out 0xed 0xed a (inr (omega arith)),
-  from_out 0xee 0xef a (inr (omega arith)),
-  from_in 0xf0 0xf0 a p,
-) refl
-first_is a s.ThreeDue (four p) n = rw (
-  from_out 0x00 0x7f a (inr (omega arith)),
-  from_out 0xc2 0xdf a (inr (omega arith)),
-  from_out 0xe0 0xe0 a (inr (omega arith)),
-  from_out 0xe1 0xec a (inr (omega arith)),
-  from_out 0xed 0xed a (inr (omega arith)),
-  from_out 0xee 0xef a (inr (omega arith)),
-  from_out 0xf0 0xf0 a (inr (omega arith)),
-  from_in 0xf1 0xf3 a p,
-) refl
-first_is a s.BehindF4 (f4 p) n = rw (
-  from_out 0x00 0x7f a (inr (omega arith)),
-  from_out 0xc2 0xdf a (inr (omega arith)),
-  from_out 0xe0 0xe0 a (inr (omega arith)),
-  from_out 0xe1 0xec a (inr (omega arith)),
-  from_out 0xed 0xed a (inr (omega arith)),
-  from_out 0xee 0xef a (inr (omega arith)),
-  from_out 0xf0 0xf0 a (inr (omega arith)),
-  from_out 0xf1 0xf3 a (inr (omega arith)),
-  from_in 0xf4 0xf4 a p,
-) refl
+first_is a s.Between (ascii p) n = in_range _ p
+first_is a s.OneDue (two p) n = above _ _ (omega arith) (in_range _ p)
+first_is a s.BehindE0 (e0 p) n = above _ _ (omega arith) (above _ _ (omega arith) (in_range _ p))
+first_is a s.TwoDue (three_low p) n =
+    above _ _ (omega arith) (above _ _ (omega arith) (above _ _ (omega arith) (in_range _ p)))
+first_is a s.BehindEd (ed p) n =
+    above _ _ (omega arith) (above _ _ (omega arith) (above _ _ (omega arith) (above _ _ (omega arith)
+    (in_range _ p))))
+first_is a s.TwoDue (three_high p) n =
+    above _ _ (omega arith) (above _ _ (omega arith) (above _ _ (omega arith) (above _ _ (omega arith)
+    (above _ _ (omega arith) (in_range _ p)))))
+first_is a s.BehindF0 (f0 p) n =
+    above _ _ (omega arith) (above _ _ (omega arith) (above _ _ (omega arith) (above _ _ (omega arith)
+    (above _ _ (omega arith) (above _ _ (omega arith) (in_range _ p))))))
+first_is a s.ThreeDue (four p) n =
+    above _ _ (omega arith) (above _ _ (omega arith) (above _ _ (omega arith) (above _ _ (omega arith)
+    (above _ _ (omega arith) (above _ _ (omega arith) (above _ _ (omega arith) (in_range _ p)))))))
+first_is a s.BehindF4 (f4 p) n =
+    above _ _ (omega arith) (above _ _ (omega arith) (above _ _ (omega arith) (above _ _ (omega arith)
+    (above _ _ (omega arith) (above _ _ (omega arith) (above _ _ (omega arith) (above _ _ (omega arith)
+    (in_range _ p))))))))
 first_is a s.Damaged (none p) n = absurd (n refl)
 
 -- ---- lists
