@@ -24,11 +24,10 @@ use Rattle.cbor_copy.specs.declared.phase.StringKind.TheVariants as k
 use Rattle.cbor_copy.specs.declared.phase.Within.{Within}
 use Rattle.cbor_copy.specs.declared.phase.Within.TheVariants as w
 use Rattle.cbor_copy.specs.Spots.{Spot, entered}
-use Rattle.cbor_copy.proofs.BlockedLaws.{affix_most}
+use Rattle.ciborium_ll_titles.proofs.TitleKinds.{affix_most}
 use Rattle.cbor_copy.proofs.EnterLaws.{whole_behind, piece_behind, title_leads}
 use Rattle.cbor_copy.proofs.KeptLaws.{entered_kept}
-use Rattle.cbor_copy.proofs.Reached.{kind_of, RunLeft, InOpen, At, Misplaced, OfKind, Titling, Bodying, HoldsIn}
-use Rattle.cbor_copy.proofs.Reached.{clear}
+use Rattle.cbor_copy.proofs.Reached.{kind_of, RunLeft, InOpen, At, Misplaced, OfKind, Titling, Bodying, HoldsIn, clear}
 use Rattle.cbor_copy.proofs.StepLaws.{Continued, continued, faults_misplaced}
 
 -- bytes that make so many elements

@@ -19,7 +19,8 @@ use Rattle.cbor_copy.specs.Spots.{Spot, putting, body_due, refused}
 use Rattle.cbor_copy.specs.Steps.{with_byte, titled, TitleStep, whole, none, with_char, text_left}
 use Rattle.cbor_copy.specs.Steps.{byte_put, StepIn, IsFed, more as more_fed}
 use Rattle.cbor_copy.specs.Telling.{is_due, progress_in, TellsWhole, EndedIn}
-use Rattle.cbor_copy.proofs.BlockedLaws.{kind_of as title_kind, kind_names, blocked_early, blocked_none}
+use Rattle.ciborium_ll_titles.proofs.TitleKinds.{kind_of as title_kind, kind_names}
+use Rattle.cbor_copy.proofs.BlockedLaws.{blocked_early, blocked_none}
 use Rattle.cbor_copy.proofs.ExactLaws.{told, whole_in_front, ended_exact}
 use Rattle.cbor_copy.proofs.HeldLaws.{fed_holds}
 use Rattle.cbor_copy.proofs.Reached.{FrontAt, HoldsIn}

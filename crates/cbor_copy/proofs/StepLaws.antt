@@ -1,8 +1,7 @@
 -- What one byte more leads to, in terms of the elements so far.
 use Rattle.std.proofs.Common.{◌≡◌, ℕ, zero, suc, ◌+◌, ◌-◌, ◌%◌, ◌<◌, ◌≤◌, false, List, [], ◌∷◌, ◌++◌}
 use Rattle.std.proofs.Common.{length, take, drop, Some, None, ◌⊎◌, refl, sym, ap, subst, ◌∙◌, arith, inl, inr}
-use Rattle.std.proofs.Common.{append_assoc, append-nil, length-append, replicate, length-take-le}
-use Rattle.std.proofs.Common.{take-append-drop}
+use Rattle.std.proofs.Common.{append_assoc, append-nil, length-append, replicate, length-take-le, take-append-drop}
 use Rattle.std.proofs.lemmas.Bool.{cases_lt}
 use Rattle.std.proofs.lemmas.List.{length-replicate}
 use Rattle.ciborium_ll_grammar.specs.declared.hdr.Header.{Header}
@@ -22,10 +21,10 @@ use Rattle.cbor_copy.specs.declared.phase.Within.{Within}
 use Rattle.cbor_copy.specs.declared.phase.Within.TheVariants as w
 use Rattle.cbor_copy.specs.Spots.{Spot, entered}
 use Rattle.cbor_copy.specs.Steps.{title_place, with_byte, titled, Faults, TitleStep, cut, early, whole, none}
-use Rattle.cbor_copy.proofs.BlockedLaws.{affix_most, due_sound, body_sound}
+use Rattle.ciborium_ll_titles.proofs.TitleKinds.{affix_most}
+use Rattle.cbor_copy.proofs.BlockedLaws.{due_sound, body_sound}
 use Rattle.cbor_copy.proofs.EnterLaws.{reaches, title_leads}
-use Rattle.cbor_copy.proofs.Reached.{kind_of, At, Misplaced, place_of, FrontAt, Titling}
-use Rattle.cbor_copy.proofs.Reached.{Broken, HoldsIn, Holds}
+use Rattle.cbor_copy.proofs.Reached.{kind_of, At, Misplaced, place_of, FrontAt, Titling, Broken, HoldsIn, Holds}
 
 -- ---- what is misplaced is a fault, and nothing else
 

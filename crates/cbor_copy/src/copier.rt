@@ -264,7 +264,7 @@ impl Copier {
     }
 
     /// A byte of a title.
-    #[tactic(auto, using(crate::proofs::BlockedLaws::affix_most))]
+    #[tactic(auto, using(ciborium_ll_titles::proofs::TitleKinds::affix_most))]
     fn title_step(&mut self, byte: u8)
         requires room { self.old.offset < usize.MAX }
         requires due { self.old.phase ≡ p.Title }

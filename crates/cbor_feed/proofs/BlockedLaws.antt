@@ -1,19 +1,16 @@
 -- The kind of a first byte tells whether a title that begins so may stand there.
-use Rattle.std.proofs.Common.{◌≡◌, ℕ, zero, suc, ◌/◌, ◌%◌, ◌<◌, ◌≤◌, Bool, true, false, List, [], ◌∷◌, ◌++◌, length}
-use Rattle.std.proofs.Common.{Option}
-use Rattle.std.proofs.Common.{Some, None, refl, sym, ap, subst, ◌∙◌, arith, cond, ◌==◌, slice_index, drop}
+use Rattle.std.proofs.Common.{◌≡◌, ℕ, zero, suc, ◌/◌, ◌%◌, ◌<◌, ◌≤◌, true, List, [], ◌∷◌, ◌++◌, length, Option}
+use Rattle.std.proofs.Common.{Some, None, refl, sym, ap, subst, ◌∙◌, arith, slice_index, drop}
 use Rattle.ciborium_ll_grammar.specs.declared.hdr.Header.{Header}
 use Rattle.ciborium_ll_grammar.specs.declared.hdr.table.TitleKind.{TitleKind}
 use Rattle.ciborium_ll_grammar.specs.declared.hdr.table.TitleKind.TheVariants as k
 use Rattle.ciborium_ll_grammar.specs.Title.{Major, Unsigned, Negative, ByteString, TextString, Array, Map, Tag, Other}
-use Rattle.ciborium_ll_grammar.specs.Title.{major_code, first_byte, Size, Small, One, Two, Four, Eight}
-use Rattle.ciborium_ll_grammar.specs.Title.{minor_of, affix_len, numbered_header, IsTitle, numbered, alone}
-use Rattle.ciborium_ll_grammar.specs.Title.{IsCutTitle, NamesNoTitle}
+use Rattle.ciborium_ll_grammar.specs.Title.{Size, Small, One, Two, Four, Eight, affix_len, numbered_header, IsTitle}
+use Rattle.ciborium_ll_grammar.specs.Title.{IsCutTitle}
 use Rattle.ciborium_ll_grammar.specs.Items.{IsTakenTitle}
 use Rattle.ciborium_ll_grammar.specs.TitleRows.{IsTitleKind, IsRow}
 use Rattle.ciborium_ll_grammar.specs.declared.hdr.table.Row.{Row}
-use Rattle.ciborium_ll_grammar.proofs.TitleLaws.{same_major, minor_below}
-use Rattle.ciborium_ll_grammar.proofs.AffixLaws.{refused_affix}
+use Rattle.ciborium_ll_titles.proofs.TitleKinds.{kind_of, Numbered, numbered_title, kind_at, parted}
 use Rattle.cbor_feed.specs.declared.level.Level.{Level}
 use Rattle.cbor_feed.specs.declared.phase.Phase.TheVariants as p
 use Rattle.cbor_feed.specs.declared.phase.Within.{Within}
@@ -25,31 +22,6 @@ use Rattle.cbor_feed.specs.Levels.{next}
 use Rattle.cbor_feed.specs.Spots.{Spot, at_phase, settled, string_done, bytes_due, text_due, nested, entered, item_done}
 use Rattle.cbor_feed.specs.Spots.{body_placed, item_entered, refused}
 use Rattle.cbor_feed.specs.Steps.{SomeTaken, NoneTaken, titled, TitleStep, cut, early, whole, none}
-
--- ---- the kind of a major type
-
-abbrev kind_of : Major → TitleKind
-kind_of Unsigned = k.Positive
-kind_of Negative = k.Negative
-kind_of ByteString = k.Bytes
-kind_of TextString = k.Text
-kind_of Array = k.Array
-kind_of Map = k.Map
-kind_of Tag = k.Tag
-kind_of Other = k.Other
-
-kind_is : (kind : TitleKind) (m : Major) (minor : ℕ) → IsTitleKind kind (major_code m) minor
-    → (NamesNoTitle (major_code m) minor → ⊥)
-    → kind ≡ kind_of m
-kind_is k.Positive m minor i some = sym (ap kind_of (same_major m Unsigned i.0))
-kind_is k.Negative m minor i some = sym (ap kind_of (same_major m Negative i.0))
-kind_is k.Bytes m minor i some = sym (ap kind_of (same_major m ByteString i.0))
-kind_is k.Text m minor i some = sym (ap kind_of (same_major m TextString i.0))
-kind_is k.Array m minor i some = sym (ap kind_of (same_major m Array i.0))
-kind_is k.Map m minor i some = sym (ap kind_of (same_major m Map i.0))
-kind_is k.Tag m minor i some = sym (ap kind_of (same_major m Tag i.0))
-kind_is k.Other m minor i some = sym (ap kind_of (same_major m Other i.0))
-kind_is k.Refused m minor i some = absurd (some i)
 
 -- ---- no fault behind a whole item
 
@@ -174,35 +146,6 @@ may_not (w.Text j) d Other Two n spot fault e b = fault_is _ fault b
 may_not (w.Text j) d Other Four n spot fault e b = fault_is _ fault b
 may_not (w.Text j) d Other Eight n spot fault e b = fault_is _ fault b
 
--- ---- titles that begin with a byte that announces others
-
--- such a title is one of a number
-record Numbered (byte : ℕ) (x : Header) : Type 0 where
-  major : Major
-  size : Size
-  number : ℕ
-  is : x ≡ numbered_header major size number
-  code : major_code major ≡ byte / 32
-
-numbered_title : (byte : ℕ) (v t : List ℕ) (x : Header) → IsTitle t x → t ≡ byte ∷ v → 0 < affix_len (byte % 32)
-    → Numbered byte x
-numbered_title byte v t x (numbered m s n q) e more =
-    let below = minor_below s n q in
-    let heads : first_byte m (minor_of s n) ≡ byte = cc in
-    record { major = m; size = s; number = n; is = refl; code = omega (arith, below, heads) }
-numbered_title byte v t x (alone m y o) e more =
-    let heads : first_byte m 31 ≡ byte = cc in
-    let minor : byte % 32 ≡ 31 = omega (arith, heads) in
-    let empty = ap affix_len minor in
-    absurd (omega (arith, empty, more))
-
-kind_at : (kind : TitleKind) (byte : ℕ) (m : Major) → major_code m ≡ byte / 32 → 0 < affix_len (byte % 32)
-    → IsTitleKind kind (byte / 32) (byte % 32) → kind ≡ kind_of m
-kind_at kind byte m e more i =
-    kind_is kind m (byte % 32) (subst (λ (z : ℕ). IsTitleKind kind z (byte % 32)) (sym e) i)
-    (λ refuses. let empty = refused_affix byte (subst (λ (z : ℕ). NamesNoTitle z (byte % 32)) e refuses) in
-    omega (arith, empty, more))
-
 -- ---- a number, a float or a simple value
 
 -- it may stand wherever an item is due
@@ -276,24 +219,7 @@ module _ (spot : Spot) (kind : TitleKind) (byte : ℕ) (bytes : List ℕ) (front
       may_stand spot.within spot.depth o.major o.size o.number (record spot { front = [] }) fault refl known
       (subst (λ (z : Header). (titled z spot).phase ≡ p.Faulted fault) o.is is))
 
-cond_most : (b : Bool) (m n most : ℕ) → m ≤ most → n ≤ most → cond b m n ≤ most
-cond_most true m n most l k = l
-cond_most false m n most l k = k
-
--- no byte announces more than eight
-pub affix_most : (minor : ℕ) → affix_len minor ≤ 8
-affix_most minor =
-    let eight = cond_most (minor == 27) 8 0 8 (omega arith) (omega arith) in
-    let four = cond_most (minor == 26) 4 (cond (minor == 27) 8 0) 8 (omega arith) eight in
-    let two = cond_most (minor == 25) 2 (cond (minor == 26) 4 (cond (minor == 27) 8 0)) 8 (omega arith) four in
-    cond_most (minor == 24) 1 (cond (minor == 25) 2 (cond (minor == 26) 4 (cond (minor == 27) 8 0))) 8 (omega arith) two
-
 -- ---- where a byte of a title leads, as the code finds it
-
--- a first byte, and the others
-parted : (xs : List ℕ) → 0 < length xs → xs ≡ slice_index xs 0 ∷ drop 1 xs
-parted [] l = absurd (omega arith)
-parted (x ∷ xs) l = refl
 
 module _ (spot new : Spot) (row : Row) (some : 0 < length spot.front)
     (says : IsRow (slice_index spot.front 0) row) where

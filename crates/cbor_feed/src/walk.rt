@@ -334,7 +334,7 @@ impl Walk<'_> {
     }
 
     /// A byte of a title.
-    #[tactic(auto, using(crate::proofs::BlockedLaws::affix_most))]
+    #[tactic(auto, using(ciborium_ll_titles::proofs::TitleKinds::affix_most))]
     fn title_step(&mut self, byte: u8)
         requires phase { self.old.phase ≡ p.Title }
         requires room { self.old.offset < usize.MAX }

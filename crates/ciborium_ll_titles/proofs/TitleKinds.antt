@@ -1,0 +1,95 @@
+-- The kind of a first byte, and the titles that begin with one that announces others.
+use Rattle.std.proofs.Common.{◌≡◌, ℕ, ◌/◌, ◌%◌, ◌<◌, ◌≤◌, Bool, true, false, List, [], ◌∷◌, length}
+use Rattle.std.proofs.Common.{refl, sym, ap, subst, arith, cond, ◌==◌, slice_index, drop}
+use Rattle.ciborium_ll_grammar.specs.declared.hdr.Header.{Header}
+use Rattle.ciborium_ll_grammar.specs.declared.hdr.table.TitleKind.{TitleKind}
+use Rattle.ciborium_ll_grammar.specs.declared.hdr.table.TitleKind.TheVariants as t
+use Rattle.ciborium_ll_grammar.specs.Title.{Major, Unsigned, Negative, ByteString, TextString, Array, Map, Tag, Other}
+use Rattle.ciborium_ll_grammar.specs.Title.{major_code, first_byte, Size, minor_of, affix_len, numbered_header, IsTitle}
+use Rattle.ciborium_ll_grammar.specs.Title.{numbered, alone, NamesNoTitle}
+use Rattle.ciborium_ll_grammar.specs.TitleRows.{IsTitleKind}
+use Rattle.ciborium_ll_grammar.proofs.TitleLaws.{same_major, minor_below}
+use Rattle.ciborium_ll_grammar.proofs.AffixLaws.{refused_affix}
+
+-- ---- the kind of a major type
+
+abbrev pub kind_of : Major → TitleKind
+kind_of Unsigned = t.Positive
+kind_of Negative = t.Negative
+kind_of ByteString = t.Bytes
+kind_of TextString = t.Text
+kind_of Array = t.Array
+kind_of Map = t.Map
+kind_of Tag = t.Tag
+kind_of Other = t.Other
+
+pub kind_is : (kind : TitleKind) (m : Major) (minor : ℕ) → IsTitleKind kind (major_code m) minor
+    → (NamesNoTitle (major_code m) minor → ⊥)
+    → kind ≡ kind_of m
+kind_is t.Positive m minor i some = sym (ap kind_of (same_major m Unsigned i.0))
+kind_is t.Negative m minor i some = sym (ap kind_of (same_major m Negative i.0))
+kind_is t.Bytes m minor i some = sym (ap kind_of (same_major m ByteString i.0))
+kind_is t.Text m minor i some = sym (ap kind_of (same_major m TextString i.0))
+kind_is t.Array m minor i some = sym (ap kind_of (same_major m Array i.0))
+kind_is t.Map m minor i some = sym (ap kind_of (same_major m Map i.0))
+kind_is t.Tag m minor i some = sym (ap kind_of (same_major m Tag i.0))
+kind_is t.Other m minor i some = sym (ap kind_of (same_major m Other i.0))
+kind_is t.Refused m minor i some = absurd (some i)
+
+-- the kind that a first byte has which announces others
+pub kind_names : (m : Major) (major minor : ℕ) → major_code m ≡ major → (NamesNoTitle major minor → ⊥)
+    → IsTitleKind (kind_of m) major minor
+kind_names Unsigned major minor e some = (sym e, some)
+kind_names Negative major minor e some = (sym e, some)
+kind_names ByteString major minor e some = (sym e, some)
+kind_names TextString major minor e some = (sym e, some)
+kind_names Array major minor e some = (sym e, some)
+kind_names Map major minor e some = (sym e, some)
+kind_names Tag major minor e some = (sym e, some)
+kind_names Other major minor e some = (sym e, some)
+
+-- ---- titles that begin with a byte that announces others
+
+-- such a title is one of a number
+pub record Numbered (byte : ℕ) (x : Header) : Type 0 where
+  pub major : Major
+  pub size : Size
+  pub number : ℕ
+  pub is : x ≡ numbered_header major size number
+  pub code : major_code major ≡ byte / 32
+
+pub numbered_title : (byte : ℕ) (v t : List ℕ) (x : Header) → IsTitle t x → t ≡ byte ∷ v → 0 < affix_len (byte % 32)
+    → Numbered byte x
+numbered_title byte v t x (numbered m s n q) e more =
+    let below = minor_below s n q in
+    let heads : first_byte m (minor_of s n) ≡ byte = cc in
+    record { major = m; size = s; number = n; is = refl; code = omega (arith, below, heads) }
+numbered_title byte v t x (alone m y o) e more =
+    let heads : first_byte m 31 ≡ byte = cc in
+    let minor : byte % 32 ≡ 31 = omega (arith, heads) in
+    let empty = ap affix_len minor in
+    absurd (omega (arith, empty, more))
+
+pub kind_at : (kind : TitleKind) (byte : ℕ) (m : Major) → major_code m ≡ byte / 32 → 0 < affix_len (byte % 32)
+    → IsTitleKind kind (byte / 32) (byte % 32) → kind ≡ kind_of m
+kind_at kind byte m e more i =
+    kind_is kind m (byte % 32) (subst (λ (z : ℕ). IsTitleKind kind z (byte % 32)) (sym e) i)
+    (λ refuses. let empty = refused_affix byte (subst (λ (z : ℕ). NamesNoTitle z (byte % 32)) e refuses) in
+    omega (arith, empty, more))
+
+cond_most : (b : Bool) (m n most : ℕ) → m ≤ most → n ≤ most → cond b m n ≤ most
+cond_most true m n most l k = l
+cond_most false m n most l k = k
+
+-- no byte announces more than eight
+pub affix_most : (minor : ℕ) → affix_len minor ≤ 8
+affix_most minor =
+    let eight = cond_most (minor == 27) 8 0 8 (omega arith) (omega arith) in
+    let four = cond_most (minor == 26) 4 (cond (minor == 27) 8 0) 8 (omega arith) eight in
+    let two = cond_most (minor == 25) 2 (cond (minor == 26) 4 (cond (minor == 27) 8 0)) 8 (omega arith) four in
+    cond_most (minor == 24) 1 (cond (minor == 25) 2 (cond (minor == 26) 4 (cond (minor == 27) 8 0))) 8 (omega arith) two
+
+-- a first byte, and the others
+pub parted : (xs : List ℕ) → 0 < length xs → xs ≡ slice_index xs 0 ∷ drop 1 xs
+parted [] l = absurd (omega arith)
+parted (x ∷ xs) l = refl
