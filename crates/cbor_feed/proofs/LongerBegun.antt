@@ -27,35 +27,24 @@ use Rattle.cbor_feed.specs.Steps.{SomeTaken, NoneTaken}
 abbrev IsCounted : Major → Type 0
 IsCounted k = major_code k < 7
 
+counted_not_other : (k : Major) → IsCounted k → (major_code k == 7) ≡ false
+counted_not_other Other c = absurd (omega (arith, c))
+counted_not_other Unsigned c = refl
+counted_not_other Negative c = refl
+counted_not_other ByteString c = refl
+counted_not_other TextString c = refl
+counted_not_other Array c = refl
+counted_not_other Map c = refl
+counted_not_other Tag c = refl
+
 two_longer : (k : Major) (n : ℕ) → IsCounted k → n < 2 ^ 8 → longer_parts (major_code k) (minor_as Two n) ≡ true
-two_longer Other n c l = absurd (omega (arith, c))
-two_longer Unsigned n c l = lt-ltb n (2 ^ 8) l
-two_longer Negative n c l = lt-ltb n (2 ^ 8) l
-two_longer ByteString n c l = lt-ltb n (2 ^ 8) l
-two_longer TextString n c l = lt-ltb n (2 ^ 8) l
-two_longer Array n c l = lt-ltb n (2 ^ 8) l
-two_longer Map n c l = lt-ltb n (2 ^ 8) l
-two_longer Tag n c l = lt-ltb n (2 ^ 8) l
+two_longer k n c l = rw (counted_not_other k c, lt-ltb n (2 ^ 8) l) refl
 
 four_longer : (k : Major) (n : ℕ) → IsCounted k → n < 2 ^ 16 → longer_parts (major_code k) (minor_as Four n) ≡ true
-four_longer Other n c l = absurd (omega (arith, c))
-four_longer Unsigned n c l = lt-ltb n (2 ^ 16) l
-four_longer Negative n c l = lt-ltb n (2 ^ 16) l
-four_longer ByteString n c l = lt-ltb n (2 ^ 16) l
-four_longer TextString n c l = lt-ltb n (2 ^ 16) l
-four_longer Array n c l = lt-ltb n (2 ^ 16) l
-four_longer Map n c l = lt-ltb n (2 ^ 16) l
-four_longer Tag n c l = lt-ltb n (2 ^ 16) l
+four_longer k n c l = rw (counted_not_other k c, lt-ltb n (2 ^ 16) l) refl
 
 eight_longer : (k : Major) (n : ℕ) → IsCounted k → n < 2 ^ 32 → longer_parts (major_code k) (minor_as Eight n) ≡ true
-eight_longer Other n c l = absurd (omega (arith, c))
-eight_longer Unsigned n c l = lt-ltb n (2 ^ 32) l
-eight_longer Negative n c l = lt-ltb n (2 ^ 32) l
-eight_longer ByteString n c l = lt-ltb n (2 ^ 32) l
-eight_longer TextString n c l = lt-ltb n (2 ^ 32) l
-eight_longer Array n c l = lt-ltb n (2 ^ 32) l
-eight_longer Map n c l = lt-ltb n (2 ^ 32) l
-eight_longer Tag n c l = lt-ltb n (2 ^ 32) l
+eight_longer k n c l = rw (counted_not_other k c, lt-ltb n (2 ^ 32) l) refl
 
 -- the bytes of a list in front are those of the whole
 same_at : (a m t r : List ℕ) (i : ℕ) → a ++ m ≡ t ++ r → i < length a → i < length t → get_or t i 0 ≡ get_or a i 0
@@ -91,50 +80,35 @@ by_title front m t r x (low, inr (inr (minor, one, two, three, four))) some (num
     refused k Eight n p (eight_longer k n (omega (arith, low, b))
     (omega (arith, c, d, f, g, zero_one, zero_two, zero_three, zero_four, p))) strict
 by_title front m t r x (low, inl (minor, one)) some (numbered k Small n p) e strict =
-    let b = same_at front m (numbered_title k Small n) r 0 e some (omega arith) in
-    absurd (omega (arith, b, minor, p))
+    absurd (omega (arith, same_at front m (numbered_title k Small n) r 0 e some (omega arith), minor, p))
 by_title front m t r x (low, inl (minor, one)) some (numbered k One n p) e strict =
-    let b = same_at front m (numbered_title k One n) r 0 e some (omega arith) in
-    absurd (omega (arith, b, minor, p))
+    absurd (omega (arith, same_at front m (numbered_title k One n) r 0 e some (omega arith), minor, p))
 by_title front m t r x (low, inl (minor, one)) some (numbered k Four n p) e strict =
-    let b = same_at front m (numbered_title k Four n) r 0 e some (omega arith) in
-    absurd (omega (arith, b, minor, p))
+    absurd (omega (arith, same_at front m (numbered_title k Four n) r 0 e some (omega arith), minor, p))
 by_title front m t r x (low, inl (minor, one)) some (numbered k Eight n p) e strict =
-    let b = same_at front m (numbered_title k Eight n) r 0 e some (omega arith) in
-    absurd (omega (arith, b, minor, p))
+    absurd (omega (arith, same_at front m (numbered_title k Eight n) r 0 e some (omega arith), minor, p))
 by_title front m t r x (low, inl (minor, one)) some (alone k y o) e strict =
-    let b = same_at front m (first_byte k 31 ∷ []) r 0 e some (omega arith) in
-    absurd (omega (arith, b, minor))
+    absurd (omega (arith, same_at front m (first_byte k 31 ∷ []) r 0 e some (omega arith), minor))
 by_title front m t r x (low, inr (inl (minor, one, two))) some (numbered k Small n p) e strict =
-    let b = same_at front m (numbered_title k Small n) r 0 e some (omega arith) in
-    absurd (omega (arith, b, minor, p))
+    absurd (omega (arith, same_at front m (numbered_title k Small n) r 0 e some (omega arith), minor, p))
 by_title front m t r x (low, inr (inl (minor, one, two))) some (numbered k One n p) e strict =
-    let b = same_at front m (numbered_title k One n) r 0 e some (omega arith) in
-    absurd (omega (arith, b, minor, p))
+    absurd (omega (arith, same_at front m (numbered_title k One n) r 0 e some (omega arith), minor, p))
 by_title front m t r x (low, inr (inl (minor, one, two))) some (numbered k Two n p) e strict =
-    let b = same_at front m (numbered_title k Two n) r 0 e some (omega arith) in
-    absurd (omega (arith, b, minor, p))
+    absurd (omega (arith, same_at front m (numbered_title k Two n) r 0 e some (omega arith), minor, p))
 by_title front m t r x (low, inr (inl (minor, one, two))) some (numbered k Eight n p) e strict =
-    let b = same_at front m (numbered_title k Eight n) r 0 e some (omega arith) in
-    absurd (omega (arith, b, minor, p))
+    absurd (omega (arith, same_at front m (numbered_title k Eight n) r 0 e some (omega arith), minor, p))
 by_title front m t r x (low, inr (inl (minor, one, two))) some (alone k y o) e strict =
-    let b = same_at front m (first_byte k 31 ∷ []) r 0 e some (omega arith) in
-    absurd (omega (arith, b, minor))
+    absurd (omega (arith, same_at front m (first_byte k 31 ∷ []) r 0 e some (omega arith), minor))
 by_title front m t r x (low, inr (inr (minor, one, two, three, four))) some (numbered k Small n p) e strict =
-    let b = same_at front m (numbered_title k Small n) r 0 e some (omega arith) in
-    absurd (omega (arith, b, minor, p))
+    absurd (omega (arith, same_at front m (numbered_title k Small n) r 0 e some (omega arith), minor, p))
 by_title front m t r x (low, inr (inr (minor, one, two, three, four))) some (numbered k One n p) e strict =
-    let b = same_at front m (numbered_title k One n) r 0 e some (omega arith) in
-    absurd (omega (arith, b, minor, p))
+    absurd (omega (arith, same_at front m (numbered_title k One n) r 0 e some (omega arith), minor, p))
 by_title front m t r x (low, inr (inr (minor, one, two, three, four))) some (numbered k Two n p) e strict =
-    let b = same_at front m (numbered_title k Two n) r 0 e some (omega arith) in
-    absurd (omega (arith, b, minor, p))
+    absurd (omega (arith, same_at front m (numbered_title k Two n) r 0 e some (omega arith), minor, p))
 by_title front m t r x (low, inr (inr (minor, one, two, three, four))) some (numbered k Four n p) e strict =
-    let b = same_at front m (numbered_title k Four n) r 0 e some (omega arith) in
-    absurd (omega (arith, b, minor, p))
+    absurd (omega (arith, same_at front m (numbered_title k Four n) r 0 e some (omega arith), minor, p))
 by_title front m t r x (low, inr (inr (minor, one, two, three, four))) some (alone k y o) e strict =
-    let b = same_at front m (first_byte k 31 ∷ []) r 0 e some (omega arith) in
-    absurd (omega (arith, b, minor))
+    absurd (omega (arith, same_at front m (first_byte k 31 ∷ []) r 0 e some (omega arith), minor))
 
 -- bytes that begin so begin no such title
 pub longer_none : (front : List ℕ) → 0 < length front → BeginsLonger front → NoneTaken true front
