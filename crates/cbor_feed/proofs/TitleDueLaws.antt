@@ -97,6 +97,13 @@ module _ (spot : Spot) (clear : spot.front ≡ []) (n : ℕ) (Then : List ℕ �
         ((closes y).1 waits)
     bytes_off t y x p g waits = absurd waits
 
+    bytes_same : (t y : List ℕ) (x : Header) → IsTitle t x → IsTakenTitle spot.strict t x
+        → Same (EndsString spot.strict Bytes Then (t ++ y)) (Waits (bytes_entered x n spot) y)
+    bytes_same t y x p g = (
+      λ o. bytes_on x y (piece spot.strict Bytes Then t y x p o),
+      λ waits. bytes_off t y x p g waits,
+    )
+
   module _ (inside : spot.within ≡ w.Text n)
       (outer : (z : List ℕ) → Same (EndsString spot.strict Text Then z) (EndsStrings spot.strict Text n Last z))
       (closes : (z : List ℕ) → Same (Then z) (Waits (string_closed w.Text n spot) z)) where
@@ -133,6 +140,13 @@ module _ (spot : Spot) (clear : spot.front ≡ []) (n : ℕ) (Then : List ℕ �
         ((closes y).1 waits)
     text_off t y x p g waits = absurd waits
 
+    text_same : (t y : List ℕ) (x : Header) → IsTitle t x → IsTakenTitle spot.strict t x
+        → Same (EndsString spot.strict Text Then (t ++ y)) (Waits (text_entered x n spot) y)
+    text_same t y x p g = (
+      λ o. text_on x y (piece spot.strict Text Then t y x p o),
+      λ waits. text_off t y x p g waits,
+    )
+
 -- ---- all
 
 itself : (A : Type 0) → Same A A
@@ -143,48 +157,26 @@ bytes_title : (n : ℕ) (spot : Spot) (t y : List ℕ) (x : Header) → spot.fro
     → Same (EndsStrings spot.strict Bytes n (Ends spot.strict spot.depth spot.levels) (t ++ y)) (Waits
     (bytes_entered x n spot) y)
 bytes_title zero spot t y x clear inside p g =
-    let Then : List ℕ → Type 0 = Ends spot.strict spot.depth spot.levels in
-    let outer : (z : List ℕ) → Same (EndsString spot.strict Bytes Then z) (EndsStrings spot.strict Bytes zero Then z) =
-    λ z. itself (EndsString spot.strict Bytes Then z) in
-    let closes : (z : List ℕ) → Same (Then z) (Waits (string_closed w.Bytes zero spot) z) =
-    λ z. settles spot.levels spot.depth spot z clear in (
-      λ o. bytes_on spot clear zero Then inside outer closes x y (piece spot.strict Bytes Then t y x p o),
-      λ waits. bytes_off spot clear zero Then inside outer closes t y x p g waits,
-    )
+    let Then = Ends spot.strict spot.depth spot.levels in
+    bytes_same spot clear zero Then inside (λ z. itself (EndsString spot.strict Bytes Then z))
+    (λ z. settles spot.levels spot.depth spot z clear) t y x p g
 bytes_title (suc m) spot t y x clear inside p g =
-    let Then : List ℕ → Type 0 = EndsStrings spot.strict Bytes m (Ends spot.strict spot.depth spot.levels) in
-    let outer : (z : List ℕ) → Same (EndsString spot.strict Bytes Then z)
-    (EndsStrings spot.strict Bytes (suc m) (Ends spot.strict spot.depth spot.levels) z) = λ z. itself
-    (EndsString spot.strict Bytes Then z) in
-    let closes : (z : List ℕ) → Same (Then z) (Waits (string_closed w.Bytes (suc m) spot) z) =
-    λ z. rw clear (itself (Then z)) in (
-      λ o. bytes_on spot clear (suc m) Then inside outer closes x y (piece spot.strict Bytes Then t y x p o),
-      λ waits. bytes_off spot clear (suc m) Then inside outer closes t y x p g waits,
-    )
+    let Then = EndsStrings spot.strict Bytes m (Ends spot.strict spot.depth spot.levels) in
+    bytes_same spot clear (suc m) Then inside (λ z. itself (EndsString spot.strict Bytes Then z))
+    (λ z. rw clear (itself (Then z))) t y x p g
 
 text_title : (n : ℕ) (spot : Spot) (t y : List ℕ) (x : Header) → spot.front ≡ [] → spot.within ≡ w.Text n
     → IsTitle t x → IsTakenTitle spot.strict t x
     → Same (EndsStrings spot.strict Text n (Ends spot.strict spot.depth spot.levels) (t ++ y)) (Waits
     (text_entered x n spot) y)
 text_title zero spot t y x clear inside p g =
-    let Then : List ℕ → Type 0 = Ends spot.strict spot.depth spot.levels in
-    let outer : (z : List ℕ) → Same (EndsString spot.strict Text Then z) (EndsStrings spot.strict Text zero Then z) =
-    λ z. itself (EndsString spot.strict Text Then z) in
-    let closes : (z : List ℕ) → Same (Then z) (Waits (string_closed w.Text zero spot) z) =
-    λ z. settles spot.levels spot.depth spot z clear in (
-      λ o. text_on spot clear zero Then inside outer closes x y (piece spot.strict Text Then t y x p o),
-      λ waits. text_off spot clear zero Then inside outer closes t y x p g waits,
-    )
+    let Then = Ends spot.strict spot.depth spot.levels in
+    text_same spot clear zero Then inside (λ z. itself (EndsString spot.strict Text Then z))
+    (λ z. settles spot.levels spot.depth spot z clear) t y x p g
 text_title (suc m) spot t y x clear inside p g =
-    let Then : List ℕ → Type 0 = EndsStrings spot.strict Text m (Ends spot.strict spot.depth spot.levels) in
-    let outer : (z : List ℕ) → Same (EndsString spot.strict Text Then z)
-    (EndsStrings spot.strict Text (suc m) (Ends spot.strict spot.depth spot.levels) z) = λ z. itself
-    (EndsString spot.strict Text Then z) in
-    let closes : (z : List ℕ) → Same (Then z) (Waits (string_closed w.Text (suc m) spot) z) =
-    λ z. rw clear (itself (Then z)) in (
-      λ o. text_on spot clear (suc m) Then inside outer closes x y (piece spot.strict Text Then t y x p o),
-      λ waits. text_off spot clear (suc m) Then inside outer closes t y x p g waits,
-    )
+    let Then = EndsStrings spot.strict Text m (Ends spot.strict spot.depth spot.levels) in
+    text_same spot clear (suc m) Then inside (λ z. itself (EndsString spot.strict Text Then z))
+    (λ z. rw clear (itself (Then z))) t y x p g
 
 -- what is due behind a title
 pub title_enters : (i : Within) (spot : Spot) (t y : List ℕ) (x : Header) → spot.front ≡ [] → spot.within ≡ i
