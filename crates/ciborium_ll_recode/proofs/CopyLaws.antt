@@ -21,7 +21,7 @@ use Rattle.ciborium_ll_grammar.specs.Faults.{Due, In, Reaches, due, inside, open
 use Rattle.ciborium_ll_decoder.specs.Decoding.{Passes, Strictly, IsSteady, PullsHeader, PullsTitle}
 use Rattle.ciborium_ll_io.specs.Writes.{WritesAll, WritesBytes, WritesFront}
 use Rattle.ciborium_ll_recode.specs.Recoding.{WritesHeader, Copied, CopiesRun, CopiesAll, StopsAtTitle, StopsWriting}
-use Rattle.ciborium_ll_recode.specs.Recoding.{StopsCopy, IsBehind, GoesOn, IsWithin, ReadsString}
+use Rattle.ciborium_ll_recode.specs.Recoding.{CopiesElements, CopiesOne, StopsCopy, IsBehind, GoesOn, IsWithin, ReadsString}
 use Rattle.ciborium_ll_decoder.specs.BodyCopies.{Sides, sides}
 use Rattle.ciborium_ll_grammar.proofs.TitleLaws.{shortest_no_longer}
 use Rattle.ciborium_ll_grammar.proofs.ElementLaws.{run_again}
@@ -255,6 +255,13 @@ module _ {R E W F : Type 0} (source : Reader R E) (sink : Writer W F) where
   pub added_run : (before : ℕ) (old now : Sides R W) → CopiesRun source sink (suc before) old now
       → CopiesRun source sink (before + 1) old now
   added_run before old now added = subst (λ (n : ℕ). CopiesRun source sink n old now) (omega arith) added
+
+  -- the error of an element stops the whole copy
+  pub one_stops : (count before room size : ℕ) (old now : Sides R W) (error : RecodeError E F)
+      → IsBehind source sink count before [] old now → size ≡ room → {new : Sides R W}
+      → CopiesOne source sink size now (Err error) new → CopiesElements source sink count room old (Err error) new
+  one_stops count before room size old now error behind same {new} one =
+      subst (λ (n : ℕ). StopsCopy source sink count n old error new) same (one.copied count before old behind)
 
   -- no element
   pub run_none : (start : Sides R W) → CopiesRun source sink 0 start start

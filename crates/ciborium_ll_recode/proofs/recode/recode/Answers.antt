@@ -1,8 +1,8 @@
-use Rattle.std.proofs.Common.{rules, refl, ◌≡◌, ◌∙◌, ℕ, Ok, length, arith, subst}
-use Rattle.ciborium_ll_recode.specs.Recoding.{CopiesElements, CopiesRun}
+use Rattle.std.proofs.Common.{rules, refl, ◌≡◌, ◌∙◌, ℕ, Ok, Err, length, arith, subst}
+use Rattle.ciborium_ll_recode.specs.Recoding.{CopiesRun}
 use Rattle.ciborium_ll_recode.specs.Sides.{sides_of}
 use Rattle.ciborium_ll_decoder.proofs.DecodingLaws.{exit_is, MovesOn-none, MovesOn-then}
-use Rattle.ciborium_ll_recode.proofs.CopyLaws.{run_none, run_behind, added_run, copies_all}
+use Rattle.ciborium_ll_recode.proofs.CopyLaws.{run_none, run_behind, one_stops, added_run, copies_all}
 use Rattle.ciborium_ll_recode.proofs.RecodeReadyLaws.{recode_told, recode_exactly}
 use Rattle.ciborium_ll_recode.proofs.ExactlyLaws.{exactly}
 use Rattle.ciborium_ll_recode.proofs.RecodeAnyhowLaws.{recode_anyhow}
@@ -33,29 +33,30 @@ elements-preserved g c =
 
 pub returns-in_err-copy_element : goal.returns-in_err-copy_element
 returns-in_err-copy_element g c =
-    let same = exit_is c.from_residual.result c.in_err-copy_element.field-0.0 c.from_residual.ensures.1 in
+    let error = c.in_err-copy_element.field-0.0 in
+    let same = exit_is c.from_residual.result error c.from_residual.ensures.1 in
+    let room = length c.args.buffer.now in
     let old = sides_of c.args.decoder.now c.args.encoder.now in
     let now = sides_of c.elements.decoder c.elements.encoder in
     let behind = run_behind g.R.Read g.W.Write c.args.count c.elements._copied old now c.elements-test.true
     c.elements.invariant.so_far in
-    let copied = rw c.in_err-copy_element.was at c.copy_element.ensures.copied in
-    let stopped = rw c.elements.auto.buffer at copied c.args.count c.elements._copied old behind in
-    let all : CopiesElements g.R.Read g.W.Write c.args.count (length c.args.buffer.now) old c.from_residual.result
-    (sides_of c.copy_element.new.decoder c.copy_element.new.encoder) = rw same stopped in
+    let stops = one_stops g.R.Read g.W.Write c.args.count c.elements._copied room (length c.elements.buffer) old now error
+    behind c.elements.auto.buffer in
     record {
       copied = record {
-        copied = all;
+        -- searched for, so that an error of no element is refused here
+        copied = rw same (stops (search rules));
         moves_on = MovesOn-then g.R.Read _ _ _ c.elements.invariant.moves_on c.copy_element.ensures.moves_on;
         target = c.copy_element.ensures.target ∙ c.elements.invariant.target;
       };
-      told = λ strict due written ready. recode_told g.R.Read g.W.Write c.args.count (length c.args.buffer.now) old due
-          written ready _ c.from_residual.result all;
-      exactly = λ strict due written alone. exactly g.R.Read g.W.Write c.args.count (length c.args.buffer.now) old due
-          written alone _ c.from_residual.result all;
-      front = λ strict due written ready. recode_exactly g.R.Read g.W.Write c.args.count (length c.args.buffer.now) old due
-          written ready _ c.from_residual.result all;
-      anyhow = λ strict due written told. recode_anyhow g.R.Read g.W.Write c.args.count (length c.args.buffer.now) old due
-          written told _ c.from_residual.result all;
+      told = λ strict due written ready. rw same (recode_told g.R.Read g.W.Write c.args.count room old due written ready _
+          (Err error) (stops c.in_err-copy_element.ensures));
+      exactly = λ strict due written alone. rw same (exactly g.R.Read g.W.Write c.args.count room old due written alone _
+          (Err error) (stops c.in_err-copy_element.ensures));
+      front = λ strict due written ready. rw same (recode_exactly g.R.Read g.W.Write c.args.count room old due written
+          ready _ (Err error) (stops c.in_err-copy_element.ensures));
+      anyhow = λ strict due written told. rw same (recode_anyhow g.R.Read g.W.Write c.args.count room old due written told
+          _ (Err error) (stops c.in_err-copy_element.ensures));
     }
 
 pub returns : goal.returns

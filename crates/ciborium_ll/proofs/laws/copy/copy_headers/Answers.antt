@@ -1,7 +1,8 @@
-use Rattle.std.proofs.Common.{rules, [], ◌∷◌, ◌++◌, ◌≡◌, Ok, Err, refl, arith, length-append, ◌∙◌}
+use Rattle.std.proofs.Common.{rules, [], ◌∷◌, ◌++◌, ◌≡◌, Ok, Err, refl, subst, arith, length-append, ◌∙◌}
 use Rattle.std.proofs.lemmas.Result.{err_from_is_err_and}
 use Rattle.ciborium_ll_decoder.specs.declared.copy.RecodeError.TheVariants as r
-use Rattle.ciborium_ll.specs.Copying.{CopiesEach, StopsAtPull, StopsAtPush}
+use Rattle.ciborium_ll_decoder.specs.declared.dec.Decoder.{Decoder}
+use Rattle.ciborium_ll.specs.Copying.{Copies, CopiesEach, StopsAtPull, StopsAtPush}
 use Rattle.ciborium_ll_recode.specs.Sides.{sides_of}
 use Rattle.ciborium_ll_decoder.proofs.BodyCopyLaws.{write_refused}
 use Rattle.ciborium_ll_decoder.proofs.DecodingLaws.{exit_is, MovesOn-none, MovesOn-then}
@@ -21,13 +22,17 @@ headers-init g c = (
 pub headers-preserved : goal.headers-preserved
 headers-preserved g c =
     let headers = c.headers.invariant.0 in
-    let pulled = c.in_ok-header.ensures in (
-      headers ++ c.in_ok-header.header ∷ [],
-      omega (arith, c.headers.invariant.1, length-append headers (c.in_ok-header.header ∷ [])),
-      Copies-push g.R.Read g.W.Write headers c.in_ok-header.header (sides_of c.args.decoder.now c.args.encoder.now)
-          (sides_of c.headers.decoder c.headers.encoder) (sides_of c.pull.new.self c.push.new.self)
-          c.headers.invariant.2 pulled.header pulled.moves_on.steady (search rules),
-      MovesOn-then g.R.Read _ _ _ c.headers.invariant.3 pulled.moves_on,
+    let header = c.in_ok-header.header in
+    let old = sides_of c.args.decoder.now c.args.encoder.now in (
+      headers ++ header ∷ [],
+      omega (arith, c.headers.invariant.1, length-append headers (header ∷ [])),
+      -- the decoder is as the header's pull left it
+      subst (λ (d : Decoder g.row.R.Denot). Copies g.R.Read g.W.Write (headers ++ header ∷ []) old
+          (sides_of d c.push.new.self)) {x = c.pull.new.self} (search rules)
+          (Copies-push g.R.Read g.W.Write headers header old (sides_of c.headers.decoder c.headers.encoder)
+          (sides_of c.pull.new.self c.push.new.self) c.headers.invariant.2 c.in_ok-header.ensures.header
+          c.in_ok-header.ensures.moves_on.steady (search rules)),
+      MovesOn-then g.R.Read _ _ _ c.headers.invariant.3 c.in_ok-header.ensures.moves_on,
       c.push.ensures.target ∙ c.headers.invariant.4,
     )
 
