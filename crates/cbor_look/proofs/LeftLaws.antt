@@ -1,7 +1,7 @@
 -- What is left behind a dump, byte by byte.
 use Rattle.std.proofs.Common.{inl, inr, ◌∷◌}
 use Rattle.std.proofs.Common.{◌≡◌, ℕ, ◌+◌, ◌<◌, ◌≤◌, List, [], ◌++◌, length, Option, Some, Result, Ok, Err, OnOk, sym}
-use Rattle.std.proofs.Common.{ap}
+use Rattle.std.proofs.Common.{ap, Bool, IsTrue, is_ok, rules}
 use Rattle.std.proofs.Common.{◌∙◌, subst, arith, append-nil, length-append}
 use Rattle.ciborium_ll.specs.Types.Read.{Ghosts}
 use Rattle.ciborium_ll.specs.Types.Decoder.{Decoder}
@@ -70,6 +70,13 @@ module _ {R E : Type 0} (source : Ghosts R E) where
   one_passed old between new before after passed reads =
       subst (λ (z : List ℕ). Passes source old z new) (sym reads.behind)
       (Passes-read source old between new before reads.bytes passed reads.reads.read reads.reads.steady)
+
+  -- where it came, one more byte was read
+  pub one_came : (before after : List ℕ) (old new : Decoder R) (result : Result (Unit {0}) (Error E)) (came : Bool)
+      → came ≡ is_ok result → ReadsMore source 1 before after old result new → IsTrue came
+      → ReadsMore source 1 before after old (Ok tt) new
+  one_came before after old new (Ok none) came told reads so = reads
+  one_came before after old new (Err error) came told reads so = absurd (search rules)
 
   pub shows_left : (level : ℕ) (drawn then_drawn : Option (List Line)) (old between new : Decoder R) (bytes : List ℕ)
       → Keeps source [] bytes old new → Passes source old bytes between → EndsRow source (length bytes) between new

@@ -1,5 +1,6 @@
 -- What the answers of the libraries, as the program says them, mean of bytes that are told.
 use Rattle.std.proofs.Common.{◌≡◌, ℕ, ◌+◌, Bool, List, [], length, None, Result, Ok, Err, refl, subst, ◌∙◌, arith}
+use Rattle.std.proofs.Common.{◌↔◌, IsOk, rules}
 use Rattle.std.specs.declared.io.Error.{Error}
 use Rattle.ciborium_ll.specs.Types.Read.{Ghosts}
 use Rattle.ciborium_ll.specs.Types.Decoder.{Decoder}
@@ -17,7 +18,7 @@ use Rattle.cbor_look.specs.declared.dump.DumpError.{DumpError}
 use Rattle.cbor_look.specs.declared.dump.DumpError.TheVariants as u
 use Rattle.cbor_look.specs.Checking.{AnswersAs, AnswersTold}
 use Rattle.cbor_look.specs.Singles.{ChecksOneTold}
-use Rattle.cbor_look_verdicts.specs.Checking.{fault_said, sequence_said, single_said, StopsAsNamed, StopsBehind}
+use Rattle.cbor_look_verdicts.specs.Checking.{fault_said, sequence_said, single_said, IsWell, StopsAsNamed, StopsBehind}
 use Rattle.cbor_look_verdicts.specs.Checking.{FindsAll, FindsBehindRows, FindsOne, dump_said}
 
 -- a fault that is named is found of a sequence, and of one item
@@ -30,6 +31,15 @@ fault_found_all strict depth count due start offset (s.Read (e.Syntax at)) stops
 fault_found_all strict depth count due start offset (s.Read e.TooLong) stops = (count, stops)
 fault_found_all strict depth count due start offset (s.Read e.Waiting) stops = (count, stops)
 
+-- no fault that is named is well
+fault_not_well : {E : Type 0} (error : SkipError E) (offset : ℕ) → IsWell (fault_said error offset) → ⊥
+fault_not_well (s.Break at) offset well = well
+fault_not_well (s.Deep at) offset well = well
+fault_not_well (s.Read (e.Io fault)) offset well = well
+fault_not_well (s.Read (e.Syntax at)) offset well = well
+fault_not_well (s.Read e.TooLong) offset well = well
+fault_not_well (s.Read e.Waiting) offset well = well
+
 fault_found_one : {E : Type 0} (strict : Bool) (depth : ℕ) (due : List ℕ) (start offset : ℕ) (error : SkipError E)
     → StopsBehind strict depth 0 due start (fault_said error offset) → FindsOne strict depth due start (fault_said error offset)
 fault_found_one strict depth due start offset (s.Break at) stops = stops
@@ -38,6 +48,15 @@ fault_found_one strict depth due start offset (s.Read (e.Io fault)) stops = stop
 fault_found_one strict depth due start offset (s.Read (e.Syntax at)) stops = stops
 fault_found_one strict depth due start offset (s.Read e.TooLong) stops = stops
 fault_found_one strict depth due start offset (s.Read e.Waiting) stops = stops
+
+-- all is well with a sequence where the answer of its check is `Ok`
+pub sequence_well : {E : Type 0} (answer : Result (Sequence E) (Stopped E)) (offset : ℕ) (P : Type 0)
+    → (IsOk answer ↔ P) → (IsWell (sequence_said answer offset) ↔ P)
+sequence_well (Ok sequence) offset P same = (λ well. same.0 refl, λ holds. tt)
+sequence_well (Err stopped) offset P same = (
+  λ well. absurd (fault_not_well stopped.error offset well),
+  λ holds. let none = same.1 holds in absurd (search rules),
+)
 
 module _ {R E : Type 0} (source : Ghosts R E) where
   -- what the skip of an item met is what stops its read

@@ -1,5 +1,4 @@
-use Rattle.std.proofs.Common.{rules}
-use Rattle.cbor_look_verdicts.proofs.FoundLaws.{sequence_found}
+use Rattle.cbor_look_verdicts.proofs.FoundLaws.{sequence_found, sequence_well}
 use Rattle.cbor_look_verdicts.proofs.check.all.Goals as goal
 
 pub returns-clause-told : goal.returns-clause-told
@@ -9,7 +8,12 @@ returns-clause-told g c = λ due ready.
     (c.check-answer.ensures.told due ready))
 
 pub returns-clause-says : goal.returns-clause-says
-returns-clause-says g c = search rules
+returns-clause-says g c = rw c.offset.ensures.same (record {
+  answer = c.check-answer.result;
+  checks = c.check-answer.ensures.checks;
+  said = rw c.offset.ensures.value at c.sequence_verdict.ensures;
+})
 
 pub returns-clause-exactly : goal.returns-clause-exactly
-returns-clause-exactly g c = search rules
+returns-clause-exactly g c = λ due ready.
+    rw c.sequence_verdict.ensures (sequence_well c.check-answer.result _ _ (c.check-answer.ensures.exactly due ready))
