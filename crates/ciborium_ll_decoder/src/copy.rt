@@ -59,8 +59,8 @@ impl<'r, R: Read, P: Chunked> Segments<'r, R, P> {
 }
 
 /// Writes the body of a string of a definite length to a writer, without its title, as [`Segments::copy`] writes that
-/// of a segment, through `buffer` of four bytes at least, and answers as that does. It pushes no header back, and names the place that it is given. Users copy
-/// elements, or the bodies of a string.
+/// of a segment, through `buffer` of four bytes at least, and answers as that does. It pushes no header back, and names
+/// the place that it is given. Users copy elements, or the bodies of a string.
 #[inline(always)]
 pub fn copy_body<R: Read, W: Write, P: Chunked>(
     decoder: &mut Decoder<R>,
