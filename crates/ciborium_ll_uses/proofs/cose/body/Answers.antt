@@ -1,5 +1,5 @@
-use Rattle.std.proofs.Common.{rules, ◌≡◌, ◌<◌, ◌≤◌, ◌++◌, length, Err, arith, length-append, length-take-le}
-use Rattle.std.proofs.lemmas.Result.{err_from_is_err_and}
+use Rattle.std.proofs.Common.{rules, ◌≡◌, ◌<◌, ◌≤◌, ◌++◌, length, arith, length-append, length-take-le}
+use Rattle.ciborium_ll.proofs.DecodingLaws.{exit_is}
 use Rattle.ciborium_ll.proofs.BodyLaws.{Passes-read}
 use Rattle.ciborium_ll_uses.proofs.cose.body.Goals as goal
 
@@ -24,10 +24,7 @@ chunks-preserved g c =
 
 pub returns-in_err-read_exact-clause-fails : goal.returns-in_err-read_exact-clause-fails
 returns-in_err-read_exact-clause-fails g c =
-    let from = err_from_is_err_and c.from_residual.result c.from_residual.ensures.1 in
-    let is_error = from.1 in
-    let is_same = from.2 in
-    let same : c.from_residual.result ≡ Err c.in_err-read_exact.field-0.0 = cc in
+    let same = exit_is c.from_residual.result c.in_err-read_exact.field-0.0 c.from_residual.ensures.1 in
     let kept = c.chunks.invariant in
     let fits : c.min-size.result ≤ length c.chunks.buffer = search rules in
     let some : 0 < c.min-size.result = search rules in

@@ -1,5 +1,5 @@
-use Rattle.std.proofs.Common.{rules, ◌≡◌, Some, Err, inr, refl}
-use Rattle.std.proofs.lemmas.Result.{err_from_is_err_and}
+use Rattle.std.proofs.Common.{rules, ◌≡◌, Some, inr, refl}
+use Rattle.ciborium_ll.proofs.DecodingLaws.{exit_is}
 use Rattle.ciborium_ll.specs.Types.Header.TheVariants as h
 use Rattle.ciborium_ll_uses.specs.declared.cose.CoseError.TheVariants as e
 use Rattle.ciborium_ll_uses.proofs.CoseLaws.{took_string}
@@ -15,10 +15,7 @@ returns-in_ok-body-in-Bytes-Some-clause-took g c =
 pub returns-in_err-body-in-Bytes-Some-clause-stops : goal.returns-in_err-body-in-Bytes-Some-clause-stops
 returns-in_err-body-in-Bytes-Some-clause-stops g c =
     let residual = c.from_residual-in_err-body-in-Bytes-Some in
-    let from = err_from_is_err_and residual.result residual.ensures.1 in
-    let is_error = from.1 in
-    let is_same = from.2 in
-    let same : residual.result ≡ Err (e.Read c.in_err-body-in-Bytes-Some.field-0.0) = cc in
+    let same = exit_is residual.result (e.Read c.in_err-body-in-Bytes-Some.field-0.0) residual.ensures.1 in
     let string : c.in_ok-len.field-0 ≡ h.Bytes (Some c.in-Bytes-Some.len) = search rules in
     let pulled = rw (c.offset-place.ensures.same, string) at c.in_ok-len.ensures.header in
     rw same (inr (record {

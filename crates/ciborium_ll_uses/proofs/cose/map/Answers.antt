@@ -1,5 +1,5 @@
-use Rattle.std.proofs.Common.{rules, ◌≡◌, Err, refl}
-use Rattle.std.proofs.lemmas.Result.{err_from_is_err_and}
+use Rattle.std.proofs.Common.{rules, ◌≡◌, refl}
+use Rattle.ciborium_ll.proofs.DecodingLaws.{exit_is}
 use Rattle.ciborium_ll.specs.Types.Header.TheVariants as h
 use Rattle.ciborium_ll_uses.specs.declared.cose.CoseError.TheVariants as e
 use Rattle.ciborium_ll_uses.proofs.CoseLaws.{took_map}
@@ -15,10 +15,7 @@ returns-clause-took g c =
 pub returns-in_err-pairs-in-Map-clause-stops : goal.returns-in_err-pairs-in-Map-clause-stops
 returns-in_err-pairs-in-Map-clause-stops g c =
     let residual = c.from_residual-in_err-pairs-in-Map in
-    let from = err_from_is_err_and residual.result residual.ensures.1 in
-    let is_error = from.1 in
-    let is_same = from.2 in
-    let same : residual.result ≡ Err (e.Skip c.in_err-pairs-in-Map.field-0.0) = cc in
+    let same = exit_is residual.result (e.Skip c.in_err-pairs-in-Map.field-0.0) residual.ensures.1 in
     let is_map : c.in_ok-len.field-0 ≡ h.Map c.in-Map.len = search rules in
     rw same (record {
       len = c.in-Map.len;

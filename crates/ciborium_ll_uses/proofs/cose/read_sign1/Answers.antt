@@ -1,5 +1,5 @@
-use Rattle.std.proofs.Common.{rules, ◌≡◌, Err, refl}
-use Rattle.std.proofs.lemmas.Result.{err_from_is_err_and}
+use Rattle.std.proofs.Common.{rules, ◌≡◌, refl}
+use Rattle.ciborium_ll.proofs.DecodingLaws.{exit_is}
 use Rattle.ciborium_ll_uses.specs.Cose.{TagDue, ArrayDue, ProtectedDue, UnprotectedDue, PayloadDue, SignatureDue}
 use Rattle.ciborium_ll_uses.proofs.CoseLaws.{began, stopped, came_none, came_tag, came_array, came_protected}
 use Rattle.ciborium_ll_uses.proofs.CoseLaws.{came_unprotected, came_payload}
@@ -18,10 +18,7 @@ returns-in_err-title-clause-stops c =
     let first = c.strict-decoder.result in
     let start = fresh.offset in
     let untitled = came_none _ first fresh.none_waits in
-    let from = err_from_is_err_and c.from_residual.result c.from_residual.ensures.1 in
-    let is_error = from.1 in
-    let is_same = from.2 in
-    let same : c.from_residual.result ≡ Err c.in_err-title.field-0.0 = cc in
+    let same = exit_is c.from_residual.result c.in_err-title.field-0.0 c.from_residual.ensures.1 in
     rw same (stopped _ first start c.args.bytes.now _ TagDue _ _ _ (search rules) fresh.mode (λ decoder. refl) untitled
     c.in_err-title.ensures.stops)
 
@@ -31,10 +28,8 @@ returns-in_err-title-2-clause-stops c =
     let first = c.strict-decoder.result in
     let start = fresh.offset in
     let tagged = came_tag _ first start _ c.in_ok-title.ensures.took in
-    let from = err_from_is_err_and c.from_residual-in_err-title-2.result c.from_residual-in_err-title-2.ensures.1 in
-    let is_error = from.1 in
-    let is_same = from.2 in
-    let same : c.from_residual-in_err-title-2.result ≡ Err c.in_err-title-2.field-0.0 = cc in
+    let same = exit_is c.from_residual-in_err-title-2.result c.in_err-title-2.field-0.0
+    c.from_residual-in_err-title-2.ensures.1 in
     rw same (stopped _ first start c.args.bytes.now _ ArrayDue _ _ _ (search rules) fresh.mode (λ decoder. refl) tagged
     c.in_err-title-2.ensures.stops)
 
@@ -44,10 +39,8 @@ returns-in_err-protected-clause-stops c =
     let first = c.strict-decoder.result in
     let start = fresh.offset in
     let opened = came_array _ first start _ _ c.in_ok-title.ensures.took c.in_ok-title-2.ensures.took in
-    let from = err_from_is_err_and c.from_residual-in_err-protected.result c.from_residual-in_err-protected.ensures.1 in
-    let is_error = from.1 in
-    let is_same = from.2 in
-    let same : c.from_residual-in_err-protected.result ≡ Err c.in_err-protected.field-0.0 = cc in
+    let same = exit_is c.from_residual-in_err-protected.result c.in_err-protected.field-0.0
+    c.from_residual-in_err-protected.ensures.1 in
     rw same (stopped _ first start c.args.bytes.now _ ProtectedDue _ _ _ (search rules) fresh.mode
     (λ decoder. refl) opened
     c.in_err-protected.ensures.stops)
@@ -59,11 +52,8 @@ returns-in_err-unprotected-clause-stops c =
     let start = fresh.offset in
     let opened = came_array _ first start _ _ c.in_ok-title.ensures.took c.in_ok-title-2.ensures.took in
     let protected = came_protected _ first start _ _ _ _ opened c.in_ok-protected.ensures.took in
-    let from = err_from_is_err_and c.from_residual-in_err-unprotected.result
+    let same = exit_is c.from_residual-in_err-unprotected.result c.in_err-unprotected.field-0.0
     c.from_residual-in_err-unprotected.ensures.1 in
-    let is_error = from.1 in
-    let is_same = from.2 in
-    let same : c.from_residual-in_err-unprotected.result ≡ Err c.in_err-unprotected.field-0.0 = cc in
     rw same (stopped _ first start c.args.bytes.now _ UnprotectedDue _ _ _ (search rules) fresh.mode
     (λ decoder. refl) protected
     c.in_err-unprotected.ensures.stops)
@@ -76,10 +66,8 @@ returns-in_err-payload-clause-stops c =
     let opened = came_array _ first start _ _ c.in_ok-title.ensures.took c.in_ok-title-2.ensures.took in
     let protected = came_protected _ first start _ _ _ _ opened c.in_ok-protected.ensures.took in
     let unprotected = came_unprotected _ first start _ _ _ _ protected c.in_ok-unprotected.ensures.took in
-    let from = err_from_is_err_and c.from_residual-in_err-payload.result c.from_residual-in_err-payload.ensures.1 in
-    let is_error = from.1 in
-    let is_same = from.2 in
-    let same : c.from_residual-in_err-payload.result ≡ Err c.in_err-payload.field-0.0 = cc in
+    let same = exit_is c.from_residual-in_err-payload.result c.in_err-payload.field-0.0
+    c.from_residual-in_err-payload.ensures.1 in
     rw same (stopped _ first start c.args.bytes.now _ PayloadDue _ _ _ (search rules) fresh.mode
     (λ decoder. refl) unprotected
     c.in_err-payload.ensures.stops)
@@ -93,10 +81,8 @@ returns-in_err-signature-clause-stops c =
     let protected = came_protected _ first start _ _ _ _ opened c.in_ok-protected.ensures.took in
     let unprotected = came_unprotected _ first start _ _ _ _ protected c.in_ok-unprotected.ensures.took in
     let paid = came_payload _ first start _ _ _ _ unprotected c.in_ok-payload.ensures.took in
-    let from = err_from_is_err_and c.from_residual-in_err-signature.result c.from_residual-in_err-signature.ensures.1 in
-    let is_error = from.1 in
-    let is_same = from.2 in
-    let same : c.from_residual-in_err-signature.result ≡ Err c.in_err-signature.field-0.0 = cc in
+    let same = exit_is c.from_residual-in_err-signature.result c.in_err-signature.field-0.0
+    c.from_residual-in_err-signature.ensures.1 in
     rw same (stopped _ first start c.args.bytes.now _ SignatureDue _ _ _ (search rules) fresh.mode
     (λ decoder. refl) paid
     c.in_err-signature.ensures.stops)

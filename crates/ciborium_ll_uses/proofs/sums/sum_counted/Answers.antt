@@ -1,10 +1,9 @@
-use Rattle.std.proofs.Common.{rules, ◌≡◌, Err, refl, arith, add-one}
-use Rattle.std.proofs.lemmas.Result.{err_from_is_err_and}
+use Rattle.std.proofs.Common.{rules, ◌≡◌, refl, arith, add-one}
 use mir.Syntax.{w64}
 use mir.Val.{SFits, to_z}
 use Rattle.std.proofs.lemmas.Int.{to_z-of_z}
 use Rattle.ciborium_ll.specs.Types.Header.TheVariants as h
-use Rattle.ciborium_ll.proofs.DecodingLaws.{MovesOn-none, MovesOn-then}
+use Rattle.ciborium_ll.proofs.DecodingLaws.{exit_is, MovesOn-none, MovesOn-then}
 use Rattle.ciborium_ll_uses.proofs.SumLaws.{reads_none, reads_more, stops_counted}
 use Rattle.ciborium_ll_uses.proofs.sums.sum_counted.Goals as goal
 
@@ -35,10 +34,7 @@ returns-in-None-clause-sums g c =
 
 pub returns-in_err-sum-clause-sums : goal.returns-in_err-sum-clause-sums
 returns-in_err-sum-clause-sums g c =
-    let failed = err_from_is_err_and c.from_residual.result c.from_residual.ensures.1 in
-    let is_error = failed.1 in
-    let is_same = failed.2 in
-    let same : c.from_residual.result ≡ Err c.in_err-sum.field-0.0 = cc in
+    let same = exit_is c.from_residual.result c.in_err-sum.field-0.0 c.from_residual.ensures.1 in
     rw same (record {
       count = c.numbers._read;
       total = to_z w64 c.numbers.total-bits;

@@ -1,6 +1,5 @@
 use Rattle.std.proofs.Common.{rules, ◌≡◌, ◌∙◌, Err, inl, refl, sym, ap, arith, length, length-append}
-use Rattle.std.proofs.lemmas.Result.{err_from_is_err_and}
-use Rattle.ciborium_ll.proofs.DecodingLaws.{MovesOn-none, MovesOn-then}
+use Rattle.ciborium_ll.proofs.DecodingLaws.{exit_is, MovesOn-none, MovesOn-then}
 use Rattle.ciborium_ll_uses.specs.declared.texts.TextError.TheVariants as t
 use Rattle.ciborium_ll_uses.proofs.TextLaws.{as_strict, gathered_none, gathered_more, goes_on, body_fails}
 use Rattle.ciborium_ll_uses.proofs.TextLaws.{body_lacks}
@@ -30,10 +29,7 @@ returns-in_default-clause-gathers g c =
 
 pub returns-in_err-body-clause-stops : goal.returns-in_err-body-clause-stops
 returns-in_err-body-clause-stops g c =
-    let failed = err_from_is_err_and c.from_residual.result c.from_residual.ensures.1 in
-    let is_error = failed.1 in
-    let is_same = failed.2 in
-    let same : c.from_residual.result ≡ Err (t.Read c.in_err-body.field-0.0) = cc in
+    let same = exit_is c.from_residual.result (t.Read c.in_err-body.field-0.0) c.from_residual.ensures.1 in
     let so_far = c.segments.invariant.so_far in
     rw same (inl (record {
       bodies = so_far.bodies;

@@ -1,6 +1,6 @@
 use Rattle.std.proofs.Common.{rules, subst, ◌≡◌, Err, ap, ◌∙◌, string_bytes}
-use Rattle.std.proofs.lemmas.Result.{err_from_is_err_and}
 use Rattle.std.specs.Str.{IsUtf8}
+use Rattle.ciborium_ll.proofs.DecodingLaws.{exit_is}
 use Rattle.ciborium_ll.specs.Decoding.{MovesOn}
 use Rattle.ciborium_ll.specs.Types.Decoder.{Decoder}
 use Rattle.ciborium_ll_uses.specs.Texts.{GathersText, ReadsText, StopsText}
@@ -9,11 +9,8 @@ use Rattle.ciborium_ll_uses.proofs.texts.read_string.Goals as goal
 
 pub returns-in_err-read_segments-clause-stops : goal.returns-in_err-read_segments-clause-stops
 returns-in_err-read_segments-clause-stops g c =
-    let failed = err_from_is_err_and c.from_residual-in_err-read_segments.result
+    let same = exit_is c.from_residual-in_err-read_segments.result c.in_err-read_segments.field-0.0
     c.from_residual-in_err-read_segments.ensures.1 in
-    let is_error = failed.1 in
-    let is_same = failed.2 in
-    let same : c.from_residual-in_err-read_segments.result ≡ Err c.in_err-read_segments.field-0.0 = cc in
     let pulled = rw (c.offset-place.ensures.same, c.in-Text.is) at c.in_ok-len.ensures.header in
     let stops = rw c.text-segments.ensures.fresh at c.in_err-read_segments.ensures.stops in
     rw same (subst (λ (d : Decoder g.row.R.Denot). StopsText g.R.Read c.args.limit c.args.decoder.now

@@ -1,5 +1,4 @@
 use Rattle.std.proofs.Common.{rules, [], ◌∷◌, ◌++◌, ◌≡◌, Ok, Err, refl, subst, arith, length-append, ◌∙◌}
-use Rattle.std.proofs.lemmas.Result.{err_from_is_err_and}
 use Rattle.ciborium_ll_decoder.specs.declared.copy.RecodeError.TheVariants as r
 use Rattle.ciborium_ll_decoder.specs.declared.dec.Decoder.{Decoder}
 use Rattle.ciborium_ll.specs.Copying.{Copies, CopiesEach, StopsAtPull, StopsAtPush}
@@ -39,10 +38,7 @@ headers-preserved g c =
 pub returns-in_err-header : goal.returns-in_err-header
 returns-in_err-header g c =
     let error = c.in_err-header.field-0.0 in
-    let from = err_from_is_err_and c.from_residual.result c.from_residual.ensures.1 in
-    let is_error = from.1 in
-    let is_same = from.2 in
-    let same : c.from_residual.result ≡ Err (r.Read error) = cc in
+    let same = exit_is c.from_residual.result (r.Read error) c.from_residual.ensures.1 in
     let copied : StopsAtPull g.R.Read g.W.Write c.args.count (sides_of c.args.decoder.now c.args.encoder.now)
     error (sides_of c.pull.new.self c.headers.encoder) =
     record {

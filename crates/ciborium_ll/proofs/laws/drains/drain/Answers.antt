@@ -1,7 +1,6 @@
 use Rattle.std.proofs.Common.{rules, ◌≡◌, ℕ, [], ◌∷◌, ◌++◌, length, take, get_or, refl, subst, sym, ◌∙◌, arith, None}
 use Rattle.std.proofs.Common.{Ok, Err, length-take-le}
 use Rattle.std.proofs.lemmas.List.{take_more, take_all}
-use Rattle.std.proofs.lemmas.Result.{err_from_is_err_and}
 use Rattle.ciborium_ll_decoder.specs.declared.copy.RecodeError.TheVariants as r
 use Rattle.ciborium_ll_decoder.specs.Chunks.{GivesChunk, PullsChunk}
 use Rattle.ciborium_ll_decoder.proofs.BodyCopyLaws.{write_refused}
@@ -33,10 +32,7 @@ returns-in_default-clause-drains g c =
 pub returns-in_err-chunk-clause-drains : goal.returns-in_err-chunk-clause-drains
 returns-in_err-chunk-clause-drains g c =
     let error = c.in_err-chunk.field-0.0 in
-    let from = err_from_is_err_and c.from_residual.result c.from_residual.ensures.1 in
-    let is_error = from.1 in
-    let is_same = from.2 in
-    let same : c.from_residual.result ≡ Err (r.Read error) = cc in
+    let same = exit_is c.from_residual.result (r.Read error) c.from_residual.ensures.1 in
     let sizes = c.args.sizes.now in
     let size = get_or sizes c.sizes.index 0 in
     let fits = c.requires.fit c.sizes.index 0 c.sizes-test.true in
