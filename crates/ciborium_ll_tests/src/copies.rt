@@ -1,6 +1,6 @@
-use crate::calls::{decoder_at, encoder_into, has_left, has_read};
+use crate::calls::{decoder_at, encoder_into, has_read, has_written};
 use crate::checks::{Stop, holds, holds_at, stop_of};
-use ciborium_ll::io::{Read, SliceReader, SliceWriter};
+use ciborium_ll::io::{SliceReader, SliceWriter};
 use ciborium_ll::{Decoder, Encoder, Float, Header, laws, simple, tag};
 use std::process::Abort;
 
@@ -28,45 +28,22 @@ fn copies_headers(
 }
 
 // Copies so many headers into this much space, and compares all that this comes to. What was not read is left.
-fn copy_row(
-    rt: &impl Abort,
-    bytes: &[u8],
-    count: usize,
-    room: usize,
-    written: &[u8],
-    stop: Stop,
-    offset: usize,
-) {
+fn copy_row(rt: &impl Abort, row: &Row) {
+    let (bytes, count, room, written, stop, offset) = row;
     let mut space = [0; 8];
     let mut decoder = decoder_at(bytes, 0);
-    let mut encoder = encoder_into(&mut space, room);
-    let is_stopped = copies_headers(&mut decoder, &mut encoder, count) == stop;
-    let is_read = has_read(decoder, offset, bytes.get(offset..));
-    let is_written = encoder.into_inner().written() == written;
+    let mut encoder = encoder_into(&mut space, *room);
+    let is_stopped = copies_headers(&mut decoder, &mut encoder, *count) == *stop;
+    let is_read = has_read(decoder, *offset, bytes.get(*offset..));
+    let is_written = has_written(&encoder.into_inner(), written);
     holds_at(rt, is_written && is_stopped && is_read, bytes);
 }
 
 #[test]
 fn headers_are_copied(rt: HostRuntime) {
-    for &(bytes, count, room, written, stop, offset) in &ROWS {
-        copy_row(&rt, bytes, count, room, written, stop, offset);
+    for row in &ROWS {
+        copy_row(&rt, row);
     }
-}
-
-// Pulls a header, gives it back, and pulls it again.
-fn gives_again<R: Read>(decoder: &mut Decoder<R>, want: Header) -> bool
-where
-    R::Error: Drop,
-{
-    matches!(laws::pull_again(decoder), Ok(header) if header == want)
-}
-
-#[test]
-fn a_header_is_pulled_again(rt: HostRuntime) {
-    let mut decoder = Decoder::from(SliceReader::new(&[0x18, 5, 0]));
-    let is_given = gives_again(&mut decoder, Header::Positive(5));
-    holds(&rt, is_given && decoder.offset() == 2, "the header");
-    holds(&rt, has_left(decoder, &[0]), "what is left");
 }
 
 // Two headers are the same, or are not.

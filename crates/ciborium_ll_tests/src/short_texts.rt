@@ -1,7 +1,6 @@
+use crate::calls::encoder_into;
 use crate::checks::holds_at;
 use crate::drains::drains_whole;
-use ciborium_ll::Encoder;
-use ciborium_ll::io::SliceWriter;
 use ciborium_ll::laws::End;
 use simdutf8::basic;
 use std::process::Abort;
@@ -15,7 +14,7 @@ const BYTES: [u8; 20] = [
 // Whether the text that the bytes are is read to its end, by buffers of four bytes.
 fn ends(rt: &impl Abort, bytes: &[u8]) -> bool {
     let mut written = [0; 4];
-    let mut sink = Encoder::from(SliceWriter::new(&mut written));
+    let mut sink = encoder_into(&mut written, 4);
     matches!(
         drains_whole(rt, bytes, &[4; 6], &mut sink),
         Ok((_, End::Ended))

@@ -1,6 +1,6 @@
-use crate::calls::{flushes, pushes, reads, writes};
+use crate::calls::{pushes, reads, writes};
 use crate::checks::holds;
-use ciborium_ll::io::{Read, ReadFault, StdReader, StdWriter, Write, WriteFault};
+use ciborium_ll::io::{ReadFault, StdReader, StdWriter, Write, WriteFault};
 use ciborium_ll::{Decoder, Encoder, Header};
 use ciborium_ll_fixtures::streams::{PartReader, PartWriter};
 use std::alloc::Global;
@@ -71,23 +71,20 @@ fn writes_std<T: io::Write>(writer: &mut StdWriter<T>, data: &[u8]) -> Failure {
 
 // Passes on what was written to a writer of std.
 fn flushes_std<T: io::Write>(writer: &mut StdWriter<T>) -> Failure {
-    write_failure(flushes(writer).err())
+    write_failure(writer.flush().err())
 }
 
-// Pulls the header of a number.
-fn gives_number<R: Read>(decoder: &mut Decoder<R>, want: u64) -> bool
-where
-    R::Error: Drop,
-{
-    matches!(decoder.pull(), Ok(Header::Positive(number)) if number == want)
+// Pulls the header of a number of two bytes.
+fn gives_number(decoder: &mut Decoder<StdReader<&[u8]>>, want: u64) -> bool {
+    let is_given = matches!(decoder.pull(), Ok(Header::Positive(number)) if number == want);
+    is_given && decoder.offset() == 2
 }
 
 // No contract says that a read over std succeeds. An adapter that always answered `End` would fail here.
 #[test]
 fn a_reader_in_memory(rt: HostRuntime) {
     let mut decoder = Decoder::from(StdReader::new([0x18, 24, 1, 2].as_slice()));
-    let is_given = gives_number(&mut decoder, 24);
-    holds(&rt, is_given && decoder.offset() == 2, "the header");
+    holds(&rt, gives_number(&mut decoder, 24), "the header");
     let mut one = [0; 1];
     let is_read = reads(&mut decoder, &mut one).is_ok();
     holds(&rt, is_read && one == [1], "the byte behind it");
@@ -170,16 +167,19 @@ fn more_than_a_million_bytes(rt: HostRuntime) -> Result<(), Fail> {
     Ok(())
 }
 
+// Whether these bytes came to a vector behind an encoder.
+fn has_taken(encoder: Encoder<StdWriter<Vec<u8>>>, bytes: &[u8]) -> bool {
+    encoder.into_inner().into_inner().as_slice() == bytes
+}
+
 // Nor that a write does. An adapter that always answered `Zero` would fail here.
 #[test]
 fn a_writer_in_memory(rt: HostRuntime) {
     let mut encoder = Encoder::from(StdWriter::new(Vec::new(rt.alloc())));
-    let is_pushed = pushes(&mut encoder, Header::Bytes(Some(2))).is_ok();
-    let is_written = writes(&mut encoder, &[1, 2]).is_ok();
-    holds(&rt, is_pushed && is_written, "the writes");
-    let taken = encoder.into_inner().into_inner();
-    let is_right = taken.as_slice() == [0x42, 1, 2].as_slice();
-    holds(&rt, is_right, "what was taken");
+    let is_pushed = pushes(&mut encoder, Header::Bytes(Some(2)));
+    let is_written = is_pushed && writes(&mut encoder, &[1, 2]);
+    holds(&rt, is_written, "the writes");
+    holds(&rt, has_taken(encoder, &[0x42, 1, 2]), "what was taken");
 }
 
 // What a writer took, in how many calls and flushes.

@@ -1,13 +1,12 @@
-use crate::calls::{Step, steps_row};
+use crate::calls::{decoder_at, encoder_into, has_written, strict_decoder};
 use crate::checks::{Stop, holds, holds_at, next_header};
 use crate::elements::recodes;
-use crate::strings::segments_row;
-use ciborium_ll::io::{SliceReader, SliceWriter};
+use crate::vectors::decoded;
+use ciborium_ll::io::SliceReader;
 use ciborium_ll::recode::strict_len;
-use ciborium_ll::{Decoder, Encoder, Header};
+use ciborium_ll::{Decoder, Header};
 use ciborium_ll_fixtures::samples::VECTORS;
 use std::process::Abort;
-use std::test::Fail;
 
 // Bytes, how many elements are copied, what is written, how the copy ends, and the offset behind it.
 type Row = (&'static [u8], usize, &'static [u8], Stop, usize);
@@ -19,14 +18,15 @@ fn length_of(bytes: &[u8], count: usize) -> Option<usize> {
 
 // Copies elements, each from a strict decoder, and compares what was written, the answer and the offset, and how long
 // the elements are where each is in its shortest spelling.
-fn copy_row(rt: &impl Abort, bytes: &[u8], count: usize, written: &[u8], end: Stop, offset: usize) {
+fn copy_row(rt: &impl Abort, row: &Row) {
+    let (bytes, count, written, end, offset) = row;
     let mut space = [0; 16];
-    let mut decoder = Decoder::strict(SliceReader::new(bytes));
-    let mut encoder = Encoder::from(SliceWriter::new(&mut space));
-    let is_ended = recodes(rt, &mut decoder, &mut encoder, count, &mut [0; 64]) == end;
-    let is_written = encoder.into_inner().written() == written && decoder.offset() == offset;
-    let length = (end == Stop::Never).then_some(offset);
-    let is_long = length_of(bytes, count) == length;
+    let mut decoder = strict_decoder(bytes);
+    let mut encoder = encoder_into(&mut space, 16);
+    let is_ended = recodes(rt, &mut decoder, &mut encoder, *count, &mut [0; 64]) == *end;
+    let is_written = has_written(&encoder.into_inner(), written) && decoder.offset() == *offset;
+    let length = (*end == Stop::Never).then_some(*offset);
+    let is_long = length_of(bytes, *count) == length;
     holds_at(rt, is_ended && is_written && is_long, bytes);
 }
 
@@ -68,8 +68,8 @@ static ROWS: [Row; 20] = [
 
 #[test]
 fn elements_in_their_shortest_spelling(rt: HostRuntime) {
-    for &(bytes, count, written, end, offset) in &ROWS {
-        copy_row(&rt, bytes, count, written, end, offset);
+    for row in &ROWS {
+        copy_row(&rt, row);
     }
 }
 
@@ -119,13 +119,8 @@ fn title_row(
 
 // Compares what decoders of both kinds give for a title.
 fn both_rows(rt: &impl Abort, title: &[u8], plain: Header, strict: Option<Header>) {
-    title_row(
-        rt,
-        Decoder::from(SliceReader::new(title)),
-        title,
-        Some(plain),
-    );
-    title_row(rt, Decoder::strict(SliceReader::new(title)), title, strict);
+    title_row(rt, decoder_at(title, 0), title, Some(plain));
+    title_row(rt, strict_decoder(title), title, strict);
 }
 
 // No strict decoder takes a longer title of a header, and another one takes each. It tells how many there are.
@@ -160,15 +155,14 @@ fn vector_row(rt: &impl Abort, title: &[u8], header: Header) -> usize {
 }
 
 #[test]
-fn vectors_and_their_longer_titles(rt: HostRuntime) -> Result<(), Fail> {
+fn vectors_and_their_longer_titles(rt: HostRuntime) {
     let mut all = 0usize;
-    for &(hex, header) in &VECTORS {
-        let shortest = hex::decode(rt.alloc(), hex)?;
-        all = all.saturating_add(vector_row(&rt, shortest.as_slice(), header));
+    for (hex, header) in &VECTORS {
+        let count = vector_row(&rt, decoded(&rt, hex, &mut [0; 64]), *header);
+        all = all.saturating_add(count);
     }
     // The titles of numbers that are a byte have four longer ones, and so on; simple values in one byte have one.
     holds(&rt, all == 80, "how many longer titles there are");
-    Ok(())
 }
 
 // Whether a strict copy takes the first element of one byte or two, by a plain reading.
@@ -190,7 +184,7 @@ fn is_strict(first: u8, second: Option<u8>) -> bool {
 // Copies one element, and says whether that succeeds and writes just what it consumes.
 fn is_copied(rt: &impl Abort, mut decoder: Decoder<SliceReader>, bytes: &[u8]) -> (bool, bool) {
     let mut space = [0; 2];
-    let mut encoder = Encoder::from(SliceWriter::new(&mut space));
+    let mut encoder = encoder_into(&mut space, 2);
     let stopped = recodes(rt, &mut decoder, &mut encoder, 1, &mut [0; 4]);
     let writer = encoder.into_inner();
     let written = writer.written();
@@ -200,8 +194,8 @@ fn is_copied(rt: &impl Abort, mut decoder: Decoder<SliceReader>, bytes: &[u8]) -
 
 // Compares both decoders on a list of one byte or two.
 fn both_decoders(rt: &impl Abort, bytes: &[u8], first: u8, second: Option<u8>) {
-    let (plain, is_plain_same) = is_copied(rt, Decoder::from(SliceReader::new(bytes)), bytes);
-    let (strict, is_same) = is_copied(rt, Decoder::strict(SliceReader::new(bytes)), bytes);
+    let (plain, is_plain_same) = is_copied(rt, decoder_at(bytes, 0), bytes);
+    let (strict, is_same) = is_copied(rt, strict_decoder(bytes), bytes);
     let is_small = first == 0xf8 && matches!(second, Some(24..=31));
     let is_plain = strict == (plain && is_plain_same && !is_small);
     let is_right = strict == is_strict(first, second) && is_plain && (!strict || is_same);
@@ -223,8 +217,8 @@ fn every_list_of_one_and_two_bytes(rt: HostRuntime) {
 // each title that is one is the shortest.
 fn neither_takes(rt: &impl Abort, first: u8) -> bool {
     let bytes = [first, 0xff, 0xff, 0xff, 0xff, 0xff, 0xff, 0xff, 0xff];
-    let mut plain = Decoder::from(SliceReader::new(&bytes));
-    let mut strict = Decoder::strict(SliceReader::new(&bytes));
+    let mut plain = decoder_at(&bytes, 0);
+    let mut strict = strict_decoder(&bytes);
     let is_taken = next_header(&mut plain).is_ok();
     let answer = next_header(&mut strict);
     let is_told = if is_taken {
@@ -244,20 +238,4 @@ fn first_bytes_that_neither_takes(rt: HostRuntime) {
         refused = refused.saturating_add(usize::from(neither_takes(&rt, first)));
     }
     holds(&rt, refused == 27, "how many first bytes begin no title");
-}
-
-#[test]
-fn opens_and_waiting_headers(rt: HostRuntime) {
-    // A string of the indefinite form is asked twice for a segment, where a further open stands.
-    let decoder = Decoder::strict(SliceReader::new(&[0x5f, 0x5f, 0x41, 1, 0xff, 0xff]));
-    let refused = Err(Stop::Syntax(1));
-    segments_row(&rt, decoder, "a further open", &[refused, refused], 2);
-    // A header that a strict decoder would not take is given back, and pulled again.
-    let steps = &[
-        (Step::Pull(Ok(Header::Positive(24))), 2),
-        (Step::Push(Header::Simple(24)), 0),
-        (Step::Pull(Ok(Header::Simple(24))), 2),
-    ];
-    let decoder = Decoder::strict(SliceReader::new(&[0x18, 0x18]));
-    steps_row(&rt, decoder, "a small simple value comes back", steps, &[]);
 }
