@@ -1,3 +1,4 @@
+use crate::checks::{holds, holds_with};
 use crate::streams::{Failure, read_failure, write_failure};
 use ciborium_ll::io::{BufferedReader, BufferedWriter, Read, Write};
 use ciborium_ll::recode::recode;
@@ -156,8 +157,11 @@ static READS: [Reads; 8] = [
 #[test]
 fn reads_ahead(rt: HostRuntime) {
     for row in &READS {
-        let is_right = reads_row(row);
-        assert!(rt; is_right, "with {} bytes lent, to {:?}", row.0, row.4);
+        holds_with(
+            &rt,
+            reads_row(row),
+            &[row.0, row.1.len(), row.2, row.3.len()],
+        );
     }
 }
 
@@ -189,7 +193,7 @@ fn a_fault_of_a_reader_is_kept(rt: HostRuntime) {
     for room in [0, 3, 8] {
         let (count, failure) = faults(room);
         let is_right = count == FAULTS.len() && failure == Failure::Stopped;
-        assert!(rt; is_right, "with {room} bytes lent, {count} calls");
+        holds_with(&rt, is_right, &[room, count]);
     }
 }
 
@@ -250,16 +254,13 @@ fn writer_answers(writer: &mut BufferedWriter<PartWriter>, call: &WriteCall) -> 
     }
 }
 
-// Makes calls, and tells how many were answered as they have to be, up to one that was not.
-fn answered_writes(writer: &mut BufferedWriter<PartWriter>, calls: &[WriteCall]) -> usize {
-    let mut count = 0usize;
+// Makes calls, and tells whether each was answered as it has to be.
+fn answers_writes(writer: &mut BufferedWriter<PartWriter>, calls: &[WriteCall]) -> bool {
+    let mut are_right = true;
     for call in calls {
-        if !writer_answers(writer, call) {
-            return count;
-        }
-        count = count.saturating_add(1);
+        are_right = writer_answers(writer, call) && are_right;
     }
-    count
+    are_right
 }
 
 // What a writer comes to: what the sink took, what is kept back, in how many calls, where that is asked, and flushes, and
@@ -277,27 +278,28 @@ fn came_to(sink: &PartWriter, kept: &[u8], failure: Failure, end: &End) -> bool 
     has_taken(sink, end.0, end.2, end.3) && kept == end.1 && failure == end.4
 }
 
-// The sink, how many bytes are lent, the calls, and what they come to.
-type Writes = (Sink, usize, &'static [WriteCall], End);
+// What is tried, the sink, how many bytes are lent, the calls, and what they come to.
+type Writes = (&'static str, Sink, usize, &'static [WriteCall], End);
 
-// Makes the calls of a row. It tells how many were answered as they have to be, and whether they come to what is due.
-fn writes_row(alloc: Global, row: &Writes) -> (usize, bool) {
-    let (sink, room, calls, end) = row;
+// Makes the calls of a row. It tells whether they are answered as they have to be, and come to what is due.
+fn writes_row(alloc: Global, row: &Writes) -> bool {
     let mut lent = [0; 4];
-    let mut writer = writer_to(sink_of(alloc, *sink), &mut lent, *room);
-    let count = answered_writes(&mut writer, calls);
+    let mut writer = writer_to(sink_of(alloc, row.1), &mut lent, row.2);
+    let are_right = answers_writes(&mut writer, row.3);
     let (sink, kept, fault) = writer.into_parts();
-    (count, came_to(&sink, kept, write_failure(fault), end))
+    came_to(&sink, kept, write_failure(fault), &row.4) && are_right
 }
 
 static WRITES: [Writes; 10] = [
     (
+        "no write",
         Sink::Slow,
         4,
         &[WriteCall::Keeps(&[])],
         (&[], &[], Some(0), 0, Failure::Never),
     ),
     (
+        "two writes that fill what is lent",
         Sink::Slow,
         4,
         &[
@@ -308,6 +310,7 @@ static WRITES: [Writes; 10] = [
         (&[], &[1, 2, 3, 4], Some(0), 0, Failure::Never),
     ),
     (
+        "a write of none behind one that fills it",
         Sink::Slow,
         4,
         &[
@@ -318,6 +321,7 @@ static WRITES: [Writes; 10] = [
         (&[], &[1, 2, 3, 4], Some(0), 0, Failure::Never),
     ),
     (
+        "a write for which there is no room",
         Sink::Slow,
         4,
         &[
@@ -328,6 +332,7 @@ static WRITES: [Writes; 10] = [
         (&[1, 2, 3], &[4, 5], Some(3), 0, Failure::Never),
     ),
     (
+        "a write of more than is lent",
         Sink::Slow,
         2,
         &[
@@ -338,6 +343,7 @@ static WRITES: [Writes; 10] = [
         (&[1, 2, 3, 4], &[], Some(4), 0, Failure::Never),
     ),
     (
+        "a write of more at first",
         Sink::Slow,
         2,
         &[
@@ -349,6 +355,7 @@ static WRITES: [Writes; 10] = [
         (&[1, 2, 3], &[4, 5], Some(3), 0, Failure::Never),
     ),
     (
+        "no byte is lent",
         Sink::Slow,
         0,
         &[
@@ -359,8 +366,8 @@ static WRITES: [Writes; 10] = [
         ],
         (&[1, 2, 3], &[], Some(3), 0, Failure::Never),
     ),
-    // a flush passes on what was kept back
     (
+        "a flush passes on what was kept back",
         Sink::Slow,
         4,
         &[
@@ -374,6 +381,7 @@ static WRITES: [Writes; 10] = [
     ),
     // what a failed write could not pass on is kept back still, and its fault is told once
     (
+        "nothing that was kept back is lost",
         Sink::Failing,
         4,
         &[
@@ -386,8 +394,8 @@ static WRITES: [Writes; 10] = [
         ],
         (&[1, 2, 3], &[4], None, 0, Failure::Stopped),
     ),
-    // a flush within that fails: what was kept back is written
     (
+        "a flush within that fails",
         Sink::FailingToFlush,
         4,
         &[WriteCall::Takes(&[1, 2]), WriteCall::Flush(false)],
@@ -397,10 +405,8 @@ static WRITES: [Writes; 10] = [
 
 #[test]
 fn keeps_back(rt: HostRuntime) {
-    for (index, row) in WRITES.iter().enumerate() {
-        let (count, is_right) = writes_row(rt.alloc(), row);
-        let is_right = is_right && count == row.2.len();
-        assert!(rt; is_right, "row {index}, {count} calls");
+    for row in &WRITES {
+        holds(&rt, writes_row(rt.alloc(), row), row.0);
     }
 }
 
@@ -467,6 +473,6 @@ fn copies_through_any_room(rt: HostRuntime) {
     let bytes = elements();
     for (ahead, back) in &ROOMS {
         let is_right = is_copied(rt.alloc(), &bytes, *ahead, *back);
-        assert!(rt; is_right, "at {ahead}, {back}");
+        holds_with(&rt, is_right, &[*ahead, *back]);
     }
 }

@@ -22,7 +22,7 @@ pub fn pulls<'a>(
         panic!(rt; "no header");
     };
     let is_right = header == want && decoder.offset() == offset;
-    assert!(rt; is_right, "another header, or not at {offset}");
+    assert!(rt; is_right, "another header, or another offset behind it");
 }
 
 // Pulls the title of a byte string, and begins to read it. That the one is enough for the other is proved here.

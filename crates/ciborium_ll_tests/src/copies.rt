@@ -46,20 +46,45 @@ fn headers_are_copied(rt: HostRuntime) {
     }
 }
 
-// Two headers are the same, or are not.
-fn same_row(rt: &impl Abort, one: Header, other: Header, want: bool) {
-    assert!(rt; laws::same_header(one, other) == want, "{one:?}, {other:?}");
-}
+// Two headers, and whether they are the same.
+static PAIRS: [(&str, Header, Header, bool); 5] = [
+    (
+        "a zero and itself",
+        Header::Float(Float::Half(0)),
+        Header::Float(Float::Half(0)),
+        true,
+    ),
+    (
+        "a zero and one with a sign",
+        Header::Float(Float::Half(0)),
+        Header::Float(Float::Half(0x8000)),
+        false,
+    ),
+    (
+        "a zero and one of another width",
+        Header::Float(Float::Half(0)),
+        Header::Float(Float::Single(0)),
+        false,
+    ),
+    (
+        "a NaN and itself",
+        Header::Float(Float::Half(0x7e00)),
+        Header::Float(Float::Half(0x7e00)),
+        true,
+    ),
+    (
+        "opens of bytes and of text",
+        Header::Bytes(None),
+        Header::Text(None),
+        false,
+    ),
+];
 
 #[test]
 fn headers_and_floats_as_values(rt: HostRuntime) {
-    let zero = Header::Float(Float::Half(0));
-    same_row(&rt, zero, zero, true);
-    same_row(&rt, zero, Header::Float(Float::Half(0x8000)), false);
-    same_row(&rt, zero, Header::Float(Float::Single(0)), false);
-    let nan = Header::Float(Float::Half(0x7e00));
-    same_row(&rt, nan, nan, true);
-    same_row(&rt, Header::Bytes(None), Header::Text(None), false);
+    for (what, one, other, want) in &PAIRS {
+        holds(&rt, laws::same_header(*one, *other) == *want, what);
+    }
 }
 
 #[test]

@@ -68,7 +68,7 @@ pub fn drains_whole(
     let length = bytes.len().saturating_sub(1);
     let mut decoder = decoder_at(bytes, 0);
     assert!(rt; fit(sizes));
-    if bytes.first().is_some_and(|first| *first >= 0x60) {
+    if matches!(bytes.first(), Some(0x60..)) {
         let mut segments = begins_text(rt, &mut decoder, Some(length), 1);
         return drains_text(&mut next_segment(rt, &mut segments), sizes, sink);
     }

@@ -1,5 +1,5 @@
 use crate::calls::{decoder_at, encoder_into, has_read, has_written};
-use crate::checks::{Stop, stop_of};
+use crate::checks::{Stop, holds_with, stop_of};
 use ciborium_ll::io::{SliceReader, SliceWriter};
 use ciborium_ll::recode::recode;
 use ciborium_ll::{Decoder, Encoder};
@@ -24,16 +24,16 @@ type Row = (usize, usize, usize, usize, &'static [u8], usize, Stop);
 
 // Copies elements, and compares what that comes to. What was not read is left.
 fn copies(rt: &impl Abort, bytes: &[u8], row: &Row) {
-    let (start, count, size, room, written, offset, stop) = row;
     let mut buffer = [0; 64];
     let mut space = [0; 16];
-    let mut decoder = decoder_at(bytes, *start);
-    let mut encoder = encoder_into(&mut space, *room);
-    let buffer = &mut buffer[..64.min(*size)];
-    let is_stopped = recodes(rt, &mut decoder, &mut encoder, *count, buffer) == *stop;
-    let is_read = has_read(decoder, *offset, bytes.get(offset.saturating_sub(*start)..));
-    let is_right = is_stopped && is_read && has_written(&encoder.into_inner(), written);
-    assert!(rt; is_right, "to {offset}");
+    let mut decoder = decoder_at(bytes, row.0);
+    let mut encoder = encoder_into(&mut space, row.3);
+    let buffer = &mut buffer[..row.2.min(64)];
+    let stop = recodes(rt, &mut decoder, &mut encoder, row.1, buffer);
+    let left = bytes.get(row.5.saturating_sub(row.0)..);
+    let is_read = stop == row.6 && has_read(decoder, row.5, left);
+    let is_right = is_read && has_written(&encoder.into_inner(), row.4);
+    holds_with(rt, is_right, &[row.0, row.1, row.2, row.3]);
 }
 
 const ALL: &[u8] = &[0x18, 5, 0x58, 1, 1, 0x5f, 0x5f, 0x42, 2, 3, 0xff, 0xff, 0];

@@ -88,11 +88,9 @@ type Row = (
 
 // Makes the calls of a row, and compares each answer, the offset behind it, and what is left in the end.
 fn steps_row(rt: &impl Abort, mut decoder: Decoder<SliceReader>, row: &Row) {
-    let mut count = 0u8;
     for (step, offset) in row.3 {
         let is_right = is_answered(rt, &mut decoder, step) && decoder.offset() == *offset;
-        assert!(rt; is_right, "{}, behind {count} calls", row.0);
-        count = count.saturating_add(1);
+        holds(rt, is_right, row.0);
     }
     holds(rt, has_left(decoder, row.4), row.0);
 }

@@ -11,23 +11,27 @@ use std::process::Abort;
 // Bytes, how many elements are copied, what is written, how the copy ends, and the offset behind it.
 type Row = (&'static [u8], usize, &'static [u8], Stop, usize);
 
-// How long so many elements are, each in its shortest spelling. What that means is not known outside.
-fn length_of(bytes: &[u8], count: usize) -> Option<usize> {
-    strict_len(bytes, count)
+// Whether so many elements, each in its shortest spelling, are so long, or none where they are not there. What that
+// means is not known outside.
+fn has_length(bytes: &[u8], count: usize, length: Option<usize>) -> bool {
+    strict_len(bytes, count) == length
 }
 
 // Copies elements, each from a strict decoder, and compares what was written, the answer and the offset, and how long
 // the elements are where each is in its shortest spelling.
 fn copy_row(rt: &impl Abort, row: &Row) {
-    let (bytes, count, written, end, offset) = row;
     let mut space = [0; 16];
-    let mut decoder = strict_decoder(bytes);
+    let mut decoder = strict_decoder(row.0);
     let mut encoder = encoder_into(&mut space, 16);
-    let is_ended = recodes(rt, &mut decoder, &mut encoder, *count, &mut [0; 64]) == *end;
-    let is_written = has_written(&encoder.into_inner(), written) && decoder.offset() == *offset;
-    let length = (*end == Stop::Never).then_some(*offset);
-    let is_long = length_of(bytes, *count) == length;
-    holds_at(rt, is_ended && is_written && is_long, bytes);
+    let end = recodes(rt, &mut decoder, &mut encoder, row.1, &mut [0; 64]);
+    let is_written = has_written(&encoder.into_inner(), row.2) && decoder.offset() == row.4;
+    let length = if row.3 == Stop::Never {
+        Some(row.4)
+    } else {
+        None
+    };
+    let is_right = end == row.3 && is_written && has_length(row.0, row.1, length);
+    holds_at(rt, is_right, row.0);
 }
 
 static ROWS: [Row; 20] = [
@@ -79,11 +83,10 @@ fn a_body_of_many_chunks(rt: HostRuntime) {
     let mut bytes = [0; 300];
     bytes[0] = 0x58;
     bytes[1] = 250;
-    holds(&rt, length_of(&bytes, 1) == Some(252), "the string");
-    holds(&rt, length_of(&bytes, 49) == Some(300), "all of it");
-    holds(&rt, length_of(&bytes, 50).is_none(), "one element more");
-    let is_right = length_of(&bytes[..251], 1).is_none();
-    holds(&rt, is_right, "a string that is cut");
+    let is_right = has_length(&bytes, 1, Some(252)) && has_length(&bytes, 49, Some(300));
+    holds(&rt, is_right, "the string, and all of it");
+    let is_right = has_length(&bytes, 50, None) && has_length(&bytes[..251], 1, None);
+    holds(&rt, is_right, "one element more, and a string that is cut");
 }
 
 // The numbers of bytes that an affix has, and what the first byte of a title says of each.
@@ -181,26 +184,34 @@ fn is_strict(first: u8, second: Option<u8>) -> bool {
     }
 }
 
-// Copies one element, and says whether that succeeds and writes just what it consumes.
-fn is_copied(rt: &impl Abort, mut decoder: Decoder<SliceReader>, bytes: &[u8]) -> (bool, bool) {
+// Copies one element, and says, where that succeeds, whether it writes just what it consumes.
+fn copied(rt: &impl Abort, mut decoder: Decoder<SliceReader>, bytes: &[u8]) -> Option<bool> {
     let mut space = [0; 2];
     let mut encoder = encoder_into(&mut space, 2);
-    let stopped = recodes(rt, &mut decoder, &mut encoder, 1, &mut [0; 4]);
-    let writer = encoder.into_inner();
-    let written = writer.written();
-    let is_same = written.len() == decoder.offset() && bytes.starts_with(written);
-    (stopped == Stop::Never, is_same)
+    let stop = recodes(rt, &mut decoder, &mut encoder, 1, &mut [0; 4]);
+    let is_same = match bytes.get(..decoder.offset()) {
+        Some(front) => has_written(&encoder.into_inner(), front),
+        None => false,
+    };
+    if stop == Stop::Never {
+        Some(is_same)
+    } else {
+        None
+    }
 }
 
-// Compares both decoders on a list of one byte or two.
+// Compares both decoders on a list of one byte or two. What a strict one copies is the same.
 fn both_decoders(rt: &impl Abort, bytes: &[u8], first: u8, second: Option<u8>) {
-    let (plain, is_plain_same) = is_copied(rt, decoder_at(bytes, 0), bytes);
-    let (strict, is_same) = is_copied(rt, strict_decoder(bytes), bytes);
+    let plain = copied(rt, decoder_at(bytes, 0), bytes);
+    let strict = copied(rt, strict_decoder(bytes), bytes);
     let is_small = first == 0xf8 && matches!(second, Some(24..=31));
-    let is_plain = strict == (plain && is_plain_same && !is_small);
-    let is_right = strict == is_strict(first, second) && is_plain && (!strict || is_same);
-    let is_long = length_of(bytes, 1).is_some() == strict;
-    assert!(rt; is_right && is_long, "at {bytes:?}");
+    let is_plain = matches!(plain, Some(true)) && !is_small;
+    let is_right = match strict {
+        Some(is_same) => is_same && is_plain && is_strict(first, second),
+        None => !is_plain && !is_strict(first, second),
+    };
+    let is_long = strict_len(bytes, 1).is_some() == strict.is_some();
+    holds_at(rt, is_right && is_long, bytes);
 }
 
 #[test]

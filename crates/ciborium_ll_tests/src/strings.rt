@@ -30,10 +30,11 @@ fn text_row(rt: &impl Abort, bytes: &[u8], steps: &[(usize, Answer, usize)]) {
     let mut decoder = decoder_at(bytes, 0);
     let mut segments = begins_text(rt, &mut decoder, Some(length), 1);
     let mut segment = next_segment(rt, &mut segments);
-    holds_at(rt, segment.left() == length, bytes);
+    let mut is_right = segment.left() == length;
     for (size, want, left) in steps {
-        holds_at(rt, pulls_chunk(&mut segment, *size, *want, *left), bytes);
+        is_right = pulls_chunk(&mut segment, *size, *want, *left) && is_right;
     }
+    holds_at(rt, is_right, bytes);
 }
 
 // Texts of one segment. For each call on it, the size of the buffer, the answer, and what is left behind it.
@@ -106,14 +107,18 @@ fn pulls_byte(segment: &mut Segment<'_, SliceReader, Bytes>, want: Option<&[u8]>
     matches!(segment.pull(&mut one), Ok(chunk) if chunk == want)
 }
 
-// Reads the next segment of a byte string to its end, byte by byte.
-fn reads_next(rt: &impl Abort, segments: &mut Segments<'_, SliceReader, Bytes>, body: &[u8]) {
+// Reads the next segment of a byte string to its end, byte by byte, and compares it.
+fn reads_next(
+    rt: &impl Abort,
+    segments: &mut Segments<'_, SliceReader, Bytes>,
+    body: &[u8],
+) -> bool {
     let mut segment = next_segment(rt, segments);
-    holds_at(rt, segment.left() == body.len(), body);
+    let mut is_right = segment.left() == body.len();
     for byte in body {
-        holds_at(rt, pulls_byte(&mut segment, Some(&[*byte])), body);
+        is_right = pulls_byte(&mut segment, Some(&[*byte])) && is_right;
     }
-    holds_at(rt, pulls_byte(&mut segment, None), body);
+    pulls_byte(&mut segment, None) && is_right
 }
 
 // Asks twice for a segment behind the last one, and for a body.
@@ -131,35 +136,33 @@ fn bodies_of_nested_strings(rt: HostRuntime) {
     let bytes = [0x5f, 0x5f, 0x41, 1, 0xff, 0x41, 2, 0xff, 0];
     let mut decoder = decoder_at(&bytes, 0);
     let mut segments = begins_bytes(&rt, &mut decoder, None, 1);
-    reads_next(&rt, &mut segments, &[1]);
-    reads_next(&rt, &mut segments, &[2]);
+    holds(&rt, reads_next(&rt, &mut segments, &[1]), "the body within");
+    holds(&rt, reads_next(&rt, &mut segments, &[2]), "the other body");
     holds(&rt, has_ended(&mut segments), "no body is behind them");
     let is_right = decoder.offset() == 8 && has_left(decoder, &[0]);
     holds(&rt, is_right, "what is left");
 }
 
-// Goes on to the first body of an open text, and reads it in one chunk.
+// Goes on to the first body of an open text, and reads it in one chunk. It compares how long it is, where, and what.
 fn reads_body(
-    rt: &impl Abort,
     segments: &mut Segments<'_, SliceReader, Text>,
     place: usize,
     want: &'static str,
-) {
-    let Ok(Some(body)) = segments.advance() else {
-        panic!(rt; "no body");
-    };
-    let is_body = body.length == want.len() && body.place == place;
-    holds(rt, is_body, "how long the body is, and where");
-    let mut segment = segments.segment(body);
-    let is_read = pulls_chunk(&mut segment, 8, Ok(Some(want)), 0);
-    holds(rt, is_read, "the body is read");
+) -> bool {
+    match segments.advance() {
+        Ok(Some(body)) => {
+            let is_body = body.length == want.len() && body.place == place;
+            is_body && pulls_chunk(&mut segments.segment(body), 8, Ok(Some(want)), 0)
+        }
+        _ => false,
+    }
 }
 
 #[test]
 fn a_body_by_length_and_place(rt: HostRuntime) {
     let mut decoder = decoder_at(b"\x7f\x7f\x62\xc3\xa9\xff\xff", 0);
     let mut segments = begins_text(&rt, &mut decoder, None, 1);
-    reads_body(&rt, &mut segments, 2, "\u{e9}");
+    holds(&rt, reads_body(&mut segments, 2, "\u{e9}"), "the body");
     holds(&rt, decoder.offset() == 5, "the offset behind the body");
 }
 

@@ -33,7 +33,7 @@ fn are_written(headers: &[Header], bytes: &[u8]) -> bool {
 pub fn decoded<'a>(rt: &impl Abort, hex: &str, space: &'a mut [u8; 64]) -> &'a [u8] {
     let length = hex.len() / 2;
     let bytes = &mut space[..length.min(64)];
-    assert!(rt; hex::decode_to_slice(hex, bytes).is_ok(), "{hex}");
+    holds(rt, hex::decode_to_slice(hex, bytes).is_ok(), hex);
     bytes
 }
 
@@ -103,5 +103,6 @@ fn first_bytes_by_their_affix(rt: HostRuntime) {
     for first in 0..=u8::MAX {
         counts_one(&mut counts, taken(&rt, first));
     }
-    assert!(rt; counts == [27, 197, 8, 8, 0, 8, 0, 0, 0, 8], "{counts:?}");
+    let is_right = counts == [27, 197, 8, 8, 0, 8, 0, 0, 0, 8];
+    holds(&rt, is_right, "how many there are of each");
 }
