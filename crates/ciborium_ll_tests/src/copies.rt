@@ -1,7 +1,6 @@
 use crate::calls::{decoder_at, encoder_into, has_read, has_written};
 use crate::checks::{Stop, holds, holds_at, stop_of};
-use ciborium_ll::io::{SliceReader, SliceWriter};
-use ciborium_ll::{Decoder, Encoder, Float, Header, laws, simple, tag};
+use ciborium_ll::{Float, Header, laws, simple, tag};
 use std::process::Abort;
 
 // Bytes, how many headers are copied, into how much space, what is written, why it stopped, and the offset behind that.
@@ -18,22 +17,14 @@ static ROWS: [Row; 5] = [
     (LONGER, 3, 1, &[5], Stop::Full, 4),
 ];
 
-// Copies headers. What that does is not known outside.
-fn copies_headers(
-    decoder: &mut Decoder<SliceReader>,
-    encoder: &mut Encoder<SliceWriter>,
-    count: usize,
-) -> Stop {
-    stop_of(&laws::copy_headers(decoder, encoder, count))
-}
-
 // Copies so many headers into this much space, and compares all that this comes to. What was not read is left.
 fn copy_row(rt: &impl Abort, row: &Row) {
     let (bytes, count, room, written, stop, offset) = row;
     let mut space = [0; 8];
     let mut decoder = decoder_at(bytes, 0);
     let mut encoder = encoder_into(&mut space, *room);
-    let is_stopped = copies_headers(&mut decoder, &mut encoder, *count) == *stop;
+    let outcome = laws::copy_headers(&mut decoder, &mut encoder, *count);
+    let is_stopped = stop_of(&outcome) == *stop;
     let is_read = has_read(decoder, *offset, bytes.get(*offset..));
     let is_written = has_written(&encoder.into_inner(), written);
     holds_at(rt, is_written && is_stopped && is_read, bytes);

@@ -18,17 +18,12 @@ enum Step {
     Write(&'static [u8]),
 }
 
-// Writes a text, and passes it on.
-fn says(encoder: &mut Encoder<SliceWriter>, text: &str, limit: Option<usize>) -> bool {
-    encoder.text(text, limit).is_ok() && encoder.flush().is_ok()
-}
-
 // Makes a call. It tells whether it succeeds.
 fn succeeds(encoder: &mut Encoder<SliceWriter>, step: &Step) -> bool {
     match step {
         Step::Push(header) => pushes(encoder, *header),
         Step::Bytes(bytes, limit) => encoder.bytes(bytes, *limit).is_ok(),
-        Step::Text(text, limit) => says(encoder, text, *limit),
+        Step::Text(text, limit) => encoder.text(text, *limit).is_ok() && encoder.flush().is_ok(),
         Step::Write(bytes) => writes(encoder, bytes),
     }
 }

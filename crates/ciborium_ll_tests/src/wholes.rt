@@ -78,23 +78,13 @@ fn whole_strings(rt: HostRuntime) {
     }
 }
 
-// Pulls a chunk by a buffer of three bytes.
-fn gives_chunk(segment: &mut Segment<'_, SliceReader, Text>) -> bool {
-    matches!(segment.pull(&mut [0; 3]), Ok(Some(_)))
-}
-
-// Reads the rest of a segment.
-fn finishes_segment(segment: Segment<'_, SliceReader, Text>) -> Stop {
-    read_end(&segment.finish(&mut [0; 8]))
-}
-
 // Reads the first segment of a text, partly by hand, and the rest by `finish`. It compares how that ends, and the offset.
 fn finish_row(rt: &impl Abort, bytes: &[u8], want: Stop, offset: usize) {
     let mut decoder = decoder_at(bytes, 0);
     let mut segments = begins_text(rt, &mut decoder, None, 1);
     let mut segment = next_segment(rt, &mut segments);
-    let is_given = gives_chunk(&mut segment);
-    let is_right = finishes_segment(segment) == want;
+    let is_given = matches!(segment.pull(&mut [0; 3]), Ok(Some(_)));
+    let is_right = read_end(&segment.finish(&mut [0; 8])) == want;
     holds_at(
         rt,
         is_given && is_right && decoder.offset() == offset,
@@ -166,16 +156,7 @@ fn a_segment_of_a_steady_reader(rt: HostRuntime) {
 #[test]
 fn the_next_segment(rt: HostRuntime) {
     let mut decoder = decoder_at(b"\x7f\x61a\x62bc\xff", 0);
-    pulls(&rt, &mut decoder, Header::Text(None), 1);
-    let is_read = reads_a_segment(&mut decoder);
+    let mut segments = begins_text(&rt, &mut decoder, None, 1);
+    let is_read = finishes_next(&mut segments, &mut [0; 4]).is_ok();
     holds(&rt, is_read && decoder.offset() == 3, "the segment is read");
-}
-
-// Reads one segment of a text that was just begun.
-fn reads_a_segment(decoder: &mut Decoder<SliceReader>) -> bool
-    requires none_waits { waiting_of decoder.old ≡ None }
-    requires covered { title_len (Header.Text None) ≤ offset_of decoder.old }
-{
-    let mut segments = decoder.text(None);
-    finishes_next(&mut segments, &mut [0; 4]).is_ok()
 }
