@@ -220,15 +220,6 @@ fn sink_of(alloc: Global, sink: Sink) -> PartWriter {
     }
 }
 
-// A writer to a sink, with so many of four bytes lent.
-fn writer_to<'a>(
-    sink: PartWriter,
-    lent: &'a mut [u8; 4],
-    room: usize,
-) -> BufferedWriter<'a, PartWriter> {
-    BufferedWriter::new(sink, &mut lent[..room.min(4)])
-}
-
 // A call on a writer, with what it has to answer.
 enum WriteCall {
     // A write of these bytes succeeds.
@@ -254,15 +245,6 @@ fn writer_answers(writer: &mut BufferedWriter<PartWriter>, call: &WriteCall) -> 
     }
 }
 
-// Makes calls, and tells whether each was answered as it has to be.
-fn answers_writes(writer: &mut BufferedWriter<PartWriter>, calls: &[WriteCall]) -> bool {
-    let mut are_right = true;
-    for call in calls {
-        are_right = writer_answers(writer, call) && are_right;
-    }
-    are_right
-}
-
 // What a writer comes to: what the sink took, what is kept back, in how many calls, where that is asked, and flushes, and
 // the failure.
 type End = (&'static [u8], &'static [u8], Option<usize>, usize, Failure);
@@ -281,11 +263,14 @@ fn came_to(sink: &PartWriter, kept: &[u8], failure: Failure, end: &End) -> bool 
 // What is tried, the sink, how many bytes are lent, the calls, and what they come to.
 type Writes = (&'static str, Sink, usize, &'static [WriteCall], End);
 
-// Makes the calls of a row. It tells whether they are answered as they have to be, and come to what is due.
+// Makes the calls of a row, with at most four bytes lent. It tells whether they are answered as they have to be, and come to what is due.
 fn writes_row(alloc: Global, row: &Writes) -> bool {
     let mut lent = [0; 4];
-    let mut writer = writer_to(sink_of(alloc, row.1), &mut lent, row.2);
-    let are_right = answers_writes(&mut writer, row.3);
+    let mut writer = BufferedWriter::new(sink_of(alloc, row.1), &mut lent[..row.2.min(4)]);
+    let mut are_right = true;
+    for call in row.3 {
+        are_right = writer_answers(&mut writer, call) && are_right;
+    }
     let (sink, kept, fault) = writer.into_parts();
     came_to(&sink, kept, write_failure(fault), &row.4) && are_right
 }

@@ -230,16 +230,13 @@ fn a_decoder_over_a_decoder(rt: HostRuntime) {
     holds(&rt, is_waiting, "no bytes while a header waits");
 }
 
-// Writes a string of three bytes in its parts.
-fn writes_a_string(encoder: &mut Encoder<Encoder<SliceWriter>>) -> bool {
-    pushes(encoder, Header::Bytes(Some(3))) && writes(encoder, &[1, 2, 3])
-}
-
 #[test]
 fn an_encoder_over_an_encoder(rt: HostRuntime) {
     let mut space = [0; 4];
-    let mut encoder = Encoder::from(encoder_into(&mut space, 4));
-    holds(&rt, writes_a_string(&mut encoder), "all is written");
+    let mut encoder: Encoder<Encoder<SliceWriter>> = Encoder::from(encoder_into(&mut space, 4));
+    let is_pushed = pushes(&mut encoder, Header::Bytes(Some(3)));
+    let is_written = is_pushed && writes(&mut encoder, &[1, 2, 3]);
+    holds(&rt, is_written, "all is written");
     let writer = encoder.into_inner().into_inner();
     let is_right = has_written(&writer, &[0x43, 1, 2, 3]);
     holds(&rt, is_right, "these bytes");

@@ -1,8 +1,8 @@
 use crate::calls::{decoder_at, encoder_into, has_left, has_written};
 use crate::checks::holds;
-use ciborium_ll::io::{SliceReader, SliceWriter};
+use ciborium_ll::io::SliceWriter;
 use ciborium_ll::laws::{self, Piece};
-use ciborium_ll::{Decoder, Encoder, Header};
+use ciborium_ll::{Encoder, Header};
 use std::process::Abort;
 
 const WRITTEN: &[u8] = b"\x82\x5f\x42\x01\x02\x41\x03\xff\x7f\x62\xc3\xa9\x63\xe2\x82\xac\xff";
@@ -36,23 +36,14 @@ fn pieces_are_written_one_by_one(rt: HostRuntime) {
     pieces_row(&rt, 16, false, CUT);
 }
 
-// Copies so many elements in their shortest spelling.
-fn copies(
-    decoder: &mut Decoder<SliceReader>,
-    encoder: &mut Encoder<SliceWriter>,
-    count: usize,
-) -> bool {
-    laws::copy_spelled(decoder, encoder, count, &mut [0; 4]).is_ok()
-}
-
 #[test]
 fn what_was_written_is_copied(rt: HostRuntime) {
     let mut space = [0; 18];
     let bytes = b"\x82\x5f\x42\x01\x02\x41\x03\xff\x7f\x62\xc3\xa9\x63\xe2\x82\xac\xff\x00";
     let mut decoder = decoder_at(bytes, 0);
     let mut encoder = encoder_into(&mut space, 18);
-    let is_right = copies(&mut decoder, &mut encoder, 3);
-    holds(&rt, is_right, "three elements are there");
+    let outcome = laws::copy_spelled(&mut decoder, &mut encoder, 3, &mut [0; 4]);
+    holds(&rt, outcome.is_ok(), "three elements are there");
     let is_written = has_written(&encoder.into_inner(), WRITTEN);
     holds(&rt, is_written, "they are written");
     holds(&rt, has_left(decoder, &[0]), "a byte is left");

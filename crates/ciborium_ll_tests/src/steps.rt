@@ -21,7 +21,8 @@ enum Step {
     Push(Header),
     // A read of as many bytes ends so, and gives these where it does not stop.
     Read(&'static [u8], Stop),
-    // The title of five bytes, which takes two, is pulled. They are then read as a string, which is asked for no segment.
+    // The title of five bytes, which takes two, is pulled. They are then read as a string, which is asked for no segment:
+    // the title waits.
     Begin,
     // The title of a byte string of the indefinite form is pulled, and then its segments. They are these.
     Ask(&'static [Asked]),
@@ -33,17 +34,6 @@ fn reads_so(decoder: &mut Decoder<SliceReader>, want: &[u8], stop: Stop) -> bool
     let data = &mut space[..want.len().min(2)];
     let end = read_end(&reads(decoder, data));
     end == stop && (end != Stop::Never || *data == *want)
-}
-
-// Pulls a header, gives it back, and pulls it again.
-fn gives_again(decoder: &mut Decoder<SliceReader>, want: Header) -> bool {
-    matches!(pull_again(decoder), Ok(header) if header == want)
-}
-
-// Begins to read a byte string, and asks for none of its segments. Its title then waits.
-fn is_begun(rt: &impl Abort, decoder: &mut Decoder<SliceReader>) -> bool {
-    let _ = begins_bytes(rt, decoder, Some(5), 2);
-    decoder.is_waiting()
 }
 
 // Asks for a segment, and drops it.
@@ -69,10 +59,13 @@ fn are_segments(rt: &impl Abort, decoder: &mut Decoder<SliceReader>, answers: &[
 fn is_answered(rt: &impl Abort, decoder: &mut Decoder<SliceReader>, step: &Step) -> bool {
     match step {
         Step::Pull(want) => next_header(decoder) == *want,
-        Step::Again(want) => gives_again(decoder, *want),
+        Step::Again(want) => matches!(pull_again(decoder), Ok(header) if header == *want),
         Step::Push(header) => takes_back(decoder, *header),
         Step::Read(want, stop) => reads_so(decoder, want, *stop),
-        Step::Begin => is_begun(rt, decoder),
+        Step::Begin => {
+            let _ = begins_bytes(rt, decoder, Some(5), 2);
+            decoder.is_waiting()
+        }
         Step::Ask(answers) => are_segments(rt, decoder, answers),
     }
 }

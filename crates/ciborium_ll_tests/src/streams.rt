@@ -3,7 +3,7 @@ use crate::checks::{holds, holds_at, holds_with};
 use ciborium_ll::io::{ReadFault, StdReader, StdWriter, Write, WriteFault};
 use ciborium_ll::{Decoder, Encoder, Header};
 use ciborium_ll_fixtures::streams::{PartReader, PartWriter};
-use std::alloc::{AllocError, Global};
+use std::alloc::Global;
 use std::io;
 use std::process::Abort;
 use std::test::Fail;
@@ -75,17 +75,12 @@ fn flushes_std<T: io::Write>(writer: &mut StdWriter<T>) -> Failure {
     write_failure(writer.flush().err())
 }
 
-// Pulls the header of a number of two bytes.
-fn gives_number(decoder: &mut Decoder<StdReader<&[u8]>>, want: u64) -> bool {
-    let is_given = matches!(decoder.pull(), Ok(Header::Positive(number)) if number == want);
-    is_given && decoder.offset() == 2
-}
-
 // No contract says that a read over std succeeds. An adapter that always answered `End` would fail here.
 #[test]
 fn a_reader_in_memory(rt: HostRuntime) {
     let mut decoder = Decoder::from(StdReader::new([0x18, 24, 1, 2].as_slice()));
-    holds(&rt, gives_number(&mut decoder, 24), "the header");
+    let is_given = matches!(decoder.pull(), Ok(Header::Positive(24)));
+    holds(&rt, is_given && decoder.offset() == 2, "the header");
     let mut one = [0; 1];
     let is_read = reads(&mut decoder, &mut one).is_ok();
     holds(&rt, is_read && one == [1], "the byte behind it");
@@ -156,11 +151,9 @@ fn an_error_of_std_is_handed_on(rt: HostRuntime) {
     }
 }
 
-// Reads bytes in one call, and compares what came.
-fn reads_all(alloc: Global, bytes: &[u8]) -> Result<bool, AllocError> {
-    let mut data = vec![in alloc; 0u8; 1_100_000]?;
-    let failure = reads_std(&mut StdReader::new(bytes), data.as_mut_slice());
-    Ok(failure == Failure::Never && data.as_slice() == bytes)
+// Reads bytes in one call.
+fn reads_all(bytes: &[u8], data: &mut [u8]) -> bool {
+    reads_std(&mut StdReader::new(bytes), data) == Failure::Never
 }
 
 // Writes bytes in one call, and compares what was taken.
@@ -174,15 +167,12 @@ fn writes_all(alloc: Global, bytes: &[u8]) -> bool {
 #[test]
 fn more_than_a_million_bytes(rt: HostRuntime) -> Result<(), Fail> {
     let bytes = vec![in rt.alloc(); 7u8; 1_100_000]?;
-    let is_read = reads_all(rt.alloc(), bytes.as_slice())?;
-    holds(&rt, is_read, "a read");
+    let mut data = vec![in rt.alloc(); 0u8; 1_100_000]?;
+    let is_read = reads_all(bytes.as_slice(), data.as_mut_slice());
+    let is_right = is_read && data.as_slice() == bytes.as_slice();
+    holds(&rt, is_right, "a read");
     holds(&rt, writes_all(rt.alloc(), bytes.as_slice()), "a write");
     Ok(())
-}
-
-// Whether these bytes came to a vector behind an encoder.
-fn has_taken(encoder: Encoder<StdWriter<Vec<u8>>>, bytes: &[u8]) -> bool {
-    encoder.into_inner().into_inner().as_slice() == bytes
 }
 
 // Nor that a write does. An adapter that always answered `Zero` would fail here.
@@ -192,7 +182,9 @@ fn a_writer_in_memory(rt: HostRuntime) {
     let is_pushed = pushes(&mut encoder, Header::Bytes(Some(2)));
     let is_written = is_pushed && writes(&mut encoder, &[1, 2]);
     holds(&rt, is_written, "the writes");
-    holds(&rt, has_taken(encoder, &[0x42, 1, 2]), "what was taken");
+    let taken = encoder.into_inner().into_inner();
+    let is_right = taken.as_slice() == [0x42, 1, 2].as_slice();
+    holds(&rt, is_right, "what was taken");
 }
 
 // What a writer took, in how many calls and flushes.

@@ -184,33 +184,25 @@ fn is_strict(first: u8, second: Option<u8>) -> bool {
     }
 }
 
-// Copies one element, and says, where that succeeds, whether it writes just what it consumes.
-fn copied(rt: &impl Abort, mut decoder: Decoder<SliceReader>, bytes: &[u8]) -> Option<bool> {
+// Copies one element, and says whether that succeeds and writes just what it consumes.
+fn is_copied(rt: &impl Abort, mut decoder: Decoder<SliceReader>, bytes: &[u8]) -> (bool, bool) {
     let mut space = [0; 2];
     let mut encoder = encoder_into(&mut space, 2);
-    let stop = recodes(rt, &mut decoder, &mut encoder, 1, &mut [0; 4]);
-    let is_same = match bytes.get(..decoder.offset()) {
-        Some(front) => has_written(&encoder.into_inner(), front),
-        None => false,
-    };
-    if stop == Stop::Never {
-        Some(is_same)
-    } else {
-        None
-    }
+    let stopped = recodes(rt, &mut decoder, &mut encoder, 1, &mut [0; 4]);
+    let writer = encoder.into_inner();
+    let written = writer.written();
+    let is_same = written.len() == decoder.offset() && bytes.starts_with(written);
+    (stopped == Stop::Never, is_same)
 }
 
-// Compares both decoders on a list of one byte or two. What a strict one copies is the same.
+// Compares both decoders on a list of one byte or two.
 fn both_decoders(rt: &impl Abort, bytes: &[u8], first: u8, second: Option<u8>) {
-    let plain = copied(rt, decoder_at(bytes, 0), bytes);
-    let strict = copied(rt, strict_decoder(bytes), bytes);
+    let (plain, is_plain_same) = is_copied(rt, decoder_at(bytes, 0), bytes);
+    let (strict, is_same) = is_copied(rt, strict_decoder(bytes), bytes);
     let is_small = first == 0xf8 && matches!(second, Some(24..=31));
-    let is_plain = matches!(plain, Some(true)) && !is_small;
-    let is_right = match strict {
-        Some(is_same) => is_same && is_plain && is_strict(first, second),
-        None => !is_plain && !is_strict(first, second),
-    };
-    let is_long = strict_len(bytes, 1).is_some() == strict.is_some();
+    let is_plain = strict == (plain && is_plain_same && !is_small);
+    let is_right = strict == is_strict(first, second) && is_plain && (!strict || is_same);
+    let is_long = strict_len(bytes, 1).is_some() == strict;
     holds_at(rt, is_right && is_long, bytes);
 }
 
