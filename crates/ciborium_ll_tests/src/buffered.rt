@@ -249,15 +249,11 @@ fn writer_answers(writer: &mut BufferedWriter<PartWriter>, call: &WriteCall) -> 
 // the failure.
 type End = (&'static [u8], &'static [u8], Option<usize>, usize, Failure);
 
-// A sink took these bytes, in so many calls, where that is asked, and flushes.
-fn has_taken(sink: &PartWriter, taken: &[u8], calls: Option<usize>, flushes: usize) -> bool {
-    let is_right = sink.taken.as_slice() == taken && sink.flushes == flushes;
-    is_right && (calls.is_none() || calls == Some(sink.calls))
-}
-
-// A writer came to this.
+// A writer came to this, where this is what it kept back, and the failure.
 fn came_to(sink: &PartWriter, kept: &[u8], failure: Failure, end: &End) -> bool {
-    has_taken(sink, end.0, end.2, end.3) && kept == end.1 && failure == end.4
+    let is_taken = sink.taken.as_slice() == end.0 && kept == end.1;
+    let are_calls = end.2.is_none() || end.2 == Some(sink.calls);
+    is_taken && are_calls && sink.flushes == end.3 && failure == end.4
 }
 
 // What is tried, the sink, how many bytes are lent, the calls, and what they come to.

@@ -1,7 +1,7 @@
 ghost use Rattle.std.specs.Prelude.{◌≤◌, All, IsTrue};
 
 use crate::calls::{begins_bytes, begins_text, decoder_at, encoder_into, has_written};
-use crate::checks::{Stop, copy_stop};
+use crate::checks::{Stop, copy_stop, holds};
 use ciborium_ll::io::{EndOfFile, OutOfSpace, SliceReader, SliceWriter};
 use ciborium_ll::laws::{Drained, End, drain_bytes, drain_text};
 use ciborium_ll::{Bytes, Chunked, Encoder, RecodeError, Segment, Segments, Text};
@@ -76,20 +76,20 @@ pub fn drains_whole(
     drains_bytes(&mut next_segment(rt, &mut segments), sizes, sink)
 }
 
-// A string of one segment in its bytes, the sizes of the buffers, how the drain ends, and how much of the body is
-// written.
-type Row = (&'static [u8], &'static [usize], Ended, usize);
+// What is tried, a string of one segment in its bytes, the sizes of the buffers, how the drain ends, and how much of the
+// body is written.
+type Row = (&'static str, &'static [u8], &'static [usize], Ended, usize);
 
 // Drains a string of a single segment into room for its body, of at most six bytes, and compares how that ended, and how
 // much of the body was written.
 fn drain_row(rt: &impl Abort, row: &Row) {
-    let (bytes, sizes, want, written) = row;
+    let (what, bytes, sizes, want, written) = row;
     let mut space = [0; 6];
     let mut sink = encoder_into(&mut space, bytes.len().saturating_sub(1));
     let is_ended = drains_whole(rt, bytes, sizes, &mut sink) == *want;
     let body = bytes.get(1..=*written).unwrap_or(&[]);
     let is_right = is_ended && has_written(&sink.into_inner(), body);
-    assert!(rt; is_right, "at {bytes:?}, {sizes:?}");
+    holds(rt, is_right, what);
 }
 
 // The character U+1F600, and the same between two letters.
@@ -100,20 +100,84 @@ const LETTERS: &[u8] = b"\x66a\xf0\x9f\x98\x80b";
 const NUMBERS: &[u8] = b"\x43\x01\x02\x03";
 
 static ROWS: [Row; 12] = [
-    (EMOJI, &[4], Ok((1, End::OutOfSizes)), 4),
-    (EMOJI, &[4, 4], Ok((2, End::Ended)), 4),
-    (EMOJI, &[3, 3, 4, 4], Ok((4, End::Ended)), 4),
-    (LETTERS, &[4, 4, 4, 4, 4], Ok((4, End::Ended)), 6),
-    (LETTERS, &[5, 5, 5, 5, 5], Ok((3, End::Ended)), 6),
-    (LETTERS, &[64, 64], Ok((2, End::Ended)), 6),
-    (b"\x60", &[4], Ok((1, End::Ended)), 0),
-    (b"\x60", &[], Ok((0, End::OutOfSizes)), 0),
-    // a body that is no text
-    (b"\x62a\xff", &[4, 4], Err(Stop::Syntax(0)), 1),
-    // bytes
-    (NUMBERS, &[2, 2, 2], Ok((3, End::Ended)), 3),
-    (NUMBERS, &[0, 0], Ok((2, End::OutOfSizes)), 0),
-    (NUMBERS, &[2], Ok((1, End::OutOfSizes)), 2),
+    (
+        "a character by one size",
+        EMOJI,
+        &[4],
+        Ok((1, End::OutOfSizes)),
+        4,
+    ),
+    (
+        "a character by two sizes",
+        EMOJI,
+        &[4, 4],
+        Ok((2, End::Ended)),
+        4,
+    ),
+    (
+        "a character by sizes of which the first are too small",
+        EMOJI,
+        &[3, 3, 4, 4],
+        Ok((4, End::Ended)),
+        4,
+    ),
+    (
+        "a character between letters by sizes of four",
+        LETTERS,
+        &[4, 4, 4, 4, 4],
+        Ok((4, End::Ended)),
+        6,
+    ),
+    (
+        "a character between letters by sizes of five",
+        LETTERS,
+        &[5, 5, 5, 5, 5],
+        Ok((3, End::Ended)),
+        6,
+    ),
+    (
+        "a character between letters by large sizes",
+        LETTERS,
+        &[64, 64],
+        Ok((2, End::Ended)),
+        6,
+    ),
+    ("an empty text", b"\x60", &[4], Ok((1, End::Ended)), 0),
+    (
+        "an empty text by no size",
+        b"\x60",
+        &[],
+        Ok((0, End::OutOfSizes)),
+        0,
+    ),
+    (
+        "a body that is no text",
+        b"\x62a\xff",
+        &[4, 4],
+        Err(Stop::Syntax(0)),
+        1,
+    ),
+    (
+        "bytes by sizes of two",
+        NUMBERS,
+        &[2, 2, 2],
+        Ok((3, End::Ended)),
+        3,
+    ),
+    (
+        "bytes by sizes of none",
+        NUMBERS,
+        &[0, 0],
+        Ok((2, End::OutOfSizes)),
+        0,
+    ),
+    (
+        "bytes by one size",
+        NUMBERS,
+        &[2],
+        Ok((1, End::OutOfSizes)),
+        2,
+    ),
 ];
 
 #[test]
