@@ -163,19 +163,15 @@ fn copied(
     }
 }
 
-fn body_row(rt: &impl Abort, row: &Row) {
-    let (bytes, header, room, end, written, offset) = row;
-    let mut space = [0; 8];
-    let mut writer = writer_into(&mut space, *room);
-    let mut decoder = decoder_at(bytes, 0);
-    let is_ended = copied(rt, &mut decoder, *header, &mut writer) == *end;
-    let is_right = has_written(&writer, written) && decoder.offset() == *offset;
-    holds_at(rt, is_ended && is_right, bytes);
-}
-
+// Copies the bodies of each string, and compares how that ended, what is written, and the offset.
 #[test]
 fn bodies(rt: HostRuntime) {
-    for row in &ROWS {
-        body_row(&rt, row);
+    for (bytes, header, room, end, written, offset) in &ROWS {
+        let mut space = [0; 8];
+        let mut writer = writer_into(&mut space, *room);
+        let mut decoder = decoder_at(bytes, 0);
+        let is_ended = copied(&rt, &mut decoder, *header, &mut writer) == *end;
+        let is_right = has_written(&writer, written) && decoder.offset() == *offset;
+        holds_at(&rt, is_ended && is_right, bytes);
     }
 }

@@ -1,7 +1,6 @@
 use crate::calls::{decoder_at, encoder_into, has_read, has_written};
 use crate::checks::{Stop, holds, holds_at, stop_of};
 use ciborium_ll::{Float, Header, laws, simple, tag};
-use std::process::Abort;
 
 // Bytes, how many headers are copied, into how much space, what is written, why it stopped, and the offset behind that.
 type Row = (&'static [u8], usize, usize, &'static [u8], Stop, usize);
@@ -18,22 +17,18 @@ static ROWS: [Row; 5] = [
 ];
 
 // Copies so many headers into this much space, and compares all that this comes to. What was not read is left.
-fn copy_row(rt: &impl Abort, row: &Row) {
-    let (bytes, count, room, written, stop, offset) = row;
-    let mut space = [0; 8];
-    let mut decoder = decoder_at(bytes, 0);
-    let mut encoder = encoder_into(&mut space, *room);
-    let outcome = laws::copy_headers(&mut decoder, &mut encoder, *count);
-    let is_stopped = stop_of(&outcome) == *stop;
-    let is_read = has_read(decoder, *offset, bytes.get(*offset..));
-    let is_written = has_written(&encoder.into_inner(), written);
-    holds_at(rt, is_written && is_stopped && is_read, bytes);
-}
-
 #[test]
 fn headers_are_copied(rt: HostRuntime) {
     for row in &ROWS {
-        copy_row(&rt, row);
+        let (bytes, count, room, written, stop, offset) = row;
+        let mut space = [0; 8];
+        let mut decoder = decoder_at(bytes, 0);
+        let mut encoder = encoder_into(&mut space, *room);
+        let outcome = laws::copy_headers(&mut decoder, &mut encoder, *count);
+        let is_stopped = stop_of(&outcome) == *stop;
+        let is_read = has_read(decoder, *offset, bytes.get(*offset..));
+        let is_written = has_written(&encoder.into_inner(), written);
+        holds_at(&rt, is_written && is_stopped && is_read, bytes);
     }
 }
 

@@ -80,18 +80,6 @@ pub fn drains_whole(
 // body is written.
 type Row = (&'static str, &'static [u8], &'static [usize], Ended, usize);
 
-// Drains a string of a single segment into room for its body, of at most six bytes, and compares how that ended, and how
-// much of the body was written.
-fn drain_row(rt: &impl Abort, row: &Row) {
-    let (what, bytes, sizes, want, written) = row;
-    let mut space = [0; 6];
-    let mut sink = encoder_into(&mut space, bytes.len().saturating_sub(1));
-    let is_ended = drains_whole(rt, bytes, sizes, &mut sink) == *want;
-    let body = bytes.get(1..=*written).unwrap_or(&[]);
-    let is_right = is_ended && has_written(&sink.into_inner(), body);
-    holds(rt, is_right, what);
-}
-
 // The character U+1F600, and the same between two letters.
 const EMOJI: &[u8] = b"\x64\xf0\x9f\x98\x80";
 
@@ -180,9 +168,17 @@ static ROWS: [Row; 12] = [
     ),
 ];
 
+// Drains a string of a single segment into room for its body, of at most six bytes, and compares how that ended, and how
+// much of the body was written.
 #[test]
 fn strings_by_any_sizes(rt: HostRuntime) {
     for row in &ROWS {
-        drain_row(&rt, row);
+        let (what, bytes, sizes, want, written) = row;
+        let mut space = [0; 6];
+        let mut sink = encoder_into(&mut space, bytes.len().saturating_sub(1));
+        let is_ended = drains_whole(&rt, bytes, sizes, &mut sink) == *want;
+        let body = bytes.get(1..=*written).unwrap_or(&[]);
+        let is_right = is_ended && has_written(&sink.into_inner(), body);
+        holds(&rt, is_right, what);
     }
 }

@@ -1,5 +1,5 @@
 use crate::calls::{decoder_at, encoder_into, has_left, has_written};
-use crate::checks::holds;
+use crate::checks::{holds, holds_with};
 use ciborium_ll::io::SliceWriter;
 use ciborium_ll::laws::{self, Piece};
 use ciborium_ll::{Encoder, Header};
@@ -24,9 +24,9 @@ fn writes_array(encoder: &mut Encoder<SliceWriter>) -> bool {
 fn pieces_row(rt: &impl Abort, room: usize, fits: bool, written: &[u8]) {
     let mut space = [0; 17];
     let mut encoder = encoder_into(&mut space, room);
-    holds(rt, writes_array(&mut encoder) == fits, "whether they fit");
+    let is_right = writes_array(&mut encoder) == fits;
     let is_written = has_written(&encoder.into_inner(), written);
-    holds(rt, is_written, "what is written");
+    holds_with(rt, is_right && is_written, &[room]);
 }
 
 // Where the pieces do not fit, all but the last byte is written.

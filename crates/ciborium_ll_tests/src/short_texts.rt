@@ -11,19 +11,16 @@ const BYTES: [u8; 20] = [
     0xf0, 0xf1, 0xf4, 0xf5,
 ];
 
-// The title of a text of this length, at most four, and the bytes that are the digits of a number by 20.
-fn list_of(length: u8, number: usize) -> [u8; 5] {
-    let mut bytes = [0x60 | length, 0, 0, 0, 0];
+// The title of a text of this length, at most four, and the bytes that are the digits of a number by 20. They are read to
+// their end as a text, by buffers of four bytes, where they are one.
+fn list_row(rt: &impl Abort, length: u8, number: usize) {
+    let mut space = [0x60 | length, 0, 0, 0, 0];
     let mut rest = number;
-    for byte in &mut bytes[1..] {
+    for byte in &mut space[1..] {
         *byte = BYTES[rest % 20];
         rest /= 20;
     }
-    bytes
-}
-
-// A list of bytes is read to its end as a text, by buffers of four bytes, where it is one.
-fn list_row(rt: &impl Abort, bytes: &[u8]) {
+    let bytes = &space[..=usize::from(length.min(4))];
     let mut written = [0; 4];
     let mut sink = encoder_into(&mut written, 4);
     let drained = drains_whole(rt, bytes, &[4; 6], &mut sink);
@@ -38,9 +35,8 @@ static LENGTHS: [(u8, usize); 4] = [(1, 20), (2, 400), (3, 8_000), (4, 160_000)]
 #[test]
 fn short_lists_end_where_they_are_text(rt: HostRuntime) {
     for (length, count) in &LENGTHS {
-        let end = usize::from(*length);
         for number in 0..*count {
-            list_row(&rt, &list_of(*length, number)[..=end]);
+            list_row(&rt, *length, number);
         }
     }
 }

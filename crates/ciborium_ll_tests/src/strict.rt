@@ -17,23 +17,6 @@ fn has_length(bytes: &[u8], count: usize, length: Option<usize>) -> bool {
     strict_len(bytes, count) == length
 }
 
-// Copies elements, each from a strict decoder, and compares what was written, the answer and the offset, and how long
-// the elements are where each is in its shortest spelling.
-fn copy_row(rt: &impl Abort, row: &Row) {
-    let mut space = [0; 16];
-    let mut decoder = strict_decoder(row.0);
-    let mut encoder = encoder_into(&mut space, 16);
-    let end = recodes(rt, &mut decoder, &mut encoder, row.1, &mut [0; 64]);
-    let is_written = has_written(&encoder.into_inner(), row.2) && decoder.offset() == row.4;
-    let length = if row.3 == Stop::Never {
-        Some(row.4)
-    } else {
-        None
-    };
-    let is_right = end == row.3 && is_written && has_length(row.0, row.1, length);
-    holds_at(rt, is_right, row.0);
-}
-
 static ROWS: [Row; 20] = [
     (&[0x18, 5], 1, &[], Stop::Syntax(0), 2),
     (&[0x18, 0x17], 1, &[], Stop::Syntax(0), 2),
@@ -70,10 +53,23 @@ static ROWS: [Row; 20] = [
     (&[0x43, 1], 1, &[0x43], Stop::Short, 1),
 ];
 
+// Copies elements, each from a strict decoder, and compares what was written, the answer and the offset, and how long
+// the elements are where each is in its shortest spelling.
 #[test]
 fn elements_in_their_shortest_spelling(rt: HostRuntime) {
     for row in &ROWS {
-        copy_row(&rt, row);
+        let mut space = [0; 16];
+        let mut decoder = strict_decoder(row.0);
+        let mut encoder = encoder_into(&mut space, 16);
+        let end = recodes(&rt, &mut decoder, &mut encoder, row.1, &mut [0; 64]);
+        let is_written = has_written(&encoder.into_inner(), row.2) && decoder.offset() == row.4;
+        let length = if row.3 == Stop::Never {
+            Some(row.4)
+        } else {
+            None
+        };
+        let is_right = end == row.3 && is_written && has_length(row.0, row.1, length);
+        holds_at(&rt, is_right, row.0);
     }
 }
 

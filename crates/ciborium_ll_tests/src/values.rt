@@ -4,7 +4,6 @@ use crate::calls::{encoder_into, has_written, pushes, writes};
 use crate::checks::holds;
 use ciborium_ll::io::{SliceWriter, Write};
 use ciborium_ll::{Encoder, Header};
-use std::process::Abort;
 
 // A call on an encoder.
 enum Step {
@@ -30,19 +29,6 @@ fn succeeds(encoder: &mut Encoder<SliceWriter>, step: &Step) -> bool {
 
 // What is tried, the calls, each with whether it succeeds, what is written, and how much room is left behind that.
 type Row = (&'static str, &'static [(Step, bool)], &'static [u8], usize);
-
-// Makes the calls of a row, into room for at most 20 bytes, and compares what they come to.
-fn values_row(rt: &impl Abort, row: &Row) {
-    let mut space = [0; 20];
-    let room = row.2.len().saturating_add(row.3);
-    let mut encoder = encoder_into(&mut space, room);
-    for (step, want) in row.1 {
-        holds(rt, succeeds(&mut encoder, step) == *want, row.0);
-    }
-    let writer = encoder.into_inner();
-    let is_right = has_written(&writer, row.2) && writer.room() == row.3;
-    holds(rt, is_right, row.0);
-}
 
 static ROWS: [Row; 4] = [
     (
@@ -84,9 +70,18 @@ static ROWS: [Row; 4] = [
     ),
 ];
 
+// Makes the calls of each row, into room for at most 20 bytes, and compares what they come to.
 #[test]
 fn values_by_calls(rt: HostRuntime) {
     for row in &ROWS {
-        values_row(&rt, row);
+        let mut space = [0; 20];
+        let room = row.2.len().saturating_add(row.3);
+        let mut encoder = encoder_into(&mut space, room);
+        for (step, want) in row.1 {
+            holds(&rt, succeeds(&mut encoder, step) == *want, row.0);
+        }
+        let writer = encoder.into_inner();
+        let is_right = has_written(&writer, row.2) && writer.room() == row.3;
+        holds(&rt, is_right, row.0);
     }
 }

@@ -25,15 +25,6 @@ fn skips(rt: &impl Abort, decoder: &mut Decoder<SliceReader>, header: Header) ->
 // A string, its header, how a read of it ends, the offset behind that, and how many bytes are left.
 type Row = (&'static [u8], Header, Stop, usize, usize);
 
-// Reads a string to its end, and compares how it ends, the offset behind, and how many bytes are left.
-fn whole_row(rt: &impl Abort, row: &Row) {
-    let (bytes, header, want, offset, left) = row;
-    let mut decoder = decoder_at(bytes, 0);
-    let is_right = skips(rt, &mut decoder, *header) == *want && !decoder.is_waiting();
-    let is_read = decoder.offset() == *offset && decoder.into_inner().left().len() == *left;
-    holds_at(rt, is_right && is_read, bytes);
-}
-
 static ROWS: [Row; 8] = [
     (
         b"\x43\x01\x02\x03\x00",
@@ -71,10 +62,15 @@ static ROWS: [Row; 8] = [
     ),
 ];
 
+// Reads each string to its end, and compares how it ends, the offset behind, and how many bytes are left.
 #[test]
 fn whole_strings(rt: HostRuntime) {
     for row in &ROWS {
-        whole_row(&rt, row);
+        let (bytes, header, want, offset, left) = row;
+        let mut decoder = decoder_at(bytes, 0);
+        let is_right = skips(&rt, &mut decoder, *header) == *want && !decoder.is_waiting();
+        let is_read = decoder.offset() == *offset && decoder.into_inner().left().len() == *left;
+        holds_at(&rt, is_right && is_read, bytes);
     }
 }
 
