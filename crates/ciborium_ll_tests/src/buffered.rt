@@ -81,19 +81,6 @@ type Reads = (
     &'static [u8],
 );
 
-// Reads the bytes 1 to 6. It compares each read, how many calls that is, and what is then ahead and left.
-fn reads_row(row: &Reads) -> bool {
-    let (room, calls, count, ahead, left) = row;
-    let mut lent = [0; 8];
-    let source = PartReader::new(&[1, 2, 3, 4, 5, 6], usize::MAX);
-    let mut reader = reader_of(source, &mut lent, *room);
-    let are_given = answered_reads(&mut reader, calls) == calls.len();
-    let is_ahead = has_ahead(&reader, ahead);
-    let (source, buffer, fault) = reader.into_parts();
-    let is_right = has_given(&source, *count, left, buffer, ahead);
-    are_given && is_ahead && is_right && read_failure(fault) == Failure::Never
-}
-
 static READS: [Reads; 8] = [
     (4, &[], 0, &[], &[1, 2, 3, 4, 5, 6]),
     (
@@ -154,14 +141,20 @@ static READS: [Reads; 8] = [
     ),
 ];
 
+// Reads the bytes 1 to 6. It compares each read, how many calls that is, and what is then ahead and left.
 #[test]
 fn reads_ahead(rt: HostRuntime) {
-    for row in &READS {
-        holds_with(
-            &rt,
-            reads_row(row),
-            &[row.0, row.1.len(), row.2, row.3.len()],
-        );
+    for (room, calls, count, ahead, left) in &READS {
+        let mut lent = [0; 8];
+        let source = PartReader::new(&[1, 2, 3, 4, 5, 6], usize::MAX);
+        let mut reader = reader_of(source, &mut lent, *room);
+        let are_given = answered_reads(&mut reader, calls) == calls.len();
+        let is_ahead = has_ahead(&reader, ahead);
+        let (source, buffer, fault) = reader.into_parts();
+        let is_right = has_given(&source, *count, left, buffer, ahead);
+        let has_failed = read_failure(fault) != Failure::Never;
+        let is_right = are_given && is_ahead && is_right && !has_failed;
+        holds_with(&rt, is_right, &[*room, calls.len(), *count, ahead.len()]);
     }
 }
 
@@ -176,23 +169,17 @@ static FAULTS: [ReadCall; 5] = [
     ReadCall::Fails(3, &[3, 4, 0]),
 ];
 
-// Makes those calls. It tells how many of them were answered as they have to be, and the failure that is kept behind
-// them.
-fn faults(room: usize) -> (usize, Failure) {
-    let mut lent = [0; 8];
-    let source = PartReader::new(&[1, 2, 3, 4], usize::MAX);
-    let source = source.failing_at(1, io::ErrorKind::Interrupted);
-    let mut reader = reader_of(source, &mut lent, room);
-    let count = answered_reads(&mut reader, &FAULTS);
-    let (_, _, fault) = reader.into_parts();
-    (count, read_failure(fault))
-}
-
+// A failure is kept behind the last one.
 #[test]
 fn a_fault_of_a_reader_is_kept(rt: HostRuntime) {
     for room in [0, 3, 8] {
-        let (count, failure) = faults(room);
-        let is_right = count == FAULTS.len() && failure == Failure::Stopped;
+        let mut lent = [0; 8];
+        let source = PartReader::new(&[1, 2, 3, 4], usize::MAX);
+        let source = source.failing_at(1, io::ErrorKind::Interrupted);
+        let mut reader = reader_of(source, &mut lent, room);
+        let count = answered_reads(&mut reader, &FAULTS);
+        let (_, _, fault) = reader.into_parts();
+        let is_right = count == FAULTS.len() && read_failure(fault) == Failure::Stopped;
         holds_with(&rt, is_right, &[room, count]);
     }
 }
@@ -258,18 +245,6 @@ fn came_to(sink: &PartWriter, kept: &[u8], failure: Failure, end: &End) -> bool 
 
 // What is tried, the sink, how many bytes are lent, the calls, and what they come to.
 type Writes = (&'static str, Sink, usize, &'static [WriteCall], End);
-
-// Makes the calls of a row, with at most four bytes lent. It tells whether they are answered as they have to be, and come to what is due.
-fn writes_row(alloc: Global, row: &Writes) -> bool {
-    let mut lent = [0; 4];
-    let mut writer = BufferedWriter::new(sink_of(alloc, row.1), &mut lent[..row.2.min(4)]);
-    let mut are_right = true;
-    for call in row.3 {
-        are_right = writer_answers(&mut writer, call) && are_right;
-    }
-    let (sink, kept, fault) = writer.into_parts();
-    came_to(&sink, kept, write_failure(fault), &row.4) && are_right
-}
 
 static WRITES: [Writes; 10] = [
     (
@@ -384,10 +359,18 @@ static WRITES: [Writes; 10] = [
     ),
 ];
 
+// Makes the calls of each row, with at most four bytes lent, and compares their answers, and what they come to.
 #[test]
 fn keeps_back(rt: HostRuntime) {
-    for row in &WRITES {
-        holds(&rt, writes_row(rt.alloc(), row), row.0);
+    for (what, sink, room, calls, end) in &WRITES {
+        let mut lent = [0; 4];
+        let sink = sink_of(rt.alloc(), *sink);
+        let mut writer = BufferedWriter::new(sink, &mut lent[..4.min(*room)]);
+        for call in *calls {
+            holds(&rt, writer_answers(&mut writer, call), what);
+        }
+        let (sink, kept, fault) = writer.into_parts();
+        holds(&rt, came_to(&sink, kept, write_failure(fault), end), what);
     }
 }
 

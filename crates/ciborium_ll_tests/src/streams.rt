@@ -5,7 +5,6 @@ use ciborium_ll::{Decoder, Encoder, Header};
 use ciborium_ll_fixtures::streams::{PartReader, PartWriter};
 use std::alloc::Global;
 use std::io;
-use std::process::Abort;
 use std::test::Fail;
 
 // A reader or writer that fails at each call, with an error of this kind.
@@ -91,14 +90,6 @@ fn a_reader_in_memory(rt: HostRuntime) {
 // The sizes of reads, what each gives where it succeeds, and how it fails.
 type Reads = (usize, &'static [u8], Failure);
 
-// Reads at most two bytes, and compares how that fails, and what came.
-fn read_row(rt: &impl Abort, reader: &mut StdReader<PartReader>, row: &Reads) {
-    let mut space = [0; 2];
-    let data = &mut space[..row.0.min(2)];
-    let is_right = reads_std(reader, data) == row.2 && data.starts_with(row.1);
-    holds_with(rt, is_right, &[row.0, row.1.len()]);
-}
-
 // Two bytes and none are read, a read is interrupted, and then one byte is left.
 static READS: [Reads; 4] = [
     (2, &[1, 2], Failure::Never),
@@ -112,8 +103,11 @@ fn one_byte_a_read(rt: HostRuntime) {
     let inner = PartReader::new(&[1, 2, 3, 4], 1);
     let inner = inner.failing_at(4, io::ErrorKind::Interrupted);
     let mut reader = StdReader::new(inner);
-    for row in &READS {
-        read_row(&rt, &mut reader, row);
+    for (size, front, failure) in &READS {
+        let mut space = [0; 2];
+        let data = &mut space[..2.min(*size)];
+        let is_right = reads_std(&mut reader, data) == *failure && data.starts_with(front);
+        holds_with(&rt, is_right, &[*size, front.len()]);
     }
     let inner = reader.into_inner();
     let is_right = inner.calls == 6 && inner.left.is_empty();

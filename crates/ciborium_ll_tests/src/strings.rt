@@ -24,19 +24,6 @@ fn pulls_chunk(
     is_right && segment.left() == left
 }
 
-// Reads the only segment of a text by buffers of these sizes, and compares answers and what is left.
-fn text_row(rt: &impl Abort, bytes: &[u8], steps: &[(usize, Answer, usize)]) {
-    let length = bytes.len().saturating_sub(1);
-    let mut decoder = decoder_at(bytes, 0);
-    let mut segments = begins_text(rt, &mut decoder, Some(length), 1);
-    let mut segment = next_segment(rt, &mut segments);
-    let mut is_right = segment.left() == length;
-    for (size, want, left) in steps {
-        is_right = pulls_chunk(&mut segment, *size, *want, *left) && is_right;
-    }
-    holds_at(rt, is_right, bytes);
-}
-
 // Texts of one segment. For each call on it, the size of the buffer, the answer, and what is left behind it.
 static TEXTS: [(&[u8], &[(usize, Answer, usize)]); 6] = [
     // two chunks
@@ -94,10 +81,18 @@ static TEXTS: [(&[u8], &[(usize, Answer, usize)]); 6] = [
     ),
 ];
 
+// Reads the only segment of each text by buffers of these sizes, and compares answers and what is left.
 #[test]
 fn texts_by_calls(rt: HostRuntime) {
     for (bytes, steps) in &TEXTS {
-        text_row(&rt, bytes, steps);
+        let length = bytes.len().saturating_sub(1);
+        let mut decoder = decoder_at(bytes, 0);
+        let mut segments = begins_text(&rt, &mut decoder, Some(length), 1);
+        let mut segment = next_segment(&rt, &mut segments);
+        holds_at(&rt, segment.left() == length, bytes);
+        for (size, want, left) in *steps {
+            holds_at(&rt, pulls_chunk(&mut segment, *size, *want, *left), bytes);
+        }
     }
 }
 

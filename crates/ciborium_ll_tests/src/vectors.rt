@@ -82,26 +82,20 @@ fn twenty_five_items(rt: HostRuntime) {
     twenty_five_row(&rt, TWENTY_FIVE_AND_BREAK, None, 27);
 }
 
-// How many bytes are taken for the title that begins with a byte that has nothing but zeros behind it, or 0 where none
-// begins with it. It is all that is taken then.
-fn taken(rt: &impl Abort, first: u8) -> usize {
-    let bytes = [first, 0, 0, 0, 0, 0, 0, 0, 0];
-    let mut decoder = decoder_at(&bytes, 0);
-    let answer = next_header(&mut decoder);
-    let offset = decoder.offset();
-    if answer.is_ok() {
-        return offset;
-    }
-    holds_at(rt, answer == Err(Stop::Syntax(0)) && offset == 1, &bytes);
-    0
-}
-
-// 197 first bytes stand alone, 8 each have 1, 2, 4 and 8 bytes behind them, and with 27 no title begins.
+// Behind each first byte stand nothing but zeros. Of 197 the title is a byte, of 8 each it is 2, 3, 5 and 9 bytes, and 27
+// begin none: such a byte is all that is taken then.
 #[test]
 fn first_bytes_by_their_affix(rt: HostRuntime) {
     let mut counts = [0u8; 10];
     for first in 0..=u8::MAX {
-        counts_one(&mut counts, taken(&rt, first));
+        let bytes = [first, 0, 0, 0, 0, 0, 0, 0, 0];
+        let mut decoder = decoder_at(&bytes, 0);
+        let answer = next_header(&mut decoder);
+        let offset = decoder.offset();
+        let taken = if answer.is_ok() { offset } else { 0 };
+        let is_refused = answer == Err(Stop::Syntax(0)) && offset == 1;
+        holds_at(&rt, answer.is_ok() || is_refused, &bytes);
+        counts_one(&mut counts, taken);
     }
     let is_right = counts == [27, 197, 8, 8, 0, 8, 0, 0, 0, 8];
     holds(&rt, is_right, "how many there are of each");
