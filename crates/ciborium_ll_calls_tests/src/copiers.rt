@@ -1,28 +1,9 @@
 // The calls of a copier, each once for each answer that it has, by bytes and numbers from outside.
 
+use crate::told::{Told, in_front, is_told, nothing, told};
 use cbor_copy::Copier;
-use ciborium_ll_calls::{
-    CllAnswer, CllCopier, CllReport, cll_copier_end, cll_copier_feed, cll_copier_init,
-};
+use ciborium_ll_calls::{CllAnswer, CllCopier, cll_copier_end, cll_copier_feed, cll_copier_init};
 use std::process::Abort;
-
-// What a report says before a call.
-fn nothing() -> CllReport {
-    CllReport {
-        consumed: 7,
-        written: 7,
-        place: 7,
-        elements: 7,
-        whole: 7,
-    }
-}
-
-// An answer with how many bytes were consumed and written, and the place.
-type Told = (u32, [u64; 3]);
-
-fn told(code: u32, report: &CllReport) -> Told {
-    (code, [report.consumed, report.written, report.place])
-}
 
 // Memory in which no copier was set up.
 fn no_copier() -> CllCopier {
@@ -32,45 +13,19 @@ fn no_copier() -> CllCopier {
     }
 }
 
-// What a copier of two elements says of two pieces, with room for so many bytes, and of the end; and what it wrote last.
-fn fed(first: &[u8], second: &[u8], room: usize) -> ([Told; 3], [u8; 16]) {
-    let (mut copier, mut report) = (no_copier(), nothing());
+// What a feed with room for so many bytes says of memory, and what then stands in 16 bytes.
+fn fed_once(copier: &mut CllCopier, bytes: &[u8], room: usize) -> (Told, [u8; 16]) {
+    let mut report = nothing();
     let mut out = [0xee; 16];
-    let _ = cll_copier_init(&mut copier, 2);
-    let code = cll_copier_feed(&mut copier, first, &mut out[..room.min(16)], &mut report);
-    let one = told(code, &report);
-    let mut out = [0xee; 16];
-    let code = cll_copier_feed(&mut copier, second, &mut out[..room.min(16)], &mut report);
-    let other = told(code, &report);
-    let code = cll_copier_end(&copier, &mut report);
-    ([one, other, told(code, &report)], out)
+    let code = cll_copier_feed(copier, bytes, &mut out[..room.min(16)], &mut report);
+    (told(code, &report), out)
 }
 
-// The bytes in front of 16.
-fn in_front(bytes: &[u8]) -> [u8; 16] {
-    let mut out = [0xee; 16];
-    out[..bytes.len().min(16)].copy_from_slice(&bytes[..bytes.len().min(16)]);
-    out
-}
-
-// Two pieces, with what the second becomes, and the answers to the second and to the end.
-fn fed_row(
-    rt: &impl Abort,
-    first: &[u8],
-    second: &[u8],
-    room: usize,
-    answer: CllAnswer,
-    consumed: u64,
-    place: u64,
-    want: &[u8],
-) {
-    let (told, out) = fed(first, second, room);
-    let piece = (answer.code(), [consumed, want.len() as u64, place]);
-    let end = (answer.code(), [0, 0, place]);
-    assert!(rt;
-        told[1] == piece && told[2] == end && out == in_front(want),
-        "at {second:?}"
-    );
+// What an end says of memory.
+fn ended(copier: &CllCopier) -> Told {
+    let mut report = nothing();
+    let code = cll_copier_end(copier, &mut report);
+    told(code, &report)
 }
 
 // Two pieces, the room, the answer to the second and to the end, how many bytes of the second were consumed, the place,
@@ -84,6 +39,19 @@ type Row = (
     u64,
     &'static [u8],
 );
+
+// What a copier of two elements says of two pieces and of the end, and what the second becomes.
+fn fed_row(rt: &impl Abort, row: &Row) {
+    let (first, second, room, answer, consumed, place, want) = row;
+    let mut copier = no_copier();
+    let _ = cll_copier_init(&mut copier, 2);
+    let _ = fed_once(&mut copier, first, *room);
+    let (piece, out) = fed_once(&mut copier, second, *room);
+    let is_piece = is_told(&piece, *answer, [*consumed, want.len() as u64, *place]);
+    let is_end = is_told(&ended(&copier), *answer, [0, 0, *place]);
+    let is_right = is_piece && is_end && out == in_front(want);
+    assert!(rt; is_right, "at {second:?}");
+}
 
 static ROWS: [Row; 9] = [
     (
@@ -147,38 +115,27 @@ static ROWS: [Row; 9] = [
 
 #[test]
 fn copiers(rt: HostRuntime) {
-    for &(first, second, room, answer, consumed, place, want) in &ROWS {
-        fed_row(&rt, first, second, room, answer, consumed, place, want);
+    for row in &ROWS {
+        fed_row(&rt, row);
     }
-}
-
-// What a feed of one byte into 16 says of memory, and what then stands there.
-fn fed_once(copier: &mut CllCopier) -> (Told, [u8; 16]) {
-    let mut report = nothing();
-    let mut out = [0xee; 16];
-    let code = cll_copier_feed(copier, &[0x05], &mut out, &mut report);
-    (told(code, &report), out)
-}
-
-// What an end says of memory.
-fn ended(copier: &CllCopier) -> Told {
-    let mut report = nothing();
-    let code = cll_copier_end(copier, &mut report);
-    told(code, &report)
 }
 
 // Memory in which no copier was set up, or what is none any more.
 #[test]
 fn no_copiers(rt: HostRuntime) {
-    let none = (CllAnswer::Argument.code(), [0, 0, 0]);
-    let nowhere = (none, [0xee; 16]);
     let mut copier = no_copier();
-    assert!(rt; fed_once(&mut copier) == nowhere);
-    assert!(rt; ended(&copier) == none);
+    assert!(rt; is_refused(&mut copier));
+    assert!(rt; is_told(&ended(&copier), CllAnswer::Argument, [0, 0, 0]));
     assert!(rt; cll_copier_init(&mut copier, 1) == 0);
     copier.state.front_len = 10;
-    assert!(rt; fed_once(&mut copier) == nowhere);
+    assert!(rt; is_refused(&mut copier));
     copier.state.front_len = 0;
-    let (told, out) = fed_once(&mut copier);
-    assert!(rt; told == (0, [1, 1, 0]) && out[0] == 0x05);
+    let (told, out) = fed_once(&mut copier, &[0x05], 16);
+    assert!(rt; is_told(&told, CllAnswer::Ok, [1, 1, 0]) && out[0] == 0x05);
+}
+
+// Whether memory is no copier for a feed, which writes nothing.
+fn is_refused(copier: &mut CllCopier) -> bool {
+    let (told, out) = fed_once(copier, &[0x05], 16);
+    is_told(&told, CllAnswer::Argument, [0, 0, 0]) && out == [0xee; 16]
 }

@@ -7,3 +7,5 @@ mod calls;
 mod copiers;
 #[cfg(test)]
 mod item_copiers;
+#[cfg(test)]
+mod told;

@@ -1,4 +1,4 @@
-use crate::calls::{begins_bytes, begins_text};
+use crate::calls::{begins_bytes, begins_text, decoder_at, has_written, writer_into};
 use crate::checks::{Stop, holds_at, stop_of};
 use ciborium_ll::io::{SliceReader, SliceWriter};
 use ciborium_ll::{Chunked, Decoder, Header, Segments};
@@ -32,7 +32,16 @@ fn copies_all<P: Chunked>(
 }
 
 // A string, its header, the room of the writer, how the last body ended, what is then written, and the offset of the decoder.
-static ROWS: [(&[u8], Header, usize, Option<Stop>, &[u8], usize); 13] = [
+type Row = (
+    &'static [u8],
+    Header,
+    usize,
+    Option<Stop>,
+    &'static [u8],
+    usize,
+);
+
+static ROWS: [Row; 13] = [
     // one body, of which the buffer holds less than all
     (
         b"\x46\x01\x02\x03\x04\x05\x06\x00",
@@ -154,26 +163,15 @@ fn copied(
     }
 }
 
-fn row(
-    rt: &impl Abort,
-    bytes: &[u8],
-    header: Header,
-    room: usize,
-    end: Option<Stop>,
-    written: &[u8],
-    offset: usize,
-) {
-    let mut space = [0; 8];
-    let mut writer = SliceWriter::new(&mut space[..room.min(8)]);
-    let mut decoder = Decoder::from(SliceReader::new(bytes));
-    let is_ended = copied(rt, &mut decoder, header, &mut writer) == end;
-    let is_right = writer.written() == written && decoder.offset() == offset;
-    holds_at(rt, is_ended && is_right, bytes);
-}
-
+// Copies the bodies of each string, and compares how that ended, what is written, and the offset.
 #[test]
 fn bodies(rt: HostRuntime) {
-    for &(bytes, header, room, end, written, offset) in &ROWS {
-        row(&rt, bytes, header, room, end, written, offset);
+    for (bytes, header, room, end, written, offset) in &ROWS {
+        let mut space = [0; 8];
+        let mut writer = writer_into(&mut space, *room);
+        let mut decoder = decoder_at(bytes, 0);
+        let is_ended = copied(&rt, &mut decoder, *header, &mut writer) == *end;
+        let is_right = has_written(&writer, written) && decoder.offset() == *offset;
+        holds_at(&rt, is_ended && is_right, bytes);
     }
 }

@@ -1,4 +1,4 @@
-use crate::checks::holds;
+use crate::checks::{holds, holds_with};
 use crate::streams::{Failure, read_failure, write_failure};
 use ciborium_ll::io::{BufferedReader, BufferedWriter, Read, Write};
 use ciborium_ll::recode::recode;
@@ -6,33 +6,60 @@ use ciborium_ll::{Decoder, Encoder};
 use ciborium_ll_fixtures::streams::{PartReader, PartWriter};
 use std::alloc::Global;
 use std::io;
-use std::process::Abort;
 
-// Reads bytes.
-fn fills<'a>(reader: &mut BufferedReader<'a, PartReader<'a>>, data: &mut [u8]) -> bool {
-    reader.read_exact(data).is_ok()
+// A call on a reader, with what it has to answer.
+enum ReadCall {
+    // A read gives these bytes.
+    Gives(&'static [u8]),
+    // A read of so many bytes fails, and these are in front of its slice.
+    Fails(usize, &'static [u8]),
+    // The fault that is kept, which is taken, tells this failure.
+    Fault(Failure),
 }
 
-// Reads at most eight bytes, and compares them.
-fn gives<'a>(reader: &mut BufferedReader<'a, PartReader<'a>>, want: &[u8]) -> bool {
+// Reads at most eight bytes, and compares whether that succeeds, and what is in front of the slice.
+fn reads_so<'a>(
+    reader: &mut BufferedReader<'a, PartReader<'a>>,
+    size: usize,
+    succeeds: bool,
+    front: &[u8],
+) -> bool {
     let mut space = [0; 8];
-    let data = &mut space[..want.len().min(8)];
-    fills(reader, data) && *data == *want
+    let data = &mut space[..size.min(8)];
+    reader.read_exact(data).is_ok() == succeeds && data.starts_with(front)
 }
 
-// A reader of the bytes 1 to 6, with so many of four bytes lent.
-fn reader_of_six<'a>(lent: &'a mut [u8; 4], room: usize) -> BufferedReader<'a, PartReader<'a>> {
-    let source = PartReader::new(&[1, 2, 3, 4, 5, 6], usize::MAX);
-    BufferedReader::new(source, &mut lent[..room.min(4)])
-}
-
-// Reads in parts. It tells whether each read gives its part.
-fn gives_all<'a>(reader: &mut BufferedReader<'a, PartReader<'a>>, parts: &[&[u8]]) -> bool {
-    let mut are_given = true;
-    for part in parts {
-        are_given = gives(reader, part) && are_given;
+// Makes a call, and compares its answer.
+fn reader_answers<'a>(reader: &mut BufferedReader<'a, PartReader<'a>>, call: &ReadCall) -> bool {
+    match call {
+        ReadCall::Gives(want) => reads_so(reader, want.len(), true, want),
+        ReadCall::Fails(size, front) => reads_so(reader, *size, false, front),
+        ReadCall::Fault(want) => read_failure(reader.take_fault()) == *want,
     }
-    are_given
+}
+
+// Makes calls, and tells how many were answered as they have to be, up to one that was not.
+fn answered_reads<'a>(
+    reader: &mut BufferedReader<'a, PartReader<'a>>,
+    calls: &[ReadCall],
+) -> usize {
+    let mut count = 0usize;
+    for call in calls {
+        if !reader_answers(reader, call) {
+            return count;
+        }
+        count = count.saturating_add(1);
+    }
+    count
+}
+
+// A reader of a source, with so many of eight bytes lent.
+fn reader_of<'a>(
+    source: PartReader<'a>,
+    lent: &'a mut [u8; 8],
+    room: usize,
+) -> BufferedReader<'a, PartReader<'a>> {
+    BufferedReader::new(source, &mut lent[..room.min(8)])
 }
 
 // Compares what is ahead.
@@ -40,269 +67,311 @@ fn has_ahead<'a>(reader: &BufferedReader<'a, PartReader<'a>>, ahead: &[u8]) -> b
     reader.buffer() == ahead
 }
 
-// What a reader comes to: the calls to its source, what is then left and ahead, and the failure.
-#[derive(Drop)]
-struct ReadParts<'a> {
-    calls: usize,
-    left: &'a [u8],
-    ahead: &'a [u8],
-    failure: Failure,
-}
-
-// Takes a reader apart.
-fn take_reader_apart<'a>(reader: BufferedReader<'a, PartReader<'a>>) -> ReadParts<'a> {
-    let (source, ahead, fault) = reader.into_parts();
-    ReadParts {
-        calls: source.calls,
-        left: source.left,
-        ahead,
-        failure: read_failure(fault),
-    }
-}
-
-// A reader that never failed came to this: so many calls, and what is then ahead and left.
-fn has_read(parts: &ReadParts, calls: usize, ahead: &[u8], left: &[u8]) -> bool {
-    parts.failure == Failure::Never
-        && parts.ahead == ahead
-        && parts.calls == calls
-        && parts.left == left
-}
-
-// Reads the bytes 1 to 6 in parts, with at most four bytes lent: each read gives its part. It compares how many calls
-// that is, and what is then ahead and left.
-fn reads_row(room: usize, parts: &[&[u8]], calls: usize, ahead: &[u8], left: &[u8]) -> bool {
-    let mut lent = [0; 4];
-    let mut reader = reader_of_six(&mut lent, room);
-    let is_read = gives_all(&mut reader, parts) && has_ahead(&reader, ahead);
-    has_read(&take_reader_apart(reader), calls, ahead, left) && is_read
+// So many calls came to a source, these bytes are left in it, and these are ahead.
+fn has_given(source: &PartReader, calls: usize, left: &[u8], buffer: &[u8], ahead: &[u8]) -> bool {
+    source.calls == calls && source.left == left && buffer == ahead
 }
 
 // How many bytes are lent, what each read gives, how many calls that is, and what is then ahead and left.
-static READS: [(usize, &[&[u8]], usize, &[u8], &[u8]); 8] = [
+type Reads = (
+    usize,
+    &'static [ReadCall],
+    usize,
+    &'static [u8],
+    &'static [u8],
+);
+
+static READS: [Reads; 8] = [
     (4, &[], 0, &[], &[1, 2, 3, 4, 5, 6]),
-    (4, &[&[], &[]], 0, &[], &[1, 2, 3, 4, 5, 6]),
-    (4, &[&[1]], 1, &[2, 3, 4], &[5, 6]),
-    (4, &[&[1], &[2, 3, 4], &[]], 1, &[], &[5, 6]),
-    (4, &[&[1], &[2, 3, 4], &[5]], 2, &[6], &[]),
-    (2, &[&[1], &[2, 3, 4, 5]], 2, &[], &[6]),
-    (2, &[&[1], &[2, 3]], 2, &[4], &[5, 6]),
-    (0, &[&[1], &[2, 3], &[], &[4, 5, 6]], 3, &[], &[]),
+    (
+        4,
+        &[ReadCall::Gives(&[]), ReadCall::Gives(&[])],
+        0,
+        &[],
+        &[1, 2, 3, 4, 5, 6],
+    ),
+    (4, &[ReadCall::Gives(&[1])], 1, &[2, 3, 4], &[5, 6]),
+    (
+        4,
+        &[
+            ReadCall::Gives(&[1]),
+            ReadCall::Gives(&[2, 3, 4]),
+            ReadCall::Gives(&[]),
+        ],
+        1,
+        &[],
+        &[5, 6],
+    ),
+    (
+        4,
+        &[
+            ReadCall::Gives(&[1]),
+            ReadCall::Gives(&[2, 3, 4]),
+            ReadCall::Gives(&[5]),
+        ],
+        2,
+        &[6],
+        &[],
+    ),
+    (
+        2,
+        &[ReadCall::Gives(&[1]), ReadCall::Gives(&[2, 3, 4, 5])],
+        2,
+        &[],
+        &[6],
+    ),
+    (
+        2,
+        &[ReadCall::Gives(&[1]), ReadCall::Gives(&[2, 3])],
+        2,
+        &[4],
+        &[5, 6],
+    ),
+    (
+        0,
+        &[
+            ReadCall::Gives(&[1]),
+            ReadCall::Gives(&[2, 3]),
+            ReadCall::Gives(&[]),
+            ReadCall::Gives(&[4, 5, 6]),
+        ],
+        3,
+        &[],
+        &[],
+    ),
 ];
 
+// Reads the bytes 1 to 6. It compares each read, how many calls that is, and what is then ahead and left.
 #[test]
 fn reads_ahead(rt: HostRuntime) {
-    for &(room, parts, calls, ahead, left) in &READS {
-        let is_right = reads_row(room, parts, calls, ahead, left);
-        assert!(rt; is_right, "at {room}, {parts:?}");
+    for (room, calls, count, ahead, left) in &READS {
+        let mut lent = [0; 8];
+        let source = PartReader::new(&[1, 2, 3, 4, 5, 6], usize::MAX);
+        let mut reader = reader_of(source, &mut lent, *room);
+        let are_given = answered_reads(&mut reader, calls) == calls.len();
+        let is_ahead = has_ahead(&reader, ahead);
+        let (source, buffer, fault) = reader.into_parts();
+        let is_right = has_given(&source, *count, left, buffer, ahead);
+        let has_failed = read_failure(fault) != Failure::Never;
+        let is_right = are_given && is_ahead && is_right && !has_failed;
+        holds_with(&rt, is_right, &[*room, calls.len(), *count, ahead.len()]);
     }
 }
 
-// A reader of the bytes 1 to 4 whose first read fails, with so many of eight bytes lent.
-fn failing_reader<'a>(lent: &'a mut [u8; 8], room: usize) -> BufferedReader<'a, PartReader<'a>> {
-    let source = PartReader::new(&[1, 2, 3, 4], usize::MAX);
-    let source = source.failing_at(1, io::ErrorKind::Interrupted);
-    BufferedReader::new(source, &mut lent[..room.min(8)])
-}
+// Calls on a reader of the bytes 1 to 4 whose first read fails.
+static FAULTS: [ReadCall; 5] = [
+    ReadCall::Fails(2, &[]),
+    // a success keeps the fault that there was, until it is taken
+    ReadCall::Gives(&[1, 2]),
+    ReadCall::Fault(Failure::Failed(io::ErrorKind::Interrupted)),
+    ReadCall::Fault(Failure::Never),
+    // a byte is missing
+    ReadCall::Fails(3, &[3, 4, 0]),
+];
 
-// Reads three bytes, of which two are there.
-fn gives_three<'a>(reader: &mut BufferedReader<'a, PartReader<'a>>) -> bool {
-    let mut three = [0; 3];
-    !fills(reader, &mut three) && three == [3, 4, 0]
-}
-
-// Reads two bytes from a reader whose first read fails, and then three, of which two are there.
-fn keeps_faults(rt: &impl Abort, room: usize) {
-    let mut lent = [0; 8];
-    let mut reader = failing_reader(&mut lent, room);
-    holds(rt, !fills(&mut reader, &mut [0; 2]), "the first read fails");
-    // A success keeps the fault that there was.
-    holds(rt, gives(&mut reader, &[1, 2]), "the next one succeeds");
-    let interrupted = Failure::Failed(io::ErrorKind::Interrupted);
-    let is_right = read_fault(&mut reader) == interrupted;
-    holds(rt, is_right, "the fault is kept");
-    holds(rt, read_fault(&mut reader) == Failure::Never, "it is taken");
-    holds(rt, gives_three(&mut reader), "a byte is missing");
-    let parts = take_reader_apart(reader);
-    holds(rt, parts.failure == Failure::Stopped, "that is told");
-}
-
+// A failure is kept behind the last one.
 #[test]
 fn a_fault_of_a_reader_is_kept(rt: HostRuntime) {
     for room in [0, 3, 8] {
-        keeps_faults(&rt, room);
+        let mut lent = [0; 8];
+        let source = PartReader::new(&[1, 2, 3, 4], usize::MAX);
+        let source = source.failing_at(1, io::ErrorKind::Interrupted);
+        let mut reader = reader_of(source, &mut lent, room);
+        let count = answered_reads(&mut reader, &FAULTS);
+        let (_, _, fault) = reader.into_parts();
+        let is_right = count == FAULTS.len() && read_failure(fault) == Failure::Stopped;
+        holds_with(&rt, is_right, &[room, count]);
     }
 }
 
-// Takes the fault that a reader keeps.
-fn read_fault<'a>(reader: &mut BufferedReader<'a, PartReader<'a>>) -> Failure {
-    read_failure(reader.take_fault())
+// Where a writer with a buffer writes to: a sink that takes one byte a call.
+#[derive(Clone, Copy)]
+enum Sink {
+    Slow,
+    // It takes three bytes in all, and is interrupted at its second call.
+    Failing,
+    // Its flushes fail.
+    FailingToFlush,
 }
 
-// Takes the fault that a writer keeps.
-fn write_fault(writer: &mut BufferedWriter<PartWriter>) -> Failure {
-    write_failure(writer.take_fault())
-}
-
-// Writes bytes.
-fn takes(writer: &mut BufferedWriter<PartWriter>, data: &[u8]) -> bool {
-    writer.write_all(data).is_ok()
-}
-
-// Passes on what is kept back.
-fn passes_on(writer: &mut BufferedWriter<PartWriter>) -> bool {
-    writer.flush().is_ok()
-}
-
-// What a writer comes to: what the sink took, in how many calls and flushes, what is kept back, and the failure.
-#[derive(Drop)]
-struct Parts<'a> {
-    taken: Vec<u8>,
-    calls: usize,
-    flushes: usize,
-    kept: &'a [u8],
-    failure: Failure,
-}
-
-// Takes a writer apart.
-fn take_apart<'a>(writer: BufferedWriter<'a, PartWriter>) -> Parts<'a> {
-    let (sink, kept, fault) = writer.into_parts();
-    Parts {
-        taken: sink.taken,
-        calls: sink.calls,
-        flushes: sink.flushes,
-        kept,
-        failure: write_failure(fault),
+// Makes a sink.
+fn sink_of(alloc: Global, sink: Sink) -> PartWriter {
+    let slow = PartWriter::new(alloc, 1);
+    match sink {
+        Sink::Slow => slow,
+        Sink::Failing => {
+            slow.within(3)
+                .failing_at(2, Some(io::ErrorKind::Interrupted))
+        }
+        Sink::FailingToFlush => slow.failing_to_flush(),
     }
 }
 
-// A writer came to this: what was taken and kept, and the flushes.
-fn has_parts(parts: &Parts, taken: &[u8], kept: &[u8], flushes: usize) -> bool {
-    parts.taken.as_slice() == taken && parts.kept == kept && parts.flushes == flushes
+// A call on a writer, with what it has to answer.
+enum WriteCall {
+    // A write of these bytes succeeds.
+    Takes(&'static [u8]),
+    // It fails.
+    Refuses(&'static [u8]),
+    // A flush succeeds, or fails.
+    Flush(bool),
+    // These bytes are kept back.
+    Keeps(&'static [u8]),
+    // The fault that is kept, which is taken, tells this failure.
+    Fault(Failure),
 }
 
-// A writer that never failed came to this: what was taken and kept, and the calls and flushes.
-fn came_to(parts: &Parts, taken: &[u8], kept: &[u8], calls: (usize, usize)) -> bool {
-    let is_right = parts.failure == Failure::Never && parts.calls == calls.0;
-    is_right && has_parts(parts, taken, kept, calls.1)
-}
-
-// A writer to a sink that takes one byte a call, with so many of four bytes lent.
-fn slow_writer<'a>(
-    alloc: Global,
-    lent: &'a mut [u8; 4],
-    room: usize,
-) -> BufferedWriter<'a, PartWriter> {
-    BufferedWriter::new(PartWriter::new(alloc, 1), &mut lent[..room.min(4)])
-}
-
-// Writes in parts. It tells whether each was taken.
-fn takes_all(writer: &mut BufferedWriter<PartWriter>, parts: &[&[u8]]) -> bool {
-    let mut are_taken = true;
-    for part in parts {
-        are_taken = takes(writer, part) && are_taken;
+// Makes a call, and compares its answer.
+fn writer_answers(writer: &mut BufferedWriter<PartWriter>, call: &WriteCall) -> bool {
+    match call {
+        WriteCall::Takes(bytes) => writer.write_all(bytes).is_ok(),
+        WriteCall::Refuses(bytes) => writer.write_all(bytes).is_err(),
+        WriteCall::Flush(succeeds) => writer.flush().is_ok() == *succeeds,
+        WriteCall::Keeps(bytes) => writer.buffer() == *bytes,
+        WriteCall::Fault(want) => write_failure(writer.take_fault()) == *want,
     }
-    are_taken
 }
 
-// Compares what is kept back.
-fn keeps(writer: &BufferedWriter<PartWriter>, kept: &[u8]) -> bool {
-    writer.buffer() == kept
+// What a writer comes to: what the sink took, what is kept back, in how many calls, where that is asked, and flushes, and
+// the failure.
+type End = (&'static [u8], &'static [u8], Option<usize>, usize, Failure);
+
+// A writer came to this, where this is what it kept back, and the failure.
+fn came_to(sink: &PartWriter, kept: &[u8], failure: Failure, end: &End) -> bool {
+    let is_taken = sink.taken.as_slice() == end.0 && kept == end.1;
+    let are_calls = end.2.is_none() || end.2 == Some(sink.calls);
+    is_taken && are_calls && sink.flushes == end.3 && failure == end.4
 }
 
-// Writes these parts, with at most four bytes lent. It compares what is then written, byte by byte, and kept back.
-fn keeps_row(alloc: Global, room: usize, parts: &[&[u8]], written: &[u8], kept: &[u8]) -> bool {
-    let mut lent = [0; 4];
-    let mut writer = slow_writer(alloc, &mut lent, room);
-    let is_taken = takes_all(&mut writer, parts) && keeps(&writer, kept);
-    came_to(&take_apart(writer), written, kept, (written.len(), 0)) && is_taken
-}
+// What is tried, the sink, how many bytes are lent, the calls, and what they come to.
+type Writes = (&'static str, Sink, usize, &'static [WriteCall], End);
 
-// How many bytes are lent, what each write brings, and what is then written and kept back.
-static WRITES: [(usize, &[&[u8]], &[u8], &[u8]); 7] = [
-    (4, &[], &[], &[]),
-    (4, &[&[1], &[2, 3, 4]], &[], &[1, 2, 3, 4]),
-    (4, &[&[1, 2, 3, 4], &[]], &[], &[1, 2, 3, 4]),
-    (4, &[&[1, 2, 3], &[4, 5]], &[1, 2, 3], &[4, 5]),
-    (2, &[&[1], &[2, 3, 4]], &[1, 2, 3, 4], &[]),
-    (2, &[&[1, 2, 3], &[4], &[5]], &[1, 2, 3], &[4, 5]),
-    (0, &[&[1], &[], &[2, 3]], &[1, 2, 3], &[]),
+static WRITES: [Writes; 10] = [
+    (
+        "no write",
+        Sink::Slow,
+        4,
+        &[WriteCall::Keeps(&[])],
+        (&[], &[], Some(0), 0, Failure::Never),
+    ),
+    (
+        "two writes that fill what is lent",
+        Sink::Slow,
+        4,
+        &[
+            WriteCall::Takes(&[1]),
+            WriteCall::Takes(&[2, 3, 4]),
+            WriteCall::Keeps(&[1, 2, 3, 4]),
+        ],
+        (&[], &[1, 2, 3, 4], Some(0), 0, Failure::Never),
+    ),
+    (
+        "a write of none behind one that fills it",
+        Sink::Slow,
+        4,
+        &[
+            WriteCall::Takes(&[1, 2, 3, 4]),
+            WriteCall::Takes(&[]),
+            WriteCall::Keeps(&[1, 2, 3, 4]),
+        ],
+        (&[], &[1, 2, 3, 4], Some(0), 0, Failure::Never),
+    ),
+    (
+        "a write for which there is no room",
+        Sink::Slow,
+        4,
+        &[
+            WriteCall::Takes(&[1, 2, 3]),
+            WriteCall::Takes(&[4, 5]),
+            WriteCall::Keeps(&[4, 5]),
+        ],
+        (&[1, 2, 3], &[4, 5], Some(3), 0, Failure::Never),
+    ),
+    (
+        "a write of more than is lent",
+        Sink::Slow,
+        2,
+        &[
+            WriteCall::Takes(&[1]),
+            WriteCall::Takes(&[2, 3, 4]),
+            WriteCall::Keeps(&[]),
+        ],
+        (&[1, 2, 3, 4], &[], Some(4), 0, Failure::Never),
+    ),
+    (
+        "a write of more at first",
+        Sink::Slow,
+        2,
+        &[
+            WriteCall::Takes(&[1, 2, 3]),
+            WriteCall::Takes(&[4]),
+            WriteCall::Takes(&[5]),
+            WriteCall::Keeps(&[4, 5]),
+        ],
+        (&[1, 2, 3], &[4, 5], Some(3), 0, Failure::Never),
+    ),
+    (
+        "no byte is lent",
+        Sink::Slow,
+        0,
+        &[
+            WriteCall::Takes(&[1]),
+            WriteCall::Takes(&[]),
+            WriteCall::Takes(&[2, 3]),
+            WriteCall::Keeps(&[]),
+        ],
+        (&[1, 2, 3], &[], Some(3), 0, Failure::Never),
+    ),
+    (
+        "a flush passes on what was kept back",
+        Sink::Slow,
+        4,
+        &[
+            WriteCall::Takes(&[1, 2, 3]),
+            WriteCall::Flush(true),
+            WriteCall::Keeps(&[]),
+            WriteCall::Takes(&[4]),
+            WriteCall::Flush(true),
+        ],
+        (&[1, 2, 3, 4], &[], Some(4), 2, Failure::Never),
+    ),
+    // what a failed write could not pass on is kept back still, and its fault is told once
+    (
+        "nothing that was kept back is lost",
+        Sink::Failing,
+        4,
+        &[
+            WriteCall::Takes(&[1, 2, 3, 4]),
+            WriteCall::Refuses(&[5]),
+            WriteCall::Keeps(&[2, 3, 4]),
+            WriteCall::Fault(Failure::Failed(io::ErrorKind::Interrupted)),
+            WriteCall::Fault(Failure::Never),
+            WriteCall::Flush(false),
+        ],
+        (&[1, 2, 3], &[4], None, 0, Failure::Stopped),
+    ),
+    (
+        "a flush within that fails",
+        Sink::FailingToFlush,
+        4,
+        &[WriteCall::Takes(&[1, 2]), WriteCall::Flush(false)],
+        (&[1, 2], &[], None, 1, Failure::Failed(io::ErrorKind::Other)),
+    ),
 ];
 
+// Makes the calls of each row, with at most four bytes lent, and compares their answers, and what they come to.
 #[test]
 fn keeps_back(rt: HostRuntime) {
-    for &(room, parts, written, kept) in &WRITES {
-        let is_right = keeps_row(rt.alloc(), room, parts, written, kept);
-        assert!(rt; is_right, "at {room}, {parts:?}");
+    for (what, sink, room, calls, end) in &WRITES {
+        let mut lent = [0; 4];
+        let sink = sink_of(rt.alloc(), *sink);
+        let mut writer = BufferedWriter::new(sink, &mut lent[..4.min(*room)]);
+        for call in *calls {
+            holds(&rt, writer_answers(&mut writer, call), what);
+        }
+        let (sink, kept, fault) = writer.into_parts();
+        holds(&rt, came_to(&sink, kept, write_failure(fault), end), what);
     }
-}
-
-// A writer with this sink, with four bytes lent.
-fn writer_to<'a>(sink: PartWriter, lent: &'a mut [u8; 4]) -> BufferedWriter<'a, PartWriter> {
-    BufferedWriter::new(sink, lent)
-}
-
-// Writes three bytes, flushes, writes one more and flushes. It tells of each step, and of what it comes to, whether it
-// went well.
-fn flushes_twice(alloc: Global) -> [bool; 4] {
-    let mut lent = [0; 4];
-    let mut writer = writer_to(PartWriter::new(alloc, 1), &mut lent);
-    let is_taken = takes(&mut writer, &[1, 2, 3]);
-    let is_passed_on = passes_on(&mut writer) && keeps(&writer, &[]);
-    let goes_on = takes(&mut writer, &[4]) && passes_on(&mut writer);
-    let is_right = came_to(&take_apart(writer), &[1, 2, 3, 4], &[], (4, 2));
-    [is_taken, is_passed_on, goes_on, is_right]
-}
-
-#[test]
-fn a_flush_passes_on_what_was_kept_back(rt: HostRuntime) {
-    let steps = flushes_twice(rt.alloc());
-    assert!(rt; steps == [true; 4], "{steps:?}");
-}
-
-// What a failed write could not pass on is kept back still, and its fault is told once.
-fn keeps_what_failed(writer: &mut BufferedWriter<PartWriter>, kind: io::ErrorKind) -> bool {
-    let is_kept = !takes(writer, &[5]) && keeps(writer, &[2, 3, 4]);
-    let is_told = write_fault(writer) == Failure::Failed(kind);
-    is_kept && is_told && write_fault(writer) == Failure::Never
-}
-
-// A sink that takes one byte a call, three in all, and fails at its second call.
-fn failing_sink(alloc: Global, kind: io::ErrorKind) -> PartWriter {
-    let sink = PartWriter::new(alloc, 1).within(3);
-    sink.failing_at(2, Some(kind))
-}
-
-// Writes more than is kept back, twice, to that sink. It tells of each step whether it went as is due.
-fn fails_twice(alloc: Global) -> [bool; 4] {
-    let mut lent = [0; 4];
-    let kind = io::ErrorKind::Interrupted;
-    let mut writer = writer_to(failing_sink(alloc, kind), &mut lent);
-    let is_taken = takes(&mut writer, &[1, 2, 3, 4]);
-    let is_kept = keeps_what_failed(&mut writer, kind);
-    let has_failed = !passes_on(&mut writer);
-    let parts = take_apart(writer);
-    let is_right = parts.failure == Failure::Stopped && has_parts(&parts, &[1, 2, 3], &[4], 0);
-    [is_taken, is_kept, has_failed, is_right]
-}
-
-#[test]
-fn nothing_that_was_kept_back_is_lost(rt: HostRuntime) {
-    let steps = fails_twice(rt.alloc());
-    assert!(rt; steps == [true; 4], "{steps:?}");
-}
-
-#[test]
-fn a_flush_within_that_fails(rt: HostRuntime) {
-    let mut lent = [0; 4];
-    let sink = PartWriter::new(rt.alloc(), 1).failing_to_flush();
-    let mut writer = writer_to(sink, &mut lent);
-    holds(&rt, takes(&mut writer, &[1, 2]), "two bytes are kept back");
-    holds(&rt, !passes_on(&mut writer), "the flush fails");
-    let parts = take_apart(writer);
-    let is_told = parts.failure == Failure::Failed(io::ErrorKind::Other);
-    holds(&rt, is_told, "the fault is told");
-    let are_written = has_parts(&parts, &[1, 2], &[], 1);
-    holds(&rt, are_written, "both bytes were written");
 }
 
 // An array's title, a number and a byte string, in their shortest spelling: three elements.
@@ -360,11 +429,14 @@ fn is_copied(alloc: Global, bytes: &[u8], ahead: usize, back: usize) -> bool {
     is_whole && taken.as_slice() == bytes
 }
 
+// How many bytes are lent to the reader, and how many to the writer.
+static ROOMS: [(usize, usize); 5] = [(0, 0), (1, 64), (7, 1), (8, 9), (64, 64)];
+
 #[test]
 fn copies_through_any_room(rt: HostRuntime) {
     let bytes = elements();
-    for (ahead, back) in [(0usize, 0usize), (1, 64), (7, 1), (8, 9), (64, 64)] {
-        let is_right = is_copied(rt.alloc(), &bytes, ahead, back);
-        assert!(rt; is_right, "at {ahead}, {back}");
+    for (ahead, back) in &ROOMS {
+        let is_right = is_copied(rt.alloc(), &bytes, *ahead, *back);
+        holds_with(&rt, is_right, &[*ahead, *back]);
     }
 }

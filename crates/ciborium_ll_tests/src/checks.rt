@@ -14,6 +14,18 @@ pub fn holds_at(rt: &impl Abort, is_right: bool, bytes: &[u8]) {
     assert!(rt; is_right, "at {bytes:?}");
 }
 
+// The same of a row, which numbers name.
+pub fn holds_with(rt: &impl Abort, is_right: bool, numbers: &[usize]) {
+    assert!(rt; is_right, "with {numbers:?}");
+}
+
+// Counts one more of this number, if it has a place.
+pub fn counts_one(counts: &mut [u8; 10], number: usize) {
+    if let Some(count) = counts.get_mut(number) {
+        *count = count.saturating_add(1);
+    }
+}
+
 // Why a call between slices stopped, if it did.
 #[derive(Clone, Copy, PartialEq, Eq)]
 pub enum Stop {

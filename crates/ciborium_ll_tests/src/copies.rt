@@ -1,8 +1,6 @@
-use crate::calls::{decoder_at, encoder_into, has_left, has_read};
+use crate::calls::{decoder_at, encoder_into, has_read, has_written};
 use crate::checks::{Stop, holds, holds_at, stop_of};
-use ciborium_ll::io::{Read, SliceReader, SliceWriter};
-use ciborium_ll::{Decoder, Encoder, Float, Header, laws, simple, tag};
-use std::process::Abort;
+use ciborium_ll::{Float, Header, laws, simple, tag};
 
 // Bytes, how many headers are copied, into how much space, what is written, why it stopped, and the offset behind that.
 type Row = (&'static [u8], usize, usize, &'static [u8], Stop, usize);
@@ -18,71 +16,61 @@ static ROWS: [Row; 5] = [
     (LONGER, 3, 1, &[5], Stop::Full, 4),
 ];
 
-// Copies headers. What that does is not known outside.
-fn copies_headers(
-    decoder: &mut Decoder<SliceReader>,
-    encoder: &mut Encoder<SliceWriter>,
-    count: usize,
-) -> Stop {
-    stop_of(&laws::copy_headers(decoder, encoder, count))
-}
-
 // Copies so many headers into this much space, and compares all that this comes to. What was not read is left.
-fn copy_row(
-    rt: &impl Abort,
-    bytes: &[u8],
-    count: usize,
-    room: usize,
-    written: &[u8],
-    stop: Stop,
-    offset: usize,
-) {
-    let mut space = [0; 8];
-    let mut decoder = decoder_at(bytes, 0);
-    let mut encoder = encoder_into(&mut space, room);
-    let is_stopped = copies_headers(&mut decoder, &mut encoder, count) == stop;
-    let is_read = has_read(decoder, offset, bytes.get(offset..));
-    let is_written = encoder.into_inner().written() == written;
-    holds_at(rt, is_written && is_stopped && is_read, bytes);
-}
-
 #[test]
 fn headers_are_copied(rt: HostRuntime) {
-    for &(bytes, count, room, written, stop, offset) in &ROWS {
-        copy_row(&rt, bytes, count, room, written, stop, offset);
+    for row in &ROWS {
+        let (bytes, count, room, written, stop, offset) = row;
+        let mut space = [0; 8];
+        let mut decoder = decoder_at(bytes, 0);
+        let mut encoder = encoder_into(&mut space, *room);
+        let outcome = laws::copy_headers(&mut decoder, &mut encoder, *count);
+        let is_stopped = stop_of(&outcome) == *stop;
+        let is_read = has_read(decoder, *offset, bytes.get(*offset..));
+        let is_written = has_written(&encoder.into_inner(), written);
+        holds_at(&rt, is_written && is_stopped && is_read, bytes);
     }
 }
 
-// Pulls a header, gives it back, and pulls it again.
-fn gives_again<R: Read>(decoder: &mut Decoder<R>, want: Header) -> bool
-where
-    R::Error: Drop,
-{
-    matches!(laws::pull_again(decoder), Ok(header) if header == want)
-}
-
-#[test]
-fn a_header_is_pulled_again(rt: HostRuntime) {
-    let mut decoder = Decoder::from(SliceReader::new(&[0x18, 5, 0]));
-    let is_given = gives_again(&mut decoder, Header::Positive(5));
-    holds(&rt, is_given && decoder.offset() == 2, "the header");
-    holds(&rt, has_left(decoder, &[0]), "what is left");
-}
-
-// Two headers are the same, or are not.
-fn same_row(rt: &impl Abort, one: Header, other: Header, want: bool) {
-    assert!(rt; laws::same_header(one, other) == want, "{one:?}, {other:?}");
-}
+// Two headers, and whether they are the same.
+static PAIRS: [(&str, Header, Header, bool); 5] = [
+    (
+        "a zero and itself",
+        Header::Float(Float::Half(0)),
+        Header::Float(Float::Half(0)),
+        true,
+    ),
+    (
+        "a zero and one with a sign",
+        Header::Float(Float::Half(0)),
+        Header::Float(Float::Half(0x8000)),
+        false,
+    ),
+    (
+        "a zero and one of another width",
+        Header::Float(Float::Half(0)),
+        Header::Float(Float::Single(0)),
+        false,
+    ),
+    (
+        "a NaN and itself",
+        Header::Float(Float::Half(0x7e00)),
+        Header::Float(Float::Half(0x7e00)),
+        true,
+    ),
+    (
+        "opens of bytes and of text",
+        Header::Bytes(None),
+        Header::Text(None),
+        false,
+    ),
+];
 
 #[test]
 fn headers_and_floats_as_values(rt: HostRuntime) {
-    let zero = Header::Float(Float::Half(0));
-    same_row(&rt, zero, zero, true);
-    same_row(&rt, zero, Header::Float(Float::Half(0x8000)), false);
-    same_row(&rt, zero, Header::Float(Float::Single(0)), false);
-    let nan = Header::Float(Float::Half(0x7e00));
-    same_row(&rt, nan, nan, true);
-    same_row(&rt, Header::Bytes(None), Header::Text(None), false);
+    for (what, one, other, want) in &PAIRS {
+        holds(&rt, laws::same_header(*one, *other) == *want, what);
+    }
 }
 
 #[test]

@@ -1,10 +1,10 @@
 ghost use Rattle.std.specs.Prelude.{◌≤◌, All, IsTrue};
 
-use crate::calls::{begins_bytes, begins_text};
-use crate::checks::{Stop, copy_stop};
-use ciborium_ll::io::{SliceReader, SliceWriter};
-use ciborium_ll::laws::{End, drain_bytes, drain_text};
-use ciborium_ll::{Bytes, Decoder, Encoder, Segment, Segments, Text};
+use crate::calls::{begins_bytes, begins_text, decoder_at, encoder_into, has_written};
+use crate::checks::{Stop, copy_stop, holds};
+use ciborium_ll::io::{EndOfFile, OutOfSpace, SliceReader, SliceWriter};
+use ciborium_ll::laws::{Drained, End, drain_bytes, drain_text};
+use ciborium_ll::{Bytes, Chunked, Encoder, RecodeError, Segment, Segments, Text};
 use std::process::Abort;
 
 // How a drain ended, and after how many calls, or why it stopped.
@@ -17,54 +17,45 @@ fn fit(sizes: &[usize]) -> bool
     sizes.iter().all(|size| *size <= 64)
 }
 
-// The segment that a text has next.
-pub fn next_text<'a, 'b>(
+// The segment that a string has next.
+pub fn next_segment<'a, 'b, P: Chunked>(
     rt: &impl Abort,
-    segments: &'a mut Segments<'_, SliceReader<'b>, Text>,
-) -> Segment<'a, SliceReader<'b>, Text> {
+    segments: &'a mut Segments<'_, SliceReader<'b>, P>,
+) -> Segment<'a, SliceReader<'b>, P> {
     match segments.pull() {
         Ok(Some(segment)) => segment,
         _ => panic!(rt; "no segment"),
     }
 }
 
-// The same of a byte string.
-pub fn next_bytes<'a, 'b>(
-    rt: &impl Abort,
-    segments: &'a mut Segments<'_, SliceReader<'b>, Bytes>,
-) -> Segment<'a, SliceReader<'b>, Bytes> {
-    match segments.pull() {
-        Ok(Some(segment)) => segment,
-        _ => panic!(rt; "no segment"),
+// What a drain between slices came to.
+fn ended(outcome: Result<Drained, RecodeError<EndOfFile, OutOfSpace>>) -> Ended {
+    match outcome {
+        Ok(drained) => Ok((drained.calls, drained.end)),
+        Err(error) => Err(copy_stop(&error)),
     }
 }
 
 // Drains a segment of a text. What that does is not known outside.
 fn drains_text(
-    rt: &impl Abort,
     segment: &mut Segment<'_, SliceReader, Text>,
     sizes: &[usize],
     sink: &mut Encoder<SliceWriter>,
-) -> Ended {
-    assert!(rt; fit(sizes));
-    match drain_text(segment, sizes, &mut [0; 64], sink) {
-        Ok(drained) => Ok((drained.calls, drained.end)),
-        Err(error) => Err(copy_stop(&error)),
-    }
+) -> Ended
+    requires { All (λ size. size ≤ 64) sizes.now }
+{
+    ended(drain_text(segment, sizes, &mut [0; 64], sink))
 }
 
 // The same of a byte string.
 fn drains_bytes(
-    rt: &impl Abort,
     segment: &mut Segment<'_, SliceReader, Bytes>,
     sizes: &[usize],
     sink: &mut Encoder<SliceWriter>,
-) -> Ended {
-    assert!(rt; fit(sizes));
-    match drain_bytes(segment, sizes, &mut [0; 64], sink) {
-        Ok(drained) => Ok((drained.calls, drained.end)),
-        Err(error) => Err(copy_stop(&error)),
-    }
+) -> Ended
+    requires { All (λ size. size ≤ 64) sizes.now }
+{
+    ended(drain_bytes(segment, sizes, &mut [0; 64], sink))
 }
 
 // Drains a string of a single segment, of text or of bytes.
@@ -75,25 +66,19 @@ pub fn drains_whole(
     sink: &mut Encoder<SliceWriter>,
 ) -> Ended {
     let length = bytes.len().saturating_sub(1);
-    let mut decoder = Decoder::from(SliceReader::new(bytes));
-    if bytes.first().is_some_and(|first| *first >= 0x60) {
+    let mut decoder = decoder_at(bytes, 0);
+    assert!(rt; fit(sizes));
+    if matches!(bytes.first(), Some(0x60..)) {
         let mut segments = begins_text(rt, &mut decoder, Some(length), 1);
-        return drains_text(rt, &mut next_text(rt, &mut segments), sizes, sink);
+        return drains_text(&mut next_segment(rt, &mut segments), sizes, sink);
     }
     let mut segments = begins_bytes(rt, &mut decoder, Some(length), 1);
-    drains_bytes(rt, &mut next_bytes(rt, &mut segments), sizes, sink)
+    drains_bytes(&mut next_segment(rt, &mut segments), sizes, sink)
 }
 
-// Drains a string of a single segment into room for its body, of at most six bytes, and compares how that ended, and how
-// much of the body was written.
-fn row(rt: &impl Abort, bytes: &[u8], sizes: &[usize], want: &Ended, written: usize) {
-    let mut space = [0; 6];
-    let room = bytes.len().saturating_sub(1).min(6);
-    let mut sink = Encoder::from(SliceWriter::new(&mut space[..room]));
-    let is_ended = drains_whole(rt, bytes, sizes, &mut sink) == *want;
-    let is_written = bytes.get(1..=written) == Some(sink.into_inner().written());
-    assert!(rt; is_ended && is_written, "at {bytes:?}, {sizes:?}");
-}
+// What is tried, a string of one segment in its bytes, the sizes of the buffers, how the drain ends, and how much of the
+// body is written.
+type Row = (&'static str, &'static [u8], &'static [usize], Ended, usize);
 
 // The character U+1F600, and the same between two letters.
 const EMOJI: &[u8] = b"\x64\xf0\x9f\x98\x80";
@@ -102,28 +87,98 @@ const LETTERS: &[u8] = b"\x66a\xf0\x9f\x98\x80b";
 
 const NUMBERS: &[u8] = b"\x43\x01\x02\x03";
 
-// A string of one segment in its bytes, the sizes of the buffers, how the drain ends, and how much of the body is
-// written.
-static ROWS: [(&[u8], &[usize], Ended, usize); 12] = [
-    (EMOJI, &[4], Ok((1, End::OutOfSizes)), 4),
-    (EMOJI, &[4, 4], Ok((2, End::Ended)), 4),
-    (EMOJI, &[3, 3, 4, 4], Ok((4, End::Ended)), 4),
-    (LETTERS, &[4, 4, 4, 4, 4], Ok((4, End::Ended)), 6),
-    (LETTERS, &[5, 5, 5, 5, 5], Ok((3, End::Ended)), 6),
-    (LETTERS, &[64, 64], Ok((2, End::Ended)), 6),
-    (b"\x60", &[4], Ok((1, End::Ended)), 0),
-    (b"\x60", &[], Ok((0, End::OutOfSizes)), 0),
-    // a body that is no text
-    (b"\x62a\xff", &[4, 4], Err(Stop::Syntax(0)), 1),
-    // bytes
-    (NUMBERS, &[2, 2, 2], Ok((3, End::Ended)), 3),
-    (NUMBERS, &[0, 0], Ok((2, End::OutOfSizes)), 0),
-    (NUMBERS, &[2], Ok((1, End::OutOfSizes)), 2),
+static ROWS: [Row; 12] = [
+    (
+        "a character by one size",
+        EMOJI,
+        &[4],
+        Ok((1, End::OutOfSizes)),
+        4,
+    ),
+    (
+        "a character by two sizes",
+        EMOJI,
+        &[4, 4],
+        Ok((2, End::Ended)),
+        4,
+    ),
+    (
+        "a character by sizes of which the first are too small",
+        EMOJI,
+        &[3, 3, 4, 4],
+        Ok((4, End::Ended)),
+        4,
+    ),
+    (
+        "a character between letters by sizes of four",
+        LETTERS,
+        &[4, 4, 4, 4, 4],
+        Ok((4, End::Ended)),
+        6,
+    ),
+    (
+        "a character between letters by sizes of five",
+        LETTERS,
+        &[5, 5, 5, 5, 5],
+        Ok((3, End::Ended)),
+        6,
+    ),
+    (
+        "a character between letters by large sizes",
+        LETTERS,
+        &[64, 64],
+        Ok((2, End::Ended)),
+        6,
+    ),
+    ("an empty text", b"\x60", &[4], Ok((1, End::Ended)), 0),
+    (
+        "an empty text by no size",
+        b"\x60",
+        &[],
+        Ok((0, End::OutOfSizes)),
+        0,
+    ),
+    (
+        "a body that is no text",
+        b"\x62a\xff",
+        &[4, 4],
+        Err(Stop::Syntax(0)),
+        1,
+    ),
+    (
+        "bytes by sizes of two",
+        NUMBERS,
+        &[2, 2, 2],
+        Ok((3, End::Ended)),
+        3,
+    ),
+    (
+        "bytes by sizes of none",
+        NUMBERS,
+        &[0, 0],
+        Ok((2, End::OutOfSizes)),
+        0,
+    ),
+    (
+        "bytes by one size",
+        NUMBERS,
+        &[2],
+        Ok((1, End::OutOfSizes)),
+        2,
+    ),
 ];
 
+// Drains a string of a single segment into room for its body, of at most six bytes, and compares how that ended, and how
+// much of the body was written.
 #[test]
 fn strings_by_any_sizes(rt: HostRuntime) {
-    for (bytes, sizes, want, written) in &ROWS {
-        row(&rt, bytes, sizes, want, *written);
+    for row in &ROWS {
+        let (what, bytes, sizes, want, written) = row;
+        let mut space = [0; 6];
+        let mut sink = encoder_into(&mut space, bytes.len().saturating_sub(1));
+        let is_ended = drains_whole(&rt, bytes, sizes, &mut sink) == *want;
+        let body = bytes.get(1..=*written).unwrap_or(&[]);
+        let is_right = is_ended && has_written(&sink.into_inner(), body);
+        holds(&rt, is_right, what);
     }
 }

@@ -1,5 +1,5 @@
-use crate::calls::{decoder_at, encoder_into, has_read};
-use crate::checks::{Stop, stop_of};
+use crate::calls::{decoder_at, encoder_into, has_read, has_written};
+use crate::checks::{Stop, holds_with, stop_of};
 use ciborium_ll::io::{SliceReader, SliceWriter};
 use ciborium_ll::recode::recode;
 use ciborium_ll::{Decoder, Encoder};
@@ -20,20 +20,20 @@ pub fn recodes(
 
 // Where the bytes begin, how many elements are copied, by a buffer of how many bytes, into how much space, what is
 // written, the offset behind the copy, and why it stopped.
-type Row<'a> = (usize, usize, usize, usize, &'a [u8], usize, Stop);
+type Row = (usize, usize, usize, usize, &'static [u8], usize, Stop);
 
 // Copies elements, and compares what that comes to. What was not read is left.
-fn copies(rt: &impl Abort, bytes: &[u8], row: Row) {
-    let (start, count, size, room, written, offset, stop) = row;
+fn copies(rt: &impl Abort, bytes: &[u8], row: &Row) {
     let mut buffer = [0; 64];
     let mut space = [0; 16];
-    let mut decoder = decoder_at(bytes, start);
-    let mut encoder = encoder_into(&mut space, room);
-    let buffer = &mut buffer[..size.min(64)];
-    let is_stopped = recodes(rt, &mut decoder, &mut encoder, count, buffer) == stop;
-    let is_read = has_read(decoder, offset, bytes.get(offset.saturating_sub(start)..));
-    let is_written = encoder.into_inner().written() == written;
-    assert!(rt; is_stopped && is_read && is_written, "to {offset}");
+    let mut decoder = decoder_at(bytes, row.0);
+    let mut encoder = encoder_into(&mut space, row.3);
+    let buffer = &mut buffer[..row.2.min(64)];
+    let stop = recodes(rt, &mut decoder, &mut encoder, row.1, buffer);
+    let left = bytes.get(row.5.saturating_sub(row.0)..);
+    let is_read = stop == row.6 && has_read(decoder, row.5, left);
+    let is_right = is_read && has_written(&encoder.into_inner(), row.4);
+    holds_with(rt, is_right, &[row.0, row.1, row.2, row.3]);
 }
 
 const ALL: &[u8] = &[0x18, 5, 0x58, 1, 1, 0x5f, 0x5f, 0x42, 2, 3, 0xff, 0xff, 0];
@@ -43,7 +43,7 @@ const WRITTEN: &[u8] = &[5, 0x41, 1, 0x5f, 0x42, 2, 3, 0xff];
 // A text that is none, and that is cut off.
 const CUT: &[u8] = &[0x66, 0xff, 0x61, 0x62, 0x63];
 
-static ROWS: [(&[u8], Row); 6] = [
+static ROWS: [(&'static [u8], Row); 6] = [
     (ALL, (0, 3, 4, 16, WRITTEN, 12, Stop::Never)),
     (ALL, (0, 0, 4, 16, &[], 0, Stop::Never)),
     (ALL, (0, 3, 64, 2, &[5, 0x41], 5, Stop::Full)),
@@ -66,10 +66,12 @@ static ROWS: [(&[u8], Row); 6] = [
 
 #[test]
 fn elements_are_copied(rt: HostRuntime) {
-    for &(bytes, row) in &ROWS {
+    for (bytes, row) in &ROWS {
         copies(&rt, bytes, row);
     }
 }
+
+static MANY: Row = (0, 1, 64, 16, &[0x5f, 0xff], 200_000, Stop::Never);
 
 // Makes breaks of the second half.
 fn ends_in_breaks(bytes: &mut [u8]) {
@@ -81,7 +83,6 @@ fn ends_in_breaks(bytes: &mut [u8]) {
 fn many_opens_and_breaks(rt: HostRuntime) -> Result<(), Fail> {
     let mut bytes = vec![in rt.alloc(); 0x5fu8; 200_000]?;
     ends_in_breaks(bytes.as_mut_slice());
-    let want: Row = (0, 1, 64, 16, &[0x5f, 0xff], 200_000, Stop::Never);
-    copies(&rt, bytes.as_slice(), want);
+    copies(&rt, bytes.as_slice(), &MANY);
     Ok(())
 }

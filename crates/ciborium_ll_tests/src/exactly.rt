@@ -5,6 +5,7 @@ ghost use Rattle.std.specs.Prelude.{◌≤◌, ◌+◌, ◌<◌, ◌^◌, ◌↔
 ghost use Rattle.ciborium_ll.specs.Copying.{TitlesInFront};
 ghost use Rattle.ciborium_ll.specs.Shortening.{Shortens};
 
+use crate::checks::holds;
 use ciborium_ll::io::{SliceReader, SliceWriter};
 use ciborium_ll::laws::copy_headers;
 use ciborium_ll::recode::recode;
@@ -36,8 +37,10 @@ fn copies_titles(bytes: &[u8], space: &mut [u8], count: usize) -> bool
 #[test]
 fn a_string_is_one_element_and_more_titles(rt: HostRuntime) {
     let bytes = [0x5f, 0x41, 0x00, 0xff];
-    assert!(rt; copies_elements(&bytes, &mut [0; 4], 1));
-    assert!(rt; !copies_elements(&bytes, &mut [0; 4], 2));
-    assert!(rt; copies_titles(&bytes, &mut [0; 4], 4));
-    assert!(rt; !copies_titles(&bytes, &mut [0; 4], 5));
+    let is_one = copies_elements(&bytes, &mut [0; 4], 1);
+    let are_two = copies_elements(&bytes, &mut [0; 4], 2);
+    holds(&rt, is_one && !are_two, "one element");
+    let are_four = copies_titles(&bytes, &mut [0; 4], 4);
+    let are_five = copies_titles(&bytes, &mut [0; 4], 5);
+    holds(&rt, are_four && !are_five, "four titles");
 }

@@ -26,6 +26,8 @@ mod pieces;
 #[cfg(test)]
 mod short_texts;
 #[cfg(test)]
+mod steps;
+#[cfg(test)]
 mod streams;
 #[cfg(test)]
 mod strict;

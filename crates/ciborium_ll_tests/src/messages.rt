@@ -47,22 +47,16 @@ fn errors_of_decoders_and_copies(rt: HostRuntime) {
 
 #[test]
 fn errors_of_readers_and_writers(rt: HostRuntime) {
-    let is_said = says(rt.alloc(), &EndOfFile, "the bytes have ended");
-    holds(&rt, is_said, "EndOfFile");
-    let is_said = says(rt.alloc(), &OutOfSpace, "the space is full");
-    holds(&rt, is_said, "OutOfSpace");
-    let is_said = says(
-        rt.alloc(),
-        &FaultKept,
-        "a call failed, and its fault is kept",
+    let alloc = rt.alloc();
+    let is_said = says(alloc, &EndOfFile, "the bytes have ended")
+        && says(alloc, &OutOfSpace, "the space is full");
+    holds(&rt, is_said, "EndOfFile and OutOfSpace");
+    let is_said = says(alloc, &FaultKept, "a call failed, and its fault is kept")
+        && says(alloc, &ReadFault::End, "the reader has ended")
+        && says(alloc, &WriteFault::Zero, "the writer takes no more bytes");
+    holds(
+        &rt,
+        is_said,
+        "FaultKept, ReadFault::End and WriteFault::Zero",
     );
-    holds(&rt, is_said, "FaultKept");
-    let is_said = says(rt.alloc(), &ReadFault::End, "the reader has ended");
-    holds(&rt, is_said, "ReadFault::End");
-    let is_said = says(
-        rt.alloc(),
-        &WriteFault::Zero,
-        "the writer takes no more bytes",
-    );
-    holds(&rt, is_said, "WriteFault::Zero");
 }

@@ -1,7 +1,6 @@
+use crate::calls::encoder_into;
 use crate::checks::holds_at;
 use crate::drains::drains_whole;
-use ciborium_ll::Encoder;
-use ciborium_ll::io::SliceWriter;
 use ciborium_ll::laws::End;
 use simdutf8::basic;
 use std::process::Abort;
@@ -12,39 +11,32 @@ const BYTES: [u8; 20] = [
     0xf0, 0xf1, 0xf4, 0xf5,
 ];
 
-// Whether the text that the bytes are is read to its end, by buffers of four bytes.
-fn ends(rt: &impl Abort, bytes: &[u8]) -> bool {
-    let mut written = [0; 4];
-    let mut sink = Encoder::from(SliceWriter::new(&mut written));
-    matches!(
-        drains_whole(rt, bytes, &[4; 6], &mut sink),
-        Ok((_, End::Ended))
-    )
-}
-
-// The title of a text of this length, at most four, and the bytes that are the digits of a number by 20.
-fn list_of(length: u8, number: usize) -> [u8; 5] {
-    let mut bytes = [0x60 | length, 0, 0, 0, 0];
+// The title of a text of this length, at most four, and the bytes that are the digits of a number by 20. They are read to
+// their end as a text, by buffers of four bytes, where they are one.
+fn list_row(rt: &impl Abort, length: u8, number: usize) {
+    let mut space = [0x60 | length, 0, 0, 0, 0];
     let mut rest = number;
-    for byte in &mut bytes[1..] {
+    for byte in &mut space[1..] {
         *byte = BYTES[rest % 20];
         rest /= 20;
     }
-    bytes
+    let bytes = &space[..=usize::from(length.min(4))];
+    let mut written = [0; 4];
+    let mut sink = encoder_into(&mut written, 4);
+    let drained = drains_whole(rt, bytes, &[4; 6], &mut sink);
+    let ends = matches!(drained, Ok((_, End::Ended)));
+    let is_text = basic::from_utf8(bytes.get(1..).unwrap_or(&[])).is_ok();
+    holds_at(rt, ends == is_text, bytes);
 }
 
-// A list of bytes ends as a text where it is one.
-fn list_row(rt: &impl Abort, bytes: &[u8]) {
-    let is_text = basic::from_utf8(bytes.get(1..).unwrap_or(&[])).is_ok();
-    holds_at(rt, ends(rt, bytes) == is_text, bytes);
-}
+// How long a list is, and how many of that length there are.
+static LENGTHS: [(u8, usize); 4] = [(1, 20), (2, 400), (3, 8_000), (4, 160_000)];
 
 #[test]
 fn short_lists_end_where_they_are_text(rt: HostRuntime) {
-    for (length, count) in [(1u8, 20usize), (2, 400), (3, 8_000), (4, 160_000)] {
-        let end = usize::from(length);
-        for number in 0..count {
-            list_row(&rt, &list_of(length, number)[..=end]);
+    for (length, count) in &LENGTHS {
+        for number in 0..*count {
+            list_row(&rt, *length, number);
         }
     }
 }

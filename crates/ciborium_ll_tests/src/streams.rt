@@ -1,6 +1,6 @@
-use crate::calls::{flushes, pushes, reads, writes};
-use crate::checks::holds;
-use ciborium_ll::io::{Read, ReadFault, StdReader, StdWriter, Write, WriteFault};
+use crate::calls::{pushes, reads, writes};
+use crate::checks::{holds, holds_at, holds_with};
+use ciborium_ll::io::{ReadFault, StdReader, StdWriter, Write, WriteFault};
 use ciborium_ll::{Decoder, Encoder, Header};
 use ciborium_ll_fixtures::streams::{PartReader, PartWriter};
 use std::alloc::Global;
@@ -71,22 +71,14 @@ fn writes_std<T: io::Write>(writer: &mut StdWriter<T>, data: &[u8]) -> Failure {
 
 // Passes on what was written to a writer of std.
 fn flushes_std<T: io::Write>(writer: &mut StdWriter<T>) -> Failure {
-    write_failure(flushes(writer).err())
-}
-
-// Pulls the header of a number.
-fn gives_number<R: Read>(decoder: &mut Decoder<R>, want: u64) -> bool
-where
-    R::Error: Drop,
-{
-    matches!(decoder.pull(), Ok(Header::Positive(number)) if number == want)
+    write_failure(writer.flush().err())
 }
 
 // No contract says that a read over std succeeds. An adapter that always answered `End` would fail here.
 #[test]
 fn a_reader_in_memory(rt: HostRuntime) {
     let mut decoder = Decoder::from(StdReader::new([0x18, 24, 1, 2].as_slice()));
-    let is_given = gives_number(&mut decoder, 24);
+    let is_given = matches!(decoder.pull(), Ok(Header::Positive(24)));
     holds(&rt, is_given && decoder.offset() == 2, "the header");
     let mut one = [0; 1];
     let is_read = reads(&mut decoder, &mut one).is_ok();
@@ -95,54 +87,61 @@ fn a_reader_in_memory(rt: HostRuntime) {
     holds(&rt, left == [2].as_slice(), "what is left");
 }
 
+// The sizes of reads, what each gives where it succeeds, and how it fails.
+type Reads = (usize, &'static [u8], Failure);
+
+// Two bytes and none are read, a read is interrupted, and then one byte is left.
+static READS: [Reads; 4] = [
+    (2, &[1, 2], Failure::Never),
+    (0, &[], Failure::Never),
+    (2, &[], Failure::Failed(io::ErrorKind::Interrupted)),
+    (2, &[], Failure::Stopped),
+];
+
 #[test]
 fn one_byte_a_read(rt: HostRuntime) {
-    let interrupted = io::ErrorKind::Interrupted;
-    let inner = PartReader::new(&[1, 2, 3, 4], 1).failing_at(4, interrupted);
+    let inner = PartReader::new(&[1, 2, 3, 4], 1);
+    let inner = inner.failing_at(4, io::ErrorKind::Interrupted);
     let mut reader = StdReader::new(inner);
-    let mut two = [0; 2];
-    let failure = reads_std(&mut reader, &mut two);
-    holds(&rt, failure == Failure::Never && two == [1, 2], "two bytes");
-    let failure = reads_std(&mut reader, &mut []);
-    holds(&rt, failure == Failure::Never, "no byte");
-    let failure = reads_std(&mut reader, &mut two);
-    let is_right = failure == Failure::Failed(interrupted);
-    holds(&rt, is_right, "an interrupted read");
-    let failure = reads_std(&mut reader, &mut two);
-    holds(&rt, failure == Failure::Stopped, "one byte is left");
+    for (size, front, failure) in &READS {
+        let mut space = [0; 2];
+        let data = &mut space[..2.min(*size)];
+        let is_right = reads_std(&mut reader, data) == *failure && data.starts_with(front);
+        holds_with(&rt, is_right, &[*size, front.len()]);
+    }
     let inner = reader.into_inner();
     let is_right = inner.calls == 6 && inner.left.is_empty();
     holds(&rt, is_right, "the calls within");
 }
 
-// A read of a reader that fails, and how many calls came to it.
-fn failed_read(kind: io::ErrorKind) -> (Failure, usize) {
+// A read of a reader that fails ends with the first call, whose error it hands on.
+fn read_fails(kind: io::ErrorKind) -> bool {
     let mut reader = StdReader::new(Failing { kind, calls: 0 });
     let failure = reads_std(&mut reader, &mut [0; 2]);
-    (failure, reader.into_inner().calls)
+    failure == Failure::Failed(kind) && reader.into_inner().calls == 1
 }
 
-// A write and a flush of a writer that fails, and how many calls came to it.
-fn failed_write(kind: io::ErrorKind) -> (Failure, Failure, usize) {
+// So do a write and a flush of a writer that fails.
+fn write_fails(kind: io::ErrorKind) -> bool {
     let mut writer = StdWriter::new(Failing { kind, calls: 0 });
-    let failure = writes_std(&mut writer, &[1, 2]);
-    let flush_failure = flushes_std(&mut writer);
-    (failure, flush_failure, writer.into_inner().calls)
+    let failed = Failure::Failed(kind);
+    let is_written = writes_std(&mut writer, &[1, 2]) == failed;
+    let is_flushed = flushes_std(&mut writer) == failed;
+    is_written && is_flushed && writer.into_inner().calls == 2
 }
 
-// The first call that fails ends a read, a write or a flush, and its error is handed on.
+static KINDS: [io::ErrorKind; 4] = [
+    io::ErrorKind::Interrupted,
+    io::ErrorKind::UnexpectedEof,
+    io::ErrorKind::WriteZero,
+    io::ErrorKind::Other,
+];
+
 #[test]
 fn an_error_of_std_is_handed_on(rt: HostRuntime) {
-    for kind in [
-        io::ErrorKind::Interrupted,
-        io::ErrorKind::UnexpectedEof,
-        io::ErrorKind::WriteZero,
-        io::ErrorKind::Other,
-    ] {
-        let failed = Failure::Failed(kind);
-        holds(&rt, failed_read(kind) == (failed, 1), "a read");
-        let is_right = failed_write(kind) == (failed, failed, 2);
-        holds(&rt, is_right, "a write and a flush");
+    for kind in &KINDS {
+        holds(&rt, read_fails(*kind), "a read");
+        holds(&rt, write_fails(*kind), "a write and a flush");
     }
 }
 
@@ -174,9 +173,9 @@ fn more_than_a_million_bytes(rt: HostRuntime) -> Result<(), Fail> {
 #[test]
 fn a_writer_in_memory(rt: HostRuntime) {
     let mut encoder = Encoder::from(StdWriter::new(Vec::new(rt.alloc())));
-    let is_pushed = pushes(&mut encoder, Header::Bytes(Some(2))).is_ok();
-    let is_written = writes(&mut encoder, &[1, 2]).is_ok();
-    holds(&rt, is_pushed && is_written, "the writes");
+    let is_pushed = pushes(&mut encoder, Header::Bytes(Some(2)));
+    let is_written = is_pushed && writes(&mut encoder, &[1, 2]);
+    holds(&rt, is_written, "the writes");
     let taken = encoder.into_inner().into_inner();
     let is_right = taken.as_slice() == [0x42, 1, 2].as_slice();
     holds(&rt, is_right, "what was taken");
@@ -187,20 +186,22 @@ fn came_to(writer: &PartWriter, taken: &[u8], calls: (usize, usize)) -> bool {
     writer.taken.as_slice() == taken && (writer.calls, writer.flushes) == calls
 }
 
+// Two bytes and none are written, a write is interrupted, and then there is room for one byte.
+static WRITES: [(&[u8], Failure); 4] = [
+    (&[1, 2], Failure::Never),
+    (&[], Failure::Never),
+    (&[3, 4], Failure::Failed(io::ErrorKind::Interrupted)),
+    (&[5, 6], Failure::Stopped),
+];
+
 #[test]
 fn one_byte_a_write(rt: HostRuntime) {
-    let interrupted = io::ErrorKind::Interrupted;
     let inner = PartWriter::new(rt.alloc(), 1).within(4);
-    let mut writer = StdWriter::new(inner.failing_at(4, Some(interrupted)));
-    let failure = writes_std(&mut writer, &[1, 2]);
-    holds(&rt, failure == Failure::Never, "two bytes");
-    let failure = writes_std(&mut writer, &[]);
-    holds(&rt, failure == Failure::Never, "no byte");
-    let failure = writes_std(&mut writer, &[3, 4]);
-    let is_right = failure == Failure::Failed(interrupted);
-    holds(&rt, is_right, "an interrupted write");
-    let failure = writes_std(&mut writer, &[5, 6]);
-    holds(&rt, failure == Failure::Stopped, "room for one byte");
+    let inner = inner.failing_at(4, Some(io::ErrorKind::Interrupted));
+    let mut writer = StdWriter::new(inner);
+    for (bytes, failure) in &WRITES {
+        holds_at(&rt, writes_std(&mut writer, bytes) == *failure, bytes);
+    }
     let is_right = came_to(&writer.into_inner(), &[1, 2, 3, 5], (6, 0));
     holds(&rt, is_right, "what was taken");
 }
@@ -208,14 +209,13 @@ fn one_byte_a_write(rt: HostRuntime) {
 #[test]
 fn a_flush_is_passed_on(rt: HostRuntime) {
     let mut writer = StdWriter::new(PartWriter::new(rt.alloc(), 1));
-    let failure = flushes_std(&mut writer);
-    holds(&rt, failure == Failure::Never, "a flush");
+    let is_flushed = flushes_std(&mut writer) == Failure::Never;
     let inner = writer.into_inner();
-    holds(&rt, came_to(&inner, &[], (0, 1)), "what was flushed");
+    let is_right = is_flushed && came_to(&inner, &[], (0, 1));
+    holds(&rt, is_right, "a flush");
 
     let mut writer = StdWriter::new(inner.failing_to_flush());
-    let failure = flushes_std(&mut writer);
-    let is_right = failure == Failure::Failed(io::ErrorKind::Other);
+    let has_failed = flushes_std(&mut writer) == Failure::Failed(io::ErrorKind::Other);
+    let is_right = has_failed && writer.into_inner().flushes == 2;
     holds(&rt, is_right, "a flush that fails");
-    holds(&rt, writer.into_inner().flushes == 2, "the flushes within");
 }

@@ -1,33 +1,20 @@
-use crate::calls::{Step, steps_row};
+use crate::calls::{decoder_at, encoder_into, has_written, strict_decoder};
 use crate::checks::{Stop, holds, holds_at, next_header};
 use crate::elements::recodes;
-use crate::strings::segments_row;
-use ciborium_ll::io::{SliceReader, SliceWriter};
+use crate::vectors::decoded;
+use ciborium_ll::io::SliceReader;
 use ciborium_ll::recode::strict_len;
-use ciborium_ll::{Decoder, Encoder, Header};
+use ciborium_ll::{Decoder, Header};
 use ciborium_ll_fixtures::samples::VECTORS;
 use std::process::Abort;
-use std::test::Fail;
 
 // Bytes, how many elements are copied, what is written, how the copy ends, and the offset behind it.
 type Row = (&'static [u8], usize, &'static [u8], Stop, usize);
 
-// How long so many elements are, each in its shortest spelling. What that means is not known outside.
-fn length_of(bytes: &[u8], count: usize) -> Option<usize> {
-    strict_len(bytes, count)
-}
-
-// Copies elements, each from a strict decoder, and compares what was written, the answer and the offset, and how long
-// the elements are where each is in its shortest spelling.
-fn copy_row(rt: &impl Abort, bytes: &[u8], count: usize, written: &[u8], end: Stop, offset: usize) {
-    let mut space = [0; 16];
-    let mut decoder = Decoder::strict(SliceReader::new(bytes));
-    let mut encoder = Encoder::from(SliceWriter::new(&mut space));
-    let is_ended = recodes(rt, &mut decoder, &mut encoder, count, &mut [0; 64]) == end;
-    let is_written = encoder.into_inner().written() == written && decoder.offset() == offset;
-    let length = (end == Stop::Never).then_some(offset);
-    let is_long = length_of(bytes, count) == length;
-    holds_at(rt, is_ended && is_written && is_long, bytes);
+// Whether so many elements, each in its shortest spelling, are so long, or none where they are not there. What that
+// means is not known outside.
+fn has_length(bytes: &[u8], count: usize, length: Option<usize>) -> bool {
+    strict_len(bytes, count) == length
 }
 
 static ROWS: [Row; 20] = [
@@ -66,10 +53,23 @@ static ROWS: [Row; 20] = [
     (&[0x43, 1], 1, &[0x43], Stop::Short, 1),
 ];
 
+// Copies elements, each from a strict decoder, and compares what was written, the answer and the offset, and how long
+// the elements are where each is in its shortest spelling.
 #[test]
 fn elements_in_their_shortest_spelling(rt: HostRuntime) {
-    for &(bytes, count, written, end, offset) in &ROWS {
-        copy_row(&rt, bytes, count, written, end, offset);
+    for row in &ROWS {
+        let mut space = [0; 16];
+        let mut decoder = strict_decoder(row.0);
+        let mut encoder = encoder_into(&mut space, 16);
+        let end = recodes(&rt, &mut decoder, &mut encoder, row.1, &mut [0; 64]);
+        let is_written = has_written(&encoder.into_inner(), row.2) && decoder.offset() == row.4;
+        let length = if row.3 == Stop::Never {
+            Some(row.4)
+        } else {
+            None
+        };
+        let is_right = end == row.3 && is_written && has_length(row.0, row.1, length);
+        holds_at(&rt, is_right, row.0);
     }
 }
 
@@ -79,11 +79,10 @@ fn a_body_of_many_chunks(rt: HostRuntime) {
     let mut bytes = [0; 300];
     bytes[0] = 0x58;
     bytes[1] = 250;
-    holds(&rt, length_of(&bytes, 1) == Some(252), "the string");
-    holds(&rt, length_of(&bytes, 49) == Some(300), "all of it");
-    holds(&rt, length_of(&bytes, 50).is_none(), "one element more");
-    let is_right = length_of(&bytes[..251], 1).is_none();
-    holds(&rt, is_right, "a string that is cut");
+    let is_right = has_length(&bytes, 1, Some(252)) && has_length(&bytes, 49, Some(300));
+    holds(&rt, is_right, "the string, and all of it");
+    let is_right = has_length(&bytes, 50, None) && has_length(&bytes[..251], 1, None);
+    holds(&rt, is_right, "one element more, and a string that is cut");
 }
 
 // The numbers of bytes that an affix has, and what the first byte of a title says of each.
@@ -119,13 +118,8 @@ fn title_row(
 
 // Compares what decoders of both kinds give for a title.
 fn both_rows(rt: &impl Abort, title: &[u8], plain: Header, strict: Option<Header>) {
-    title_row(
-        rt,
-        Decoder::from(SliceReader::new(title)),
-        title,
-        Some(plain),
-    );
-    title_row(rt, Decoder::strict(SliceReader::new(title)), title, strict);
+    title_row(rt, decoder_at(title, 0), title, Some(plain));
+    title_row(rt, strict_decoder(title), title, strict);
 }
 
 // No strict decoder takes a longer title of a header, and another one takes each. It tells how many there are.
@@ -160,15 +154,14 @@ fn vector_row(rt: &impl Abort, title: &[u8], header: Header) -> usize {
 }
 
 #[test]
-fn vectors_and_their_longer_titles(rt: HostRuntime) -> Result<(), Fail> {
+fn vectors_and_their_longer_titles(rt: HostRuntime) {
     let mut all = 0usize;
-    for &(hex, header) in &VECTORS {
-        let shortest = hex::decode(rt.alloc(), hex)?;
-        all = all.saturating_add(vector_row(&rt, shortest.as_slice(), header));
+    for (hex, header) in &VECTORS {
+        let count = vector_row(&rt, decoded(&rt, hex, &mut [0; 64]), *header);
+        all = all.saturating_add(count);
     }
     // The titles of numbers that are a byte have four longer ones, and so on; simple values in one byte have one.
     holds(&rt, all == 80, "how many longer titles there are");
-    Ok(())
 }
 
 // Whether a strict copy takes the first element of one byte or two, by a plain reading.
@@ -190,7 +183,7 @@ fn is_strict(first: u8, second: Option<u8>) -> bool {
 // Copies one element, and says whether that succeeds and writes just what it consumes.
 fn is_copied(rt: &impl Abort, mut decoder: Decoder<SliceReader>, bytes: &[u8]) -> (bool, bool) {
     let mut space = [0; 2];
-    let mut encoder = Encoder::from(SliceWriter::new(&mut space));
+    let mut encoder = encoder_into(&mut space, 2);
     let stopped = recodes(rt, &mut decoder, &mut encoder, 1, &mut [0; 4]);
     let writer = encoder.into_inner();
     let written = writer.written();
@@ -200,13 +193,13 @@ fn is_copied(rt: &impl Abort, mut decoder: Decoder<SliceReader>, bytes: &[u8]) -
 
 // Compares both decoders on a list of one byte or two.
 fn both_decoders(rt: &impl Abort, bytes: &[u8], first: u8, second: Option<u8>) {
-    let (plain, is_plain_same) = is_copied(rt, Decoder::from(SliceReader::new(bytes)), bytes);
-    let (strict, is_same) = is_copied(rt, Decoder::strict(SliceReader::new(bytes)), bytes);
+    let (plain, is_plain_same) = is_copied(rt, decoder_at(bytes, 0), bytes);
+    let (strict, is_same) = is_copied(rt, strict_decoder(bytes), bytes);
     let is_small = first == 0xf8 && matches!(second, Some(24..=31));
     let is_plain = strict == (plain && is_plain_same && !is_small);
     let is_right = strict == is_strict(first, second) && is_plain && (!strict || is_same);
-    let is_long = length_of(bytes, 1).is_some() == strict;
-    assert!(rt; is_right && is_long, "at {bytes:?}");
+    let is_long = strict_len(bytes, 1).is_some() == strict;
+    holds_at(rt, is_right && is_long, bytes);
 }
 
 #[test]
@@ -219,45 +212,25 @@ fn every_list_of_one_and_two_bytes(rt: HostRuntime) {
     }
 }
 
-// Whether no decoder takes the title that begins with a byte. Else both do: no number is greater than those here, so
+// Either both decoders take the title that begins with a byte, or neither does: no number is greater than those here, so
 // each title that is one is the shortest.
-fn neither_takes(rt: &impl Abort, first: u8) -> bool {
-    let bytes = [first, 0xff, 0xff, 0xff, 0xff, 0xff, 0xff, 0xff, 0xff];
-    let mut plain = Decoder::from(SliceReader::new(&bytes));
-    let mut strict = Decoder::strict(SliceReader::new(&bytes));
-    let is_taken = next_header(&mut plain).is_ok();
-    let answer = next_header(&mut strict);
-    let is_told = if is_taken {
-        answer.is_ok()
-    } else {
-        answer == Err(Stop::Syntax(0))
-    };
-    let is_same = plain.offset() == strict.offset();
-    holds_at(rt, is_told && is_same, &[first]);
-    !is_taken
-}
-
 #[test]
 fn first_bytes_that_neither_takes(rt: HostRuntime) {
     let mut refused = 0usize;
     for first in 0..=u8::MAX {
-        refused = refused.saturating_add(usize::from(neither_takes(&rt, first)));
+        let bytes = [first, 0xff, 0xff, 0xff, 0xff, 0xff, 0xff, 0xff, 0xff];
+        let mut plain = decoder_at(&bytes, 0);
+        let mut strict = strict_decoder(&bytes);
+        let is_taken = next_header(&mut plain).is_ok();
+        let answer = next_header(&mut strict);
+        let is_told = if is_taken {
+            answer.is_ok()
+        } else {
+            answer == Err(Stop::Syntax(0))
+        };
+        let is_same = plain.offset() == strict.offset();
+        holds_at(&rt, is_told && is_same, &bytes);
+        refused = refused.saturating_add(usize::from(!is_taken));
     }
     holds(&rt, refused == 27, "how many first bytes begin no title");
-}
-
-#[test]
-fn opens_and_waiting_headers(rt: HostRuntime) {
-    // A string of the indefinite form is asked twice for a segment, where a further open stands.
-    let decoder = Decoder::strict(SliceReader::new(&[0x5f, 0x5f, 0x41, 1, 0xff, 0xff]));
-    let refused = Err(Stop::Syntax(1));
-    segments_row(&rt, decoder, "a further open", &[refused, refused], 2);
-    // A header that a strict decoder would not take is given back, and pulled again.
-    let steps = &[
-        (Step::Pull(Ok(Header::Positive(24))), 2),
-        (Step::Push(Header::Simple(24)), 0),
-        (Step::Pull(Ok(Header::Simple(24))), 2),
-    ];
-    let decoder = Decoder::strict(SliceReader::new(&[0x18, 0x18]));
-    steps_row(&rt, decoder, "a small simple value comes back", steps, &[]);
 }

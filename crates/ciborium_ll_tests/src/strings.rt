@@ -1,8 +1,9 @@
-use crate::calls::{Step, begins_bytes, begins_text, has_left, steps_row};
+use crate::calls::{begins_bytes, begins_text, decoder_at, has_left};
 use crate::checks::{Stop, holds, holds_at, read_stop};
-use crate::drains::{next_bytes, next_text};
+use crate::drains::next_segment;
+use crate::steps::next_length;
 use ciborium_ll::io::SliceReader;
-use ciborium_ll::{Bytes, Decoder, Header, Segment, Segments, Text};
+use ciborium_ll::{Bytes, Segment, Segments, Text};
 use std::process::Abort;
 
 // What a pull from a segment of text has to answer: a chunk, the end, or why it stops.
@@ -21,18 +22,6 @@ fn pulls_chunk(
         Err(error) => want == Err(read_stop(&error)),
     };
     is_right && segment.left() == left
-}
-
-// Reads the only segment of a text by buffers of these sizes, and compares answers and what is left.
-fn text_row(rt: &impl Abort, bytes: &[u8], steps: &[(usize, Answer, usize)]) {
-    let length = bytes.len().saturating_sub(1);
-    let mut decoder = Decoder::from(SliceReader::new(bytes));
-    let mut segments = begins_text(rt, &mut decoder, Some(length), 1);
-    let mut segment = next_text(rt, &mut segments);
-    holds_at(rt, segment.left() == length, bytes);
-    for &(size, want, left) in steps {
-        holds_at(rt, pulls_chunk(&mut segment, size, want, left), bytes);
-    }
 }
 
 // Texts of one segment. For each call on it, the size of the buffer, the answer, and what is left behind it.
@@ -92,26 +81,19 @@ static TEXTS: [(&[u8], &[(usize, Answer, usize)]); 6] = [
     ),
 ];
 
+// Reads the only segment of each text by buffers of these sizes, and compares answers and what is left.
 #[test]
 fn texts_by_calls(rt: HostRuntime) {
     for (bytes, steps) in &TEXTS {
-        text_row(&rt, bytes, steps);
+        let length = bytes.len().saturating_sub(1);
+        let mut decoder = decoder_at(bytes, 0);
+        let mut segments = begins_text(&rt, &mut decoder, Some(length), 1);
+        let mut segment = next_segment(&rt, &mut segments);
+        holds_at(&rt, segment.left() == length, bytes);
+        for (size, want, left) in *steps {
+            holds_at(&rt, pulls_chunk(&mut segment, *size, *want, *left), bytes);
+        }
     }
-}
-
-// Begins to read a byte string, and asks for none of its segments.
-fn asks_for_segments(rt: &impl Abort, decoder: &mut Decoder<SliceReader>) {
-    let _segments = begins_bytes(rt, decoder, Some(5), 2);
-}
-
-#[test]
-fn segments_that_are_never_asked_for(rt: HostRuntime) {
-    let mut decoder = Decoder::from(SliceReader::new(&[0x58, 5, 1, 2, 3, 4, 5]));
-    asks_for_segments(&rt, &mut decoder);
-    let is_back = decoder.offset() == 1 && decoder.is_waiting();
-    holds(&rt, is_back, "the title waits");
-    let again = &[(Step::Pull(Ok(Header::Bytes(Some(5)))), 2)];
-    steps_row(&rt, decoder, "it is pulled", again, &[1, 2, 3, 4, 5]);
 }
 
 // Pulls from a segment by a buffer of one byte, and compares the chunk, or the end where none is wanted.
@@ -120,96 +102,62 @@ fn pulls_byte(segment: &mut Segment<'_, SliceReader, Bytes>, want: Option<&[u8]>
     matches!(segment.pull(&mut one), Ok(chunk) if chunk == want)
 }
 
-// Reads the next segment of a byte string to its end, byte by byte.
-fn reads_next(rt: &impl Abort, segments: &mut Segments<'_, SliceReader, Bytes>, body: &[u8]) {
-    let mut segment = next_bytes(rt, segments);
-    holds_at(rt, segment.left() == body.len(), body);
+// Reads the next segment of a byte string to its end, byte by byte, and compares it.
+fn reads_next(
+    rt: &impl Abort,
+    segments: &mut Segments<'_, SliceReader, Bytes>,
+    body: &[u8],
+) -> bool {
+    let mut segment = next_segment(rt, segments);
+    let mut is_right = segment.left() == body.len();
     for byte in body {
-        holds_at(rt, pulls_byte(&mut segment, Some(&[*byte])), body);
+        is_right = pulls_byte(&mut segment, Some(&[*byte])) && is_right;
     }
-    holds_at(rt, pulls_byte(&mut segment, None), body);
+    pulls_byte(&mut segment, None) && is_right
 }
 
-// Asks for a body behind the last one.
-fn has_no_body(segments: &mut Segments<'_, SliceReader, Bytes>) -> bool {
+// Asks twice for a segment behind the last one, and for a body.
+fn has_ended(segments: &mut Segments<'_, SliceReader, Bytes>) -> bool {
+    for _ in 0..2 {
+        if next_length(segments) != Ok(None) {
+            return false;
+        }
+    }
     matches!(segments.advance(), Ok(None))
 }
 
 #[test]
 fn bodies_of_nested_strings(rt: HostRuntime) {
     let bytes = [0x5f, 0x5f, 0x41, 1, 0xff, 0x41, 2, 0xff, 0];
-    let mut decoder = Decoder::from(SliceReader::new(&bytes));
+    let mut decoder = decoder_at(&bytes, 0);
     let mut segments = begins_bytes(&rt, &mut decoder, None, 1);
-    reads_next(&rt, &mut segments, &[1]);
-    reads_next(&rt, &mut segments, &[2]);
-    for _ in 0..2 {
-        let is_right = next_length(&mut segments) == Ok(None);
-        holds(&rt, is_right, "the string has ended");
-    }
-    holds(&rt, has_no_body(&mut segments), "no body is behind it");
+    holds(&rt, reads_next(&rt, &mut segments, &[1]), "the body within");
+    holds(&rt, reads_next(&rt, &mut segments, &[2]), "the other body");
+    holds(&rt, has_ended(&mut segments), "no body is behind them");
     let is_right = decoder.offset() == 8 && has_left(decoder, &[0]);
     holds(&rt, is_right, "what is left");
 }
 
-// Asks for a segment, and drops it. It tells how long its body is, if there is one, or why none is given.
-fn next_length(segments: &mut Segments<'_, SliceReader, Bytes>) -> Result<Option<usize>, Stop> {
-    match segments.pull() {
-        Ok(Some(segment)) => Ok(Some(segment.left())),
-        Ok(None) => Ok(None),
-        Err(error) => Err(read_stop(&error)),
-    }
-}
-
-// Asks for segments of a byte string of the indefinite form, and compares the answers and the offset behind them.
-pub fn segments_row(
-    rt: &impl Abort,
-    mut decoder: Decoder<SliceReader>,
-    what: &str,
-    answers: &[Result<Option<usize>, Stop>],
-    offset: usize,
-) {
-    let mut segments = begins_bytes(rt, &mut decoder, None, 1);
-    for (index, want) in answers.iter().enumerate() {
-        let is_right = next_length(&mut segments) == *want;
-        assert!(rt; is_right, "{what}, answer {index}");
-    }
-    assert!(rt; decoder.offset() == offset, "{what}, the offset behind");
-}
-
-#[test]
-fn a_title_that_may_not_stand_in_a_string(rt: HostRuntime) {
-    let decoder = Decoder::from(SliceReader::new(&[0x5f, 1]));
-    let refused = Err(Stop::Syntax(1));
-    segments_row(&rt, decoder, "a number", &[refused, refused], 2);
-    // A segment that is dropped early leaves its body, which is then read as a title.
-    let decoder = Decoder::from(SliceReader::new(&[0x5f, 0x43, 1, 2, 3, 0xff]));
-    let refused = Err(Stop::Syntax(2));
-    let answers = &[Ok(Some(3)), refused, refused];
-    segments_row(&rt, decoder, "a body that was left", answers, 3);
-}
-
-// Goes on to the first body of an open text, and reads it in one chunk.
+// Goes on to the first body of an open text, and reads it in one chunk. It compares how long it is, where, and what.
 fn reads_body(
-    rt: &impl Abort,
     segments: &mut Segments<'_, SliceReader, Text>,
     place: usize,
     want: &'static str,
-) {
-    let Ok(Some(body)) = segments.advance() else {
-        panic!(rt; "no body");
-    };
-    let is_body = body.length == want.len() && body.place == place;
-    holds(rt, is_body, "how long the body is, and where");
-    let mut segment = segments.segment(body);
-    let is_read = pulls_chunk(&mut segment, 8, Ok(Some(want)), 0);
-    holds(rt, is_read, "the body is read");
+) -> bool {
+    match segments.advance() {
+        Ok(Some(body)) => {
+            let is_body = body.length == want.len() && body.place == place;
+            is_body && pulls_chunk(&mut segments.segment(body), 8, Ok(Some(want)), 0)
+        }
+        _ => false,
+    }
 }
 
 #[test]
 fn a_body_by_length_and_place(rt: HostRuntime) {
-    let mut decoder = Decoder::from(SliceReader::new(b"\x7f\x7f\x62\xc3\xa9\xff\xff"));
+    let mut decoder = decoder_at(b"\x7f\x7f\x62\xc3\xa9\xff\xff", 0);
     let mut segments = begins_text(&rt, &mut decoder, None, 1);
-    reads_body(&rt, &mut segments, 2, "\u{e9}");
+    holds(&rt, reads_body(&mut segments, 2, "\u{e9}"), "the body");
     holds(&rt, decoder.offset() == 5, "the offset behind the body");
 }
 

@@ -1,56 +1,87 @@
-use crate::calls::{pushes, writes};
+// Calls on an encoder into a slice, one behind the other, each with whether it has to succeed.
+
+use crate::calls::{encoder_into, has_written, pushes, writes};
 use crate::checks::holds;
 use ciborium_ll::io::{SliceWriter, Write};
 use ciborium_ll::{Encoder, Header};
 
-const HELLO: &[u8] = b"\xa1\x07\x7f\x67Hello, \x66World!\xff";
-
-// Writes a text in segments of at most seven bytes, and passes it on.
-fn says(encoder: &mut Encoder<SliceWriter>, text: &str) -> bool {
-    encoder.text(text, Some(7)).is_ok() && encoder.flush().is_ok()
+// A call on an encoder.
+enum Step {
+    // The title of a header.
+    Push(Header),
+    // A byte string, and the limit of its segments.
+    Bytes(&'static [u8], Option<usize>),
+    // The same of a text, which is then passed on.
+    Text(&'static str, Option<usize>),
+    // Bytes as they are, which are then passed on.
+    Write(&'static [u8]),
 }
 
-// Writes a map of one pair, whose value is a text.
-fn says_hello(encoder: &mut Encoder<SliceWriter>) -> bool {
-    pushes(encoder, Header::Map(Some(1))).is_ok()
-        && pushes(encoder, Header::Positive(7)).is_ok()
-        && says(encoder, "Hello, World!")
+// Makes a call. It tells whether it succeeds.
+fn succeeds(encoder: &mut Encoder<SliceWriter>, step: &Step) -> bool {
+    match step {
+        Step::Push(header) => pushes(encoder, *header),
+        Step::Bytes(bytes, limit) => encoder.bytes(bytes, *limit).is_ok(),
+        Step::Text(text, limit) => encoder.text(text, *limit).is_ok() && encoder.flush().is_ok(),
+        Step::Write(bytes) => writes(encoder, bytes),
+    }
 }
 
-// Writes a byte string, in segments of at most two bytes.
-fn counts(encoder: &mut Encoder<SliceWriter>) -> bool {
-    encoder.bytes(&[1, 2, 3], Some(2)).is_ok()
-}
+// What is tried, the calls, each with whether it succeeds, what is written, and how much room is left behind that.
+type Row = (&'static str, &'static [(Step, bool)], &'static [u8], usize);
 
+static ROWS: [Row; 4] = [
+    (
+        "a map with a text",
+        &[
+            (Step::Push(Header::Map(Some(1))), true),
+            (Step::Push(Header::Positive(7)), true),
+            (Step::Text("Hello, World!", Some(7)), true),
+        ],
+        b"\xa1\x07\x7f\x67Hello, \x66World!\xff",
+        0,
+    ),
+    // all but the last byte is written
+    (
+        "a map with a text that does not fit",
+        &[
+            (Step::Push(Header::Map(Some(1))), true),
+            (Step::Push(Header::Positive(7)), true),
+            (Step::Text("Hello, World!", Some(7)), false),
+        ],
+        b"\xa1\x07\x7f\x67Hello, \x66World!",
+        0,
+    ),
+    (
+        "bytes in segments, and a write of none behind them",
+        &[
+            (Step::Bytes(&[1, 2, 3], Some(2)), true),
+            (Step::Write(&[]), true),
+        ],
+        &[0x5f, 0x42, 1, 2, 0x41, 3, 0xff],
+        1,
+    ),
+    // its first byte is written
+    (
+        "a title that does not fit",
+        &[(Step::Push(Header::Positive(24)), false)],
+        &[0x18],
+        0,
+    ),
+];
+
+// Makes the calls of each row, into room for at most 20 bytes, and compares what they come to.
 #[test]
-fn a_map_with_a_text(rt: HostRuntime) {
-    let mut space = [0; 19];
-    let mut encoder = Encoder::from(SliceWriter::new(&mut space));
-    holds(&rt, says_hello(&mut encoder), "the map fits");
-    let is_right = encoder.into_inner().written() == HELLO;
-    holds(&rt, is_right, "it is written");
-}
-
-#[test]
-fn a_map_with_a_text_that_does_not_fit(rt: HostRuntime) {
-    let mut space = [0; 18];
-    let mut encoder = Encoder::from(SliceWriter::new(&mut space));
-    holds(&rt, !says_hello(&mut encoder), "the map does not fit");
-    let writer = encoder.into_inner();
-    let missing = HELLO.strip_prefix(writer.written());
-    let is_written = missing == Some([0xff].as_slice());
-    let is_right = is_written && writer.room() == 0;
-    holds(&rt, is_right, "all but the last byte is written");
-}
-
-#[test]
-fn bytes_in_segments(rt: HostRuntime) {
-    let mut space = [0; 8];
-    let mut encoder = Encoder::from(SliceWriter::new(&mut space));
-    holds(&rt, counts(&mut encoder), "the segments fit");
-    let is_right = writes(&mut encoder, &[]).is_ok();
-    holds(&rt, is_right, "a write of none behind them succeeds");
-    let want = [0x5f, 0x42, 1, 2, 0x41, 3, 0xff];
-    let is_written = encoder.into_inner().written() == want.as_slice();
-    holds(&rt, is_written, "they are written");
+fn values_by_calls(rt: HostRuntime) {
+    for row in &ROWS {
+        let mut space = [0; 20];
+        let room = row.2.len().saturating_add(row.3);
+        let mut encoder = encoder_into(&mut space, room);
+        for (step, want) in row.1 {
+            holds(&rt, succeeds(&mut encoder, step) == *want, row.0);
+        }
+        let writer = encoder.into_inner();
+        let is_right = has_written(&writer, row.2) && writer.room() == row.3;
+        holds(&rt, is_right, row.0);
+    }
 }

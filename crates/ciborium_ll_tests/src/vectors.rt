@@ -1,17 +1,14 @@
-use crate::calls::pushes;
-use crate::checks::{Stop, holds, holds_at, next_header};
-use ciborium_ll::io::{SliceReader, SliceWriter};
-use ciborium_ll::{Decoder, Encoder, Header};
+use crate::calls::{decoder_at, encoder_into, has_written, pushes};
+use crate::checks::{Stop, counts_one, holds, holds_at, next_header};
+use ciborium_ll::Header;
 use ciborium_ll_fixtures::samples::{
     LISTS, LONGER_TITLES, TWENTY_FIVE, TWENTY_FIVE_AND_BREAK, VECTORS,
 };
-use std::alloc::Global;
 use std::process::Abort;
-use std::test::Fail;
 
 // Whether bytes are read as these headers, and have then ended.
 fn are_read(bytes: &[u8], headers: &[Header]) -> bool {
-    let mut decoder = Decoder::from(SliceReader::new(bytes));
+    let mut decoder = decoder_at(bytes, 0);
     for header in headers {
         if next_header(&mut decoder) != Ok(*header) {
             return false;
@@ -23,108 +20,83 @@ fn are_read(bytes: &[u8], headers: &[Header]) -> bool {
 // Whether headers, whose titles are in all at most 64 bytes, are written as these, where there is room for no more.
 fn are_written(headers: &[Header], bytes: &[u8]) -> bool {
     let mut space = [0; 64];
-    let room = bytes.len().min(64);
-    let mut encoder = Encoder::from(SliceWriter::new(&mut space[..room]));
+    let mut encoder = encoder_into(&mut space, bytes.len());
     for header in headers {
-        if pushes(&mut encoder, *header).is_err() {
+        if !pushes(&mut encoder, *header) {
             return false;
         }
     }
-    encoder.into_inner().written() == bytes
+    has_written(&encoder.into_inner(), bytes)
+}
+
+// The bytes that digits mean, at most 64, in front of a space.
+pub fn decoded<'a>(rt: &impl Abort, hex: &str, space: &'a mut [u8; 64]) -> &'a [u8] {
+    let length = hex.len() / 2;
+    let bytes = &mut space[..length.min(64)];
+    holds(rt, hex::decode_to_slice(hex, bytes).is_ok(), hex);
+    bytes
 }
 
 // Reads headers from bytes, and writes their shortest titles.
-fn both_ways(
-    rt: &impl Abort,
-    alloc: Global,
-    hex: &str,
-    headers: &[Header],
-    shortest: &str,
-) -> Result<(), Fail> {
-    let bytes = hex::decode(alloc, hex)?;
-    let written = hex::decode(alloc, shortest)?;
-    let is_right = are_read(bytes.as_slice(), headers) && are_written(headers, written.as_slice());
-    holds(rt, is_right, hex);
-    Ok(())
+fn both_ways(rt: &impl Abort, hex: &str, headers: &[Header], shortest: &str) {
+    let is_read = are_read(decoded(rt, hex, &mut [0; 64]), headers);
+    let is_written = are_written(headers, decoded(rt, shortest, &mut [0; 64]));
+    holds(rt, is_read && is_written, hex);
 }
 
 #[test]
-fn single_titles(rt: HostRuntime) -> Result<(), Fail> {
-    for &(hex, header) in &VECTORS {
-        both_ways(&rt, rt.alloc(), hex, &[header], hex)?;
+fn single_titles(rt: HostRuntime) {
+    for (hex, header) in &VECTORS {
+        both_ways(&rt, hex, &[*header], hex);
         holds(&rt, header.title_len() == hex.len() / 2, hex);
     }
-    Ok(())
 }
 
 #[test]
-fn titles_in_a_row(rt: HostRuntime) -> Result<(), Fail> {
-    for &(hex, headers) in &LISTS {
-        both_ways(&rt, rt.alloc(), hex, headers, hex)?;
+fn titles_in_a_row(rt: HostRuntime) {
+    for (hex, headers) in &LISTS {
+        both_ways(&rt, hex, headers, hex);
     }
-    Ok(())
+}
+
+#[test]
+fn longer_titles(rt: HostRuntime) {
+    for (hex, header, shortest) in &LONGER_TITLES {
+        both_ways(&rt, hex, &[*header], shortest);
+    }
 }
 
 // The title of an array, the numbers from 1 to 25, and a break: so many of these headers, at most 27.
-fn twenty_five_row(
-    rt: &impl Abort,
-    alloc: Global,
-    hex: &str,
-    length: Option<usize>,
-    count: usize,
-) -> Result<(), Fail> {
+fn twenty_five_row(rt: &impl Abort, hex: &str, length: Option<usize>, count: usize) {
     let mut headers = [Header::Break; 27];
     headers[0] = Header::Array(length);
     for n in 1..=25u8 {
         headers[usize::from(n)] = Header::Positive(u64::from(n));
     }
-    both_ways(rt, alloc, hex, &headers[..count.min(27)], hex)
+    both_ways(rt, hex, &headers[..count.min(27)], hex);
 }
 
 #[test]
-fn twenty_five_items(rt: HostRuntime) -> Result<(), Fail> {
-    twenty_five_row(&rt, rt.alloc(), TWENTY_FIVE, Some(25), 26)?;
-    twenty_five_row(&rt, rt.alloc(), TWENTY_FIVE_AND_BREAK, None, 27)
+fn twenty_five_items(rt: HostRuntime) {
+    twenty_five_row(&rt, TWENTY_FIVE, Some(25), 26);
+    twenty_five_row(&rt, TWENTY_FIVE_AND_BREAK, None, 27);
 }
 
-#[test]
-fn longer_titles(rt: HostRuntime) -> Result<(), Fail> {
-    for &(hex, header, shortest) in &LONGER_TITLES {
-        both_ways(&rt, rt.alloc(), hex, &[header], shortest)?;
-    }
-    Ok(())
-}
-
-// How many bytes are taken for the title that begins with a byte that has nothing but zeros behind it. Where none
-// begins with it, it is all that is taken.
-fn taken(rt: &impl Abort, first: u8) -> Option<usize> {
-    let bytes = [first, 0, 0, 0, 0, 0, 0, 0, 0];
-    let mut decoder = Decoder::from(SliceReader::new(&bytes));
-    let answer = next_header(&mut decoder);
-    let offset = decoder.offset();
-    if answer.is_ok() {
-        return Some(offset);
-    }
-    holds_at(rt, answer == Err(Stop::Syntax(0)) && offset == 1, &bytes);
-    None
-}
-
-// 197 first bytes stand alone, 8 each have 1, 2, 4 and 8 bytes behind them, and with 27 no title begins.
+// Behind each first byte stand nothing but zeros. Of 197 the title is a byte, of 8 each it is 2, 3, 5 and 9 bytes, and 27
+// begin none: such a byte is all that is taken then.
 #[test]
 fn first_bytes_by_their_affix(rt: HostRuntime) {
-    let rows = [
-        (Some(1), 197u8),
-        (Some(2), 8),
-        (Some(3), 8),
-        (Some(5), 8),
-        (Some(9), 8),
-        (None, 27),
-    ];
-    for (length, want) in rows {
-        let mut count = 0u8;
-        for first in 0..=u8::MAX {
-            count = count.saturating_add(u8::from(taken(&rt, first) == length));
-        }
-        assert!(rt; count == want, "{count} with {length:?} taken");
+    let mut counts = [0u8; 10];
+    for first in 0..=u8::MAX {
+        let bytes = [first, 0, 0, 0, 0, 0, 0, 0, 0];
+        let mut decoder = decoder_at(&bytes, 0);
+        let answer = next_header(&mut decoder);
+        let offset = decoder.offset();
+        let taken = if answer.is_ok() { offset } else { 0 };
+        let is_refused = answer == Err(Stop::Syntax(0)) && offset == 1;
+        holds_at(&rt, answer.is_ok() || is_refused, &bytes);
+        counts_one(&mut counts, taken);
     }
+    let is_right = counts == [27, 197, 8, 8, 0, 8, 0, 0, 0, 8];
+    holds(&rt, is_right, "how many there are of each");
 }

@@ -4,51 +4,26 @@ ghost use Rattle.ciborium_ll.specs.Decoding.{IsSteady, offset_of, refusals_of, w
 ghost use Rattle.ciborium_ll.specs.Segments.{string_decoder, string_reference};
 ghost use Rattle.ciborium_ll.specs.Title.{title_len};
 
-use crate::calls::{begins_text, pulls};
+use crate::calls::{begins_text, decoder_at, pulls};
 use crate::checks::{Stop, holds, holds_at, read_end};
-use crate::drains::next_text;
+use crate::drains::next_segment;
 use ciborium_ll::io::{Read, SliceReader};
 use ciborium_ll::laws::{skip_bytes, skip_text};
 use ciborium_ll::{Bytes, Decoder, Error, Header, Segment, Segments, Text};
 use std::process::Abort;
 
-// Reads a byte string to its end.
-fn skips_bytes(decoder: &mut Decoder<SliceReader>, length: Option<usize>) -> Stop
-    requires none_waits { waiting_of decoder.old ≡ None }
-    requires covered { title_len (Header.Bytes length) ≤ offset_of decoder.old }
-{
-    read_end(&skip_bytes(decoder, length, &mut [0; 4]))
-}
-
-// Reads a text to its end.
-fn skips_text(decoder: &mut Decoder<SliceReader>, length: Option<usize>) -> Stop
-    requires none_waits { waiting_of decoder.old ≡ None }
-    requires covered { title_len (Header.Text length) ≤ offset_of decoder.old }
-{
-    read_end(&skip_text(decoder, length, &mut [0; 4]))
-}
-
 // Pulls the header of a string, and reads it to its end.
 fn skips(rt: &impl Abort, decoder: &mut Decoder<SliceReader>, header: Header) -> Stop {
     pulls(rt, decoder, header, 1);
     match header {
-        Header::Bytes(length) => skips_bytes(decoder, length),
-        Header::Text(length) => skips_text(decoder, length),
+        Header::Bytes(length) => read_end(&skip_bytes(decoder, length, &mut [0; 4])),
+        Header::Text(length) => read_end(&skip_text(decoder, length, &mut [0; 4])),
         _ => panic!(rt; "no string"),
     }
 }
 
 // A string, its header, how a read of it ends, the offset behind that, and how many bytes are left.
 type Row = (&'static [u8], Header, Stop, usize, usize);
-
-// Reads a string to its end, and compares how it ends, the offset behind, and how many bytes are left.
-fn whole_row(rt: &impl Abort, row: &Row) {
-    let &(bytes, header, want, offset, left) = row;
-    let mut decoder = Decoder::from(SliceReader::new(bytes));
-    let is_right = skips(rt, &mut decoder, header) == want && !decoder.is_waiting();
-    let is_read = decoder.offset() == offset && decoder.into_inner().left().len() == left;
-    holds_at(rt, is_right && is_read, bytes);
-}
 
 static ROWS: [Row; 8] = [
     (
@@ -87,30 +62,25 @@ static ROWS: [Row; 8] = [
     ),
 ];
 
+// Reads each string to its end, and compares how it ends, the offset behind, and how many bytes are left.
 #[test]
 fn whole_strings(rt: HostRuntime) {
     for row in &ROWS {
-        whole_row(&rt, row);
+        let (bytes, header, want, offset, left) = row;
+        let mut decoder = decoder_at(bytes, 0);
+        let is_right = skips(&rt, &mut decoder, *header) == *want && !decoder.is_waiting();
+        let is_read = decoder.offset() == *offset && decoder.into_inner().left().len() == *left;
+        holds_at(&rt, is_right && is_read, bytes);
     }
-}
-
-// Pulls a chunk by a buffer of three bytes.
-fn gives_chunk(segment: &mut Segment<'_, SliceReader, Text>) -> bool {
-    matches!(segment.pull(&mut [0; 3]), Ok(Some(_)))
-}
-
-// Reads the rest of a segment.
-fn finishes_segment(segment: Segment<'_, SliceReader, Text>) -> Stop {
-    read_end(&segment.finish(&mut [0; 8]))
 }
 
 // Reads the first segment of a text, partly by hand, and the rest by `finish`. It compares how that ends, and the offset.
 fn finish_row(rt: &impl Abort, bytes: &[u8], want: Stop, offset: usize) {
-    let mut decoder = Decoder::from(SliceReader::new(bytes));
+    let mut decoder = decoder_at(bytes, 0);
     let mut segments = begins_text(rt, &mut decoder, None, 1);
-    let mut segment = next_text(rt, &mut segments);
-    let is_given = gives_chunk(&mut segment);
-    let is_right = finishes_segment(segment) == want;
+    let mut segment = next_segment(rt, &mut segments);
+    let is_given = matches!(segment.pull(&mut [0; 3]), Ok(Some(_)));
+    let is_right = read_end(&segment.finish(&mut [0; 8])) == want;
     holds_at(
         rt,
         is_given && is_right && decoder.offset() == offset,
@@ -125,7 +95,7 @@ fn the_rest_of_a_segment(rt: HostRuntime) {
 }
 
 // Reads the next segment of a text to its end. What it does to the decoder is known here, in another crate.
-fn next_segment<R: Read>(
+fn finishes_next<R: Read>(
     segments: &mut Segments<'_, R, Text>,
     buffer: &mut [u8; 4],
 ) -> Result<(), Error<R::Error>>
@@ -181,17 +151,8 @@ fn a_segment_of_a_steady_reader(rt: HostRuntime) {
 
 #[test]
 fn the_next_segment(rt: HostRuntime) {
-    let mut decoder = Decoder::from(SliceReader::new(b"\x7f\x61a\x62bc\xff"));
-    pulls(&rt, &mut decoder, Header::Text(None), 1);
-    let is_read = reads_a_segment(&mut decoder);
+    let mut decoder = decoder_at(b"\x7f\x61a\x62bc\xff", 0);
+    let mut segments = begins_text(&rt, &mut decoder, None, 1);
+    let is_read = finishes_next(&mut segments, &mut [0; 4]).is_ok();
     holds(&rt, is_read && decoder.offset() == 3, "the segment is read");
-}
-
-// Reads one segment of a text that was just begun.
-fn reads_a_segment(decoder: &mut Decoder<SliceReader>) -> bool
-    requires none_waits { waiting_of decoder.old ≡ None }
-    requires covered { title_len (Header.Text None) ≤ offset_of decoder.old }
-{
-    let mut segments = decoder.text(None);
-    next_segment(&mut segments, &mut [0; 4]).is_ok()
 }

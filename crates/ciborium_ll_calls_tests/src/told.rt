@@ -1,0 +1,34 @@
+// What calls told, as plain values.
+
+use ciborium_ll_calls::{CllAnswer, CllReport};
+
+// What a report says before a call.
+pub fn nothing() -> CllReport {
+    CllReport {
+        consumed: 7,
+        written: 7,
+        place: 7,
+        elements: 7,
+        whole: 7,
+    }
+}
+
+// The number of an answer, and what its report says: how many bytes were consumed and written, and the place.
+pub type Told = (u32, [u64; 3]);
+
+pub fn told(code: u32, report: &CllReport) -> Told {
+    (code, [report.consumed, report.written, report.place])
+}
+
+// Whether this was told.
+pub fn is_told(told: &Told, answer: CllAnswer, want: [u64; 3]) -> bool {
+    told.0 == answer.code() && told.1 == want
+}
+
+// The bytes, and behind them what stood in the 16 bytes before.
+pub fn in_front(bytes: &[u8]) -> [u8; 16] {
+    let mut out = [0xee; 16];
+    let length = bytes.len().min(16);
+    out[..length].copy_from_slice(&bytes[..length]);
+    out
+}
