@@ -1,10 +1,12 @@
+use crate::dumps::has_no_colors;
+use crate::ends::{are_cuts_short, end_as_checked};
 use crate::rows::{EXAMPLES, MALFORMED, SPELLED, WORDS};
 use cbor_look_service::arguments::{Asked, Options, asked_by};
 use cbor_look_service::check::check_input;
 use cbor_look_service::digits::Digits;
 use cbor_look_verdicts::verdict::Verdict;
 use ciborium_ll_fixtures::streams::PartReader;
-use std::alloc::Global;
+use std::alloc::{AllocError, Global};
 use std::io;
 use std::process::Abort;
 
@@ -18,21 +20,23 @@ pub fn holds_at(rt: &impl Abort, is_right: bool, what: &str, call: usize) {
     assert!(rt; is_right, "{what} {call}");
 }
 
-// Puts a word behind others.
-fn add_word(rt: &impl Abort, alloc: Global, list: &mut Vec<String>, word: &str) {
-    let is_added = match String::from_str(alloc, word) {
-        Ok(word) => list.push(word).is_ok(),
-        Err(_) => false,
-    };
-    assert!(rt; is_added, "no memory");
+// Puts words that are parted by spaces into a list.
+fn add_words(alloc: Global, list: &mut Vec<String>, words: &str) -> Result<(), AllocError> {
+    for word in words.split(' ') {
+        list.push(String::from_str(alloc, word)?)?;
+    }
+    Ok(())
 }
 
 // What some words ask for.
 fn asked(rt: &impl Abort, alloc: Global, words: &str) -> Option<Asked> {
     let mut list = Vec::new(alloc);
-    for word in words.split(' ') {
-        add_word(rt, alloc, &mut list, word);
-    }
+    holds(
+        rt,
+        add_words(alloc, &mut list, words).is_ok(),
+        "memory",
+        words,
+    );
     asked_by(list.as_slice())
 }
 
@@ -74,26 +78,14 @@ fn well(rt: &impl Abort, alloc: Global, bytes: usize) -> String {
     }
 }
 
-// Whether each beginning of an item but none and all of it is short.
-fn are_cuts_short(rt: &impl Abort, alloc: Global, digits: &str) -> bool {
-    for end in 1..digits.len() / 2 {
-        let cut = digits.get(..2 * end).unwrap_or("");
-        let text = found(rt, alloc, cut, Options::new());
-        if !text.as_bytes().starts_with(b"short ") {
-            return false;
-        }
-    }
-    true
-}
-
 // An example is one item, also where one alone is wanted, and all that begins it is short. So many digits are two for
-// each byte.
+// each byte. What is shown of it ends so too, and has no colors.
 fn example(rt: &impl Abort, alloc: Global, digits: &str, one: Options) {
     let want = well(rt, alloc, digits.len() / 2);
-    let is_well = is_found(rt, alloc, digits, Options::new(), want.as_str());
+    let is_well = is_found(rt, alloc, digits, Options::new(), want.as_str())
+        && is_found(rt, alloc, digits, one, want.as_str());
     holds(rt, is_well, "well", digits);
-    let is_one = is_found(rt, alloc, digits, one, want.as_str());
-    holds(rt, is_one, "one item", digits);
+    holds(rt, has_no_colors(alloc, digits), "no colors", digits);
     holds(rt, are_cuts_short(rt, alloc, digits), "short", digits);
 }
 
@@ -108,35 +100,45 @@ fn examples_and_their_cuts(rt: HostRuntime) {
     holds_at(&rt, count == 90, "examples", count);
 }
 
-// The digits and the finding in a line, if it is no comment.
-pub fn malformed_in(line: &str) -> Option<(&str, &str)> {
-    line.split_once(" = ")
+// What is found of the digits in a line is what stands behind them, and what is shown of each beginning of them ends as
+// it is checked. It tells how many items that is: a comment is none.
+fn malformed(rt: &impl Abort, alloc: Global, line: &str) -> usize {
+    match line.split_once(" = ") {
+        Some((digits, want)) => {
+            let is_right = is_found(rt, alloc, digits, Options::new(), want);
+            holds(rt, is_right, want, digits);
+            let _ = are_cuts_short(rt, alloc, digits);
+            1
+        }
+        None => 0,
+    }
 }
 
 #[test]
 fn malformed_items(rt: HostRuntime) {
     let mut count = 0usize;
     for line in MALFORMED.lines() {
-        if let Some((digits, want)) = malformed_in(line) {
-            let is_right = is_found(&rt, rt.alloc(), digits, Options::new(), want);
-            holds(&rt, is_right, want, digits);
-            count = count.saturating_add(1);
-        }
+        count = count.saturating_add(malformed(&rt, rt.alloc(), line));
     }
     holds_at(&rt, count == 110, "malformed items", count);
 }
 
-fn spelled(rt: &impl Abort, alloc: Global, rows: &[(&str, &str, &str)]) {
-    for &(words, digits, want) in rows {
-        let options = options_of(rt, alloc, words);
-        let is_right = is_found(rt, alloc, digits, options, want);
-        holds(rt, is_right, words, digits);
+// What is found of the digits by the options that some words ask for. What is shown of them ends so too, but for one
+// item alone: no more of the input is shown.
+fn spelled(rt: &impl Abort, alloc: Global, words: &str, digits: &str, want: &str) {
+    let options = options_of(rt, alloc, words);
+    let is_right = is_found(rt, alloc, digits, options, want);
+    holds(rt, is_right, words, digits);
+    if !words.as_bytes().ends_with(b"--one") {
+        let _ = end_as_checked(rt, alloc, digits, words, options);
     }
 }
 
 #[test]
 fn options_and_sequences(rt: HostRuntime) {
-    spelled(&rt, rt.alloc(), &SPELLED);
+    for &(words, digits, want) in &SPELLED {
+        spelled(&rt, rt.alloc(), words, digits, want);
+    }
 }
 
 // Whether the words ask for something, and from which one on files are named.
@@ -147,15 +149,12 @@ fn are_asked(rt: &impl Abort, alloc: Global, words: &str, files: Option<usize>) 
     }
 }
 
-fn each_asked(rt: &impl Abort, alloc: Global, rows: &[(&str, Option<usize>)]) {
-    for &(words, files) in rows {
-        holds(rt, are_asked(rt, alloc, words, files), "files", words);
-    }
-}
-
 #[test]
 fn words(rt: HostRuntime) {
-    each_asked(&rt, rt.alloc(), &WORDS);
+    for &(words, files) in &WORDS {
+        let is_right = are_asked(&rt, rt.alloc(), words, files);
+        holds(&rt, is_right, "files", words);
+    }
 }
 
 // Whether that is found where each call of the reader gives a byte, and one of them fails.

@@ -6,7 +6,6 @@ use cbor_look_verdicts::verdict::Verdict;
 use ciborium_ll_fixtures::streams::{PartReader, PartWriter};
 use std::alloc::Global;
 use std::io;
-use std::process::Abort;
 
 // Options, digits, and the text that is written. What stands before a fault ends its line.
 static TEXTS: [(&str, &str, &str); 14] = [
@@ -41,22 +40,21 @@ fn is_shown(alloc: Global, digits: &str, options: Options, want: &str) -> bool {
     text.as_slice() == want.as_bytes()
 }
 
-fn each_shown(rt: &impl Abort, alloc: Global, rows: &[(&str, &str, &str)]) {
-    for &(words, digits, want) in rows {
-        let options = options_of(rt, alloc, words);
-        let is_right = is_shown(alloc, digits, options, want);
-        holds(rt, is_right, words, digits);
+#[test]
+fn texts(rt: HostRuntime) {
+    for &(words, digits, want) in &TEXTS {
+        let options = options_of(&rt, rt.alloc(), words);
+        let is_right = is_shown(rt.alloc(), digits, options, want);
+        holds(&rt, is_right, words, digits);
     }
 }
 
-#[test]
-fn texts(rt: HostRuntime) {
-    each_shown(&rt, rt.alloc(), &TEXTS);
-}
+// An array of a number and a text.
+const PAIR: &[u8] = b"\x82\x19\x03\xe8\x61a";
 
 // Whether a read that fails is found.
-fn is_failed_read(bytes: &[u8], call: usize, alloc: Global) -> bool {
-    let reader = PartReader::new(bytes, 1).failing_at(call, io::ErrorKind::TimedOut);
+fn is_failed_read(alloc: Global, call: usize) -> bool {
+    let reader = PartReader::new(PAIR, 1).failing_at(call, io::ErrorKind::TimedOut);
     let mut text = Vec::new(alloc);
     matches!(
         diag_input(reader, &mut text, Options::new()),
@@ -65,31 +63,35 @@ fn is_failed_read(bytes: &[u8], call: usize, alloc: Global) -> bool {
 }
 
 // Whether it is found that a writer fails, or takes no byte.
-fn is_failed_write(bytes: &[u8], writer: &mut PartWriter) -> bool {
+fn is_failed_write(writer: &mut PartWriter) -> bool {
     matches!(
-        diag_input(bytes, writer, Options::new()),
+        diag_input(PAIR, writer, Options::new()),
         Err(Verdict::Output(_))
     )
 }
 
+// The same of one whose call of this number does so.
+fn is_failed_call(alloc: Global, call: usize, kind: Option<io::ErrorKind>) -> bool {
+    let mut writer = PartWriter::new(alloc, 1).failing_at(call, kind);
+    is_failed_write(&mut writer)
+}
+
 #[test]
 fn calls_that_fail(rt: HostRuntime) {
-    let bytes = b"\x82\x19\x03\xe8\x61a";
     for call in 1..=7 {
-        holds_at(&rt, is_failed_read(bytes, call, rt.alloc()), "read", call);
+        holds_at(&rt, is_failed_read(rt.alloc(), call), "read", call);
     }
     for call in 1..=12 {
-        for kind in [None, Some(io::ErrorKind::TimedOut)] {
-            let mut writer = PartWriter::new(rt.alloc(), 1).failing_at(call, kind);
-            holds_at(&rt, is_failed_write(bytes, &mut writer), "write", call);
-        }
+        let is_failed = is_failed_call(rt.alloc(), call, None)
+            && is_failed_call(rt.alloc(), call, Some(io::ErrorKind::TimedOut));
+        holds_at(&rt, is_failed, "write", call);
     }
 }
 
 #[test]
 fn a_flush_that_fails(rt: HostRuntime) {
     let mut writer = PartWriter::new(rt.alloc(), 1).failing_to_flush();
-    let is_failed = is_failed_write(b"\x82\x19\x03\xe8\x61a", &mut writer);
+    let is_failed = is_failed_write(&mut writer);
     let is_written = writer.taken.as_slice() == b"[1000, \"a\"]\n".as_slice();
     holds_at(&rt, is_failed && is_written, "flush", 1);
 }

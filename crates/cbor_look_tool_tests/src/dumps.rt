@@ -1,5 +1,4 @@
 use crate::checks::{holds, holds_at, options_of};
-use crate::rows::EXAMPLES;
 use cbor_look_service::arguments::Options;
 use cbor_look_service::digits::Digits;
 use cbor_look_service::dump::dump_input;
@@ -10,14 +9,9 @@ use std::io;
 use std::io::Read;
 use std::process::Abort;
 
-// The bytes that the digits of a text say.
-fn bytes_of(rt: &impl Abort, alloc: Global, text: &[u8]) -> Vec<u8> {
-    let mut bytes = Vec::new(alloc);
-    assert!(rt;
-        Digits::new(text).read_to_end(&mut bytes).is_ok(),
-        "at {text:?}"
-    );
-    bytes
+// Adds the bytes that the digits of a text say, and tells whether there are no others.
+fn add_bytes_of(bytes: &mut Vec<u8>, text: &[u8]) -> bool {
+    Digits::new(text).read_to_end(bytes).is_ok()
 }
 
 // Dumps the bytes that some digits say. It tells whether all of them are shown: they are, or end too early.
@@ -29,14 +23,20 @@ fn dumps(alloc: Global, digits: &str, options: Options, colors: bool, text: &mut
     )
 }
 
-// Whether the digits of the dump are those bytes, all of them where they end too early, and else up to the fault.
-pub fn are_digits(rt: &impl Abort, alloc: Global, digits: &str) -> bool {
+// Whether some bytes are shown: all of them where they end too early, and else up to the fault.
+fn are_shown(all: &[u8], shown: &[u8], is_whole: bool) -> bool {
+    all.starts_with(shown) && (shown.len() == all.len() || !is_whole)
+}
+
+// Whether the digits of the dump are the bytes that some digits say.
+pub fn are_digits(alloc: Global, digits: &str) -> bool {
     let mut text = Vec::new(alloc);
     let is_whole = dumps(alloc, digits, Options::new(), false, &mut text);
-    let all = bytes_of(rt, alloc, digits.as_bytes());
-    let shown = bytes_of(rt, alloc, text.as_slice());
-    let is_all = shown.len() == all.len() || !is_whole;
-    is_all && all.as_slice().starts_with(shown.as_slice())
+    let mut all = Vec::new(alloc);
+    let mut shown = Vec::new(alloc);
+    add_bytes_of(&mut all, digits.as_bytes())
+        && add_bytes_of(&mut shown, text.as_slice())
+        && are_shown(all.as_slice(), shown.as_slice(), is_whole)
 }
 
 // Behind `=` digits, and below them the dump of their bytes. From the fifth one on they end within an affix of two
@@ -104,10 +104,10 @@ c1                                  # tag 1
 # short 14
 ";
 
-// Whether the dump is this.
-fn is_dumped(alloc: Global, digits: &str, options: Options, want: &str) -> bool {
+// Whether the dump is this, in colors or without.
+fn is_dumped(alloc: Global, digits: &str, options: Options, colors: bool, want: &str) -> bool {
     let mut text = Vec::new(alloc);
-    let _ = dumps(alloc, digits, options, false, &mut text);
+    let _ = dumps(alloc, digits, options, colors, &mut text);
     text.as_slice() == want.as_bytes()
 }
 
@@ -141,22 +141,30 @@ fn is_dumped_plainly(alloc: Global, digits: &str, options: Options, want: &str) 
 
 // The dump of the bytes that some digits say is this, with colors and without.
 fn row(rt: &impl Abort, alloc: Global, options: Options, digits: &str, want: &str) {
-    let is_right = is_dumped(alloc, digits, options, want);
+    let is_right = is_dumped(alloc, digits, options, false, want);
     holds(rt, is_right, "a dump", digits);
     let is_right = is_dumped_plainly(alloc, digits, options, want);
     holds(rt, is_right, "in colors", digits);
 }
 
+// The dump in a part of a text is that of its digits. It tells how many there are: one or none.
+fn part(rt: &impl Abort, alloc: Global, options: Options, part: &str) -> usize {
+    match part.split_once('\n') {
+        Some((digits, want)) => {
+            row(rt, alloc, options, digits, want);
+            1
+        }
+        None => 0,
+    }
+}
+
 // Each dump of a text is that of its digits. There are so many.
 pub fn each_dumped(rt: &impl Abort, alloc: Global, options: Options, text: &str, count: usize) {
     let mut found = 0usize;
-    for part in text.split('=') {
-        if let Some((digits, want)) = part.split_once('\n') {
-            row(rt, alloc, options, digits, want);
-            found = found.saturating_add(1);
-        }
+    for dump in text.split('=') {
+        found = found.saturating_add(part(rt, alloc, options, dump));
     }
-    assert!(rt; found == count, "{found} dumps");
+    holds_at(rt, found == count, "dumps", found);
 }
 
 #[test]
@@ -203,15 +211,8 @@ fn offsets_of_dumps(rt: HostRuntime) {
     each_dumped(&rt, rt.alloc(), offsets, OFFSETS, 2);
 }
 
-// Whether the dump of 81 1c has this text in colors.
-fn is_colored(alloc: Global, want: &str) -> bool {
-    let mut text = Vec::new(alloc);
-    let _ = dumps(alloc, "811c", Options::new(), true, &mut text);
-    text.as_slice() == want.as_bytes()
-}
-
 // Whether a dump has no colors.
-fn has_none(alloc: Global, digits: &str) -> bool {
+pub fn has_no_colors(alloc: Global, digits: &str) -> bool {
     let mut text = Vec::new(alloc);
     let _ = dumps(alloc, digits, Options::new(), false, &mut text);
     !text.as_slice().contains(&0x1b)
@@ -223,31 +224,36 @@ fn colors_of_dumps(rt: HostRuntime) {
 \u{1b}[31m   1c\u{1b}[0m
 \u{1b}[31m# syntax 1\u{1b}[0m
 ";
-    holds(&rt, is_colored(rt.alloc(), want), "colors", "811c");
-    for digits in EXAMPLES.lines() {
-        holds(&rt, has_none(rt.alloc(), digits), "no colors", digits);
-    }
+    let is_colored = is_dumped(rt.alloc(), "811c", Options::new(), true, want);
+    holds(&rt, is_colored, "colors", "811c");
 }
 
-// Whether a read that fails is found, and a write that takes no byte.
-fn is_failed(alloc: Global, call: usize) -> [bool; 2] {
-    let bytes = b"\x82\x19\x03\xe8\x61a";
-    let reader = PartReader::new(bytes, 1).failing_at(call, io::ErrorKind::TimedOut);
+// An array of a number and a text.
+const PAIR: &[u8] = b"\x82\x19\x03\xe8\x61a";
+
+// Whether a read that fails is found.
+fn is_failed_read(alloc: Global, call: usize) -> bool {
+    let reader = PartReader::new(PAIR, 1).failing_at(call, io::ErrorKind::TimedOut);
     let mut text = Vec::new(alloc);
-    let read = dump_input(alloc, reader, &mut text, Options::new(), false);
+    matches!(
+        dump_input(alloc, reader, &mut text, Options::new(), false),
+        Err(Verdict::Failed(_))
+    )
+}
+
+// Whether it is found that a writer takes no byte.
+fn is_failed_write(alloc: Global, call: usize) -> bool {
     let mut writer = PartWriter::new(alloc, 20).failing_at(call, None);
-    let written = dump_input(alloc, bytes.as_slice(), &mut writer, Options::new(), false);
-    [
-        matches!(read, Err(Verdict::Failed(_))),
-        matches!(written, Err(Verdict::Output(_))),
-    ]
+    matches!(
+        dump_input(alloc, PAIR, &mut writer, Options::new(), false),
+        Err(Verdict::Output(_))
+    )
 }
 
 #[test]
 fn calls_that_fail(rt: HostRuntime) {
     for call in 1..=7 {
-        let [read, written] = is_failed(rt.alloc(), call);
-        holds_at(&rt, read, "read", call);
-        holds_at(&rt, written, "write", call);
+        holds_at(&rt, is_failed_read(rt.alloc(), call), "read", call);
+        holds_at(&rt, is_failed_write(rt.alloc(), call), "write", call);
     }
 }

@@ -1,8 +1,7 @@
 // What is shown ends as a check does.
 
-use crate::checks::{found, holds, malformed_in, options_of, written};
+use crate::checks::{found, holds, written};
 use crate::dumps::are_digits;
-use crate::rows::{EXAMPLES, MALFORMED, SPELLED};
 use cbor_look_service::arguments::Options;
 use cbor_look_service::diag::diag_input;
 use cbor_look_service::digits::Digits;
@@ -47,52 +46,31 @@ fn dump_ends_as(
     ends_as(rt, alloc, outcome, want)
 }
 
-// Both do, by the options that some words ask for.
-fn end_as_checked(rt: &impl Abort, alloc: Global, digits: &str, words: &str, options: Options) {
+// Both do, by the options that some words ask for. It tells whether the bytes end too early.
+pub fn end_as_checked(
+    rt: &impl Abort,
+    alloc: Global,
+    digits: &str,
+    words: &str,
+    options: Options,
+) -> bool {
     let want = found(rt, alloc, digits, options);
-    let want = want.as_str();
-    let is_text = text_ends_as(rt, alloc, digits, options, want);
-    let is_dump = dump_ends_as(rt, alloc, digits, options, want);
-    assert!(rt;
-        is_text && is_dump,
-        "a text {is_text}, a dump {is_dump}, at {digits} by {words:?}"
-    );
+    let is_right = text_ends_as(rt, alloc, digits, options, want.as_str())
+        && dump_ends_as(rt, alloc, digits, options, want.as_str());
+    holds(rt, is_right, words, digits);
+    want.as_bytes().starts_with(b"short ")
 }
 
-// Both do for each beginning of the digits, and the dump shows the bytes.
-fn cuts_end_as_checked(rt: &impl Abort, alloc: Global, digits: &str) {
-    for end in 0..=digits.len() / 2 {
+// Both do for each beginning of the digits, and the dump shows the bytes. It tells whether each beginning but none and
+// all of them ends too early.
+pub fn are_cuts_short(rt: &impl Abort, alloc: Global, digits: &str) -> bool {
+    let length = digits.len() / 2;
+    let mut are_short = true;
+    for end in 0..=length {
         let cut = digits.get(..2 * end).unwrap_or("");
-        end_as_checked(rt, alloc, cut, "", Options::new());
-        holds(rt, are_digits(rt, alloc, cut), "digits of a dump", cut);
+        let is_short = end_as_checked(rt, alloc, cut, "a text or a dump", Options::new());
+        holds(rt, are_digits(alloc, cut), "digits of a dump", cut);
+        are_short = are_short && (is_short || end == 0 || end == length);
     }
-}
-
-#[test]
-fn ends_of_examples(rt: HostRuntime) {
-    for digits in EXAMPLES.lines() {
-        cuts_end_as_checked(&rt, rt.alloc(), digits);
-    }
-}
-
-#[test]
-fn ends_of_malformed_items(rt: HostRuntime) {
-    for line in MALFORMED.lines() {
-        if let Some((digits, _)) = malformed_in(line) {
-            cuts_end_as_checked(&rt, rt.alloc(), digits);
-        }
-    }
-}
-
-fn spelled(rt: &impl Abort, alloc: Global, rows: &[(&str, &str, &str)]) {
-    for &(words, digits, _) in rows {
-        if !words.as_bytes().ends_with(b"--one") {
-            end_as_checked(rt, alloc, digits, words, options_of(rt, alloc, words));
-        }
-    }
-}
-
-#[test]
-fn ends_by_options(rt: HostRuntime) {
-    spelled(&rt, rt.alloc(), &SPELLED);
+    are_short
 }

@@ -1,7 +1,6 @@
-//! Tests of the copiers that are fed, from outside: each cut of samples, beside `recode` over the whole.
+//! Tests of the copiers that are fed, from outside, beside `recode` over the whole.
 
-mod answers;
-mod cuts;
-mod items;
-mod memory;
+pub mod answers;
+pub mod items;
+pub mod memory;
 mod rows;

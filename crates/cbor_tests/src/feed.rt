@@ -1,8 +1,7 @@
-//! Tests of the checker that is fed, from outside: each cut of samples, beside a skip of the whole.
+//! Tests of the checker that is fed, from outside, beside a skip of the whole.
 
-mod answers;
+pub mod answers;
 mod both;
-mod cuts;
-mod memory;
+pub mod memory;
 mod rows;
 mod strict;

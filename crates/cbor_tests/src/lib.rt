@@ -5,6 +5,8 @@
 #[cfg(test)]
 mod copy;
 #[cfg(test)]
+mod cuts;
+#[cfg(test)]
 mod diag;
 #[cfg(test)]
 mod feed;

@@ -1,5 +1,5 @@
 //! Tests of the skip of one item: by rows, over cut bytes, and over readers that fail or never end.
 
-mod answers;
+pub mod answers;
 mod readers;
 mod rows;

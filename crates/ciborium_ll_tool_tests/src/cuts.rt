@@ -1,8 +1,8 @@
 // Lines on each beginning of each sample, beside answers that a plain reading of the bytes gives.
 
-use super::answers::{holds, is_answered};
-use super::every::{add_bytes, add_end, add_line, add_number, add_rest, add_title};
-use ciborium_ll_fixtures::plain::{self, Fault};
+use super::answers::{MOST, decoded, holds, is_answered};
+use super::every::{add_copied, add_end, add_line, add_number, add_title};
+use ciborium_ll_fixtures::plain::{self, Copied, Fault};
 use ciborium_ll_fixtures::samples;
 use std::alloc::{AllocError, Global};
 use std::process::Abort;
@@ -26,15 +26,15 @@ fn add_heads(text: &mut String, bytes: &[u8]) -> Result<(), AllocError> {
 }
 
 // Adds what `recode` has to answer.
-fn add_copy(alloc: Global, text: &mut String, count: usize, bytes: &[u8]) -> Result<(), Fail> {
-    let copied = plain::copy(alloc, false, count, bytes)?;
-    add_bytes(text, copied.output.as_slice())?;
-    match copied.fault {
-        None => add_rest(text, bytes.get(copied.offset..).unwrap_or(&[]))?,
-        Some(Fault::Syntax(place)) => add_end(text, " syntax", place)?,
-        Some(Fault::Short | Fault::ShortAndDamaged(_)) => add_end(text, " short", copied.offset)?,
-    }
-    Ok(())
+fn add_copy(text: &mut String, copied: &Copied, bytes: &[u8]) -> Result<(), AllocError> {
+    let left = bytes.get(copied.offset..).unwrap_or(&[]);
+    add_copied(
+        text,
+        copied.output.as_slice(),
+        left,
+        copied.offset,
+        copied.fault,
+    )
 }
 
 // Adds the lines on some bytes.
@@ -45,11 +45,33 @@ fn add_lines(lines: &mut String, count: usize, bytes: &[u8]) -> Result<(), Alloc
     add_line(lines, " ", bytes)
 }
 
-// Adds what these lines have to be answered.
-fn add_answers(alloc: Global, want: &mut String, count: usize, bytes: &[u8]) -> Result<(), Fail> {
+// Adds what these lines have to be answered, where an element is copied so and as many as are asked for so.
+fn add_answers(
+    want: &mut String,
+    bytes: &[u8],
+    one: &Copied,
+    all: &Copied,
+) -> Result<(), AllocError> {
     add_heads(want, bytes)?;
-    add_copy(alloc, want, 1, bytes)?;
-    add_copy(alloc, want, count, bytes)
+    add_copy(want, one, bytes)?;
+    add_copy(want, all, bytes)
+}
+
+// Runs the lines on some bytes, and compares what is written with what has to be answered.
+fn is_answered_so(
+    rt: &impl Abort,
+    alloc: Global,
+    count: usize,
+    bytes: &[u8],
+    one: &Copied,
+    all: &Copied,
+) {
+    let mut lines = String::new(alloc);
+    let mut want = String::new(alloc);
+    let is_right = add_lines(&mut lines, count, bytes).is_ok()
+        && add_answers(&mut want, bytes, one, all).is_ok()
+        && is_answered(alloc, lines.as_bytes(), want.as_bytes());
+    holds(rt, is_right, lines.as_str());
 }
 
 fn has_plain_answer(
@@ -58,28 +80,35 @@ fn has_plain_answer(
     count: usize,
     bytes: &[u8],
 ) -> Result<(), Fail> {
-    let mut lines = String::new(alloc);
-    let mut want = String::new(alloc);
-    add_lines(&mut lines, count, bytes)?;
-    add_answers(alloc, &mut want, count, bytes)?;
-    let is_right = is_answered(alloc, lines.as_bytes(), want.as_bytes())?;
-    holds(rt, is_right, lines.as_str());
+    let one = plain::copy(alloc, false, 1, bytes)?;
+    let all = plain::copy(alloc, false, count, bytes)?;
+    is_answered_so(rt, alloc, count, bytes, &one, &all);
     Ok(())
 }
 
-fn answers_each_front(rt: &impl Abort, alloc: Global, count: usize, hex: &str) -> Result<(), Fail> {
-    let bytes = hex::decode(alloc, hex)?;
-    let bytes = bytes.as_slice();
+fn answers_each_front(
+    rt: &impl Abort,
+    alloc: Global,
+    count: usize,
+    digits: &str,
+) -> Result<(), Fail> {
+    let mut space = [0; MOST];
+    let bytes = decoded(rt, digits, &mut space);
     for end in 0..=bytes.len() {
-        has_plain_answer(rt, alloc, count, bytes.get(..end).unwrap_or(&[]))?;
+        has_plain_answer(rt, alloc, count, &bytes[..end])?;
+    }
+    Ok(())
+}
+
+fn answers_each(rt: &impl Abort, alloc: Global, all: &[(usize, &str)]) -> Result<(), Fail> {
+    for &(count, digits) in all {
+        answers_each_front(rt, alloc, count, digits)?;
     }
     Ok(())
 }
 
 #[test]
 fn each_sample_cut_at_each_place(rt: HostRuntime) -> Result<(), Fail> {
-    for (count, hex) in samples::all(rt.alloc())? {
-        answers_each_front(&rt, rt.alloc(), count, hex)?;
-    }
-    Ok(())
+    let all = samples::all(rt.alloc())?;
+    answers_each(&rt, rt.alloc(), all.as_slice())
 }

@@ -1,13 +1,13 @@
 // Every list of one and of two bytes, answered by `run`, beside what is printed here from `pull` and `recode`.
 
-use super::answers::{answers, holds};
+use super::answers::{holds, runs};
 use ciborium_ll::io::{SliceReader, SliceWriter};
 use ciborium_ll::recode::recode;
 use ciborium_ll::{Decoder, Encoder, Error, Float, Header, RecodeError};
+use ciborium_ll_fixtures::plain::Fault;
 use std::alloc::{AllocError, Global};
 use std::fmt::Write;
 use std::process::Abort;
-use std::test::Fail;
 
 // Adds a word and a number behind it.
 pub fn add_number(text: &mut String, name: &str, number: u64) -> Result<(), AllocError> {
@@ -16,7 +16,7 @@ pub fn add_number(text: &mut String, name: &str, number: u64) -> Result<(), Allo
 
 fn add_length(text: &mut String, name: &str, length: Option<usize>) -> Result<(), AllocError> {
     match length {
-        Some(n) => write!(text, "{name} {n}"),
+        Some(n) => add_number(text, name, n as u64),
         None => write!(text, "{name} *"),
     }
 }
@@ -101,20 +101,45 @@ pub fn add_rest(text: &mut String, rest: &[u8]) -> Result<(), AllocError> {
     text.push_str("\n")
 }
 
+// Adds what a copy wrote, and what is left, or why and where it stopped.
+pub fn add_copied(
+    text: &mut String,
+    written: &[u8],
+    left: &[u8],
+    offset: usize,
+    fault: Option<Fault>,
+) -> Result<(), AllocError> {
+    add_bytes(text, written)?;
+    match fault {
+        None => add_rest(text, left),
+        Some(Fault::Syntax(place)) => add_end(text, " syntax", place),
+        Some(Fault::Short | Fault::ShortAndDamaged(_)) => add_end(text, " short", offset),
+    }
+}
+
+// Copies an element, and tells why it stopped. A fault that no bytes have stands at a place that none has.
+fn copies(
+    decoder: &mut Decoder<SliceReader<'_>>,
+    encoder: &mut Encoder<SliceWriter<'_>>,
+) -> Option<Fault> {
+    match recode(decoder, encoder, 1, &mut [0; 4]) {
+        Ok(()) => None,
+        Err(RecodeError::Read(Error::Syntax(place))) => Some(Fault::Syntax(place)),
+        Err(RecodeError::Read(Error::Io(_))) => Some(Fault::Short),
+        Err(_) => Some(Fault::Syntax(usize::MAX)),
+    }
+}
+
 // Adds what `recode 1` answers.
 fn add_copy(text: &mut String, bytes: &[u8]) -> Result<(), AllocError> {
     let mut space = [0; 2];
     let mut decoder = Decoder::from(SliceReader::new(bytes));
     let mut encoder = Encoder::from(SliceWriter::new(&mut space));
-    let outcome = recode(&mut decoder, &mut encoder, 1, &mut [0; 4]);
+    let fault = copies(&mut decoder, &mut encoder);
     let offset = decoder.offset();
-    add_bytes(text, encoder.into_inner().written())?;
-    match outcome {
-        Ok(()) => add_rest(text, decoder.into_inner().left()),
-        Err(RecodeError::Read(Error::Syntax(place))) => add_end(text, " syntax", place),
-        Err(RecodeError::Read(Error::Io(_))) => add_end(text, " short", offset),
-        Err(_) => text.push_str(" another fault\n"),
-    }
+    let reader = decoder.into_inner();
+    let writer = encoder.into_inner();
+    add_copied(text, writer.written(), reader.left(), offset, fault)
 }
 
 // Adds a line of a word and some bytes.
@@ -149,29 +174,43 @@ fn add_all_lines(input: &mut String, want: &mut String) -> Result<(), AllocError
     Ok(())
 }
 
-// Runs lines, and compares what is written line by line, for a short message.
-fn run_as(rt: &impl Abort, alloc: Global, input: &str, want: &str) -> Result<(), Fail> {
-    let output = answers(alloc, input.as_bytes())?;
-    let output = std::str::from_utf8(output.as_slice())?;
-    for (got, due) in output.lines().zip(want.lines()) {
-        holds(rt, got == due, due);
+// Compares what is written line by line, for a short message. It tells how many lines there are.
+fn compare(rt: &impl Abort, output: &[u8], want: &str) -> usize {
+    let mut left = output;
+    let mut count = 0usize;
+    for due in want.split_inclusive('\n') {
+        let rest = left.strip_prefix(due.as_bytes());
+        holds(rt, rest.is_some(), due);
+        left = rest.unwrap_or(&[]);
+        count = count.saturating_add(1);
     }
-    holds(rt, output.len() == want.len(), "the length of the output");
-    Ok(())
+    holds(rt, left.is_empty(), "the length of the output");
+    count
 }
+
+// Runs lines, and compares what is written. It tells how many lines that is.
+fn run_as(rt: &impl Abort, alloc: Global, input: &str, want: &str) -> usize {
+    let mut output = Vec::new(alloc);
+    holds(rt, runs(alloc, input.as_bytes(), &mut output), "a run");
+    compare(rt, output.as_slice(), want)
+}
+
+// Of the lists of one byte, 197 are answered by a title and an end, and 32 and 27 by one line. Of those of two, a title
+// may come first, which adds a line, or have the second byte as its affix, or need more, or be refused. A copy of each
+// is answered by one line.
+const OF_ONE: usize = 2 * 197 + 32 + 27;
+
+const OF_TWO: usize = 197 * (OF_ONE + 256) + 8 * 2 * 256 + 24 * 256 + 27 * 256;
+
+const OF_COPIES: usize = 256 + 65_536;
 
 // A program that only knew some lines by heart would fail here.
 #[test]
-fn every_list_of_one_and_two_bytes(rt: HostRuntime) -> Result<(), Fail> {
+fn every_list_of_one_and_two_bytes(rt: HostRuntime) {
     let mut input = String::new(rt.alloc());
     let mut want = String::new(rt.alloc());
-    add_all_lines(&mut input, &mut want)?;
-    run_as(&rt, rt.alloc(), input.as_str(), want.as_str())?;
-    // Of the lists of one byte, 197 are answered by a title and an end, and 32 and 27 by one line. Of those of two, a
-    // title may come first, which adds a line, or have the second byte as its affix, or need more, or be refused.
-    let of_one = 2 * 197 + 32 + 27;
-    let of_two = 197 * (of_one + 256) + 8 * 2 * 256 + 24 * 256 + 27 * 256;
-    let is_all = want.lines().count() == of_one + of_two + 256 + 65_536;
-    holds(&rt, is_all, "how many lines are answered");
-    Ok(())
+    let is_added = add_all_lines(&mut input, &mut want).is_ok();
+    let count = run_as(&rt, rt.alloc(), input.as_str(), want.as_str());
+    let is_all = count == OF_ONE + OF_TWO + OF_COPIES;
+    holds(&rt, is_added && is_all, "how many lines are answered");
 }

@@ -1,36 +1,39 @@
 // What the program is asked for: lines and arguments, those that are no request, and where lines end.
 
-use super::answers::{holds, holds_at, is_answered, line_of};
+use super::answers::{add_line_of, holds, holds_at, is_answered};
+use super::every::{add_end, add_title};
+use ciborium_ll::Header;
 use ciborium_ll_requests::arguments::chosen;
 use ciborium_ll_requests::choice::Chosen;
 use ciborium_ll_requests::word::{bytes_of, word_of};
 use std::alloc::{AllocError, Global};
-use std::test::Fail;
 
 // Skips an item in so many arrays of one item.
-fn is_deep_answered(alloc: Global, levels: usize, want: &[u8]) -> Result<bool, Fail> {
-    let line = line_of(alloc, b"skip 256 ", b"81", levels, b"00")?;
-    is_answered(alloc, line.as_slice(), want)
+fn is_deep_answered(alloc: Global, levels: usize, want: &[u8]) -> bool {
+    let mut line = Vec::new(alloc);
+    add_line_of(&mut line, b"skip 256 ", b"81", levels, b"00").is_ok()
+        && is_answered(alloc, line.as_slice(), want)
 }
 
 #[test]
-fn the_deepest_item(rt: HostRuntime) -> Result<(), Fail> {
-    let is_right = is_deep_answered(rt.alloc(), 256, b"item 257\n")?;
+fn the_deepest_item(rt: HostRuntime) {
+    let is_right = is_deep_answered(rt.alloc(), 256, b"item 257\n");
     holds(&rt, is_right, "as many arrays as are taken");
-    let is_right = is_deep_answered(rt.alloc(), 257, b"deep 256\n")?;
+    let is_right = is_deep_answered(rt.alloc(), 257, b"deep 256\n");
     holds(&rt, is_right, "one more");
-    Ok(())
 }
 
-// Runs a line that is no request, and one that is. The first must not touch the second.
-fn is_refused(alloc: Global, line: &[u8]) -> Result<bool, Fail> {
-    let mut input = line.to_vec(alloc)?;
-    input.extend_from_slice(b"\nheads 00")?;
-    is_answered(
-        alloc,
-        input.as_slice(),
-        b"error: line\n0 positive 0\nend 1\n",
-    )
+// What stands behind a line that is no request, and what both are answered. The first must not touch the second.
+const BEHIND: &[u8] = b"\nheads 00";
+
+const REFUSED: &[u8] = b"error: line\n0 positive 0\nend 1\n";
+
+// Runs a line that is no request, and one that is.
+fn is_refused(alloc: Global, line: &[u8]) -> bool {
+    let mut input = Vec::new(alloc);
+    input.extend_from_slice(line).is_ok()
+        && input.extend_from_slice(BEHIND).is_ok()
+        && is_answered(alloc, input.as_slice(), REFUSED)
 }
 
 // Bars part the lines. The first one is empty.
@@ -46,11 +49,10 @@ const NO_REQUESTS: &[u8] = b"\
     |skip|skip 1|skip 257 00|skip 01 00|skip * 00";
 
 #[test]
-fn lines_that_are_no_request(rt: HostRuntime) -> Result<(), Fail> {
+fn lines_that_are_no_request(rt: HostRuntime) {
     for line in NO_REQUESTS.split(|byte| *byte == b'|') {
-        holds_at(&rt, is_refused(rt.alloc(), line)?, line);
+        holds_at(&rt, is_refused(rt.alloc(), line), line);
     }
-    Ok(())
 }
 
 // Inputs, and what they are answered.
@@ -63,49 +65,54 @@ static ENDS: [(&str, &str); 5] = [
 ];
 
 #[test]
-fn where_lines_end(rt: HostRuntime) -> Result<(), Fail> {
-    for (input, want) in &ENDS {
-        let is_right = is_answered(rt.alloc(), input.as_bytes(), want.as_bytes())?;
+fn where_lines_end(rt: HostRuntime) {
+    for &(input, want) in &ENDS {
+        let is_right = is_answered(rt.alloc(), input.as_bytes(), want.as_bytes());
         holds(&rt, is_right, input);
     }
-    Ok(())
 }
 
-fn answer_of_breaks(alloc: Global) -> Result<String, Fail> {
-    let mut answer = String::from_str(alloc, "0 bytes 65535\n")?;
+// Adds what a byte string of 65,535 bytes is answered of which 9,998 stand there, each a break.
+fn add_breaks(answer: &mut String) -> Result<(), AllocError> {
+    add_title(answer, 0, Header::Bytes(Some(65_535)))?;
     for offset in 3..10_001 {
-        writeln!(answer, "{offset} break")?;
+        add_title(answer, offset, Header::Break)?;
     }
-    answer.push_str("end 10001\n")?;
-    Ok(answer)
+    add_end(answer, "end", 10_001)
+}
+
+// Whether a line of 10,000 bytes behind the first one is answered.
+fn is_long_line_answered(alloc: Global) -> bool {
+    let mut input = Vec::new(alloc);
+    let mut want = String::new(alloc);
+    add_line_of(&mut input, b"heads 59", b"ff", 10_000, b"").is_ok()
+        && add_breaks(&mut want).is_ok()
+        && is_answered(alloc, input.as_slice(), want.as_bytes())
 }
 
 #[test]
-fn a_line_longer_than_a_read(rt: HostRuntime) -> Result<(), Fail> {
-    let input = line_of(rt.alloc(), b"heads 59", b"ff", 10_000, b"")?;
-    let want = answer_of_breaks(rt.alloc())?;
-    let is_right = is_answered(rt.alloc(), input.as_slice(), want.as_bytes())?;
-    holds(&rt, is_right, "a line of 10,000 bytes");
-    Ok(())
+fn a_line_longer_than_a_read(rt: HostRuntime) {
+    holds(
+        &rt,
+        is_long_line_answered(rt.alloc()),
+        "a line of 10,000 bytes",
+    );
 }
 
 // Reads a word as bytes, and compares them. No bytes are wanted of what is no word.
-fn is_read_as(alloc: Global, word: &str, want: Option<&[u8]>) -> Result<bool, AllocError> {
-    let bytes = bytes_of(alloc, word)?;
-    Ok(are_bytes(&bytes, want))
-}
-
-// Bytes that may be there are those that are wanted.
-fn are_bytes(bytes: &Option<Vec<u8>>, want: Option<&[u8]>) -> bool {
-    match want {
-        Some(want) => matches!(bytes, Some(bytes) if bytes.as_slice() == want),
-        None => bytes.is_none(),
+fn is_read_as(alloc: Global, word: &str, want: Option<&[u8]>) -> bool {
+    match bytes_of(alloc, word) {
+        Ok(Some(bytes)) => want == Some(bytes.as_slice()),
+        Ok(None) => want.is_none(),
+        Err(_) => false,
     }
 }
 
-fn is_written_as(alloc: Global, bytes: &[u8], want: &str) -> Result<bool, AllocError> {
-    let word = word_of(alloc, bytes)?;
-    Ok(word.as_str() == want)
+fn is_written_as(alloc: Global, bytes: &[u8], want: &str) -> bool {
+    match word_of(alloc, bytes) {
+        Ok(word) => word.as_str() == want,
+        Err(_) => false,
+    }
 }
 
 // Words, and the bytes that they are.
@@ -121,23 +128,27 @@ static WORDS: [(&str, Option<&[u8]>); 8] = [
 ];
 
 #[test]
-fn words_of_bytes(rt: HostRuntime) -> Result<(), Fail> {
+fn words_of_bytes(rt: HostRuntime) {
     for &(word, want) in &WORDS {
-        holds(&rt, is_read_as(rt.alloc(), word, want)?, word);
+        holds(&rt, is_read_as(rt.alloc(), word, want), word);
     }
-    holds(&rt, is_written_as(rt.alloc(), &[], "-")?, "no bytes");
-    let is_right = is_written_as(rt.alloc(), &[10, 255], "0aff")?;
-    holds(&rt, is_right, "two bytes");
+    let is_right = is_written_as(rt.alloc(), &[], "-")
+        && is_written_as(rt.alloc(), &[10, 255], "0aff");
+    holds(&rt, is_right, "no bytes, and two");
+}
+
+// Adds words that are parted by spaces.
+fn add_words(alloc: Global, words: &mut Vec<String>, text: &str) -> Result<(), AllocError> {
+    for word in text.split_whitespace() {
+        words.push(String::from_str(alloc, word)?)?;
+    }
     Ok(())
 }
 
 // Whether words parted by spaces ask for this.
-fn asks_for(alloc: Global, text: &str, want: &Chosen) -> Result<bool, Fail> {
+fn asks_for(alloc: Global, text: &str, want: &Chosen) -> bool {
     let mut words = Vec::new(alloc);
-    for word in text.split_whitespace() {
-        words.push(String::from_str(alloc, word)?)?;
-    }
-    Ok(chosen(words.as_slice()) == *want)
+    add_words(alloc, &mut words, text).is_ok() && chosen(words.as_slice()) == *want
 }
 
 // Arguments, and what they ask for.
@@ -154,9 +165,8 @@ static ARGUMENTS: [(&str, Chosen); 9] = [
 ];
 
 #[test]
-fn choices_of_arguments(rt: HostRuntime) -> Result<(), Fail> {
+fn choices_of_arguments(rt: HostRuntime) {
     for (text, want) in &ARGUMENTS {
-        holds(&rt, asks_for(rt.alloc(), text, want)?, text);
+        holds(&rt, asks_for(rt.alloc(), text, want), text);
     }
-    Ok(())
 }

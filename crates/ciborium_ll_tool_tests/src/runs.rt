@@ -1,35 +1,27 @@
 // Runs over readers and writers that move few bytes a call or fail, and where an allocation is refused.
 
-use super::answers::{holds, holds_at, is_printed_as};
+use super::answers::{holds, holds_at, holds_call, is_printed_as};
 use ciborium_ll::io::Write;
 use ciborium_ll_fixtures::streams::{PartReader, PartWriter};
 use ciborium_ll_service::fault::{ToolError, fault_of_run};
-use ciborium_ll_service::memory::{OutOfMemory, VecWriter};
+use ciborium_ll_service::memory::VecWriter;
 use ciborium_ll_service::service::run;
 use std::alloc::Global;
 use std::io;
-use std::test::Fail;
 
-// Writes bytes, and passes them on.
-fn writes(writer: &mut VecWriter, data: &[u8]) -> Result<(), OutOfMemory> {
-    writer.write_all(data)?;
-    writer.flush()
-}
-
-// Writes three bytes in three parts.
-fn counts(writer: &mut VecWriter) -> Result<(), OutOfMemory> {
-    writes(writer, &[1, 2])?;
-    writes(writer, &[])?;
-    writes(writer, &[3])
+// Writes bytes, and passes them on. It tells whether there was memory.
+fn writes(writer: &mut VecWriter, data: &[u8]) -> bool {
+    writer.write_all(data).is_ok() && writer.flush().is_ok()
 }
 
 #[test]
-fn a_writer_in_memory(rt: HostRuntime) -> Result<(), Fail> {
+fn a_writer_in_memory(rt: HostRuntime) {
     let mut writer = VecWriter::new(rt.alloc());
-    counts(&mut writer)?;
+    let is_done = writes(&mut writer, &[1, 2])
+        && writes(&mut writer, &[])
+        && writes(&mut writer, &[3]);
     let is_written = writer.into_vec().as_slice() == [1, 2, 3].as_slice();
-    holds(&rt, is_written, "three bytes in three parts");
-    Ok(())
+    holds(&rt, is_done && is_written, "three bytes in three parts");
 }
 
 const INPUT: &[u8] = b"heads 00\nheads 0101\n";
@@ -48,97 +40,119 @@ struct Ended {
     flushes: usize,
 }
 
-fn run_between(
-    alloc: Global,
-    reader: PartReader<'_>,
-    mut writer: PartWriter,
-) -> Result<Ended, ToolError> {
-    let (read, write) = match run(alloc, reader, &mut writer) {
+// How a run ended: the kinds of the errors of a read and of a write. Where there was no memory both are told.
+fn kinds_of(outcome: Result<(), ToolError>) -> (Option<io::ErrorKind>, Option<io::ErrorKind>) {
+    match outcome {
         Ok(()) => (None, None),
         Err(ToolError::Read(error)) => (Some(error.kind()), None),
         Err(ToolError::Write(error)) => (None, Some(error.kind())),
-        Err(ToolError::Memory) => return Err(ToolError::Memory),
-    };
+        Err(ToolError::Memory) => {
+            let kind = Some(io::ErrorKind::OutOfMemory);
+            (kind, kind)
+        }
+    }
+}
+
+fn run_between(alloc: Global, reader: PartReader<'_>, mut writer: PartWriter) -> Ended {
+    let (read, write) = kinds_of(run(alloc, reader, &mut writer));
     let taken = writer.taken.as_slice();
     let is_front = OUTPUT.as_bytes().starts_with(taken);
-    Ok(Ended {
+    Ended {
         read,
         write,
         written: if is_front { Some(taken.len()) } else { None },
         flushes: writer.flushes,
-    })
+    }
 }
 
 #[test]
-fn one_byte_a_call(rt: HostRuntime) -> Result<(), Fail> {
+fn one_byte_a_call(rt: HostRuntime) {
     let reader = PartReader::new(INPUT, 1);
-    let ended = run_between(rt.alloc(), reader, PartWriter::new(rt.alloc(), 1))?;
-    let is_right = ended.read.is_none() && ended.write.is_none();
-    holds(&rt, is_right, "no call fails");
-    holds(&rt, ended.written == Some(OUTPUT.len()), "all is written");
-    holds(&rt, ended.flushes == 1, "it is flushed once");
-    Ok(())
+    let ended = run_between(rt.alloc(), reader, PartWriter::new(rt.alloc(), 1));
+    let is_right = ended.read.is_none()
+        && ended.write.is_none()
+        && ended.written == Some(OUTPUT.len())
+        && ended.flushes == 1;
+    holds(
+        &rt,
+        is_right,
+        "no call fails, and all is written and flushed once",
+    );
 }
 
 // The run whose read of this number fails tells it, and nothing is flushed.
-fn stops_at_read(
-    alloc: Global,
-    kind: io::ErrorKind,
-    call: usize,
-    written: usize,
-) -> Result<bool, ToolError> {
+fn stops_at_read(alloc: Global, kind: io::ErrorKind, call: usize, written: usize) -> bool {
     let reader = PartReader::new(INPUT, 1).failing_at(call, kind);
-    let ended = run_between(alloc, reader, PartWriter::new(alloc, 1))?;
-    Ok(ended.read == Some(kind) && ended.written == Some(written) && ended.flushes == 0)
+    let ended = run_between(alloc, reader, PartWriter::new(alloc, 1));
+    ended.read == Some(kind) && ended.written == Some(written) && ended.flushes == 0
 }
 
+// The kind of an error, the call that fails with it, and how many bytes are written by then.
+static READS: [(io::ErrorKind, usize, usize); 10] = [
+    (io::ErrorKind::Other, 1, 0),
+    (io::ErrorKind::Other, 9, 0),
+    (io::ErrorKind::Other, 10, 19),
+    (io::ErrorKind::Other, 16, 19),
+    (io::ErrorKind::Other, 21, 51),
+    (io::ErrorKind::Interrupted, 1, 0),
+    (io::ErrorKind::Interrupted, 9, 0),
+    (io::ErrorKind::Interrupted, 10, 19),
+    (io::ErrorKind::Interrupted, 16, 19),
+    (io::ErrorKind::Interrupted, 21, 51),
+];
+
 #[test]
-fn a_read_that_fails(rt: HostRuntime) -> Result<(), Fail> {
-    for kind in [io::ErrorKind::Other, io::ErrorKind::Interrupted] {
-        for (call, written) in [(1, 0), (9, 0), (10, 19), (16, 19), (21, 51)] {
-            let is_right = stops_at_read(rt.alloc(), kind, call, written)?;
-            assert!(rt; is_right, "at {call}");
-        }
+fn a_read_that_fails(rt: HostRuntime) {
+    for &(kind, call, written) in &READS {
+        holds_call(
+            &rt,
+            stops_at_read(rt.alloc(), kind, call, written),
+            call,
+            INPUT,
+        );
     }
-    Ok(())
 }
 
 // The run whose write of this number fails tells it, and all before it are done.
-fn stops_at_write(
-    alloc: Global,
-    kind: Option<io::ErrorKind>,
-    call: usize,
-) -> Result<bool, ToolError> {
+fn stops_at_write(alloc: Global, kind: Option<io::ErrorKind>, call: usize) -> bool {
     let reader = PartReader::new(INPUT, 64);
     let writer = PartWriter::new(alloc, 1).failing_at(call, kind);
-    let ended = run_between(alloc, reader, writer)?;
+    let ended = run_between(alloc, reader, writer);
     let want = kind.unwrap_or(io::ErrorKind::WriteZero);
-    Ok(ended.write == Some(want) && ended.written == Some(call.saturating_sub(1)))
+    ended.write == Some(want) && ended.written == Some(call.saturating_sub(1))
 }
 
+// The kind of an error, or none where no byte is taken, and the call that fails so.
+static WRITES: [(Option<io::ErrorKind>, usize); 12] = [
+    (Some(io::ErrorKind::Other), 1),
+    (Some(io::ErrorKind::Other), 8),
+    (Some(io::ErrorKind::Other), 31),
+    (Some(io::ErrorKind::Other), 51),
+    (Some(io::ErrorKind::Interrupted), 1),
+    (Some(io::ErrorKind::Interrupted), 8),
+    (Some(io::ErrorKind::Interrupted), 31),
+    (Some(io::ErrorKind::Interrupted), 51),
+    (None, 1),
+    (None, 8),
+    (None, 31),
+    (None, 51),
+];
+
 #[test]
-fn a_write_that_fails(rt: HostRuntime) -> Result<(), Fail> {
-    let kinds = [
-        Some(io::ErrorKind::Other),
-        Some(io::ErrorKind::Interrupted),
-        None,
-    ];
-    for kind in kinds {
-        for call in [1, 8, 31, 51usize] {
-            assert!(rt; stops_at_write(rt.alloc(), kind, call)?, "at {call}");
-        }
+fn a_write_that_fails(rt: HostRuntime) {
+    for &(kind, call) in &WRITES {
+        holds_call(&rt, stops_at_write(rt.alloc(), kind, call), call, INPUT);
     }
-    Ok(())
 }
 
 #[test]
-fn a_flush_that_fails(rt: HostRuntime) -> Result<(), Fail> {
+fn a_flush_that_fails(rt: HostRuntime) {
     let reader = PartReader::new(INPUT, 64);
     let writer = PartWriter::new(rt.alloc(), 1).failing_to_flush();
-    let ended = run_between(rt.alloc(), reader, writer)?;
-    holds(&rt, ended.write.is_some(), "the flush fails");
-    holds(&rt, ended.written == Some(OUTPUT.len()), "all is written");
-    Ok(())
+    let ended = run_between(rt.alloc(), reader, writer);
+    let is_failed = ended.read.is_none() && ended.write.is_some();
+    let is_right = is_failed && ended.written == Some(OUTPUT.len());
+    holds(&rt, is_right, "the flush fails, and all is written");
 }
 
 const SCRIPT: &[u8] = b"\
@@ -148,6 +162,9 @@ bytes 2 0102030405
 text 4 61c3a9e282acf09f9880
 heads 0101
 ";
+
+// As many bytes as the script has room for.
+const ROOM: usize = 256;
 
 const SCRIPT_OUTPUT: &str = "\
 0 positive 0
@@ -164,13 +181,20 @@ end 14
 end 2
 ";
 
-// Whether there was memory for the whole of the script.
-fn script_has_memory(alloc: Global, room: &mut &mut [u8]) -> Result<bool, ToolError> {
+// Whether there was memory for the whole of the script. It is `None` where the run ends with another fault.
+fn script_has_memory(alloc: Global, room: &mut &mut [u8]) -> Option<bool> {
     match run(alloc, SCRIPT, room) {
-        Ok(()) => Ok(true),
-        Err(ToolError::Memory) => Ok(false),
-        Err(error) => Err(error),
+        Ok(()) => Some(true),
+        Err(ToolError::Memory) => Some(false),
+        Err(_) => None,
     }
+}
+
+// Runs the script, and tells how many bytes it writes too.
+fn run_script(alloc: Global, space: &mut [u8; ROOM]) -> (Option<bool>, usize) {
+    let mut room = space.as_mut_slice();
+    let has_memory = script_has_memory(alloc, &mut room);
+    (has_memory, ROOM.saturating_sub(room.len()))
 }
 
 // What the script writes, cut at a line's end, with a last line that says why.
@@ -181,35 +205,35 @@ fn is_out_of_memory(written: &[u8]) -> bool {
     SCRIPT_OUTPUT.as_bytes().starts_with(front) && front.last().copied().unwrap_or(b'\n') == b'\n'
 }
 
-// Holds too where an allocation is refused: the output is then cut at a line's end.
-#[test]
-fn whole_or_out_of_memory(rt: HostRuntime) -> Result<(), Fail> {
-    let mut space = [0; 256];
-    let mut room = space.as_mut_slice();
-    let has_memory = script_has_memory(rt.alloc(), &mut room)?;
-    let length = 256usize.saturating_sub(room.len());
-    let written = space.get(..length).unwrap_or(&[]);
-    let is_right = if has_memory {
-        written == SCRIPT_OUTPUT.as_bytes()
-    } else {
-        is_out_of_memory(written)
-    };
-    holds_at(&rt, is_right, written);
-    Ok(())
+// What the script writes where there was memory for it or not.
+fn is_due(has_memory: Option<bool>, written: &[u8]) -> bool {
+    match has_memory {
+        Some(true) => written == SCRIPT_OUTPUT.as_bytes(),
+        Some(false) => is_out_of_memory(written),
+        None => false,
+    }
 }
 
-fn is_run_printed_as(alloc: Global, error: ToolError, want: &str) -> Result<bool, Fail> {
+// Holds too where an allocation is refused: the output is then cut at a line's end.
+#[test]
+fn whole_or_out_of_memory(rt: HostRuntime) {
+    let mut space = [0; ROOM];
+    let (has_memory, length) = run_script(rt.alloc(), &mut space);
+    let written = space.get(..length).unwrap_or(&[]);
+    holds_at(&rt, is_due(has_memory, written), written);
+}
+
+fn is_run_printed_as(alloc: Global, error: ToolError, want: &str) -> bool {
     is_printed_as(alloc, &fault_of_run(&error), want)
 }
 
 #[test]
-fn faults_as_printed(rt: HostRuntime) -> Result<(), Fail> {
+fn faults_as_printed(rt: HostRuntime) {
+    let alloc = rt.alloc();
     let read = ToolError::Read(io::Error::other("gone"));
-    holds(&rt, is_run_printed_as(rt.alloc(), read, "read")?, "a read");
+    holds(&rt, is_run_printed_as(alloc, read, "read"), "a read");
     let write = ToolError::Write(io::Error::other("gone"));
-    let is_right = is_run_printed_as(rt.alloc(), write, "write")?;
-    holds(&rt, is_right, "a write");
-    let is_printed = is_run_printed_as(rt.alloc(), ToolError::Memory, "memory")?;
-    holds(&rt, is_printed, "memory");
-    Ok(())
+    holds(&rt, is_run_printed_as(alloc, write, "write"), "a write");
+    let is_right = is_run_printed_as(alloc, ToolError::Memory, "memory");
+    holds(&rt, is_right, "memory");
 }

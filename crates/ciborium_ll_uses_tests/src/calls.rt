@@ -4,7 +4,7 @@
 ghost use Rattle.std.specs.Prelude.{◌≡◌, IfOk, Some};
 ghost use Rattle.ciborium_ll.specs.Decoding.{waiting_of};
 
-use crate::checks::{holds, holds_at};
+use crate::checks::{End, ends_so, holds_at};
 use ciborium_ll::io::{EndOfFile, OutOfSpace, Read, SliceReader, SliceWriter};
 use ciborium_ll::{Decoder, Encoder, Error, Header, RecodeError, Segment, Text};
 use ciborium_ll_uses::{
@@ -12,84 +12,92 @@ use ciborium_ll_uses::{
     write_strings,
 };
 use std::alloc::Global;
-use std::process::Abort;
-use std::test::Fail;
 
-// What a sum is, with the offset behind it.
-#[derive(Clone, Copy, PartialEq, Eq)]
-enum Sum {
-    Total(i64, usize),
-    NoArray(usize),
-    NoNumber(usize),
-    OutOfRange(usize),
-    Syntax(usize),
-    Short(usize),
-    Other,
-}
-
-fn sum_of(bytes: &[u8]) -> Sum {
+// How a sum ends and where, and what it is.
+fn sum_of(bytes: &[u8]) -> (End, usize, i64) {
     let mut decoder = Decoder::from(SliceReader::new(bytes));
     let outcome = sum_numbers(&mut decoder);
     let offset = decoder.offset();
     match outcome {
-        Ok(total) => Sum::Total(total, offset),
-        Err(SumError::NoArray(place)) => Sum::NoArray(place),
-        Err(SumError::NoNumber(place)) => Sum::NoNumber(place),
-        Err(SumError::OutOfRange(place)) => Sum::OutOfRange(place),
-        Err(SumError::Read(Error::Syntax(place))) => Sum::Syntax(place),
-        Err(SumError::Read(Error::Io(EndOfFile))) => Sum::Short(offset),
-        Err(SumError::Read(_)) => Sum::Other,
+        Ok(total) => (End::Done, offset, total),
+        Err(SumError::NoArray(place)) => (End::NoArray, place, 0),
+        Err(SumError::NoNumber(place)) => (End::NoNumber, place, 0),
+        Err(SumError::OutOfRange(place)) => (End::OutOfRange, place, 0),
+        Err(SumError::Read(Error::Syntax(place))) => (End::Syntax, place, 0),
+        Err(SumError::Read(Error::Io(EndOfFile))) => (End::Short, offset, 0),
+        Err(SumError::Read(_)) => (End::Other, offset, 0),
     }
 }
 
-// Bytes, and what `sum_numbers` answers.
-static SUMS: [(&[u8], Sum); 16] = [
+// Whether a sum ends so.
+fn is_sum(bytes: &[u8], want: End, place: usize, total: i64) -> bool {
+    let (end, at, sum) = sum_of(bytes);
+    end == want && at == place && sum == total
+}
+
+// Bytes, how a sum of them ends, at which offset, and what it is.
+static SUMS: [(&[u8], End, usize, i64); 16] = [
     // 1, -1 and 255, behind which more stands
-    (&[0x83, 0x01, 0x20, 0x18, 0xff, 0x00], Sum::Total(255, 5)),
+    (&[0x83, 0x01, 0x20, 0x18, 0xff, 0x00], End::Done, 5, 255),
     // no numbers
-    (&[0x80], Sum::Total(0, 1)),
-    (&[0x9f, 0xff], Sum::Total(0, 2)),
+    (&[0x80], End::Done, 1, 0),
+    (&[0x9f, 0xff], End::Done, 2, 0),
     // of indefinite length, with longer titles than needed
     (
         &[0x9f, 0x19, 0x00, 0x07, 0x38, 0x64, 0xff, 0xff],
-        Sum::Total(-94, 7),
+        End::Done,
+        7,
+        -94,
     ),
     // the greatest and the least sum, and one more
     (
         &[0x81, 0x1b, 0x7f, 0xff, 0xff, 0xff, 0xff, 0xff, 0xff, 0xff],
-        Sum::Total(i64::MAX, 10),
+        End::Done,
+        10,
+        i64::MAX,
     ),
     (
         &[
             0x82, 0x1b, 0x7f, 0xff, 0xff, 0xff, 0xff, 0xff, 0xff, 0xff, 0x01,
         ],
-        Sum::OutOfRange(10),
+        End::OutOfRange,
+        10,
+        0,
     ),
     (
         &[0x81, 0x3b, 0x7f, 0xff, 0xff, 0xff, 0xff, 0xff, 0xff, 0xff],
-        Sum::Total(i64::MIN, 10),
+        End::Done,
+        10,
+        i64::MIN,
     ),
-    (&[0x81, 0x3b, 0x80, 0, 0, 0, 0, 0, 0, 0], Sum::OutOfRange(1)),
+    (
+        &[0x81, 0x3b, 0x80, 0, 0, 0, 0, 0, 0, 0],
+        End::OutOfRange,
+        1,
+        0,
+    ),
     // -1 and then 2^63, which alone would be out of range
     (
         &[0x82, 0x20, 0x1b, 0x80, 0, 0, 0, 0, 0, 0, 0],
-        Sum::Total(i64::MAX, 11),
+        End::Done,
+        11,
+        i64::MAX,
     ),
     // a text, a break where numbers are counted, an array within, a float
-    (&[0x82, 0x01, 0x61, 0x31], Sum::NoNumber(2)),
-    (&[0x82, 0x01, 0xff], Sum::NoNumber(2)),
-    (&[0x9f, 0x80, 0xff], Sum::NoNumber(1)),
-    (&[0x9f, 0xf9, 0x3c, 0x00, 0xff], Sum::NoNumber(1)),
+    (&[0x82, 0x01, 0x61, 0x31], End::NoNumber, 2, 0),
+    (&[0x82, 0x01, 0xff], End::NoNumber, 2, 0),
+    (&[0x9f, 0x80, 0xff], End::NoNumber, 1, 0),
+    (&[0x9f, 0xf9, 0x3c, 0x00, 0xff], End::NoNumber, 1, 0),
     // no array, no title, and bytes that end too early
-    (&[0xa0], Sum::NoArray(0)),
-    (&[0x81, 0x1c], Sum::Syntax(1)),
-    (&[0x82, 0x01], Sum::Short(2)),
+    (&[0xa0], End::NoArray, 0, 0),
+    (&[0x81, 0x1c], End::Syntax, 1, 0),
+    (&[0x82, 0x01], End::Short, 2, 0),
 ];
 
 #[test]
 fn sums(rt: HostRuntime) {
-    for &(bytes, want) in &SUMS {
-        holds_at(&rt, sum_of(bytes) == want, bytes);
+    for &(bytes, end, place, total) in &SUMS {
+        holds_at(&rt, is_sum(bytes, end, place, total), bytes);
     }
 }
 
@@ -106,83 +114,91 @@ const ENTRIES: &[Entry] = &[
 
 const MAP: &[u8] = b"\xa2\x61a\x67Gr\xc3\xbc\xc3\x9fe\x60\x78\x19The quick brown fox jumps";
 
-// Writes a map into so much space, at most 64 bytes, and compares whether that succeeds, and what was written.
-fn map_row(rt: &impl Abort, room: usize, entries: &[Entry], is_ok: bool, want: &[u8]) {
-    let mut space = [0; 64];
-    let mut encoder = Encoder::from(SliceWriter::new(&mut space[..room.min(64)]));
-    let is_right = write_strings(&mut encoder, entries).is_ok() == is_ok;
-    holds_at(rt, is_right && encoder.into_inner().written() == want, want);
+// Whether a write of a map into some space succeeds or not, as is wanted, and writes this.
+fn is_map(space: &mut [u8], entries: &[Entry], is_ok: bool, want: &[u8]) -> bool {
+    let mut encoder = Encoder::from(SliceWriter::new(space));
+    write_strings(&mut encoder, entries).is_ok() == is_ok && encoder.into_inner().written() == want
 }
+
+const KEY: &[Entry] = &[Entry {
+    key: "k",
+    value: "v",
+}];
 
 #[test]
 fn maps_of_strings(rt: HostRuntime) {
-    map_row(&rt, 64, ENTRIES, true, MAP);
-    map_row(&rt, 0, &[], false, &[]);
+    let mut space = [0; 64];
+    holds_at(&rt, is_map(&mut space, ENTRIES, true, MAP), MAP);
+    holds_at(&rt, is_map(&mut [], &[], false, &[]), &[]);
     // The title and the key fit, and the value's title.
-    let entry = Entry {
-        key: "k",
-        value: "v",
-    };
-    map_row(&rt, 4, &[entry], false, &[0xa1, 0x61, b'k', 0x61]);
+    let want = b"\xa1\x61k\x61";
+    holds_at(&rt, is_map(&mut space[..4], KEY, false, want), want);
 }
 
-// How a stream ends.
-#[derive(Clone, Copy)]
-enum End {
-    Done,
-    Syntax(usize),
-    Full,
-}
-
-fn ends_so(outcome: &Result<(), RecodeError<EndOfFile, OutOfSpace>>, want: End) -> bool {
+fn end_of_stream(outcome: &Result<(), RecodeError<EndOfFile, OutOfSpace>>) -> (End, usize) {
     match outcome {
-        Ok(()) => matches!(want, End::Done),
-        Err(RecodeError::Read(Error::Syntax(place))) => {
-            matches!(want, End::Syntax(wanted) if wanted == *place)
-        }
-        Err(RecodeError::Read(_)) => false,
-        Err(RecodeError::Write(OutOfSpace)) => matches!(want, End::Full),
+        Ok(()) => (End::Done, 0),
+        Err(RecodeError::Read(Error::Syntax(place))) => (End::Syntax, *place),
+        Err(RecodeError::Read(_)) => (End::Other, 0),
+        Err(RecodeError::Write(OutOfSpace)) => (End::Full, 0),
     }
 }
 
-// Bytes, how many elements are copied, into how much space, how that ends, what is written, and how much is read.
-static STREAMS: [(&[u8], usize, usize, End, &[u8], usize); 4] = [
+// Bytes, how many elements are copied, into how much space, how that ends and where a fault is, what is written, and
+// what is left.
+type Stream = (
+    &'static [u8],
+    usize,
+    usize,
+    End,
+    usize,
+    &'static [u8],
+    &'static [u8],
+);
+
+static STREAMS: [Stream; 4] = [
     // an array of 1 in nine bytes, and a text of two pieces, within which another one stands
     (
         b"\x98\x01\x1b\x00\x00\x00\x00\x00\x00\x00\x01\x7f\x7f\x78\x01a\xff\x61b\xff\x05",
         3,
         32,
         End::Done,
+        0,
         b"\x81\x01\x7f\x61a\x61b\xff",
-        20,
+        b"\x05",
     ),
-    (&[0x18, 1, 0x1f, 2], 2, 32, End::Syntax(2), &[1], 3),
-    (&[0x18, 0x18], 1, 1, End::Full, &[0x18], 2),
+    (&[0x18, 1, 0x1f, 2], 2, 32, End::Syntax, 2, &[1], &[2]),
+    (&[0x18, 0x18], 1, 1, End::Full, 0, &[0x18], &[]),
     // the room need not be more than the spelling, whatever is due
-    (&[0x18, 1, 0x18, 2], 1, 1, End::Done, &[1], 2),
+    (&[0x18, 1, 0x18, 2], 1, 1, End::Done, 0, &[1], &[0x18, 2]),
 ];
 
-fn stream_row(
-    rt: &impl Abort,
+// Whether a copy of so many elements into some space ends so, and this is written, and that left.
+fn is_stream(
     bytes: &[u8],
     count: usize,
-    room: usize,
+    space: &mut [u8],
     end: End,
+    place: usize,
     written: &[u8],
-    read: usize,
-) {
-    let mut space = [0; 32];
-    let writer = SliceWriter::new(&mut space[..room.min(32)]);
-    let (reader, writer, outcome) = normalise(SliceReader::new(bytes), writer, count);
-    let is_written = writer.written() == written;
-    let is_read = Some(reader.left()) == bytes.get(read..);
-    holds_at(rt, ends_so(&outcome, end) && is_written && is_read, bytes);
+    left: &[u8],
+) -> bool {
+    let (reader, writer, outcome) = normalise(
+        SliceReader::new(bytes),
+        SliceWriter::new(space),
+        count,
+    );
+    let is_moved = writer.written() == written && reader.left() == left;
+    is_moved && ends_so(end_of_stream(&outcome), end, place)
 }
 
 #[test]
 fn streams(rt: HostRuntime) {
-    for &(bytes, count, room, end, written, read) in &STREAMS {
-        stream_row(&rt, bytes, count, room, end, written, read);
+    for &(bytes, count, room, end, place, written, left) in &STREAMS {
+        let mut space = [0; 32];
+        let space = &mut space[..room.min(32)];
+        let is_right = is_stream(bytes, count, space, end, place, written, left);
+        holds_at(&rt, is_right, bytes);
     }
 }
 
@@ -226,89 +242,89 @@ fn nested_items(rt: HostRuntime) {
     // Arrays of one item each, the innermost without any.
     let mut bytes = [0x81; 65];
     bytes[63] = 0x80;
-    let is_right = shortest_item_len(&bytes) == Some(64);
-    holds(&rt, is_right, "as many as are taken");
+    holds_at(&rt, shortest_item_len(&bytes) == Some(64), &bytes);
+    // One more than are taken.
     bytes[63] = 0x81;
     bytes[64] = 0x80;
-    holds(&rt, shortest_item_len(&bytes).is_none(), "one more");
+    holds_at(&rt, shortest_item_len(&bytes).is_none(), &bytes);
 }
 
-// Why no text was read.
-#[derive(Clone, Copy, PartialEq, Eq)]
-enum Fault {
-    NoText(usize),
-    TooLong,
-    Syntax(usize),
-    Short,
-    Other,
-}
-
-fn fault_of(error: TextError<EndOfFile>) -> Fault {
-    match error {
-        TextError::NoText(place) => Fault::NoText(place),
-        TextError::TooLong => Fault::TooLong,
-        TextError::Read(Error::Syntax(place)) => Fault::Syntax(place),
-        TextError::Read(Error::Io(EndOfFile)) => Fault::Short,
-        TextError::Read(_) | TextError::Memory => Fault::Other,
-    }
-}
-
-// Bytes, a limit, and the text or why there is none.
-static TEXTS: [(&[u8], usize, Result<&str, Fault>); 15] = [
-    (b"\x65hello!", 5, Ok("hello")),
-    (b"\x65hello", 4, Err(Fault::TooLong)),
-    (b"\x60", 0, Ok("")),
-    // segments, an empty one, and a text within the text
-    (b"\x7f\x62ab\x60\x61c\xff", 3, Ok("abc")),
-    (b"\x7f\x62ab\x60\x61c\xff", 2, Err(Fault::TooLong)),
-    (b"\x7f\x7f\x61a\xff\x61b\xff", 2, Ok("ab")),
-    (b"\x7f\xff", 0, Ok("")),
-    // as many empty segments as are taken, and one more
-    (b"\x7f\x60\x60\xff", 1, Ok("")),
-    (b"\x7f\x60\x60\x60\xff", 1, Err(Fault::TooLong)),
-    // a character, and one that is cut between two segments
-    (b"\x62\xc3\xa9", 2, Ok("\u{e9}")),
-    (b"\x7f\x61\xc3\x61\xa9\xff", 9, Err(Fault::Syntax(1))),
-    (b"\x61\xff", 9, Err(Fault::Syntax(0))),
-    // bytes in place of a text, alone and within
-    (b"\x43abc", 9, Err(Fault::NoText(0))),
-    (b"\x7f\x41a\xff", 9, Err(Fault::Syntax(1))),
-    (b"\x62a", 9, Err(Fault::Short)),
-];
-
-fn is_read_as(given: &Result<String, Fault>, want: Result<&str, Fault>) -> bool {
-    match given {
-        Ok(text) => matches!(want, Ok(wanted) if wanted == text.as_str()),
-        Err(fault) => matches!(want, Err(wanted) if wanted == *fault),
-    }
-}
-
-fn text_row(rt: &impl Abort, alloc: Global, bytes: &[u8], limit: usize, want: Result<&str, Fault>) {
+// Whether a text of at most so many bytes is read, and this one, and ends at this offset.
+fn is_text(alloc: Global, bytes: &[u8], limit: usize, want: &[u8], offset: usize) -> bool {
     let mut decoder = Decoder::from(SliceReader::new(bytes));
-    let given = read_string(alloc, &mut decoder, limit).map_err(fault_of);
-    holds_at(rt, is_read_as(&given, want), bytes);
+    match read_string(alloc, &mut decoder, limit) {
+        Ok(text) => text.as_bytes() == want && decoder.offset() == offset,
+        Err(_) => false,
+    }
 }
+
+// Bytes, a limit, the text, and the offset behind it.
+static TEXTS: [(&[u8], usize, &[u8], usize); 7] = [
+    (b"\x65hello!", 5, b"hello", 6),
+    (b"\x60", 0, b"", 1),
+    // segments, an empty one, and a text within the text
+    (b"\x7f\x62ab\x60\x61c\xff", 3, b"abc", 8),
+    (b"\x7f\x7f\x61a\xff\x61b\xff", 2, b"ab", 8),
+    (b"\x7f\xff", 0, b"", 2),
+    // as many empty segments as are taken
+    (b"\x7f\x60\x60\xff", 1, b"", 4),
+    // a character of two bytes
+    (b"\x62\xc3\xa9", 2, b"\xc3\xa9", 3),
+];
 
 #[test]
 fn texts(rt: HostRuntime) {
-    for &(bytes, limit, want) in &TEXTS {
-        text_row(&rt, rt.alloc(), bytes, limit, want);
+    for &(bytes, limit, want, offset) in &TEXTS {
+        let is_right = is_text(rt.alloc(), bytes, limit, want, offset);
+        holds_at(&rt, is_right, bytes);
+    }
+}
+
+// How a read of a text of at most so many bytes ends, and where it stops.
+fn end_of_text(alloc: Global, bytes: &[u8], limit: usize) -> (End, usize) {
+    match read_string(alloc, &mut Decoder::from(SliceReader::new(bytes)), limit) {
+        Ok(_) => (End::Done, 0),
+        Err(TextError::NoText(place)) => (End::NoText, place),
+        Err(TextError::TooLong) => (End::TooLong, 0),
+        Err(TextError::Read(Error::Syntax(place))) => (End::Syntax, place),
+        Err(TextError::Read(Error::Io(EndOfFile))) => (End::Short, 0),
+        Err(TextError::Read(_) | TextError::Memory) => (End::Other, 0),
+    }
+}
+
+// Bytes, a limit, and why no text is read, at which offset where that is told.
+static NO_TEXTS: [(&[u8], usize, End, usize); 8] = [
+    (b"\x65hello", 4, End::TooLong, 0),
+    (b"\x7f\x62ab\x60\x61c\xff", 2, End::TooLong, 0),
+    // one more empty segment than is taken
+    (b"\x7f\x60\x60\x60\xff", 1, End::TooLong, 0),
+    // a character that is cut between two segments, and a byte that begins none
+    (b"\x7f\x61\xc3\x61\xa9\xff", 9, End::Syntax, 1),
+    (b"\x61\xff", 9, End::Syntax, 0),
+    // bytes in place of a text, alone and within
+    (b"\x43abc", 9, End::NoText, 0),
+    (b"\x7f\x41a\xff", 9, End::Syntax, 1),
+    (b"\x62a", 9, End::Short, 0),
+];
+
+#[test]
+fn no_texts(rt: HostRuntime) {
+    for &(bytes, limit, want, place) in &NO_TEXTS {
+        let end = end_of_text(rt.alloc(), bytes, limit);
+        holds_at(&rt, ends_so(end, want, place), bytes);
     }
 }
 
 #[test]
-fn a_text_longer_than_the_buffer(rt: HostRuntime) -> Result<(), Fail> {
+fn a_text_longer_than_the_buffer(rt: HostRuntime) {
     // The first read ends within the character of two bytes.
     let mut bytes = [b'x'; 68];
     bytes[0] = 0x78;
     bytes[1] = 66;
     bytes[65] = 0xc3;
     bytes[66] = 0xa9;
-    let mut decoder = Decoder::from(SliceReader::new(&bytes));
-    let text = read_string(rt.alloc(), &mut decoder, 66)?;
-    holds(&rt, text.as_bytes() == &bytes[2..], "the text");
-    holds(&rt, decoder.offset() == 68, "the offset behind it");
-    Ok(())
+    let is_right = is_text(rt.alloc(), &bytes, 66, &bytes[2..], 68);
+    holds_at(&rt, is_right, &bytes);
 }
 
 // The next header, which stays the next one.
@@ -325,26 +341,34 @@ fn peeks(decoder: &mut Decoder<SliceReader>, want: Header) -> bool {
     matches!(peek(decoder), Ok(header) if header == want)
 }
 
+// Whether the bytes have ended.
+fn has_ended(decoder: &mut Decoder<SliceReader>) -> bool {
+    matches!(peek(decoder), Err(Error::Io(EndOfFile)))
+}
+
 fn pulls(decoder: &mut Decoder<SliceReader>, want: Header) -> bool {
     matches!(decoder.pull(), Ok(header) if header == want)
 }
 
+// A number whose title is longer than needed, and waits as the shortest one, and an empty array behind it.
 #[test]
 fn a_header_ahead(rt: HostRuntime) {
     let mut decoder = Decoder::from(SliceReader::new(&[0x18, 5, 0x80]));
-    // The title is longer than needed, and waits as the shortest one.
     let five = Header::Positive(5);
-    for _ in 0..2 {
-        let is_ahead = peeks(&mut decoder, five);
-        holds(&rt, is_ahead && decoder.offset() == 1, "a number is ahead");
-    }
-    let is_pulled = pulls(&mut decoder, five);
-    holds(&rt, is_pulled && decoder.offset() == 2, "it is pulled");
     let empty = Header::Array(Some(0));
-    holds(&rt, peeks(&mut decoder, empty), "an array is ahead");
-    holds(&rt, pulls(&mut decoder, empty), "it is pulled");
-    let is_end = matches!(peek(&mut decoder), Err(Error::Io(EndOfFile)));
-    holds(&rt, is_end && decoder.offset() == 3, "the bytes have ended");
+    let steps = [
+        peeks(&mut decoder, five),
+        decoder.offset() == 1,
+        peeks(&mut decoder, five),
+        decoder.offset() == 1,
+        pulls(&mut decoder, five),
+        decoder.offset() == 2,
+        peeks(&mut decoder, empty),
+        pulls(&mut decoder, empty),
+        has_ended(&mut decoder),
+        decoder.offset() == 3,
+    ];
+    assert!(rt; !steps.contains(&false), "of the steps {steps:?}");
 }
 
 // The first chunk of a text.
@@ -387,35 +411,47 @@ fn first_count<R: Read>(decoder: &mut Decoder<R>) -> Result<usize, Error<R::Erro
     }
 }
 
+// Whether the first segment of a text has so many characters.
+fn has_characters(bytes: &[u8], want: usize) -> bool {
+    let mut decoder = Decoder::from(SliceReader::new(bytes));
+    matches!(first_count(&mut decoder), Ok(count) if count == want)
+}
+
+// Bytes, and how many characters the first segment of the text has.
+static CHARACTERS: [(&[u8], usize); 4] = [
+    (b"\x65hello", 5),
+    (b"\x65abc\xc3\xa9", 4),
+    (b"\x7f\x62ab\x60\xff", 2),
+    (b"\x60", 0),
+];
+
 #[test]
 fn characters(rt: HostRuntime) {
-    let rows: [(&[u8], usize); 4] = [
-        (b"\x65hello", 5),
-        (b"\x65abc\xc3\xa9", 4),
-        (b"\x7f\x62ab\x60\xff", 2),
-        (b"\x60", 0),
-    ];
-    for (bytes, want) in rows {
-        let mut decoder = Decoder::from(SliceReader::new(bytes));
-        let is_right = matches!(first_count(&mut decoder), Ok(count) if count == want);
-        holds_at(&rt, is_right, bytes);
+    for &(bytes, want) in &CHARACTERS {
+        holds_at(&rt, has_characters(bytes, want), bytes);
     }
 }
 
+// Whether the first chunk of at most four bytes is this.
+fn is_first_chunk(bytes: &[u8], want: Option<&str>) -> bool {
+    let mut decoder = Decoder::from(SliceReader::new(bytes));
+    let mut buffer = [0; 4];
+    matches!(first_chunk(&mut decoder, &mut buffer), Ok(chunk) if chunk == want)
+}
+
+// Bytes, and their first chunk of at most four bytes.
+static FIRST_CHUNKS: [(&[u8], Option<&str>); 5] = [
+    (b"\x65hello", Some("hell")),
+    (b"\x7f\x62ab\x60\xff", Some("ab")),
+    // the second character is cut, and waits
+    (b"\x65abc\xc3\xa9", Some("abc")),
+    (b"\x7f\xff", None),
+    (b"\x41a", None),
+];
+
 #[test]
 fn first_chunks(rt: HostRuntime) {
-    let rows: [(&[u8], Option<&str>); 5] = [
-        (b"\x65hello", Some("hell")),
-        (b"\x7f\x62ab\x60\xff", Some("ab")),
-        // the second character is cut, and waits
-        (b"\x65abc\xc3\xa9", Some("abc")),
-        (b"\x7f\xff", None),
-        (b"\x41a", None),
-    ];
-    for (bytes, want) in rows {
-        let mut decoder = Decoder::from(SliceReader::new(bytes));
-        let mut buffer = [0; 4];
-        let is_right = matches!(first_chunk(&mut decoder, &mut buffer), Ok(chunk) if chunk == want);
-        holds_at(&rt, is_right, bytes);
+    for &(bytes, want) in &FIRST_CHUNKS {
+        holds_at(&rt, is_first_chunk(bytes, want), bytes);
     }
 }

@@ -1,11 +1,33 @@
 use std::process::Abort;
 
-// What was looked at holds. The message says what that is: a call tells no line of its caller.
-pub fn holds(rt: &impl Abort, is_right: bool, what: &str) {
-    assert!(rt; is_right, "{what}");
-}
-
-// The same of a row, which its bytes name.
+// What was looked at holds, of these bytes.
 pub fn holds_at(rt: &impl Abort, is_right: bool, bytes: &[u8]) {
     assert!(rt; is_right, "at {bytes:?}");
+}
+
+// How a call ends.
+#[derive(Clone, Copy, PartialEq, Eq)]
+pub enum End {
+    Done,
+    Syntax,
+    Short,
+    Full,
+    NoArray,
+    NoNumber,
+    OutOfRange,
+    NoText,
+    TooLong,
+    Unexpected,
+    // What was found in a map.
+    MapSyntax,
+    MapShort,
+    MapBreak,
+    MapDeep,
+    // The end is one that no test expects.
+    Other,
+}
+
+// A call ends so, at this place.
+pub fn ends_so((end, at): (End, usize), want: End, place: usize) -> bool {
+    end == want && at == place
 }

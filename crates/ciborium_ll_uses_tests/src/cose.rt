@@ -1,6 +1,6 @@
 //! Signed messages: an example of RFC 9052, and messages that were worked by hand.
 
-use crate::checks::{holds, holds_at};
+use crate::checks::{End, ends_so, holds_at};
 use cbor_skip::SkipError;
 use ciborium_ll::Error;
 use ciborium_ll::io::EndOfFile;
@@ -14,57 +14,43 @@ static SINGLE_SIGNATURE: &[u8] =
     \xd2\x5a\x91\xae\xf0\xb0\x11\x7e\x2a\xf9\xa2\x91\xaa\x32\xe1\x4a\xb8\x34\xdc\x56\xed\x2a\x22\x34\
     \x44\x54\x7e\x01\xf1\x1d\x3b\x09\x16\xe5\xa4\xc3\x45\xca\xcb\x36";
 
-// What a read answers, as a plain value.
-#[derive(Clone, Copy, PartialEq, Eq)]
-enum Outcome {
-    Parts(Sign1),
-    Unexpected(usize),
-    Syntax(usize),
-    Short,
-    MapSyntax(usize),
-    MapBreak(usize),
-    MapDeep(usize),
-    MapShort,
-    Other,
-}
-
-fn outcome_of(bytes: &[u8]) -> Outcome {
+// How a read ends and where. What is found in the map of the unprotected parameters is told as such.
+fn end_of(bytes: &[u8]) -> (End, usize) {
     match read_sign1(bytes) {
-        Ok(parts) => Outcome::Parts(parts),
-        Err(CoseError::Unexpected(place)) => Outcome::Unexpected(place),
-        Err(CoseError::Read(error)) => outcome_of_error(error),
-        Err(CoseError::Skip(error)) => outcome_of_map(error),
+        Ok(_) => (End::Done, 0),
+        Err(CoseError::Unexpected(place)) => (End::Unexpected, place),
+        Err(CoseError::Read(Error::Syntax(place))) => (End::Syntax, place),
+        Err(CoseError::Read(Error::Io(EndOfFile))) => (End::Short, 0),
+        Err(CoseError::Read(_)) => (End::Other, 0),
+        Err(CoseError::Skip(error)) => end_of_map(error),
     }
 }
 
-fn outcome_of_error(error: Error<EndOfFile>) -> Outcome {
+fn end_of_map(error: SkipError<EndOfFile>) -> (End, usize) {
     match error {
-        Error::Syntax(place) => Outcome::Syntax(place),
-        Error::Io(EndOfFile) => Outcome::Short,
-        _ => Outcome::Other,
+        SkipError::Break(place) => (End::MapBreak, place),
+        SkipError::Deep(place) => (End::MapDeep, place),
+        SkipError::Read(Error::Syntax(place)) => (End::MapSyntax, place),
+        SkipError::Read(Error::Io(EndOfFile)) => (End::MapShort, 0),
+        SkipError::Read(_) => (End::Other, 0),
     }
 }
 
-fn outcome_of_map(error: SkipError<EndOfFile>) -> Outcome {
-    match error {
-        SkipError::Break(place) => Outcome::MapBreak(place),
-        SkipError::Deep(place) => Outcome::MapDeep(place),
-        SkipError::Read(Error::Syntax(place)) => Outcome::MapSyntax(place),
-        SkipError::Read(Error::Io(EndOfFile)) => Outcome::MapShort,
-        SkipError::Read(_) => Outcome::Other,
-    }
+// Whether bytes are a message of these parts.
+fn is_message(bytes: &[u8], want: Sign1) -> bool {
+    matches!(read_sign1(bytes), Ok(parts) if parts == want)
 }
 
 #[test]
 fn an_example_of_the_standard(rt: HostRuntime) {
-    let want = Outcome::Parts(Sign1 {
+    let want = Sign1 {
         protected: Span { start: 3, end: 6 },
         unprotected: Span { start: 6, end: 11 },
         payload: Some(Span { start: 12, end: 32 }),
         signature: Span { start: 34, end: 98 },
-    });
-    holds(&rt, SINGLE_SIGNATURE.len() == 98, "the length");
-    holds(&rt, outcome_of(SINGLE_SIGNATURE) == want, "the parts");
+    };
+    let is_right = SINGLE_SIGNATURE.len() == 98 && is_message(SINGLE_SIGNATURE, want);
+    holds_at(&rt, is_right, SINGLE_SIGNATURE);
 }
 
 // Messages, and their parts.
@@ -104,48 +90,46 @@ static MESSAGES: [(&[u8], Sign1); 3] = [
 #[test]
 fn messages(rt: HostRuntime) {
     for &(bytes, parts) in &MESSAGES {
-        holds_at(&rt, outcome_of(bytes) == Outcome::Parts(parts), bytes);
+        holds_at(&rt, is_message(bytes, parts), bytes);
     }
 }
 
-// What is no message, and why.
-static REFUSED: [(&[u8], Outcome); 19] = [
+// What is no message, why, and at which offset where that is told.
+static REFUSED: [(&[u8], End, usize); 19] = [
     // another tag, none, and an array of three and of any number
-    (b"\xd1\x84\x40\xa0\xf6\x41s", Outcome::Unexpected(0)),
-    (b"\x84\x40\xa0\xf6\x41s", Outcome::Unexpected(0)),
-    (b"\xd2\x83\x40\xa0\xf6", Outcome::Unexpected(1)),
-    (b"\xd2\x9f\x40\xa0\xf6\x41s\xff", Outcome::Unexpected(1)),
+    (b"\xd1\x84\x40\xa0\xf6\x41s", End::Unexpected, 0),
+    (b"\x84\x40\xa0\xf6\x41s", End::Unexpected, 0),
+    (b"\xd2\x83\x40\xa0\xf6", End::Unexpected, 1),
+    (b"\xd2\x9f\x40\xa0\xf6\x41s\xff", End::Unexpected, 1),
     // each part as something else, and a byte string of indefinite length
-    (b"\xd2\x84\xf6\xa0\xf6\x41s", Outcome::Unexpected(2)),
-    (b"\xd2\x84\x5f\xff\xa0\xf6\x41s", Outcome::Unexpected(2)),
-    (b"\xd2\x84\x40\x80\xf6\x41s", Outcome::Unexpected(3)),
-    (b"\xd2\x84\x40\xa0\xf7\x41s", Outcome::Unexpected(4)),
-    (b"\xd2\x84\x40\xa0\xf6\xf6", Outcome::Unexpected(5)),
+    (b"\xd2\x84\xf6\xa0\xf6\x41s", End::Unexpected, 2),
+    (b"\xd2\x84\x5f\xff\xa0\xf6\x41s", End::Unexpected, 2),
+    (b"\xd2\x84\x40\x80\xf6\x41s", End::Unexpected, 3),
+    (b"\xd2\x84\x40\xa0\xf7\x41s", End::Unexpected, 4),
+    (b"\xd2\x84\x40\xa0\xf6\xf6", End::Unexpected, 5),
     // titles that are not the shortest, and one that is none
-    (b"\xd2\x84\x58\x00\xa0\xf6\x41s", Outcome::Syntax(2)),
-    (b"\xd8\x12\x84\x40\xa0\xf6\x41s", Outcome::Syntax(0)),
-    (b"\xd2\x84\x40\xa0\x5c", Outcome::Syntax(4)),
+    (b"\xd2\x84\x58\x00\xa0\xf6\x41s", End::Syntax, 2),
+    (b"\xd8\x12\x84\x40\xa0\xf6\x41s", End::Syntax, 0),
+    (b"\xd2\x84\x40\xa0\x5c", End::Syntax, 4),
     // bytes that end within a body, and in front of a title
-    (b"\xd2\x84\x40\xa0\xf6\x42s", Outcome::Short),
-    (b"", Outcome::Short),
+    (b"\xd2\x84\x40\xa0\xf6\x42s", End::Short, 0),
+    (b"", End::Short, 0),
     // a map with a key alone, that holds no title or a longer one, that is nested too deep, and that ends too early
-    (b"\xd2\x84\x40\xbf\x01\xff\xf6\x41s", Outcome::MapBreak(5)),
-    (b"\xd2\x84\x40\xa1\x1c\x01", Outcome::MapSyntax(4)),
-    (
-        b"\xd2\x84\x40\xa1\x18\x01\x02\xf6\x41s",
-        Outcome::MapSyntax(4),
-    ),
+    (b"\xd2\x84\x40\xbf\x01\xff\xf6\x41s", End::MapBreak, 5),
+    (b"\xd2\x84\x40\xa1\x1c\x01", End::MapSyntax, 4),
+    (b"\xd2\x84\x40\xa1\x18\x01\x02\xf6\x41s", End::MapSyntax, 4),
     (
         b"\xd2\x84\x40\xa1\x81\x81\x81\x81\x81\x81\x81\x81\x81\x81\x81\x81\x81\x81\x81\x81\x01\x02",
-        Outcome::MapDeep(19),
+        End::MapDeep,
+        19,
     ),
-    (b"\xd2\x84\x40\xa1\x01", Outcome::MapShort),
+    (b"\xd2\x84\x40\xa1\x01", End::MapShort, 0),
 ];
 
 #[test]
 fn what_is_refused(rt: HostRuntime) {
-    for &(bytes, want) in &REFUSED {
-        holds_at(&rt, outcome_of(bytes) == want, bytes);
+    for &(bytes, want, place) in &REFUSED {
+        holds_at(&rt, ends_so(end_of(bytes), want, place), bytes);
     }
 }
 
@@ -153,7 +137,7 @@ fn what_is_refused(rt: HostRuntime) {
 fn a_message_that_is_cut(rt: HostRuntime) {
     for len in 0..SINGLE_SIGNATURE.len() {
         let front = &SINGLE_SIGNATURE[..len];
-        let is_short = matches!(outcome_of(front), Outcome::Short | Outcome::MapShort);
+        let is_short = matches!(end_of(front).0, End::Short | End::MapShort);
         holds_at(&rt, is_short, front);
     }
 }

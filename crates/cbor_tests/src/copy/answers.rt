@@ -7,11 +7,10 @@ use ciborium_ll::recode::{RecodeError, recode};
 use ciborium_ll::{Decoder, Encoder, Error};
 use std::process::Abort;
 
-// A copy of so many elements, or by so many levels, holds.
+// A copy of so many elements, or of an item by so many levels, holds.
 pub fn holds(
     rt: &impl Abort,
     is_right: bool,
-    what: &str,
     number: usize,
     bytes: &[u8],
     cut: usize,
@@ -19,7 +18,7 @@ pub fn holds(
 ) {
     assert!(rt;
         is_right,
-        "{what} {number}, {bytes:?}, cut at {cut}, room for {room}"
+        "{number}, {bytes:?}, cut at {cut}, room for {room}"
     );
 }
 
@@ -157,7 +156,7 @@ pub fn all_ways(rt: &impl Abort, count: usize, bytes: &[u8]) {
     for cut in 0..=bytes.len() {
         for room in [1, 2, MOST] {
             let is_right = agree(&copied(count, bytes, cut, room), &whole);
-            holds(rt, is_right, "elements", count, bytes, cut, room);
+            holds(rt, is_right, count, bytes, cut, room);
         }
     }
 }

@@ -160,7 +160,7 @@ fn all_ways(rt: &impl Abort, strict: bool, depth: usize, bytes: &[u8]) {
         for room in [1, 2, MOST] {
             let answer = copied(strict, depth, bytes, cut, room);
             let is_right = agree(&answer, whole) && goes_on_from(&answer, &elements);
-            holds(rt, is_right, "levels", depth, bytes, cut, room);
+            holds(rt, is_right, depth, bytes, cut, room);
         }
     }
 }
@@ -290,22 +290,22 @@ static ROWS: [Written; 20] = [
     ),
 ];
 
+// Whether the copy of an item wrote this, and has come so far.
+fn is_row(answer: &Answer, out: &[u8], progress: Progress) -> bool {
+    let is_written = answer.written == out.len() && answer.out.starts_with(out);
+    is_written && answer.progress == progress
+}
+
 fn row(rt: &impl Abort, strict: bool, depth: usize, bytes: &[u8], out: &[u8], progress: Progress) {
     for cut in 0..=bytes.len() {
         let answer = copied(strict, depth, bytes, cut, 1);
-        let is_written = answer.written == out.len() && answer.out.starts_with(out);
-        let is_right = is_written && answer.progress == progress;
-        holds(rt, is_right, "levels", depth, bytes, cut, 1);
-    }
-}
-
-fn rows(rt: &impl Abort, rows: &[Written]) {
-    for &(strict, depth, bytes, out, progress) in rows {
-        row(rt, strict, depth, bytes, out, progress);
+        holds(rt, is_row(&answer, out, progress), depth, bytes, cut, 1);
     }
 }
 
 #[test]
 fn each_row(rt: HostRuntime) {
-    rows(&rt, &ROWS);
+    for &(strict, depth, bytes, out, progress) in &ROWS {
+        row(&rt, strict, depth, bytes, out, progress);
+    }
 }

@@ -1,5 +1,5 @@
 use crate::copy::answers::fed;
-use crate::shared::{MOST, all_hold};
+use crate::shared::{MOST, all_hold, holds_damaged};
 use cbor_copy::{Copier, End, Progress, Snapshot};
 use std::process::Abort;
 
@@ -55,10 +55,7 @@ fn damage(memory: &mut Snapshot, field: u32, number: u64) {
 fn damaged(rt: &impl Abort, bytes: &[u8], room: usize, field: u32, number: u64) {
     let mut memory = behind(bytes, room);
     damage(&mut memory, field, number);
-    assert!(rt;
-        goes_on(&memory),
-        "at {bytes:?}, field {field}, number {number}"
-    );
+    holds_damaged(rt, goes_on(&memory), bytes, field, number);
 }
 
 // Damages each of them, with room for all and for few.
@@ -103,19 +100,22 @@ fn has_come(copier: &mut Copier, piece: &[u8], out: &mut [u8], end: End) -> bool
     is_at(copier, end)
 }
 
-// What an end means: of no elements, of one that is cut, with bytes to write, behind both and behind a fault.
+// What an end means: of two elements, of one that is cut, with bytes to write, and behind both.
+fn ends_of_two(out: &mut [u8; 4]) -> bool {
+    let mut copier = Copier::new(2);
+    is_at(&copier, End::Short)
+        && has_come(&mut copier, &[0x05, 0x19, 0x03], out, End::Short)
+        && has_come(&mut copier, &[0xe8], &mut out[..1], End::Room)
+        && fed(&mut copier, &[], out).progress == Progress::Ended
+        && is_at(&copier, End::Ended)
+}
+
+// And of no elements, and behind a fault.
 #[test]
 fn ends(rt: HostRuntime) {
     let mut out = [0; 4];
-    let mut copier = Copier::new(2);
-    let steps = [
-        is_at(&Copier::new(0), End::Ended),
-        is_at(&copier, End::Short),
-        has_come(&mut copier, &[0x05, 0x19, 0x03], &mut out, End::Short),
-        has_come(&mut copier, &[0xe8], &mut out[..1], End::Room),
-        fed(&mut copier, &[], &mut out).progress == Progress::Ended,
-        is_at(&copier, End::Ended),
-        has_come(&mut Copier::new(2), &[0x05, 0x1c], &mut out, End::Syntax(1)),
-    ];
-    all_hold(&rt, &steps);
+    let is_ended = is_at(&Copier::new(0), End::Ended);
+    let are_right = ends_of_two(&mut out);
+    let is_told = has_come(&mut Copier::new(2), &[0x05, 0x1c], &mut out, End::Syntax(1));
+    all_hold(&rt, &[is_ended, are_right, is_told]);
 }

@@ -1,5 +1,5 @@
-use crate::copy::answers::{copied, fed, holds};
-use crate::shared::all_hold;
+use crate::copy::answers::{Answer, copied, fed, holds};
+use crate::shared::{self, all_hold};
 use cbor_copy::{Copied, Copier, Progress};
 use std::mem::size_of;
 use std::process::Abort;
@@ -66,31 +66,31 @@ static ROWS: [Written; 20] = [
     (1, b"\x63\xed\xa0", b"\x63", Progress::Syntax(0)),
 ];
 
+// Whether a copy wrote this, and has come so far.
+fn is_row(answer: &Answer, out: &[u8], progress: Progress) -> bool {
+    let is_written = answer.written == out.len() && answer.out.starts_with(out);
+    is_written && answer.progress == progress
+}
+
 // A copy of bytes that come in two pieces, cut at each place, with room for one byte at a time.
 fn row(rt: &impl Abort, count: usize, bytes: &[u8], out: &[u8], progress: Progress) {
     for cut in 0..=bytes.len() {
         let answer = copied(count, bytes, cut, 1);
-        let is_written = answer.written == out.len() && answer.out.starts_with(out);
-        let is_right = is_written && answer.progress == progress;
-        holds(rt, is_right, "elements", count, bytes, cut, 1);
-    }
-}
-
-fn rows(rt: &impl Abort, rows: &[Written]) {
-    for &(count, bytes, out, progress) in rows {
-        row(rt, count, bytes, out, progress);
+        holds(rt, is_row(&answer, out, progress), count, bytes, cut, 1);
     }
 }
 
 #[test]
 fn each_row(rt: HostRuntime) {
-    rows(&rt, &ROWS);
+    for &(count, bytes, out, progress) in &ROWS {
+        row(&rt, count, bytes, out, progress);
+    }
 }
 
 // It has room for a title, a character and a few numbers.
 #[test]
 fn small(rt: HostRuntime) {
-    assert!(&rt; size_of::<Copier>() <= 192, "{}", size_of::<Copier>());
+    shared::holds(&rt, size_of::<Copier>() <= 192, "the size of a copier");
 }
 
 // Whether a piece is taken so far, and so much is written.

@@ -1,10 +1,10 @@
 // The notation of items: the rows of RFC 8949, and items that were worked by hand.
 
-use crate::shared::{MOST, decoded};
+use crate::shared::{MOST, decoded, holds, holds_at};
+use crate::skip::answers::{Answer, answer_of};
 use cbor_diag::{DiagError, Layout, diagnose};
-use cbor_skip::SkipError;
-use ciborium_ll::io::{EndOfFile, SliceReader, SliceWriter};
-use ciborium_ll::{Decoder, Error};
+use ciborium_ll::Decoder;
+use ciborium_ll::io::{EndOfFile, OutOfSpace, SliceReader, SliceWriter};
 use std::process::Abort;
 
 // Rows of an item's bytes and its notation: RFC 8949, appendix A, but for the rows of the next table.
@@ -117,52 +117,75 @@ static STRINGS: &str = "\
 bfff {_ }
 6908090a0c0d001f7f2f \"\\b\\t\\n\\f\\r\\u0000\\u001f\x7f/\"";
 
-// What a show answers, with the offset behind it.
-#[derive(Clone, Copy, Debug, PartialEq, Eq, Drop)]
-enum Outcome {
-    Shown(usize),
-    Short(usize),
-    Syntax(usize, usize),
-    Break(usize, usize),
-    Deep(usize, usize),
-    NoRoom,
-    Other,
+// A show of an item: how it ends, as a skip of the item does, or `None` where there is no room for its text, the offset
+// behind it, and how many bytes of text are written.
+#[derive(Drop)]
+struct Shown {
+    answer: Option<Answer>,
+    offset: usize,
+    written: usize,
+}
+
+// How a show ends, behind which the decoder is at this offset.
+fn answer_to(
+    outcome: Result<(), DiagError<EndOfFile, OutOfSpace>>,
+    offset: usize,
+) -> Option<Answer> {
+    match outcome {
+        Ok(()) => Some(Answer::Item(offset)),
+        Err(DiagError::Read(error)) => Some(answer_of(&Err(error), offset)),
+        Err(DiagError::Write(_)) => None,
+    }
 }
 
 // The text goes to the front of the space.
-fn show(bytes: &[u8], depth: usize, layout: Layout, space: &mut [u8]) -> (Outcome, usize) {
+fn show(bytes: &[u8], depth: usize, layout: Layout, space: &mut [u8]) -> Shown {
     let mut decoder = Decoder::from(SliceReader::new(bytes));
     let mut writer = SliceWriter::new(space);
-    let answer = diagnose(&mut decoder, &mut writer, depth.min(256), layout);
-    let written = writer.written().len();
+    let outcome = diagnose(&mut decoder, &mut writer, depth.min(256), layout);
     let offset = decoder.offset();
-    let outcome = match answer {
-        Ok(()) => Outcome::Shown(offset),
-        Err(DiagError::Write(_)) => Outcome::NoRoom,
-        Err(DiagError::Read(SkipError::Break(place))) => Outcome::Break(place, offset),
-        Err(DiagError::Read(SkipError::Deep(place))) => Outcome::Deep(place, offset),
-        Err(DiagError::Read(SkipError::Read(Error::Syntax(place)))) => Outcome::Syntax(
-            place, offset,
-        ),
-        Err(DiagError::Read(SkipError::Read(Error::Io(EndOfFile)))) => Outcome::Short(offset),
-        Err(DiagError::Read(SkipError::Read(_))) => Outcome::Other,
-    };
-    (outcome, written)
+    Shown {
+        answer: answer_to(outcome, offset),
+        offset,
+        written: writer.written().len(),
+    }
+}
+
+// Whether a show ends so, at this offset.
+fn ends_so(shown: &Shown, want: Answer, offset: usize) -> bool {
+    match shown.answer {
+        Some(answer) => answer == want && shown.offset == offset,
+        None => false,
+    }
 }
 
 // Whether the bytes are one item with this notation.
 fn is_shown(bytes: &[u8], layout: Layout, notation: &str) -> bool {
     let mut space = [0; 256];
-    let (outcome, written) = show(bytes, 8, layout, &mut space);
-    outcome == Outcome::Shown(bytes.len()) && space.get(..written) == Some(notation.as_bytes())
+    let shown = show(bytes, 8, layout, &mut space);
+    ends_so(&shown, Answer::Item(bytes.len()), bytes.len())
+        && space.get(..shown.written) == Some(notation.as_bytes())
 }
 
-// The bytes of a row are one item with the notation behind them.
+// Whether each beginning of the bytes is cut, and none is an item.
+fn is_cut(bytes: &[u8]) -> bool {
+    let mut space = [0; 256];
+    for len in 0..bytes.len() {
+        match show(&bytes[..len], 8, Layout::OneLine, &mut space).answer {
+            Some(Answer::Short(_)) => {}
+            _ => return false,
+        }
+    }
+    true
+}
+
+// The bytes of a row are one item with the notation behind them, and no beginning of them is one.
 fn row_is_shown(rt: &impl Abort, row: &str) {
     let (digits, notation) = row.split_once(' ').unwrap_or((row, ""));
     let mut space = [0; MOST];
     let bytes = decoded(rt, digits, &mut space);
-    assert!(rt; is_shown(bytes, Layout::OneLine, notation), "{row}");
+    let is_right = is_shown(bytes, Layout::OneLine, notation) && is_cut(bytes);
+    holds(rt, is_right, row);
 }
 
 // Each row is shown so.
@@ -188,45 +211,29 @@ fn strings_and_escapes(rt: HostRuntime) {
     are_shown(&rt, STRINGS);
 }
 
-// Whether each beginning of the bytes is cut, and none is an item.
-fn is_cut(bytes: &[u8]) -> bool {
-    let mut space = [0; 256];
-    for len in 0..bytes.len() {
-        match show(&bytes[..len], 8, Layout::OneLine, &mut space).0 {
-            Outcome::Short(_) => {}
-            _ => return false,
-        }
-    }
-    true
+// Whether what a show of bytes comes to is this, within so many levels.
+fn is_refused(bytes: &[u8], depth: usize, want: Answer, offset: usize) -> bool {
+    let shown = show(bytes, depth, Layout::OneLine, &mut [0; 256]);
+    ends_so(&shown, want, offset)
 }
 
-#[test]
-fn cut_items(rt: HostRuntime) {
-    for row in VECTORS.lines() {
-        let (digits, _) = row.split_once(' ').unwrap_or((row, ""));
-        assert!(rt; is_cut(decoded(&rt, digits, &mut [0; MOST])), "{row}");
-    }
-}
-
-fn outcome_of(bytes: &[u8], depth: usize) -> Outcome {
-    show(bytes, depth, Layout::OneLine, &mut [0; 256]).0
-}
+// Bytes, how many levels are allowed, how a show of them ends, and the offset behind it.
+static REFUSED: [(&[u8], usize, Answer, usize); 9] = [
+    (b"\xff", 8, Answer::Break(0), 1),
+    (b"\x82\x01\xff", 8, Answer::Break(2), 3),
+    (b"\xbf\x01\xff", 8, Answer::Break(2), 3),
+    (b"\x81\x81\x00", 1, Answer::Deep(1), 2),
+    (b"\xc1\x00", 0, Answer::Deep(0), 1),
+    (b"\x81\x1c", 8, Answer::Syntax(1), 2),
+    (b"\x5f\x01\xff", 8, Answer::Syntax(1), 2),
+    (b"\x7f\x61\xff\xff", 8, Answer::Syntax(1), 3),
+    (b"\x81\x00\xff", 1, Answer::Item(2), 2),
+];
 
 #[test]
 fn what_is_refused(rt: HostRuntime) {
-    let rows: [(&[u8], usize, Outcome); 9] = [
-        (b"\xff", 8, Outcome::Break(0, 1)),
-        (b"\x82\x01\xff", 8, Outcome::Break(2, 3)),
-        (b"\xbf\x01\xff", 8, Outcome::Break(2, 3)),
-        (b"\x81\x81\x00", 1, Outcome::Deep(1, 2)),
-        (b"\xc1\x00", 0, Outcome::Deep(0, 1)),
-        (b"\x81\x1c", 8, Outcome::Syntax(1, 2)),
-        (b"\x5f\x01\xff", 8, Outcome::Syntax(1, 2)),
-        (b"\x7f\x61\xff\xff", 8, Outcome::Syntax(1, 3)),
-        (b"\x81\x00\xff", 1, Outcome::Shown(2)),
-    ];
-    for (bytes, depth, want) in rows {
-        assert_eq!(rt; outcome_of(bytes, depth), want);
+    for &(bytes, depth, want, offset) in &REFUSED {
+        holds_at(&rt, is_refused(bytes, depth, want, offset), bytes);
     }
 }
 
@@ -234,15 +241,17 @@ fn what_is_refused(rt: HostRuntime) {
 fn lines(rt: HostRuntime) {
     let bytes = b"\xa2\x61a\x82\x01\xa0\x61b\xc1\x9f\xf5\xff";
     let notation = "{\n  \"a\": [\n    1,\n    {}\n  ],\n  \"b\": 1([_\n    true\n  ])\n}";
-    assert!(rt; is_shown(bytes, Layout::Indented, notation));
-    assert!(rt; is_shown(b"\x9f\xff", Layout::Indented, "[_ ]"));
-    assert!(rt; is_shown(b"\x01", Layout::Indented, "1"));
+    holds(&rt, is_shown(bytes, Layout::Indented, notation), "a map");
+    let is_right = is_shown(b"\x9f\xff", Layout::Indented, "[_ ]")
+        && is_shown(b"\x01", Layout::Indented, "1");
+    holds(&rt, is_right, "an item of one line");
 }
 
 #[test]
 fn no_room(rt: HostRuntime) {
     let mut space = [0; 5];
-    let (outcome, written) = show(b"\x83\x01\x02\x03", 8, Layout::OneLine, &mut space);
-    assert_eq!(rt; outcome, Outcome::NoRoom);
-    assert_eq!(rt; space.get(..written), Some(b"[1, 2".as_slice()));
+    let shown = show(b"\x83\x01\x02\x03", 8, Layout::OneLine, &mut space);
+    let is_written = space.get(..shown.written) == Some(b"[1, 2".as_slice());
+    let is_right = shown.answer.is_none() && is_written;
+    holds(&rt, is_right, "an array of three numbers in five bytes");
 }

@@ -45,16 +45,33 @@ fn one_by_one(strict: bool, bytes: &[u8], empties: bool) -> Progress {
     checker.progress()
 }
 
+// Where the checker stands that plain numbers are.
+fn progress_of(memory: &Snapshot) -> Option<Progress> {
+    Some(Checker::restore(memory)?.progress())
+}
+
+// Feeds a byte to the checker that plain numbers are, and keeps it as such. It tells whether they are one.
+fn feeds_kept(memory: &mut Snapshot, byte: u8) -> bool {
+    match Checker::restore(memory) {
+        Some(mut checker) => {
+            let _ = checker.feed(&[byte]);
+            checker.save(memory);
+            true
+        }
+        None => false,
+    }
+}
+
 // Feeds each byte by itself to a checker that is made of plain numbers, and kept as such behind it.
 fn kept_between(bytes: &[u8]) -> Option<Progress> {
     let mut memory = Snapshot::new();
     Checker::new(DEPTH).save(&mut memory);
     for byte in bytes {
-        let mut checker = Checker::restore(&memory)?;
-        let _ = checker.feed(&[*byte]);
-        checker.save(&mut memory);
+        if !feeds_kept(&mut memory, *byte) {
+            return None;
+        }
     }
-    Some(Checker::restore(&memory)?.progress())
+    progress_of(&memory)
 }
 
 // Feeds each byte by itself to the plain numbers of a checker, where they stand.
@@ -62,9 +79,11 @@ fn fed_in_place(bytes: &[u8]) -> Option<Progress> {
     let mut memory = Snapshot::new();
     Checker::new(DEPTH).save(&mut memory);
     for byte in bytes {
-        let _ = memory.feed(&[*byte])?;
+        if memory.feed(&[*byte]).is_none() {
+            return None;
+        }
     }
-    Some(Checker::restore(&memory)?.progress())
+    progress_of(&memory)
 }
 
 // What a skip answers: no fault where the bytes end too early.
@@ -113,34 +132,43 @@ fn agrees_strictly(progress: Progress, bytes: &[u8]) -> bool {
     }
 }
 
-// Where bytes in two pieces have another answer, if they do anywhere.
-fn wrong_cut(bytes: &[u8], whole: Progress) -> Option<usize> {
+// Whether bytes in two pieces have the same answer wherever they are cut.
+fn agree_cut(bytes: &[u8], whole: Progress) -> bool {
     for cut in 0..bytes.len() {
         if in_two(bytes, cut) != whole {
-            return Some(cut);
+            return false;
         }
     }
-    None
+    true
+}
+
+// In which ways a checker answers the same, and as a skip does.
+fn ways(bytes: &[u8]) -> [bool; 5] {
+    let whole = at_once(false, bytes);
+    [
+        agrees(whole, bytes),
+        one_by_one(false, bytes, true) == whole,
+        kept_between(bytes) == Some(whole),
+        fed_in_place(bytes) == Some(whole),
+        agree_cut(bytes, whole),
+    ]
+}
+
+// The same of a strict checker.
+fn strict_ways(bytes: &[u8]) -> [bool; 3] {
+    let whole = at_once(true, bytes);
+    [
+        agrees_strictly(whole, bytes),
+        one_by_one(true, bytes, true) == whole,
+        one_by_one(true, bytes, false) == whole,
+    ]
 }
 
 // Feeds bytes in all ways to checkers of both kinds, and compares the answers with one another and with a skip. The
 // message says in which ways they are right.
 pub fn all_ways(rt: &impl Abort, bytes: &[u8]) {
-    let whole = at_once(false, bytes);
-    let strictly = at_once(true, bytes);
-    let cut = wrong_cut(bytes, whole);
-    let ways = [
-        agrees(whole, bytes),
-        one_by_one(false, bytes, true) == whole,
-        kept_between(bytes) == Some(whole),
-        fed_in_place(bytes) == Some(whole),
-        cut.is_none(),
-        agrees_strictly(strictly, bytes),
-        one_by_one(true, bytes, true) == strictly,
-        one_by_one(true, bytes, false) == strictly,
-    ];
-    assert!(rt;
-        !ways.contains(&false),
-        "the ways {ways:?}, at {bytes:?}, cut at {cut:?}"
-    );
+    let ways = ways(bytes);
+    let strict = strict_ways(bytes);
+    let are_right = !ways.contains(&false) && !strict.contains(&false);
+    assert!(rt; are_right, "the ways {ways:?} and {strict:?}, at {bytes:?}");
 }

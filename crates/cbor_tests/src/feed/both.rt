@@ -1,5 +1,5 @@
 use crate::feed::answers::{Skipped, skipped_of};
-use crate::shared::{MOST, decoded};
+use crate::shared::{MOST, decoded, holds};
 use cbor_feed::{Fault, Progress};
 use cbor_feed_laws::feed_and_skip;
 use std::process::Abort;
@@ -87,18 +87,23 @@ fn is_right(bytes: &[u8], strict: bool, depth: usize, want: Progress, skipped: S
     progress == want && skipped_of(outcome) == skipped
 }
 
-fn each_row(rt: &impl Abort, rows: &[Row]) {
-    for &(digits, strict, depth, progress, skipped) in rows {
-        let mut space = [0; MOST];
-        let bytes = decoded(rt, digits, &mut space);
-        assert!(rt;
-            is_right(bytes, strict, depth, progress, skipped),
-            "at {digits}"
-        );
-    }
+// The same to the bytes that digits say.
+fn row(
+    rt: &impl Abort,
+    digits: &str,
+    strict: bool,
+    depth: usize,
+    want: Progress,
+    skipped: Skipped,
+) {
+    let mut space = [0; MOST];
+    let bytes = decoded(rt, digits, &mut space);
+    holds(rt, is_right(bytes, strict, depth, want, skipped), digits);
 }
 
 #[test]
 fn both_answers(rt: HostRuntime) {
-    each_row(&rt, &ROWS);
+    for &(digits, strict, depth, want, skipped) in &ROWS {
+        row(&rt, digits, strict, depth, want, skipped);
+    }
 }

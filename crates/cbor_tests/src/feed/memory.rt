@@ -1,5 +1,5 @@
 use crate::feed::answers::DEPTH;
-use crate::shared::all_hold;
+use crate::shared::{all_hold, holds_damaged};
 use cbor_feed::{Checker, Progress, Snapshot};
 use std::process::Abort;
 
@@ -69,10 +69,7 @@ fn damage(memory: &mut Snapshot, field: u32, number: u64) {
 fn damaged(rt: &impl Abort, bytes: &[u8], field: u32, number: u64) {
     let mut memory = behind(bytes);
     damage(&mut memory, field, number);
-    assert!(rt;
-        goes_on(&memory),
-        "at {bytes:?}, field {field}, number {number}"
-    );
+    holds_damaged(rt, goes_on(&memory), bytes, field, number);
 }
 
 // Damages each field of what is kept behind each front of some bytes.

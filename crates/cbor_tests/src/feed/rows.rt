@@ -1,5 +1,5 @@
 use crate::feed::answers::{all_ways, at_once};
-use crate::shared::{MOST, all_hold, decoded};
+use crate::shared::{MOST, all_hold, decoded, holds};
 use cbor_feed::{Checker, End, Fault, Progress};
 use std::process::Abort;
 
@@ -71,7 +71,7 @@ static ROWS: [(&str, Progress); 54] = [
 fn row(rt: &impl Abort, strict: bool, digits: &str, want: Progress) {
     let mut space = [0; MOST];
     let bytes = decoded(rt, digits, &mut space);
-    assert!(rt; at_once(strict, bytes) == want, "at {digits}");
+    holds(rt, at_once(strict, bytes) == want, digits);
     all_ways(rt, bytes);
 }
 

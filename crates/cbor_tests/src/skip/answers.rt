@@ -1,5 +1,6 @@
 ghost use Rattle.std.specs.Prelude.{◌≤◌};
 
+use crate::shared::holds_at;
 use cbor_skip::{SkipError, skip_item};
 use ciborium_ll::io::{Read, SliceReader};
 use ciborium_ll::{Decoder, Error};
@@ -26,7 +27,7 @@ fn read_answer<E>(error: &Error<E>, offset: usize) -> Answer {
 }
 
 // What the outcome of a skip says, behind which the decoder is at this offset.
-fn answer_of<E>(outcome: &Result<(), SkipError<E>>, offset: usize) -> Answer {
+pub fn answer_of<E>(outcome: &Result<(), SkipError<E>>, offset: usize) -> Answer {
     match outcome {
         Ok(()) => Answer::Item(offset),
         Err(SkipError::Break(place)) => Answer::Break(*place),
@@ -55,13 +56,13 @@ pub fn answer_for(depth: usize, bytes: &[u8]) -> Answer
 
 // Compares the answer for the item in front of bytes.
 pub fn item_row(rt: &impl Abort, depth: usize, bytes: &[u8], want: Answer) {
-    assert!(rt; depth <= 256);
-    assert!(rt; answer_for(depth, bytes) == want, "at {bytes:?}");
+    let is_right = depth <= 256 && answer_for(depth, bytes) == want;
+    holds_at(rt, is_right, bytes);
 }
 
 // A map of indefinite length with two pairs. Each title has one byte, but for the one at 4, which has two, and each
 // body has one. So a reader moves one byte in each call that moves any. From 12 on a third level is needed.
-pub const NESTED: [u8; 25] = [
+pub static NESTED: [u8; 25] = [
     0xbf, // the map
     0x61, 0x6b, // "k"
     0x83, // an array of three

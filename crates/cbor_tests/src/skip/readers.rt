@@ -1,3 +1,4 @@
+use crate::shared::holds_at;
 use crate::skip::answers::{Answer, NESTED, skipped};
 use ciborium_ll::Decoder;
 use ciborium_ll_fixtures::devices::{EndlessReader, Failing, FailingReader};
@@ -32,27 +33,25 @@ static STRICT: [(&[u8], usize, usize, usize); 5] = [
     (&[0x5f, 0x42, 0x18, 5, 0xff], 3, 2, 2),
 ];
 
-// The answers of two skips on a strict decoder, under which the call of this number fails.
-fn skips_twice(bytes: &[u8], failing: usize) -> (Answer, Answer) {
+// Whether two skips on a strict decoder, under which the call of this number fails, end so.
+fn goes_on(bytes: &[u8], failing: usize, offset: usize, place: usize) -> bool {
     let mut decoder = Decoder::strict(FailingReader::new(bytes, Failing::Call(failing)));
-    let first = skipped(&mut decoder, 3);
-    let second = skipped(&mut decoder, 3);
-    (first, second)
+    skipped(&mut decoder, 3) == Answer::Short(offset)
+        && skipped(&mut decoder, 3) == Answer::Syntax(place)
 }
 
 // A strict decoder is strict behind a failure too.
 #[test]
 fn a_strict_decoder_goes_on(rt: HostRuntime) {
     for &(bytes, failing, offset, place) in &STRICT {
-        let want = (Answer::Short(offset), Answer::Syntax(place));
-        assert!(rt; skips_twice(bytes, failing) == want, "at {offset}");
+        holds_at(&rt, goes_on(bytes, failing, offset, place), bytes);
     }
 }
 
 // Skips an item of one byte that comes for ever, and compares the answer.
 fn endless_row(rt: &impl Abort, byte: u8, want: Answer) {
     let mut decoder = Decoder::from(EndlessReader::new(byte));
-    assert!(rt; skipped(&mut decoder, 256) == want, "at {byte}");
+    holds_at(rt, skipped(&mut decoder, 256) == want, &[byte]);
 }
 
 #[test]

@@ -1,38 +1,48 @@
+ghost use Rattle.std.specs.Prelude.{◌≤◌};
+
+use crate::shared::{holds, holds_at};
 use crate::skip::answers::{Answer, NESTED, item_row, skipped};
 use ciborium_ll::io::{SliceReader, StdReader};
 use ciborium_ll::{Decoder, Header};
 use std::process::Abort;
 
+// How many levels are allowed, bytes, and how a skip of the item in front of them ends.
+static ROWS: [(usize, &[u8], Answer); 28] = [
+    (0, &[0x17], Answer::Item(1)),
+    (0, &[0x39, 1, 0, 0], Answer::Item(3)),
+    (0, &[0xf9, 0, 0], Answer::Item(3)),
+    (0, &[0xf8, 0xff], Answer::Item(2)),
+    (0, &[0x5f, 0x41, 1, 0xff], Answer::Item(4)),
+    (1, &[0x80], Answer::Item(1)),
+    (1, &[0xc0, 1], Answer::Item(2)),
+    (1, &[0xbf, 0xff], Answer::Item(2)),
+    (1, &[0x9f, 1, 2, 3, 0, 0xff], Answer::Item(6)),
+    (2, &[0xa1, 0x61, 0x61, 0x82, 1, 2], Answer::Item(6)),
+    (1, &[0xbf, 1, 2, 3, 4, 0xff, 0], Answer::Item(6)),
+    (0, &[0x80], Answer::Deep(0)),
+    (0, &[0xc0], Answer::Deep(0)),
+    (0, &[0xb8, 0], Answer::Deep(0)),
+    (1, &[0xa1, 0x61, 0x61, 0x82, 1, 2], Answer::Deep(3)),
+    (1, &[0xc1, 0xc1, 1], Answer::Deep(1)),
+    (0, &[0xff], Answer::Break(0)),
+    (1, &[0x81, 0xff], Answer::Break(1)),
+    (1, &[0xc1, 0xff], Answer::Break(1)),
+    (1, &[0xa1, 1, 0xff], Answer::Break(2)),
+    (1, &[0xbf, 1, 0xff], Answer::Break(2)),
+    (1, &[0xbf, 1, 2, 3, 0xff], Answer::Break(4)),
+    (3, &[0x62, 0xc3, 0x28], Answer::Syntax(0)),
+    (1, &[0x81, 0x1f], Answer::Syntax(1)),
+    (1, &[0x81, 0x7f, 0x41, 0, 0xff], Answer::Syntax(2)),
+    (1, &[0x81, 0x7f, 0x61, 0xc3, 0xff], Answer::Syntax(2)),
+    (1, &[0x82, 1], Answer::Short(2)),
+    (0, &[], Answer::Short(0)),
+];
+
 #[test]
 fn items_and_faults(rt: HostRuntime) {
-    item_row(&rt, 0, &[0x17], Answer::Item(1));
-    item_row(&rt, 0, &[0x39, 1, 0, 0], Answer::Item(3));
-    item_row(&rt, 0, &[0xf9, 0, 0], Answer::Item(3));
-    item_row(&rt, 0, &[0xf8, 0xff], Answer::Item(2));
-    item_row(&rt, 0, &[0x5f, 0x41, 1, 0xff], Answer::Item(4));
-    item_row(&rt, 1, &[0x80], Answer::Item(1));
-    item_row(&rt, 1, &[0xc0, 1], Answer::Item(2));
-    item_row(&rt, 1, &[0xbf, 0xff], Answer::Item(2));
-    item_row(&rt, 1, &[0x9f, 1, 2, 3, 0, 0xff], Answer::Item(6));
-    item_row(&rt, 2, &[0xa1, 0x61, 0x61, 0x82, 1, 2], Answer::Item(6));
-    item_row(&rt, 1, &[0xbf, 1, 2, 3, 4, 0xff, 0], Answer::Item(6));
-    item_row(&rt, 0, &[0x80], Answer::Deep(0));
-    item_row(&rt, 0, &[0xc0], Answer::Deep(0));
-    item_row(&rt, 0, &[0xb8, 0], Answer::Deep(0));
-    item_row(&rt, 1, &[0xa1, 0x61, 0x61, 0x82, 1, 2], Answer::Deep(3));
-    item_row(&rt, 1, &[0xc1, 0xc1, 1], Answer::Deep(1));
-    item_row(&rt, 0, &[0xff], Answer::Break(0));
-    item_row(&rt, 1, &[0x81, 0xff], Answer::Break(1));
-    item_row(&rt, 1, &[0xc1, 0xff], Answer::Break(1));
-    item_row(&rt, 1, &[0xa1, 1, 0xff], Answer::Break(2));
-    item_row(&rt, 1, &[0xbf, 1, 0xff], Answer::Break(2));
-    item_row(&rt, 1, &[0xbf, 1, 2, 3, 0xff], Answer::Break(4));
-    item_row(&rt, 3, &[0x62, 0xc3, 0x28], Answer::Syntax(0));
-    item_row(&rt, 1, &[0x81, 0x1f], Answer::Syntax(1));
-    item_row(&rt, 1, &[0x81, 0x7f, 0x41, 0, 0xff], Answer::Syntax(2));
-    item_row(&rt, 1, &[0x81, 0x7f, 0x61, 0xc3, 0xff], Answer::Syntax(2));
-    item_row(&rt, 1, &[0x82, 1], Answer::Short(2));
-    item_row(&rt, 0, &[], Answer::Short(0));
+    for &(depth, bytes, want) in &ROWS {
+        item_row(&rt, depth, bytes, want);
+    }
 }
 
 // A map announces more pairs than half of the numbers there are.
@@ -56,14 +66,18 @@ fn each_beginning_of_an_item(rt: HostRuntime) {
     item_row(&rt, 1, &NESTED, Answer::Deep(3));
 }
 
-// Skips an item, and compares how many bytes are left.
-fn left_row(rt: &impl Abort, depth: usize, bytes: &[u8], left: usize) {
-    assert!(rt; depth <= 256);
+// Whether so many bytes are left behind a skip.
+fn are_left(depth: usize, bytes: &[u8], left: usize) -> bool
+    requires { depth ≤ 256 }
+{
     let mut decoder = Decoder::from(SliceReader::new(bytes));
     let _ = skipped(&mut decoder, depth);
-    assert!(rt; !decoder.is_waiting());
-    let reader = decoder.into_inner();
-    assert!(rt; reader.left().len() == left, "at {bytes:?}");
+    !decoder.is_waiting() && decoder.into_inner().left().len() == left
+}
+
+// Skips an item, and compares how many bytes are left.
+fn left_row(rt: &impl Abort, depth: usize, bytes: &[u8], left: usize) {
+    holds_at(rt, depth <= 256 && are_left(depth, bytes, left), bytes);
 }
 
 // What is left behind an item, and behind a break and a nest that stop the read.
@@ -76,13 +90,15 @@ fn what_is_left(rt: HostRuntime) {
 }
 
 // Pulls a header, and gives it back.
-fn waits(rt: &impl Abort, decoder: &mut Decoder<SliceReader<'_>>) {
-    let Ok(header) = decoder.pull() else {
-        panic!(rt; "no header");
-    };
-    assert!(rt; !decoder.is_waiting());
-    assert!(rt; header.title_len() <= decoder.offset());
-    decoder.push(header);
+fn waits(decoder: &mut Decoder<SliceReader<'_>>) -> bool {
+    match decoder.pull() {
+        Ok(header) => {
+            let is_read = !decoder.is_waiting() && header.title_len() <= decoder.offset();
+            decoder.push(header);
+            is_read
+        }
+        Err(_) => false,
+    }
 }
 
 // Whether the next header is the one that is wanted.
@@ -91,27 +107,30 @@ fn has_next(decoder: &mut Decoder<SliceReader<'_>>, want: Header) -> bool {
 }
 
 // Skips an item whose header waits behind a title of two bytes. It compares the answer, the offset, and what is next.
-fn waiting_row(rt: &impl Abort, depth: usize, want: Answer, offset: usize, next: Header) {
-    assert!(rt; depth <= 256);
+fn is_behind(depth: usize, want: Answer, offset: usize, next: Header) -> bool
+    requires { depth ≤ 256 }
+{
     let mut decoder = Decoder::from(SliceReader::new(&[0x98, 2, 1, 2, 5]));
-    waits(rt, &mut decoder);
-    assert!(rt; decoder.offset() == 1);
-    assert!(rt; skipped(&mut decoder, depth) == want);
-    assert!(rt; decoder.offset() == offset);
-    assert!(rt; has_next(&mut decoder, next));
+    waits(&mut decoder)
+        && decoder.offset() == 1
+        && skipped(&mut decoder, depth) == want
+        && decoder.offset() == offset
+        && has_next(&mut decoder, next)
 }
 
 // The header that waits counts as its shortest title.
 #[test]
 fn behind_a_header_that_waits(rt: HostRuntime) {
-    waiting_row(&rt, 1, Answer::Item(4), 4, Header::Positive(5));
-    waiting_row(&rt, 0, Answer::Deep(1), 2, Header::Positive(1));
+    let is_right = is_behind(1, Answer::Item(4), 4, Header::Positive(5));
+    holds(&rt, is_right, "an item");
+    let is_right = is_behind(0, Answer::Deep(1), 2, Header::Positive(1));
+    holds(&rt, is_right, "no level");
 }
 
 // Skips an item by a strict decoder, and compares the answer.
 fn strict_row(rt: &impl Abort, bytes: &[u8], want: Answer) {
     let mut decoder = Decoder::strict(SliceReader::new(bytes));
-    assert!(rt; skipped(&mut decoder, 1) == want, "at {bytes:?}");
+    holds_at(rt, skipped(&mut decoder, 1) == want, bytes);
 }
 
 // A strict decoder refuses what isn't the shortest spelling.
@@ -126,7 +145,7 @@ fn by_a_strict_decoder(rt: HostRuntime) {
 fn deep_row(rt: &impl Abort, bytes: &[u8], want: Answer) {
     item_row(rt, 256, bytes, want);
     let mut decoder = Decoder::from(StdReader::new(bytes));
-    assert!(rt; skipped(&mut decoder, 256) == want);
+    holds_at(rt, skipped(&mut decoder, 256) == want, bytes);
 }
 
 // An item in 256 arrays, and one in 257.

@@ -6,9 +6,9 @@ use ciborium_ll::{Error, RecodeError};
 use ciborium_ll_fixtures::streams::{PartReader, PartWriter};
 use ciborium_ll_service::fault::{Fault, fault_of_raw};
 use ciborium_ll_service::raw::raw_buffered;
-use std::alloc::Global;
+use std::alloc::{AllocError, Global};
 use std::io;
-use std::test::Fail;
+use std::process::Abort;
 
 // How a copy or a flush ended.
 #[derive(Clone, Copy, PartialEq, Eq)]
@@ -83,18 +83,18 @@ pub fn copies<R: io::Read, W: io::Write>(source: R, sink: W, count: usize) -> Co
 }
 
 // The fault is printed as this word, or is none where it is `ok`.
-fn is_word(alloc: Global, fault: &Option<Fault>, word: &str) -> Result<bool, Fail> {
+fn is_word(alloc: Global, fault: &Option<Fault>, word: &str) -> bool {
     match fault {
-        None => Ok(word == "ok"),
+        None => word == "ok",
         Some(fault) => is_printed_as(alloc, fault, word),
     }
 }
 
-// A copy of one element into memory writes this, and ends by this word.
-fn is_copied(alloc: Global, bytes: &[u8], written: &[u8], word: &str) -> Result<bool, Fail> {
-    let copy = copies(bytes, Vec::new(alloc), 1);
+// A copy of so many elements into memory writes this, and ends by this word.
+fn is_copied(alloc: Global, count: usize, bytes: &[u8], written: &[u8], word: &str) -> bool {
+    let copy = copies(bytes, Vec::new(alloc), count);
     let is_written = copy.sink.as_slice() == written && copy.flushed == End::Done;
-    Ok(is_written && is_word(alloc, &copy.fault, word)?)
+    is_written && is_word(alloc, &copy.fault, word)
 }
 
 // Bytes, of which one element is copied, what is written, and how the copy ends.
@@ -108,54 +108,46 @@ static COPIED: [(&[u8], &[u8], &str); 3] = [
     (&[], &[], "read"),
 ];
 
+// What was written is this, and it was flushed once.
+fn has_flushed(sink: &PartWriter, written: &[u8]) -> bool {
+    sink.taken.as_slice() == written && sink.flushes == 1
+}
+
+// A copy of so many elements, byte by byte, takes all bytes, writes this and flushes it.
+fn is_copied_slowly(alloc: Global, count: usize, bytes: &[u8], written: &[u8]) -> bool {
+    let copy = copies(PartReader::new(bytes, 1), PartWriter::new(alloc, 1), count);
+    let is_done = copy.copied == End::Done && copy.flushed == End::Done;
+    is_done && copy.source.left.is_empty() && has_flushed(&copy.sink, written)
+}
+
 // A copy that always answered that its reader failed would fail here.
 #[test]
-fn raw_copies(rt: HostRuntime) -> Result<(), Fail> {
+fn raw_copies(rt: HostRuntime) {
     for &(bytes, written, word) in &COPIED {
-        holds(&rt, is_copied(rt.alloc(), bytes, written, word)?, word);
+        holds(&rt, is_copied(rt.alloc(), 1, bytes, written, word), word);
     }
-    Ok(())
+    let is_right = is_copied_slowly(rt.alloc(), 1, &[0x58, 1, 1], &[0x41, 1]);
+    holds(&rt, is_right, "a string between streams");
 }
 
-// A copy of one element, byte by byte, writes this and flushes it.
-fn is_copied_slowly(alloc: Global, bytes: &[u8], written: &[u8]) -> bool {
-    let copy = copies(PartReader::new(bytes, 1), PartWriter::new(alloc, 1), 1);
-    let is_written = copy.sink.taken.as_slice() == written && copy.sink.flushes == 1;
-    is_written && copy.copied == End::Done && copy.source.left.is_empty()
-}
-
-#[test]
-fn raw_copies_between_streams(rt: HostRuntime) {
-    let is_right = is_copied_slowly(rt.alloc(), &[0x58, 1, 1], &[0x41, 1]);
-    holds(&rt, is_right, "a string");
-}
-
-// A string and titles that are longer than a window, in their shortest spelling.
-pub fn long_elements(alloc: Global) -> Result<Vec<u8>, Fail> {
-    let mut bytes = Vec::new(alloc);
+// Adds a string and titles that are longer than a window, in their shortest spelling.
+fn add_long_elements(bytes: &mut Vec<u8>) -> Result<(), AllocError> {
     bytes.extend_from_slice(&[0x59, 0x4e, 0x20])?;
     for index in 0..20_000_u16 {
         bytes.push((index % 251) as u8)?;
     }
-    for index in 0..5_000_u16 {
-        bytes.push(0x19)?;
-        bytes.extend_from_slice(&index.saturating_add(256).to_be_bytes())?;
+    for index in 256..5_256_u16 {
+        let [high, low] = index.to_be_bytes();
+        bytes.extend_from_slice(&[0x19, high, low])?;
     }
-    Ok(bytes)
+    Ok(())
 }
 
-// A copy into memory gives the same bytes.
-fn is_same(alloc: Global, bytes: &[u8]) -> bool {
-    let copy = copies(bytes, Vec::new(alloc), 5_001);
-    let is_done = copy.copied == End::Done && copy.flushed == End::Done;
-    is_done && copy.sink.as_slice() == bytes
-}
-
-// So it does byte by byte, and flushes them.
-fn is_same_slowly(alloc: Global, bytes: &[u8]) -> bool {
-    let copy = copies(PartReader::new(bytes, 1), PartWriter::new(alloc, 1), 5_001);
-    let is_done = copy.copied == End::Done && copy.flushed == End::Done;
-    is_done && copy.sink.taken.as_slice() == bytes && copy.sink.flushes == 1
+// These bytes, 35,003 in all.
+pub fn long_elements(rt: &impl Abort, alloc: Global) -> Vec<u8> {
+    let mut bytes = Vec::new(alloc);
+    holds(rt, add_long_elements(&mut bytes).is_ok(), "memory");
+    bytes
 }
 
 // Where a write fails the first bytes are written and flushed.
@@ -166,13 +158,14 @@ fn is_front(alloc: Global, bytes: &[u8]) -> bool {
 }
 
 #[test]
-fn raw_copies_through_windows(rt: HostRuntime) -> Result<(), Fail> {
-    let bytes = long_elements(rt.alloc())?;
+fn raw_copies_through_windows(rt: HostRuntime) {
+    let bytes = long_elements(&rt, rt.alloc());
     let bytes = bytes.as_slice();
-    holds(&rt, is_same(rt.alloc(), bytes), "into memory");
-    holds(&rt, is_same_slowly(rt.alloc(), bytes), "byte by byte");
+    let is_same = is_copied(rt.alloc(), 5_001, bytes, bytes, "ok");
+    holds(&rt, is_same, "into memory");
+    let is_same = is_copied_slowly(rt.alloc(), 5_001, bytes, bytes);
+    holds(&rt, is_same, "byte by byte");
     holds(&rt, is_front(rt.alloc(), bytes), "a write that fails");
-    Ok(())
 }
 
 // A writer that takes one byte a call, and whose flush may fail.
@@ -184,24 +177,27 @@ fn flushed_writer(alloc: Global, flush_fails: bool) -> PartWriter {
     writer
 }
 
-// A copy writes this and flushes it once, and ends by this word, and its flush by whether that fails.
-fn is_flushed(
-    alloc: Global,
-    row: (usize, &[u8]),
-    flush_fails: bool,
-    want: &[u8],
-    word: &str,
-) -> Result<bool, Fail> {
-    let (count, bytes) = row;
-    let end = if flush_fails {
+// How a flush ends.
+fn flush_end(flush_fails: bool) -> End {
+    if flush_fails {
         End::Write(io::ErrorKind::Other)
     } else {
         End::Done
-    };
+    }
+}
+
+// A copy writes this and flushes it once, and ends by this word, and its flush by whether that fails.
+fn is_flushed(
+    alloc: Global,
+    count: usize,
+    bytes: &[u8],
+    flush_fails: bool,
+    written: &[u8],
+    word: &str,
+) -> bool {
     let copy = copies(bytes, flushed_writer(alloc, flush_fails), count);
-    let is_once = copy.flushed == end && copy.sink.flushes == 1;
-    let is_written = copy.sink.taken.as_slice() == want;
-    Ok(is_once && is_written && is_word(alloc, &copy.fault, word)?)
+    let is_once = copy.flushed == flush_end(flush_fails) && has_flushed(&copy.sink, written);
+    is_once && is_word(alloc, &copy.fault, word)
 }
 
 // How many elements are copied, of which bytes, what is written, and how the copy ends.
@@ -214,14 +210,12 @@ static FLUSHED: [(usize, &[u8], &[u8], &str); 3] = [
 // However a copy ends, its writer is flushed once, behind all that was written. Where the flush fails, that is told
 // beside how the copy ended.
 #[test]
-fn copies_flush_once(rt: HostRuntime) -> Result<(), Fail> {
+fn copies_flush_once(rt: HostRuntime) {
     for &(count, bytes, want, word) in &FLUSHED {
-        let is_right = is_flushed(rt.alloc(), (count, bytes), false, want, word)?;
-        holds(&rt, is_right, word);
-        let is_right = is_flushed(rt.alloc(), (count, bytes), true, want, word)?;
+        let is_right = is_flushed(rt.alloc(), count, bytes, false, want, word)
+            && is_flushed(rt.alloc(), count, bytes, true, want, word);
         holds(&rt, is_right, word);
     }
-    Ok(())
 }
 
 const TIMED_OUT: io::ErrorKind = io::ErrorKind::TimedOut;
@@ -258,14 +252,19 @@ fn tells_end(alloc: Global) -> bool {
     copied == End::Short
 }
 
+// Whether it is told that no byte is taken.
+fn tells_zero(alloc: Global) -> bool {
+    let (copied, flushed) = ends_of_one([0].as_slice(), PartWriter::new(alloc, 0));
+    copied == End::Done && flushed == End::Zero
+}
+
 #[test]
 fn raw_hands_faults_on(rt: HostRuntime) {
+    let alloc = rt.alloc();
     for call in 1..=3_usize {
-        holds(&rt, tells_read(rt.alloc(), call), "a read");
-        holds(&rt, tells_write(rt.alloc(), call), "a write");
+        holds(&rt, tells_read(alloc, call), "a read");
+        holds(&rt, tells_write(alloc, call), "a write");
     }
-    holds(&rt, tells_end(rt.alloc()), "an end of the bytes");
-    let (copied, flushed) = ends_of_one([0].as_slice(), PartWriter::new(rt.alloc(), 0));
-    let is_right = copied == End::Done && flushed == End::Zero;
-    holds(&rt, is_right, "no byte is taken");
+    holds(&rt, tells_end(alloc), "an end of the bytes");
+    holds(&rt, tells_zero(alloc), "no byte is taken");
 }

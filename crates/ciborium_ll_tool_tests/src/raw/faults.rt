@@ -5,30 +5,23 @@ use ciborium_ll::io::{ReadFault, WriteFault};
 use ciborium_ll::{Error, RecodeError};
 use ciborium_ll_service::fault::fault_of_raw;
 use std::alloc::Global;
-use std::test::Fail;
 
-fn is_copy_printed_as(
-    alloc: Global,
-    error: RecodeError<ReadFault, WriteFault>,
-    want: &str,
-) -> Result<bool, Fail> {
-    is_printed_as(alloc, &fault_of_raw(&error), want)
+fn is_read_printed_as(alloc: Global, error: Error<ReadFault>, want: &str) -> bool {
+    is_printed_as(alloc, &fault_of_raw(&RecodeError::Read(error)), want)
+}
+
+fn is_write_printed_as(alloc: Global, fault: WriteFault, want: &str) -> bool {
+    is_printed_as(alloc, &fault_of_raw(&RecodeError::Write(fault)), want)
 }
 
 #[test]
-fn faults_of_copies_as_printed(rt: HostRuntime) -> Result<(), Fail> {
-    let errors = [
-        (Error::Syntax(3), "syntax 3"),
-        (Error::TooLong, "too long"),
-        (Error::Io(ReadFault::End), "read"),
-        (Error::Waiting, "read"),
-    ];
-    for (error, want) in errors {
-        let error = RecodeError::Read(error);
-        holds(&rt, is_copy_printed_as(rt.alloc(), error, want)?, want);
-    }
-    let error = RecodeError::Write(WriteFault::Zero);
-    let is_right = is_copy_printed_as(rt.alloc(), error, "write")?;
-    holds(&rt, is_right, "write");
-    Ok(())
+fn faults_of_copies_as_printed(rt: HostRuntime) {
+    let alloc = rt.alloc();
+    let is_right = is_read_printed_as(alloc, Error::Syntax(3), "syntax 3")
+        && is_read_printed_as(alloc, Error::TooLong, "too long")
+        && is_read_printed_as(alloc, Error::Io(ReadFault::End), "read")
+        && is_read_printed_as(alloc, Error::Waiting, "read");
+    holds(&rt, is_right, "faults of a read");
+    let is_right = is_write_printed_as(alloc, WriteFault::Zero, "write");
+    holds(&rt, is_right, "a fault of a write");
 }

@@ -1,6 +1,7 @@
 // Copies of raw bytes between streams that move few bytes a call, or fail at one, beside a plain reading.
 
 use super::copies::{self, End, long_elements};
+use crate::answers::{MOST, decoded, holds_call};
 use ciborium_ll_fixtures::plain::{self, Copied, Fault};
 use ciborium_ll_fixtures::samples::COPIES;
 use ciborium_ll_fixtures::streams::{PartReader, PartWriter};
@@ -8,11 +9,6 @@ use std::alloc::Global;
 use std::io;
 use std::process::Abort;
 use std::test::Fail;
-
-// The bytes that digits say.
-fn decoded(alloc: Global, hex: &str) -> Result<Vec<u8>, Fail> {
-    Ok(hex::decode(alloc, hex)?)
-}
 
 // The first bytes, as many as are told. There are as many.
 fn front_of(bytes: &[u8], length: usize) -> &[u8] {
@@ -61,11 +57,6 @@ fn end_of_write(kind: Option<io::ErrorKind>) -> End {
     }
 }
 
-// A row holds. The message says at which call, and in which bytes.
-fn holds(rt: &impl Abort, is_right: bool, call: usize, bytes: &[u8]) {
-    assert!(rt; is_right, "at {call} of {bytes:?}");
-}
-
 // What was written is what a plain reading gives, and it was flushed.
 fn is_flushed(ended: &Ended, want: &Copied) -> bool {
     let is_written = ended.sink.taken.as_slice() == want.output.as_slice();
@@ -78,28 +69,36 @@ fn is_interrupted(ended: &Ended, want: &Copied) -> bool {
     is_short && ended.copied == End::Read(INTERRUPTED)
 }
 
-// A reader gives few bytes a call, and is interrupted at one. What is written is just what the bytes give that came
-// before, and the writer is flushed. It tells whether that call came.
+// What is written is what a plain reading gives of the bytes that came, and it is flushed. The copy tells that a read was
+// interrupted, or else how the bytes end.
+fn is_due(ended: &Ended, want: &Copied, has_failed: bool) -> bool {
+    if has_failed {
+        is_flushed(ended, want) && is_interrupted(ended, want)
+    } else {
+        is_flushed(ended, want) && is_answer(ended.copied, want.fault)
+    }
+}
+
+// Copies from a reader that gives few bytes a call, and is interrupted at one.
+fn interrupted(alloc: Global, count: usize, bytes: &[u8], most: usize, call: usize) -> Ended {
+    let source = PartReader::new(bytes, most).failing_at(call, INTERRUPTED);
+    copies(count, bytes, source, PartWriter::new(alloc, most))
+}
+
+// What such a copy does is what a plain reading says. It tells whether that call came.
 fn stops_reading(
     rt: &impl Abort,
     alloc: Global,
-    row: (usize, &[u8]),
+    count: usize,
+    bytes: &[u8],
     most: usize,
     call: usize,
 ) -> Result<bool, Fail> {
-    let (count, bytes) = row;
-    let source = PartReader::new(bytes, most).failing_at(call, INTERRUPTED);
-    let sink = PartWriter::new(alloc, most);
-    let ended = copies(count, bytes, source, sink);
+    let ended = interrupted(alloc, count, bytes, most, call);
     let has_failed = ended.reads >= call;
     let length = if has_failed { ended.given } else { bytes.len() };
     let want = plain::copy(alloc, false, count, front_of(bytes, length))?;
-    let is_right = if has_failed {
-        is_interrupted(&ended, &want)
-    } else {
-        is_answer(ended.copied, want.fault)
-    };
-    holds(rt, is_right && is_flushed(&ended, &want), call, bytes);
+    holds_call(rt, is_due(&ended, &want, has_failed), call, bytes);
     Ok(has_failed)
 }
 
@@ -114,118 +113,121 @@ fn is_unwritten(ended: &Ended, want: &Copied, fault: End) -> bool {
     ended.flushed == fault && is_answer(ended.copied, want.fault)
 }
 
-// A writer takes one byte a call, and at one call none, or is interrupted there. What it took are the first bytes of
-// what is written where nothing fails. It tells whether that call came.
+// All that a plain reading gives was written.
+fn is_whole(ended: &Ended, want: &Copied) -> bool {
+    let is_written = is_front(ended, want, want.output.len());
+    is_written && ended.flushed == End::Done && is_answer(ended.copied, want.fault)
+}
+
+// What a writer took that fails so at a call are the first bytes of what is written where nothing fails.
+fn is_due_of(ended: &Ended, want: &Copied, kind: Option<io::ErrorKind>, call: usize) -> bool {
+    if ended.sink.calls >= call {
+        let is_written = is_front(ended, want, call.saturating_sub(1));
+        is_written && is_unwritten(ended, want, end_of_write(kind))
+    } else {
+        is_whole(ended, want)
+    }
+}
+
+// A writer takes one byte a call, and at one call none, or is interrupted there. It tells whether that call came.
 fn stops_writing(
     rt: &impl Abort,
     alloc: Global,
-    row: (usize, &[u8]),
+    count: usize,
+    bytes: &[u8],
+    want: &Copied,
     kind: Option<io::ErrorKind>,
     call: usize,
-) -> Result<bool, Fail> {
-    let (count, bytes) = row;
+) -> bool {
     let sink = PartWriter::new(alloc, 1).failing_at(call, kind);
     let ended = copies(count, bytes, PartReader::new(bytes, 64), sink);
-    let want = plain::copy(alloc, false, count, bytes)?;
-    let has_failed = ended.sink.calls >= call;
-    let is_right = if has_failed {
-        let is_due = is_front(&ended, &want, call.saturating_sub(1));
-        is_due && is_unwritten(&ended, &want, end_of_write(kind))
-    } else {
-        let is_due = is_front(&ended, &want, want.output.len());
-        is_due && ended.flushed == End::Done && is_answer(ended.copied, want.fault)
-    };
-    holds(rt, is_right, call, bytes);
-    Ok(has_failed)
+    holds_call(rt, is_due_of(&ended, want, kind, call), call, bytes);
+    ended.sink.calls >= call
 }
 
 // Each read is interrupted in turn, until none is.
 fn interrupts_reads(
     rt: &impl Abort,
     alloc: Global,
-    row: (usize, &[u8]),
+    count: usize,
+    bytes: &[u8],
     most: usize,
 ) -> Result<(), Fail> {
     let mut last = 0usize;
     for call in 1..64usize {
-        if !stops_reading(rt, alloc, row, most, call)? {
+        if !stops_reading(rt, alloc, count, bytes, most, call)? {
             break;
         }
         last = call;
     }
-    let (count, bytes) = row;
-    holds(rt, last < 63 && (last > 0 || count == 0), last, bytes);
+    holds_call(rt, last < 63 && (last > 0 || count == 0), last, bytes);
     Ok(())
 }
 
-// The same through readers of each kind.
-fn interrupts_sample(rt: &impl Abort, alloc: Global, count: usize, hex: &str) -> Result<(), Fail> {
-    let bytes = decoded(alloc, hex)?;
-    for most in [1, 2, 3, 64usize] {
-        interrupts_reads(rt, alloc, (count, bytes.as_slice()), most)?;
-    }
-    Ok(())
-}
-
-#[test]
-fn each_read_of_a_raw_copy_is_interrupted(rt: HostRuntime) -> Result<(), Fail> {
-    for &(count, hex) in &COPIES {
-        interrupts_sample(&rt, rt.alloc(), count, hex)?;
-    }
-    Ok(())
-}
-
-// Each write fails in turn, until none does.
+// Each write fails in turn, until none does. There are as many as bytes that are written.
 fn fails_writes(
     rt: &impl Abort,
     alloc: Global,
-    row: (usize, &[u8]),
+    count: usize,
+    bytes: &[u8],
+    want: &Copied,
     kind: Option<io::ErrorKind>,
-) -> Result<(), Fail> {
+) {
     let mut last = 0usize;
     for call in 1..64usize {
-        if !stops_writing(rt, alloc, row, kind, call)? {
+        if !stops_writing(rt, alloc, count, bytes, want, kind, call) {
             break;
         }
         last = call;
     }
-    let (count, bytes) = row;
-    let want = plain::copy(alloc, false, count, bytes)?;
-    holds(rt, last == want.output.len(), last, bytes);
+    holds_call(rt, last == want.output.len(), last, bytes);
+}
+
+// Reads fail through readers of each kind.
+fn fails_reads(rt: &impl Abort, alloc: Global, count: usize, bytes: &[u8]) -> Result<(), Fail> {
+    for most in [1, 2, 3, 64usize] {
+        interrupts_reads(rt, alloc, count, bytes, most)?;
+    }
     Ok(())
 }
 
-// The same in each way.
-fn fails_sample(rt: &impl Abort, alloc: Global, count: usize, hex: &str) -> Result<(), Fail> {
-    let bytes = decoded(alloc, hex)?;
-    for kind in [None, Some(INTERRUPTED)] {
-        fails_writes(rt, alloc, (count, bytes.as_slice()), kind)?;
-    }
+// So do writes in each way.
+fn fails_sample(rt: &impl Abort, alloc: Global, count: usize, digits: &str) -> Result<(), Fail> {
+    let mut space = [0; MOST];
+    let bytes = decoded(rt, digits, &mut space);
+    fails_reads(rt, alloc, count, bytes)?;
+    let want = plain::copy(alloc, false, count, bytes)?;
+    fails_writes(rt, alloc, count, bytes, &want, None);
+    fails_writes(rt, alloc, count, bytes, &want, Some(INTERRUPTED));
     Ok(())
 }
 
 #[test]
-fn each_write_of_a_raw_copy_fails(rt: HostRuntime) -> Result<(), Fail> {
-    for &(count, hex) in &COPIES {
-        fails_sample(&rt, rt.alloc(), count, hex)?;
+fn each_call_of_a_raw_copy_fails(rt: HostRuntime) -> Result<(), Fail> {
+    for &(count, digits) in &COPIES {
+        fails_sample(&rt, rt.alloc(), count, digits)?;
     }
     Ok(())
+}
+
+// What a long copy has written, whose read failed or none, is due, and flushed.
+fn is_read_on(ended: &Ended, bytes: &[u8], has_failed: bool) -> bool {
+    let taken = ended.sink.taken.as_slice();
+    let is_right = if has_failed {
+        // A title is of at most three bytes, and a part of the body of 64.
+        ended.copied == End::Read(INTERRUPTED) && ended.given.saturating_sub(taken.len()) < 64
+    } else {
+        ended.copied == End::Done && taken.len() == bytes.len()
+    };
+    is_right && bytes.starts_with(taken) && ended.flushed == End::Done
 }
 
 // A long copy whose read of this number is interrupted. It tells whether that call came.
 fn stops_reading_on(rt: &impl Abort, alloc: Global, bytes: &[u8], call: usize) -> bool {
     let source = PartReader::new(bytes, 1_000).failing_at(call, INTERRUPTED);
     let ended = copies(5_001, bytes, source, PartWriter::new(alloc, 1_000));
-    let taken = ended.sink.taken.as_slice();
     let has_failed = ended.reads >= call;
-    let is_right = if has_failed {
-        // A title is of at most three bytes, and a part of the body of 64.
-        ended.copied == End::Read(INTERRUPTED) && ended.given.saturating_sub(taken.len()) < 64
-    } else {
-        ended.copied == End::Done && taken == bytes
-    };
-    let is_front = bytes.starts_with(taken) && ended.flushed == End::Done;
-    assert!(rt; is_right && is_front, "at {call}");
+    holds_call(rt, is_read_on(&ended, bytes, has_failed), call, &[]);
     has_failed
 }
 
@@ -239,27 +241,36 @@ fn is_told_once(copied: End, flushed: End) -> bool {
     }
 }
 
+// What a long copy has written, whose write failed or none, are the first bytes.
+fn is_written_on(ended: &Ended, bytes: &[u8], has_failed: bool) -> bool {
+    let taken = ended.sink.taken.as_slice();
+    let is_cut = bytes.starts_with(taken) && (taken.len() < bytes.len()) == has_failed;
+    if ended.copied == End::Done && ended.flushed == End::Done {
+        is_cut && !has_failed
+    } else {
+        is_cut && is_told_once(ended.copied, ended.flushed)
+    }
+}
+
 // The same of a write.
 fn stops_writing_on(rt: &impl Abort, alloc: Global, bytes: &[u8], call: usize) -> bool {
     let sink = PartWriter::new(alloc, 1_000).failing_at(call, Some(INTERRUPTED));
     let ended = copies(5_001, bytes, PartReader::new(bytes, 1_000), sink);
-    let taken = ended.sink.taken.as_slice();
     let has_failed = ended.sink.calls >= call;
-    let is_right = if ended.copied == End::Done && ended.flushed == End::Done {
-        !has_failed && taken == bytes
-    } else {
-        is_told_once(ended.copied, ended.flushed)
-    };
-    let is_cut = bytes.starts_with(taken) && (taken.len() < bytes.len()) == has_failed;
-    assert!(rt; is_right && is_cut, "at {call}");
+    holds_call(rt, is_written_on(&ended, bytes, has_failed), call, &[]);
     has_failed
+}
+
+// Whether each call came that it takes to move 35,003 bytes.
+fn are_enough(last: usize) -> bool {
+    last >= 35 && last < 99
 }
 
 // Bytes that pass what is read ahead and kept back several times over, in their shortest spelling. Each call of a
 // stream moves at most 1,000 of them.
 #[test]
-fn each_call_of_a_long_copy_fails(rt: HostRuntime) -> Result<(), Fail> {
-    let bytes = long_elements(rt.alloc())?;
+fn each_call_of_a_long_copy_fails(rt: HostRuntime) {
+    let bytes = long_elements(&rt, rt.alloc());
     let bytes = bytes.as_slice();
     let mut last_read = 0usize;
     let mut last_write = 0usize;
@@ -271,8 +282,6 @@ fn each_call_of_a_long_copy_fails(rt: HostRuntime) -> Result<(), Fail> {
             last_write = call;
         }
     }
-    // Each call came that it takes to move 35,003 bytes.
-    holds(&rt, last_read >= 35 && last_read < 99, last_read, &[]);
-    holds(&rt, last_write >= 35 && last_write < 99, last_write, &[]);
-    Ok(())
+    holds_call(&rt, are_enough(last_read), last_read, &[]);
+    holds_call(&rt, are_enough(last_write), last_write, &[]);
 }
