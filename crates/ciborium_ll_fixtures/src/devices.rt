@@ -22,7 +22,7 @@ pub enum Failing {
 }
 
 /// Why a call of a device failed.
-#[derive(Debug, Drop)]
+#[derive(Drop)]
 pub enum DeviceFault {
     /// It was planned to fail.
     Planned,

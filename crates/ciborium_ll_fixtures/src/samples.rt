@@ -239,8 +239,6 @@ fn with_longer_titles(mut all: Samples) -> Result<Samples, AllocError> {
 }
 
 fn with_copies(mut all: Samples) -> Result<Samples, AllocError> {
-    for row in &COPIES {
-        all.push(*row)?;
-    }
+    all.extend_from_slice(&COPIES)?;
     Ok(all)
 }

@@ -63,13 +63,16 @@ impl<'a> Tape<'a> {
     // A title. Its first byte is a read, and its affix is one.
     pub fn title(&mut self) -> Result<Title, Stop> {
         let mut start = self.offset;
-        let first = self.take(1)?;
-        let minor = first.first().map_or(0, |first| *first % 32);
+        let minor = match self.take(1)? {
+            [first] => *first % 32,
+            _ => 0,
+        };
         self.take(affix_len(minor))?;
-        next_title(self.bytes, &mut start).map_err(|fault| match fault {
-            Fault::Syntax(place) => Stop::Syntax(place),
-            Fault::Short | Fault::ShortAndDamaged(_) => Stop::Short,
-        })
+        match next_title(self.bytes, &mut start) {
+            Ok(title) => Ok(title),
+            Err(Fault::Syntax(place)) => Err(Stop::Syntax(place)),
+            Err(Fault::Short | Fault::ShortAndDamaged(_)) => Err(Stop::Short),
+        }
     }
 }
 
@@ -180,7 +183,7 @@ impl Walk {
 }
 
 // How a drain ends.
-#[derive(Clone, Copy, PartialEq, Eq)]
+#[derive(Clone, Copy)]
 pub enum Drained {
     Ended,
     OutOfSizes,

@@ -1,6 +1,7 @@
 use crate::calls::{MOST, decoded, front_of, holds};
 use crate::copies::{Kind, Task, agrees};
-use crate::titles::reads_titles;
+use crate::segments::each_call_fails_under_strings;
+use crate::titles::{each_read_fails_under_pull, reads_titles};
 use ciborium_ll_fixtures::samples;
 use std::alloc::{AllocError, Global};
 use std::process::Abort;
@@ -28,12 +29,16 @@ fn reads_sample(rt: &impl Abort, alloc: Global, count: usize, hex: &str) {
     reads_each_front(rt, alloc, count, decoded(rt, hex, &mut space));
 }
 
+// Each sample is cut at each place, and each call fails in turn under pulls of its titles and under its strings.
 #[test]
-fn each_sample_is_cut_at_each_place(rt: HostRuntime) -> Result<(), AllocError> {
+fn each_sample_is_cut_and_each_call_fails(rt: HostRuntime) -> Result<(), AllocError> {
     let all = samples::all(rt.alloc())?;
     for &(count, hex) in &all {
         reads_sample(&rt, rt.alloc(), 1, hex);
         reads_sample(&rt, rt.alloc(), count, hex);
+        each_read_fails_under_pull(&rt, false, hex);
+        each_read_fails_under_pull(&rt, true, hex);
+        each_call_fails_under_strings(&rt, rt.alloc(), hex);
     }
     Ok(())
 }
@@ -41,7 +46,7 @@ fn each_sample_is_cut_at_each_place(rt: HostRuntime) -> Result<(), AllocError> {
 #[test]
 fn each_first_byte_and_each_cut_of_what_follows(rt: HostRuntime) {
     for first in 0..=u8::MAX {
-        for next in [0, 1, 0x61, 0x80, 0xff] {
+        for &next in b"\x00\x01\x61\x80\xff" {
             let bytes = [first, next, next, next, next, next, next, next, next];
             reads_each_front(&rt, rt.alloc(), 1, &bytes);
         }

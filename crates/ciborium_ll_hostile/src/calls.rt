@@ -29,17 +29,13 @@ pub fn front_of(bytes: &[u8], length: usize) -> &[u8] {
     bytes.get(..length).unwrap_or(&[])
 }
 
-// A decoder of bytes.
-pub fn decoder(bytes: &[u8]) -> Decoder<SliceReader<'_>> {
-    Decoder::from(SliceReader::new(bytes))
-}
-
 // A decoder of bytes, which may be strict.
-pub fn decoder_as(is_strict: bool, bytes: &[u8]) -> Decoder<SliceReader<'_>> {
+pub fn decoder(is_strict: bool, bytes: &[u8]) -> Decoder<SliceReader<'_>> {
+    let reader = SliceReader::new(bytes);
     if is_strict {
-        Decoder::strict(SliceReader::new(bytes))
+        Decoder::strict(reader)
     } else {
-        Decoder::from(SliceReader::new(bytes))
+        Decoder::from(reader)
     }
 }
 
@@ -48,21 +44,17 @@ pub fn encoder(space: &mut [u8]) -> Encoder<SliceWriter<'_>> {
     Encoder::from(SliceWriter::new(space))
 }
 
-// A decoder whose reader fails where it is told to.
-pub fn failing_decoder(bytes: &[u8], failing: Failing) -> Decoder<FailingReader<'_>> {
-    Decoder::from(FailingReader::new(bytes, failing))
-}
-
-// The same, which may be strict.
-pub fn failing_decoder_as(
+// A decoder whose reader fails where it is told to, and which may be strict.
+pub fn failing_decoder(
     is_strict: bool,
     bytes: &[u8],
     failing: Failing,
 ) -> Decoder<FailingReader<'_>> {
+    let reader = FailingReader::new(bytes, failing);
     if is_strict {
-        Decoder::strict(FailingReader::new(bytes, failing))
+        Decoder::strict(reader)
     } else {
-        failing_decoder(bytes, failing)
+        Decoder::from(reader)
     }
 }
 
@@ -124,60 +116,38 @@ pub fn is_refused(decoder: &mut Decoder<FailingReader<'_>>, want: Stop) -> bool 
     }
 }
 
-// The byte string whose title was read.
-pub fn bytes_of<'a, R: Read>(
-    rt: &impl Abort,
-    decoder: &'a mut Decoder<R>,
-    length: Option<usize>,
-) -> Segments<'a, R, Bytes> {
-    let least = Header::Bytes(length).title_len();
-    assert!(rt; !decoder.is_waiting() && least <= decoder.offset());
-    decoder.bytes(length)
-}
-
-// The text whose title was read.
-pub fn text_of<'a, R: Read>(
-    rt: &impl Abort,
-    decoder: &'a mut Decoder<R>,
-    length: Option<usize>,
-) -> Segments<'a, R, Text> {
-    let least = Header::Text(length).title_len();
-    assert!(rt; !decoder.is_waiting() && least <= decoder.offset());
-    decoder.text(length)
-}
-
-// The byte string of this length whose title comes next.
+// The byte string of this length whose title comes next, somewhere in these bytes.
 pub fn bytes_in<'a, R: Read>(
     rt: &impl Abort,
     decoder: &'a mut Decoder<R>,
     length: Option<usize>,
+    bytes: &[u8],
 ) -> Segments<'a, R, Bytes>
 where
     R::Error: Drop,
 {
-    let place = decoder.offset();
-    assert!(rt;
-        is_pulled(decoder, Header::Bytes(length)),
-        "no bytes at {place}"
-    );
-    bytes_of(rt, decoder, length)
+    let title = Header::Bytes(length);
+    let is_pulled = is_pulled(decoder, title);
+    let is_begun = is_pulled && !decoder.is_waiting() && title.title_len() <= decoder.offset();
+    assert!(rt; is_begun, "no byte string in {bytes:?}");
+    decoder.bytes(length)
 }
 
-// The text of this length whose title comes next.
+// The text of this length whose title comes next, somewhere in these bytes.
 pub fn text_in<'a, R: Read>(
     rt: &impl Abort,
     decoder: &'a mut Decoder<R>,
     length: Option<usize>,
+    bytes: &[u8],
 ) -> Segments<'a, R, Text>
 where
     R::Error: Drop,
 {
-    let place = decoder.offset();
-    assert!(rt;
-        is_pulled(decoder, Header::Text(length)),
-        "no text at {place}"
-    );
-    text_of(rt, decoder, length)
+    let title = Header::Text(length);
+    let is_pulled = is_pulled(decoder, title);
+    let is_begun = is_pulled && !decoder.is_waiting() && title.title_len() <= decoder.offset();
+    assert!(rt; is_begun, "no text in {bytes:?}");
+    decoder.text(length)
 }
 
 // The next segment of a string, which has one.
@@ -194,29 +164,6 @@ where
     }
 }
 
-// The next segment of a string, if there is one.
-pub fn segment_of<'a, R: Read, P: Chunked>(
-    segments: &'a mut Segments<'_, R, P>,
-) -> Result<Option<Segment<'a, R, P>>, Error<R::Error>> {
-    segments.pull()
-}
-
-// The next chunk of a segment of bytes.
-pub fn chunk_of_bytes<'a, R: Read>(
-    segment: &mut Segment<'_, R, Bytes>,
-    buffer: &'a mut [u8],
-) -> Result<Option<&'a [u8]>, Error<R::Error>> {
-    segment.pull(buffer)
-}
-
-// The next chunk of a segment of text.
-pub fn chunk_of_text<'a, R: Read>(
-    segment: &mut Segment<'_, R, Text>,
-    buffer: &'a mut [u8],
-) -> Result<Option<&'a str>, Error<R::Error>> {
-    segment.pull(buffer)
-}
-
 // A decoder over a reader that begins at an offset.
 pub fn decoder_from<R: Read>(reader: R, offset: usize) -> Decoder<R> {
     Decoder::with_offset(reader, offset)
@@ -229,28 +176,76 @@ fn fit(sizes: &[usize], length: usize) -> bool
     sizes.iter().all(|size| *size <= length)
 }
 
-// Drains a segment of bytes. The buffer has room for each size.
-pub fn drains_bytes<R: Read, W: Write>(
-    rt: &impl Abort,
-    segment: &mut Segment<'_, R, Bytes>,
-    sizes: &[usize],
-    buffer: &mut [u8],
-    sink: &mut Encoder<W>,
-) -> Result<Drained, RecodeError<R::Error, W::Error>> {
-    assert!(rt; fit(sizes, buffer.len()));
-    drain_bytes(segment, sizes, buffer, sink)
+// What a plain reading says of a chunk.
+pub type Due<'a> = Result<Option<&'a [u8]>, Stop>;
+
+// What is done with a segment of either kind.
+pub trait StringKind: Chunked {
+    // Whether a pull of a chunk gives what is due.
+    fn gives(
+        segment: &mut Segment<'_, FailingReader<'_>, Self>,
+        buffer: &mut [u8],
+        due: &Due<'_>,
+    ) -> bool;
+
+    // Drains a segment. The buffer has room for each size.
+    fn drains<R: Read, W: Write, A: Abort>(
+        rt: &A,
+        segment: &mut Segment<'_, R, Self>,
+        sizes: &[usize],
+        buffer: &mut [u8],
+        sink: &mut Encoder<W>,
+    ) -> Result<Drained, RecodeError<R::Error, W::Error>>;
 }
 
-// Drains a segment of text. The buffer has room for each size.
-pub fn drains_text<R: Read, W: Write>(
-    rt: &impl Abort,
-    segment: &mut Segment<'_, R, Text>,
-    sizes: &[usize],
-    buffer: &mut [u8],
-    sink: &mut Encoder<W>,
-) -> Result<Drained, RecodeError<R::Error, W::Error>> {
-    assert!(rt; fit(sizes, buffer.len()));
-    drain_text(segment, sizes, buffer, sink)
+impl StringKind for Bytes {
+    fn gives(
+        segment: &mut Segment<'_, FailingReader<'_>, Bytes>,
+        buffer: &mut [u8],
+        due: &Due<'_>,
+    ) -> bool {
+        match segment.pull(buffer) {
+            Ok(Some(bytes)) => matches!(due, Ok(Some(want)) if *want == bytes),
+            Ok(None) => matches!(due, Ok(None)),
+            Err(error) => matches!(due, Err(stop) if is_stop(&error, *stop)),
+        }
+    }
+
+    fn drains<R: Read, W: Write, A: Abort>(
+        rt: &A,
+        segment: &mut Segment<'_, R, Bytes>,
+        sizes: &[usize],
+        buffer: &mut [u8],
+        sink: &mut Encoder<W>,
+    ) -> Result<Drained, RecodeError<R::Error, W::Error>> {
+        assert!(rt; fit(sizes, buffer.len()));
+        drain_bytes(segment, sizes, buffer, sink)
+    }
+}
+
+impl StringKind for Text {
+    fn gives(
+        segment: &mut Segment<'_, FailingReader<'_>, Text>,
+        buffer: &mut [u8],
+        due: &Due<'_>,
+    ) -> bool {
+        match segment.pull(buffer) {
+            Ok(Some(text)) => matches!(due, Ok(Some(want)) if *want == text.as_bytes()),
+            Ok(None) => matches!(due, Ok(None)),
+            Err(error) => matches!(due, Err(stop) if is_stop(&error, *stop)),
+        }
+    }
+
+    fn drains<R: Read, W: Write, A: Abort>(
+        rt: &A,
+        segment: &mut Segment<'_, R, Text>,
+        sizes: &[usize],
+        buffer: &mut [u8],
+        sink: &mut Encoder<W>,
+    ) -> Result<Drained, RecodeError<R::Error, W::Error>> {
+        assert!(rt; fit(sizes, buffer.len()));
+        drain_text(segment, sizes, buffer, sink)
+    }
 }
 
 // A row holds. The message says at which call, and in which bytes.

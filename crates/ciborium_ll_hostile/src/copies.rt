@@ -1,6 +1,5 @@
 use crate::calls::{
-    MOST, all_hold, decoded, failing_decoder_as, failing_encoder, front_of, holds, reading_of,
-    recodes,
+    MOST, all_hold, decoded, failing_decoder, failing_encoder, front_of, holds, reading_of, recodes,
 };
 use ciborium_ll::io::{EndOfFile, OutOfSpace, SliceReader, SliceWriter};
 use ciborium_ll::laws::copy_headers;
@@ -109,26 +108,6 @@ pub fn copies_slice(
     answer_of_slices(recodes(rt, decoder, encoder, 1, buffer))
 }
 
-// The copy of titles.
-fn copies_headers(
-    decoder: &mut Decoder<FailingReader<'_>>,
-    encoder: &mut Encoder<FailingWriter<'_>>,
-    count: usize,
-) -> Answer {
-    answer_of(copy_headers(decoder, encoder, count))
-}
-
-// The copy of elements.
-fn copies_elements(
-    rt: &impl Abort,
-    decoder: &mut Decoder<FailingReader<'_>>,
-    encoder: &mut Encoder<FailingWriter<'_>>,
-    count: usize,
-    buffer: &mut [u8],
-) -> Answer {
-    answer_of(recodes(rt, decoder, encoder, count, buffer))
-}
-
 // The copy that a task is, made once.
 fn answer_by(
     rt: &impl Abort,
@@ -138,9 +117,9 @@ fn answer_by(
     buffer: &mut [u8],
 ) -> Answer {
     match task.kind {
-        Kind::Headers => copies_headers(decoder, encoder, task.count),
+        Kind::Headers => answer_of(copy_headers(decoder, encoder, task.count)),
         Kind::Elements | Kind::StrictElements => {
-            copies_elements(rt, decoder, encoder, task.count, buffer)
+            answer_of(recodes(rt, decoder, encoder, task.count, buffer))
         }
     }
 }
@@ -155,7 +134,7 @@ pub fn copies(
 ) -> Outcome {
     let mut space = [0; MOST];
     let is_strict = matches!(task.kind, Kind::StrictElements);
-    let mut decoder = failing_decoder_as(is_strict, task.bytes, failing.0);
+    let mut decoder = failing_decoder(is_strict, task.bytes, failing.0);
     let mut encoder = failing_encoder(&mut space, failing.1);
     let mut buffer = [0; 64];
     let buffer = &mut buffer[..if is_twice { 4 } else { 64 }];
@@ -181,7 +160,7 @@ pub fn copies(
 }
 
 // What a plain reading gives of the first bytes of a task, so many.
-fn copies_plainly(rt: &impl Abort, alloc: Global, task: Task<'_>, length: usize) -> Copied {
+pub fn copies_plainly(rt: &impl Abort, alloc: Global, task: Task<'_>, length: usize) -> Copied {
     let bytes = front_of(task.bytes, length);
     let copied = match task.kind {
         Kind::Headers => plain::copy(alloc, true, task.count, bytes),
@@ -277,8 +256,15 @@ fn stops(
     got.has_failed
 }
 
-// The last call of a side that came, of those that failed in turn.
-fn last_call(rt: &impl Abort, alloc: Global, task: Task<'_>, whole: &Copied, side: Side) -> usize {
+// The calls of a side fail in turn, until none does. The last one came, and where there is any, the first one did.
+fn each_call_stops(
+    rt: &impl Abort,
+    alloc: Global,
+    task: Task<'_>,
+    whole: &Copied,
+    side: Side,
+    are_any: bool,
+) {
     let mut last = 0usize;
     for call in 1..100usize {
         if !stops(rt, alloc, task, whole, side, call) {
@@ -286,67 +272,53 @@ fn last_call(rt: &impl Abort, alloc: Global, task: Task<'_>, whole: &Copied, sid
         }
         last = call;
     }
-    last
+    holds(rt, last < 99 && (last > 0) == are_any, last, task.bytes);
 }
 
-// Each call of the reader fails in turn, and then each call of the writer, until none does. The last calls came, and
-// each one that was to move a byte failed.
+// Each call of the reader fails in turn, and then each call of the writer. Each one that was to move a byte failed.
 fn each_call_fails(rt: &impl Abort, alloc: Global, kind: Kind, count: usize, hex: &str) {
     let mut space = [0; MOST];
     let bytes = decoded(rt, hex, &mut space);
     let task = Task { kind, count, bytes };
     let whole = agrees(rt, alloc, task);
-    let read = last_call(rt, alloc, task, &whole, Side::Reader);
-    let write = last_call(rt, alloc, task, &whole, Side::Writer);
-    let have_ended = read < 99 && write < 99;
-    let is_read = (read > 0) == (count > 0);
-    let is_written = (write > 0) == !whole.output.is_empty();
-    holds(rt, have_ended && is_read && is_written, read, bytes);
+    each_call_stops(rt, alloc, task, &whole, Side::Reader, count > 0);
+    let are_writes = !whole.output.is_empty();
+    each_call_stops(rt, alloc, task, &whole, Side::Writer, are_writes);
 }
 
-// Each call fails in turn over titles alone and in a row.
-fn each_call_fails_in_titles(rt: &impl Abort, alloc: Global, kind: Kind) {
-    for &(hex, _) in &VECTORS {
-        each_call_fails(rt, alloc, kind, 1, hex);
-    }
-    for &(hex, headers) in &LISTS {
-        each_call_fails(rt, alloc, kind, headers.len(), hex);
-    }
-    each_call_fails(rt, alloc, kind, 27, TWENTY_FIVE);
-    each_call_fails(rt, alloc, kind, 27, TWENTY_FIVE_AND_BREAK);
-}
-
-// The same over titles that are longer than they need be.
-fn each_call_fails_in_longer_titles(rt: &impl Abort, alloc: Global, kind: Kind) {
-    for &(hex, _, _) in &LONGER_TITLES {
-        each_call_fails(rt, alloc, kind, 2, hex);
-    }
-}
-
-// The same over a table of copies.
-fn each_call_fails_in_copies(rt: &impl Abort, alloc: Global, kind: Kind) {
-    for &(count, hex) in &COPIES {
-        each_call_fails(rt, alloc, kind, count, hex);
-    }
+// Each call fails in turn under copies of each kind.
+fn each_copy_fails(rt: &impl Abort, alloc: Global, count: usize, hex: &str) {
+    each_call_fails(rt, alloc, Kind::Headers, count, hex);
+    each_call_fails(rt, alloc, Kind::Elements, count, hex);
+    each_call_fails(rt, alloc, Kind::StrictElements, count, hex);
 }
 
 #[test]
-fn each_call_fails_under_copies_of_headers(rt: HostRuntime) {
-    each_call_fails_in_longer_titles(&rt, rt.alloc(), Kind::Headers);
-    each_call_fails_in_titles(&rt, rt.alloc(), Kind::Headers);
+fn each_call_fails_under_copies_of_titles(rt: HostRuntime) {
+    for &(hex, _) in &VECTORS {
+        each_copy_fails(&rt, rt.alloc(), 1, hex);
+    }
+    for &(hex, headers) in &LISTS {
+        each_copy_fails(&rt, rt.alloc(), headers.len(), hex);
+    }
+    each_copy_fails(&rt, rt.alloc(), 27, TWENTY_FIVE);
+    each_copy_fails(&rt, rt.alloc(), 27, TWENTY_FIVE_AND_BREAK);
+}
+
+#[test]
+fn each_call_fails_under_copies_of_longer_titles(rt: HostRuntime) {
+    for &(hex, _, _) in &LONGER_TITLES {
+        each_call_fails(&rt, rt.alloc(), Kind::Headers, 2, hex);
+        each_call_fails(&rt, rt.alloc(), Kind::StrictElements, 2, hex);
+    }
 }
 
 #[test]
 fn each_call_fails_under_copies_of_elements(rt: HostRuntime) {
-    each_call_fails_in_copies(&rt, rt.alloc(), Kind::Elements);
-    each_call_fails_in_titles(&rt, rt.alloc(), Kind::Elements);
-}
-
-#[test]
-fn each_call_fails_under_strict_copies(rt: HostRuntime) {
-    each_call_fails_in_copies(&rt, rt.alloc(), Kind::StrictElements);
-    each_call_fails_in_longer_titles(&rt, rt.alloc(), Kind::StrictElements);
-    each_call_fails_in_titles(&rt, rt.alloc(), Kind::StrictElements);
+    for &(count, hex) in &COPIES {
+        each_call_fails(&rt, rt.alloc(), Kind::Elements, count, hex);
+        each_call_fails(&rt, rt.alloc(), Kind::StrictElements, count, hex);
+    }
 }
 
 // A string of indefinite length, whose one body is "ab".

@@ -1,17 +1,19 @@
-use crate::calls::{self, drains_text, holds, next_segment, text_in};
-use crate::copies::{Answer, copies_slice, is_fault};
+use crate::calls::{self, StringKind, holds, next_segment, text_in};
+use crate::copies::{Answer, Kind, Task, copies_plainly, copies_slice, is_fault};
 use ciborium_ll::io::{EndOfFile, OutOfSpace, SliceReader, SliceWriter};
 use ciborium_ll::laws::{Drained, End};
-use ciborium_ll::{Decoder, Encoder, Error, RecodeError};
-use ciborium_ll_fixtures::plain::{self, Fault};
+use ciborium_ll::{Decoder, Encoder, Error, RecodeError, Text};
+use ciborium_ll_fixtures::plain::Fault;
 use std::alloc::Global;
 use std::process::Abort;
 
-// How a copy of one element by this decoder through this buffer ends.
-fn answer_by(rt: &impl Abort, mut decoder: Decoder<SliceReader<'_>>, buffer: &mut [u8]) -> Answer {
+// How a copy of one element ends through a buffer of this size, at most 64.
+fn answer_by(rt: &impl Abort, is_strict: bool, bytes: &[u8], size: usize) -> Answer {
     let mut space = [0; 64];
+    let mut buffer = [0; 64];
+    let mut decoder = calls::decoder(is_strict, bytes);
     let mut encoder = calls::encoder(&mut space);
-    copies_slice(rt, &mut decoder, &mut encoder, buffer)
+    copies_slice(rt, &mut decoder, &mut encoder, &mut buffer[..size.min(64)])
 }
 
 // A copy through some buffer ends as it may where a plain reading has this fault. A body that is cut and damaged is
@@ -25,10 +27,9 @@ fn may_end(answer: Answer, want: Option<Fault>) -> bool {
 
 // Copies of one element through buffers of all sizes end as they may.
 fn all_end(rt: &impl Abort, is_strict: bool, bytes: &[u8], want: Option<Fault>) -> bool {
-    let by_four = answer_by(rt, calls::decoder_as(is_strict, bytes), &mut [0; 4]);
-    let by_five = answer_by(rt, calls::decoder_as(is_strict, bytes), &mut [0; 5]);
-    let by_more = answer_by(rt, calls::decoder_as(is_strict, bytes), &mut [0; 64]);
-    may_end(by_four, want) && may_end(by_five, want) && may_end(by_more, want)
+    may_end(answer_by(rt, is_strict, bytes, 4), want)
+        && may_end(answer_by(rt, is_strict, bytes, 5), want)
+        && may_end(answer_by(rt, is_strict, bytes, 64), want)
 }
 
 // How many of some texts have a fault, and how many have one for a strict decoder.
@@ -38,23 +39,20 @@ struct Wrong {
     strictly: usize,
 }
 
-// The fault that a plain reading finds in a copy of one element.
-fn fault_of(rt: &impl Abort, alloc: Global, is_strict: bool, bytes: &[u8]) -> Option<Fault> {
-    let copied = if is_strict {
-        plain::strict_copy(alloc, 1, bytes)
-    } else {
-        plain::copy(alloc, false, 1, bytes)
-    };
-    match copied {
-        Ok(copied) => copied.fault,
-        Err(_) => panic!(rt; "no memory"),
-    }
-}
-
 // Compares the answers to a text, of one kind of decoders, with that of a plain reading. It tells whether that is a
 // fault, as 0 or 1.
 fn compares(rt: &impl Abort, alloc: Global, is_strict: bool, bytes: &[u8]) -> usize {
-    let want = fault_of(rt, alloc, is_strict, bytes);
+    let kind = if is_strict {
+        Kind::StrictElements
+    } else {
+        Kind::Elements
+    };
+    let task = Task {
+        kind,
+        count: 1,
+        bytes,
+    };
+    let want = copies_plainly(rt, alloc, task, bytes.len()).fault;
     let is_right = all_end(rt, is_strict, bytes, want);
     holds(rt, is_right, usize::from(is_strict), bytes);
     usize::from(want.is_some())
@@ -115,7 +113,7 @@ fn ending_of(outcome: Result<Drained, RecodeError<EndOfFile, OutOfSpace>>) -> En
 
 // A drain of a body by so many sizes ended as it may where this is written and so much is left.
 fn is_right(ending: Ending, sizes: usize, body: &[u8], written: &[u8], left: usize) -> bool {
-    match ending {
+    let is_due = match ending {
         // No byte is lost: what was not handed out is left.
         Ending::OutOfSizes(calls) => {
             calls == sizes && written.len().saturating_add(left) == body.len()
@@ -123,35 +121,38 @@ fn is_right(ending: Ending, sizes: usize, body: &[u8], written: &[u8], left: usi
         Ending::Ended(calls) => calls <= sizes && written == body && left == 0,
         Ending::Damaged(place) => place == 0 && std::str::from_utf8(body).is_err(),
         Ending::Wrong => false,
-    }
+    };
+    is_due && body.starts_with(written) && std::str::from_utf8(written).is_ok()
 }
 
-// Drains a text of this length through buffers of these sizes, which are at most 4: how that ends, and how much is
-// left.
+// Drains a text, which is its title and this body, through buffers of these sizes, which are at most 4: how that ends,
+// and how much is left.
 fn drains_text_of(
     rt: &impl Abort,
     decoder: &mut Decoder<SliceReader<'_>>,
-    length: usize,
+    body: &[u8],
     sizes: &[usize],
     sink: &mut Encoder<SliceWriter<'_>>,
 ) -> (Ending, usize) {
-    let mut segments = text_in(rt, decoder, Some(length));
+    let mut segments = text_in(rt, decoder, Some(body.len()), body);
     let mut segment = next_segment(rt, &mut segments);
-    let ending = ending_of(drains_text(rt, &mut segment, sizes, &mut [0; 4], sink));
+    let ending = ending_of(Text::drains(rt, &mut segment, sizes, &mut [0; 4], sink));
     (ending, segment.left())
 }
 
-// Drains a text of a short length through buffers of these sizes, and compares what was written and what is left.
-fn drains(rt: &impl Abort, bytes: &[u8], sizes: &[usize]) {
+// Whether a drain of a text of a short length through buffers of these sizes writes what it may, and leaves the rest.
+fn drains_as_due(rt: &impl Abort, bytes: &[u8], sizes: &[usize]) -> bool {
     let mut space = [0; 16];
     let body = bytes.get(1..).unwrap_or(&[]);
-    let mut decoder = calls::decoder(bytes);
+    let mut decoder = calls::decoder(false, bytes);
     let mut sink = calls::encoder(&mut space);
-    let (ending, left) = drains_text_of(rt, &mut decoder, body.len(), sizes, &mut sink);
-    let writer = sink.into_inner();
-    let written = writer.written();
-    let is_front = body.starts_with(written) && std::str::from_utf8(written).is_ok();
-    let is_right = is_front && is_right(ending, sizes.len(), body, written, left);
+    let (ending, left) = drains_text_of(rt, &mut decoder, body, sizes, &mut sink);
+    is_right(ending, sizes.len(), body, sink.into_inner().written(), left)
+}
+
+// Drains a text through buffers of these sizes.
+fn drains(rt: &impl Abort, bytes: &[u8], sizes: &[usize]) {
+    let is_right = drains_as_due(rt, bytes, sizes);
     assert!(rt; is_right, "{bytes:?} by {sizes:?}");
 }
 

@@ -1,8 +1,8 @@
-use crate::calls::{MOST, decoded, front_of, holds, recodes};
-use crate::copies::{Answer, is_fault};
+use crate::calls::{MOST, decoded, holds, recodes};
+use crate::copies::{Answer, Kind, Task, copies_plainly, is_fault};
 use ciborium_ll::io::{ReadFault, StdReader, StdWriter, WriteFault};
 use ciborium_ll::{Decoder, Encoder, Error, RecodeError};
-use ciborium_ll_fixtures::plain::{self, Copied, Fault};
+use ciborium_ll_fixtures::plain::Copied;
 use ciborium_ll_fixtures::samples::COPIES;
 use ciborium_ll_fixtures::streams::{PartReader, PartWriter};
 use std::alloc::Global;
@@ -21,13 +21,14 @@ fn answer_of(outcome: Result<(), RecodeError<ReadFault, WriteFault>>) -> Answer 
     }
 }
 
-// Whether it is that of a read that failed, or of a plain reading with this fault.
-fn is_read_answer(answer: Answer, has_failed: bool, want: Option<Fault>) -> bool {
-    if has_failed {
+// A copy wrote what a plain reading gives, and read as far. It answers that a read failed, or what that reading does.
+fn is_read(answer: Answer, has_failed: bool, offset: usize, taken: &[u8], want: &Copied) -> bool {
+    let is_answer = if has_failed {
         matches!(answer, Answer::Unread)
     } else {
-        is_fault(answer, want)
-    }
+        is_fault(answer, want.fault)
+    };
+    is_answer && offset == want.offset && taken == want.output.as_slice()
 }
 
 // What a copy through a writer answers that takes no byte, or fails by an error of this kind.
@@ -62,37 +63,20 @@ fn sink_of<T: io::Write>(encoder: Encoder<StdWriter<T>>) -> T {
     encoder.into_inner().into_inner()
 }
 
-// What a plain reading gives of so many elements.
-fn copies_plainly(rt: &impl Abort, alloc: Global, count: usize, bytes: &[u8]) -> Copied {
-    match plain::copy(alloc, false, count, bytes) {
-        Ok(copied) => copied,
-        Err(_) => panic!(rt; "no memory"),
-    }
-}
-
 // Copies through a reader that gives few bytes a call and is interrupted once. What was written is just what the bytes
 // in front of that call give. It tells whether the interrupted call came.
-fn stops_reading(
-    rt: &impl Abort,
-    alloc: Global,
-    row: (usize, &[u8]),
-    most: usize,
-    call: usize,
-) -> bool {
-    let (count, bytes) = row;
-    let source = PartReader::new(bytes, most).failing_at(call, io::ErrorKind::Interrupted);
+fn stops_reading(rt: &impl Abort, alloc: Global, task: Task<'_>, most: usize, call: usize) -> bool {
+    let source = PartReader::new(task.bytes, most).failing_at(call, io::ErrorKind::Interrupted);
     let mut decoder = decoder_over(source);
     let mut encoder = encoder_over(PartWriter::new(alloc, most));
-    let outcome = recodes(rt, &mut decoder, &mut encoder, count, &mut [0; 64]);
-    let answer = answer_of(outcome);
+    let answer = answer_of(recodes(rt, &mut decoder, &mut encoder, task.count, &mut [0; 64]));
     let offset = decoder.offset();
     let has_failed = source_of(decoder).calls >= call;
-    let length = if has_failed { offset } else { bytes.len() };
-    let want = copies_plainly(rt, alloc, count, front_of(bytes, length));
-    let is_answer = is_read_answer(answer, has_failed, want.fault);
-    let is_taken = sink_of(encoder).taken.as_slice() == want.output.as_slice();
-    let is_right = is_answer && is_taken && offset == want.offset;
-    holds(rt, is_right, call, bytes);
+    let length = if has_failed { offset } else { task.bytes.len() };
+    let want = copies_plainly(rt, alloc, task, length);
+    let sink = sink_of(encoder);
+    let is_right = is_read(answer, has_failed, offset, sink.taken.as_slice(), &want);
+    holds(rt, is_right, call, task.bytes);
     has_failed
 }
 
@@ -106,76 +90,71 @@ fn begins(taken: &[u8], due: &[u8], call: usize) -> bool {
 fn stops_writing(
     rt: &impl Abort,
     alloc: Global,
-    row: (usize, &[u8]),
+    task: Task<'_>,
     due: &[u8],
     kind: Option<io::ErrorKind>,
     call: usize,
 ) -> bool {
-    let (count, bytes) = row;
-    let mut decoder = decoder_over(bytes);
+    let mut decoder = decoder_over(task.bytes);
     let mut encoder = encoder_over(PartWriter::new(alloc, 1).failing_at(call, kind));
-    let outcome = recodes(rt, &mut decoder, &mut encoder, count, &mut [0; 64]);
+    let outcome = recodes(rt, &mut decoder, &mut encoder, task.count, &mut [0; 64]);
     let is_answer = is_write_answer(outcome, kind);
     let sink = sink_of(encoder);
     let has_come = sink.calls >= call;
     let is_right = is_answer && begins(sink.taken.as_slice(), due, call);
-    holds(rt, is_right || !has_come, call, bytes);
+    holds(rt, is_right || !has_come, call, task.bytes);
     has_come
 }
 
 // Each read is interrupted in turn, until none is.
-fn interrupts_reads(rt: &impl Abort, alloc: Global, row: (usize, &[u8]), most: usize) {
+fn interrupts_reads(rt: &impl Abort, alloc: Global, task: Task<'_>, most: usize) {
     let mut last = 0usize;
     for call in 1..64usize {
-        if !stops_reading(rt, alloc, row, most, call) {
+        if !stops_reading(rt, alloc, task, most, call) {
             break;
         }
         last = call;
     }
-    holds(rt, last < 63 && (last > 0 || row.0 == 0), last, row.1);
+    holds(
+        rt,
+        last < 63 && (last > 0 || task.count == 0),
+        last,
+        task.bytes,
+    );
 }
 
 // Each write fails in turn, until none does.
-fn fails_writes(rt: &impl Abort, alloc: Global, row: (usize, &[u8]), kind: Option<io::ErrorKind>) {
-    let want = copies_plainly(rt, alloc, row.0, row.1);
+fn fails_writes(rt: &impl Abort, alloc: Global, task: Task<'_>, kind: Option<io::ErrorKind>) {
+    let want = copies_plainly(rt, alloc, task, task.bytes.len());
     let due = want.output.as_slice();
     let mut last = 0usize;
     for call in 1..64usize {
-        if !stops_writing(rt, alloc, row, due, kind, call) {
+        if !stops_writing(rt, alloc, task, due, kind, call) {
             break;
         }
         last = call;
     }
-    holds(rt, last == due.len(), last, row.1);
+    holds(rt, last == due.len(), last, task.bytes);
 }
 
-// Each read is interrupted over a sample, through readers of each kind.
-fn interrupts_sample(rt: &impl Abort, alloc: Global, count: usize, hex: &str) {
+// Over a sample each read is interrupted, through readers of each kind, and each write fails, in each way.
+fn fails_in_sample(rt: &impl Abort, alloc: Global, count: usize, hex: &str) {
     let mut space = [0; MOST];
-    let bytes = decoded(rt, hex, &mut space);
+    let task = Task {
+        kind: Kind::Elements,
+        count,
+        bytes: decoded(rt, hex, &mut space),
+    };
     for most in [1, 2, 3, 64usize] {
-        interrupts_reads(rt, alloc, (count, bytes), most);
+        interrupts_reads(rt, alloc, task, most);
     }
-}
-
-// Each write fails over a sample, in each way.
-fn fails_sample(rt: &impl Abort, alloc: Global, count: usize, hex: &str) {
-    let mut space = [0; MOST];
-    let bytes = decoded(rt, hex, &mut space);
-    fails_writes(rt, alloc, (count, bytes), None);
-    fails_writes(rt, alloc, (count, bytes), Some(io::ErrorKind::Interrupted));
+    fails_writes(rt, alloc, task, None);
+    fails_writes(rt, alloc, task, Some(io::ErrorKind::Interrupted));
 }
 
 #[test]
-fn each_read_of_a_stream_is_interrupted(rt: HostRuntime) {
+fn each_call_of_a_stream_fails(rt: HostRuntime) {
     for &(count, hex) in &COPIES {
-        interrupts_sample(&rt, rt.alloc(), count, hex);
-    }
-}
-
-#[test]
-fn each_write_of_a_stream_fails(rt: HostRuntime) {
-    for &(count, hex) in &COPIES {
-        fails_sample(&rt, rt.alloc(), count, hex);
+        fails_in_sample(&rt, rt.alloc(), count, hex);
     }
 }

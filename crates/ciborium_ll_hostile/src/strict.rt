@@ -1,12 +1,12 @@
 // A strict decoder that goes on behind a failure is strict as before.
 
 use crate::calls::{
-    all_hold, bytes_in, failing_decoder_as, holds, is_pulled, is_refused, is_stop, next_segment,
+    StringKind, all_hold, bytes_in, failing_decoder, holds, is_pulled, is_refused, is_stop,
+    next_segment,
 };
 use crate::copies::{Kind, Side, Task, fails_and_stops};
-use crate::segments::gives;
 use ciborium_ll::io::Read;
-use ciborium_ll::{Body, Bytes, Decoder, Error, Header, Segments};
+use ciborium_ll::{Bytes, Decoder, Error, Header, Segments};
 use ciborium_ll_fixtures::devices::{DeviceFault, Failing, FailingReader};
 use ciborium_ll_fixtures::tape::Stop;
 use std::process::Abort;
@@ -14,16 +14,9 @@ use std::process::Abort;
 // Bytes, the number of a call that fails, and the place of a title that a strict decoder refuses behind that.
 type Row = (&'static [u8], usize, usize);
 
-// The next body of a string.
-fn next_body<R: Read>(
-    segments: &mut Segments<'_, R, Bytes>,
-) -> Result<Option<Body>, Error<R::Error>> {
-    segments.advance()
-}
-
-// Whether there is none, for this reason.
+// Whether a string has no further body, for this reason.
 fn advance_fails(segments: &mut Segments<'_, FailingReader<'_>, Bytes>, want: Stop) -> bool {
-    match next_body(segments) {
+    match segments.advance() {
         Ok(_) => false,
         Err(error) => is_stop(&error, want),
     }
@@ -39,7 +32,7 @@ fn refuses_twice(segments: &mut Segments<'_, FailingReader<'_>, Bytes>, place: u
 // for the open at 2, an open inside another one.
 fn refuses(rt: &impl Abort, decoder: &mut Decoder<FailingReader<'_>>, place: usize) {
     let is_longer = is_refused(decoder, Stop::Syntax(place));
-    let mut segments = bytes_in(rt, decoder, None);
+    let mut segments = bytes_in(rt, decoder, None, &[0x5f]);
     let is_nested = refuses_twice(&mut segments, place.saturating_add(3));
     all_hold(rt, place, &[is_longer, is_nested]);
 }
@@ -59,7 +52,7 @@ fn reads_once_more(decoder: &mut Decoder<FailingReader<'_>>) -> bool {
 #[test]
 fn behind_a_read_of_a_body(rt: HostRuntime) {
     let bytes = [0x42, 1, 2, 0x18, 5, 0x5f, 0x5f];
-    let mut decoder = failing_decoder_as(true, &bytes, Failing::Call(2));
+    let mut decoder = failing_decoder(true, &bytes, Failing::Call(2));
     let is_begun = is_pulled(&mut decoder, Header::Bytes(Some(2)));
     all_hold(&rt, 0, &[is_begun, reads_once_more(&mut decoder)]);
     refuses(&rt, &mut decoder, 3);
@@ -67,7 +60,7 @@ fn behind_a_read_of_a_body(rt: HostRuntime) {
 
 // A pull of a title fails, and the next ones refuse what stands at this place.
 fn title_row(rt: &impl Abort, bytes: &[u8], call: usize, place: usize) {
-    let mut decoder = failing_decoder_as(true, bytes, Failing::Call(call));
+    let mut decoder = failing_decoder(true, bytes, Failing::Call(call));
     holds(rt, is_refused(&mut decoder, Stop::Planned), call, bytes);
     refuses(rt, &mut decoder, place);
 }
@@ -96,8 +89,8 @@ static STRINGS: [Row; 5] = [
 
 // Under `advance` the reader fails, and the next call refuses a title, as does each later one.
 fn string_row(rt: &impl Abort, bytes: &[u8], call: usize, place: usize) {
-    let mut decoder = failing_decoder_as(true, bytes, Failing::Call(call));
-    let mut segments = bytes_in(rt, &mut decoder, None);
+    let mut decoder = failing_decoder(true, bytes, Failing::Call(call));
+    let mut segments = bytes_in(rt, &mut decoder, None, bytes);
     let is_unread = advance_fails(&mut segments, Stop::Planned);
     let is_right = is_unread && refuses_twice(&mut segments, place);
     holds(rt, is_right, call, bytes);
@@ -117,54 +110,44 @@ fn is_read_once_more(
 ) -> bool {
     let mut segment = next_segment(rt, segments);
     let mut buffer = [0; 4];
-    let is_unread = gives(&mut segment, &mut buffer, &Err(Stop::Planned));
-    is_unread && gives(&mut segment, &mut buffer, &Ok(Some(&[1, 2])))
+    let is_unread = Bytes::gives(&mut segment, &mut buffer, &Err(Stop::Planned));
+    is_unread && Bytes::gives(&mut segment, &mut buffer, &Ok(Some(&[1, 2])))
 }
 
 #[test]
 fn behind_a_pull_of_a_segment(rt: HostRuntime) {
     let bytes = [0x5f, 0x42, 1, 2, 0x5f, 0xff, 0xff];
-    let mut decoder = failing_decoder_as(true, &bytes, Failing::Call(3));
-    let mut segments = bytes_in(&rt, &mut decoder, None);
+    let mut decoder = failing_decoder(true, &bytes, Failing::Call(3));
+    let mut segments = bytes_in(&rt, &mut decoder, None, &bytes);
     let is_read = is_read_once_more(&rt, &mut segments);
     let is_nested = advance_fails(&mut segments, Stop::Syntax(4));
     all_hold(&rt, 4, &[is_read, is_nested]);
 }
 
-// Elements, under a copy of two of which a call of the reader fails.
-static COPIES: [Row; 6] = [
-    (&[0x18, 5], 1, 0),
-    (&[0x5f, 0x5f, 0xff, 0xff], 1, 1),
-    (&[5, 0xf8, 0x18], 2, 1),
-    (&[0x19, 0x18, 5], 2, 1),
+// Elements, under a copy of two of which a call of this side fails. To a writer a first byte, an affix and a body are a
+// call each, where they have bytes.
+static COPIES: [(Side, Row); 9] = [
+    (Side::Reader, (&[0x18, 5], 1, 0)),
+    (Side::Reader, (&[0x5f, 0x5f, 0xff, 0xff], 1, 1)),
+    (Side::Reader, (&[5, 0xf8, 0x18], 2, 1)),
+    (Side::Reader, (&[0x19, 0x18, 5], 2, 1)),
     // Within a body, which is then taken for titles.
-    (&[0x42, 0x18, 5], 2, 1),
-    (&[0x5f, 0x42, 0x58, 0, 0xff], 3, 2),
-];
-
-// The same of the writer, to which a first byte, an affix and a body are a call each, where they have bytes.
-static WRITES: [Row; 3] = [
-    (&[5, 0x18, 5], 1, 1),
-    (&[0x18, 0x18, 0x18, 5], 2, 2),
-    (&[0x42, 0x58, 0, 0xf8, 0x18], 2, 3),
+    (Side::Reader, (&[0x42, 0x18, 5], 2, 1)),
+    (Side::Reader, (&[0x5f, 0x42, 0x58, 0, 0xff], 3, 2)),
+    (Side::Writer, (&[5, 0x18, 5], 1, 1)),
+    (Side::Writer, (&[0x18, 0x18, 0x18, 5], 2, 2)),
+    (Side::Writer, (&[0x42, 0x58, 0, 0xf8, 0x18], 2, 3)),
 ];
 
 // A copy of two elements fails as it was told to, and the next one refuses a title.
-fn copy_row(rt: &impl Abort, (bytes, call, place): Row, side: Side) {
-    let task = Task {
-        kind: Kind::StrictElements,
-        count: 2,
-        bytes,
-    };
-    fails_and_stops(rt, task, side, call, place);
-}
-
 #[test]
 fn behind_a_copy(rt: HostRuntime) {
-    for &row in &COPIES {
-        copy_row(&rt, row, Side::Reader);
-    }
-    for &row in &WRITES {
-        copy_row(&rt, row, Side::Writer);
+    for &(side, (bytes, call, place)) in &COPIES {
+        let task = Task {
+            kind: Kind::StrictElements,
+            count: 2,
+            bytes,
+        };
+        fails_and_stops(&rt, task, side, call, place);
     }
 }

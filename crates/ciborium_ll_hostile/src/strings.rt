@@ -1,5 +1,8 @@
-use crate::calls::{all_hold, bytes_in, failing_decoder, holds, next_segment, text_in};
-use crate::segments::{Due, gives, segment_fails};
+use crate::calls::{
+    Due, StringKind, all_hold, bytes_in, failing_decoder, holds, next_segment, text_in,
+};
+use crate::segments::has_no_segment;
+use ciborium_ll::Text;
 use ciborium_ll_fixtures::devices::Failing;
 use ciborium_ll_fixtures::tape::Stop;
 use std::process::Abort;
@@ -8,10 +11,10 @@ use std::process::Abort;
 #[test]
 fn an_affix_fails_in_a_string(rt: HostRuntime) {
     let bytes = [0x5f, 0x58, 2, 1, 2, 0xff];
-    let mut decoder = failing_decoder(&bytes, Failing::Call(3));
-    let mut segments = bytes_in(&rt, &mut decoder, None);
-    let is_unread = segment_fails(&mut segments, Stop::Planned);
-    let is_damaged = segment_fails(&mut segments, Stop::Syntax(2));
+    let mut decoder = failing_decoder(false, &bytes, Failing::Call(3));
+    let mut segments = bytes_in(&rt, &mut decoder, None, &bytes);
+    let is_unread = has_no_segment(&mut segments, Some(Stop::Planned));
+    let is_damaged = has_no_segment(&mut segments, Some(Stop::Syntax(2)));
     all_hold(&rt, 3, &[is_unread, is_damaged, decoder.offset() == 3]);
 }
 
@@ -20,13 +23,13 @@ type Step = (usize, Due<'static>, usize);
 
 // Reads a text of two bytes step by step.
 fn text_row(rt: &impl Abort, bytes: &[u8], failing: Failing, steps: &[Step]) {
-    let mut decoder = failing_decoder(bytes, failing);
-    let mut segments = text_in(rt, &mut decoder, Some(2));
+    let mut decoder = failing_decoder(false, bytes, failing);
+    let mut segments = text_in(rt, &mut decoder, Some(2), bytes);
     let mut segment = next_segment(rt, &mut segments);
     let mut space = [0; 4];
     for (number, (size, want, left)) in steps.iter().enumerate() {
         let buffer = &mut space[..(*size).min(4)];
-        let is_right = gives(&mut segment, buffer, want) && segment.left() == *left;
+        let is_right = Text::gives(&mut segment, buffer, want) && segment.left() == *left;
         holds(rt, is_right, number, bytes);
     }
 }

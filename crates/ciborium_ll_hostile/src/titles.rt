@@ -1,14 +1,12 @@
 use crate::calls::{
-    MOST, decoded, decoder, failing_decoder, failing_decoder_as, failing_encoder, holds, is_pulled,
-    is_refused, pulls, reading_of,
+    MOST, decoded, decoder, failing_decoder, failing_encoder, holds, is_pulled, is_refused, pulls,
+    reading_of,
 };
 use ciborium_ll::io::Write;
 use ciborium_ll::{Decoder, Encoder, Error, Header};
 use ciborium_ll_fixtures::devices::{DeviceFault, Failing, FailingReader, FailingWriter};
 use ciborium_ll_fixtures::plain::{self, Fault, Title};
-use ciborium_ll_fixtures::samples;
 use ciborium_ll_fixtures::tape::Stop;
-use std::alloc::AllocError;
 use std::process::Abort;
 
 // What a pull of a title gave.
@@ -82,12 +80,6 @@ fn plain_at(bytes: &[u8], start: usize, is_strict: bool) -> Plain {
     }
 }
 
-// What a pull gave, and the offset behind it.
-fn pulled_at(decoder: &mut Decoder<FailingReader<'_>>) -> (Pulled, usize) {
-    let answer = pulled_of(pulls(decoder));
-    (answer, decoder.offset())
-}
-
 // Reads bytes as titles, and compares each answer with a plain reading from the offset at which that call begins.
 fn reads_on(
     rt: &impl Abort,
@@ -99,7 +91,8 @@ fn reads_on(
     let mut calls = 0usize;
     for _ in 0..bytes.len().saturating_add(3) {
         let start = decoder.offset();
-        let (answer, offset) = pulled_at(decoder);
+        let answer = pulled_of(pulls(decoder));
+        let offset = decoder.offset();
         let plain = plain_at(bytes, start, is_strict);
         let is_right = if matches!(answer, Pulled::Unread) {
             is_unread(start, offset, calls, failing)
@@ -116,7 +109,7 @@ fn reads_on(
 
 // Reads bytes as titles by a reader that fails at one call. It tells whether that call has come.
 pub fn reads_titles(rt: &impl Abort, is_strict: bool, bytes: &[u8], failing: usize) -> bool {
-    let mut decoder = failing_decoder_as(is_strict, bytes, Failing::Call(failing));
+    let mut decoder = failing_decoder(is_strict, bytes, Failing::Call(failing));
     reads_on(rt, &mut decoder, is_strict, bytes, failing);
     let (offset, left, has_failed) = reading_of(decoder);
     holds(
@@ -129,7 +122,7 @@ pub fn reads_titles(rt: &impl Abort, is_strict: bool, bytes: &[u8], failing: usi
 }
 
 // The call of each number fails in turn, until none does. Nothing but that one answer is another one.
-fn each_read_fails(rt: &impl Abort, is_strict: bool, hex: &str) {
+pub fn each_read_fails_under_pull(rt: &impl Abort, is_strict: bool, hex: &str) {
     let mut space = [0; MOST];
     let bytes = decoded(rt, hex, &mut space);
     let mut last = 0usize;
@@ -142,22 +135,12 @@ fn each_read_fails(rt: &impl Abort, is_strict: bool, hex: &str) {
     holds(rt, last > 0, last, bytes);
 }
 
-#[test]
-fn each_read_fails_under_pull(rt: HostRuntime) -> Result<(), AllocError> {
-    let all = samples::all(rt.alloc())?;
-    for &(_, hex) in &all {
-        each_read_fails(&rt, false, hex);
-        each_read_fails(&rt, true, hex);
-    }
-    Ok(())
-}
-
 // A title with no affix is two calls all the same, the second one of no bytes, on the way to a refusal too. Behind a
 // reserved minor there is no second call.
 #[test]
 fn an_empty_affix_is_a_call(rt: HostRuntime) {
     let bytes = [5, 0xff, 0x1f, 0x3f, 0xdf, 0x1c];
-    let mut decoder = failing_decoder(&bytes, Failing::Empty);
+    let mut decoder = failing_decoder(false, &bytes, Failing::Empty);
     for offset in 1..=5usize {
         let is_unread = is_refused(&mut decoder, Stop::Planned) && decoder.offset() == offset;
         holds(&rt, is_unread, offset, &bytes);
@@ -165,21 +148,17 @@ fn an_empty_affix_is_a_call(rt: HostRuntime) {
     holds(&rt, is_refused(&mut decoder, Stop::Syntax(5)), 6, &bytes);
 }
 
-// Whether a write of no bytes fails as it was told to.
-fn nothing_fails(encoder: &mut Encoder<FailingWriter<'_>>) -> bool {
-    matches!(encoder.write_all(&[]), Err(DeviceFault::Planned))
-}
-
-// Whether a write of a header does.
-fn header_fails(encoder: &mut Encoder<FailingWriter<'_>>, header: Header) -> bool {
+// Whether a write of a header fails as it was told to, and one of no bytes.
+fn empty_writes_fail(encoder: &mut Encoder<FailingWriter<'_>>, header: Header) -> bool {
     matches!(encoder.push(header), Err(DeviceFault::Planned))
+        && matches!(encoder.write_all(&[]), Err(DeviceFault::Planned))
 }
 
 // A write of a header of this one byte is two calls too, and the second one moves no byte.
 fn empty_affix_row(rt: &impl Abort, header: Header, first: u8) {
     let mut space = [0; 1];
     let mut encoder = failing_encoder(&mut space, Failing::Empty);
-    let has_failed = header_fails(&mut encoder, header) && nothing_fails(&mut encoder);
+    let has_failed = empty_writes_fail(&mut encoder, header);
     let writer = encoder.into_inner();
     let is_right = has_failed && writer.written() == [first].as_slice();
     holds(rt, is_right, usize::from(first), writer.written());
@@ -194,7 +173,7 @@ fn an_empty_affix_is_written(rt: HostRuntime) {
 // Asks for a title whose read of this number fails, and once more. The first pull reads up to this
 // offset, and the next one gives this number.
 fn asks_once_more(rt: &impl Abort, bytes: &[u8], call: usize, offset: usize, want: u64) {
-    let mut decoder = failing_decoder(bytes, Failing::Call(call));
+    let mut decoder = failing_decoder(false, bytes, Failing::Call(call));
     let is_unread = is_refused(&mut decoder, Stop::Planned) && decoder.offset() == offset;
     let is_right = is_unread && is_pulled(&mut decoder, Header::Positive(want));
     holds(rt, is_right, call, bytes);
@@ -206,6 +185,6 @@ fn a_title_is_asked_for_once_more(rt: HostRuntime) {
     let bytes = [0x19, 0x18, 0x18];
     asks_once_more(&rt, &bytes, 1, 0, 0x1818);
     asks_once_more(&rt, &bytes, 2, 1, 0x18);
-    let is_whole = is_pulled(&mut decoder(&bytes), Header::Positive(0x1818));
+    let is_whole = is_pulled(&mut decoder(false, &bytes), Header::Positive(0x1818));
     holds(&rt, is_whole, 0, &bytes);
 }

@@ -1,4 +1,4 @@
-use crate::calls::{failing_encoder, front_of};
+use crate::calls::{failing_encoder, front_of, holds};
 use ciborium_ll::laws::{Piece, write_pieces};
 use ciborium_ll::{Encoder, Float, Header};
 use ciborium_ll_fixtures::devices::{DeviceFault, Failing, FailingWriter};
@@ -32,67 +32,64 @@ fn writes(encoder: &mut Encoder<FailingWriter<'_>>, call: Call) -> Result<(), De
     }
 }
 
-// The writes of a call, each one that moves a byte at least.
-type Row = (Call, &'static [&'static [u8]]);
+// A call, what it writes, and how many bytes each of its writes has, one at least.
+type Row = (Call, &'static [u8], &'static [usize]);
 
 static ROWS: [Row; 15] = [
-    (Call::Push(Header::Positive(1000)), &[b"\x19", b"\x03\xe8"]),
-    (Call::Push(Header::Break), &[b"\xff"]),
+    (Call::Push(Header::Positive(1000)), b"\x19\x03\xe8", &[1, 2]),
+    (Call::Push(Header::Break), b"\xff", &[1]),
     (
         Call::Push(Header::Tag(u64::MAX)),
-        &[b"\xdb", b"\xff\xff\xff\xff\xff\xff\xff\xff"],
+        b"\xdb\xff\xff\xff\xff\xff\xff\xff\xff",
+        &[1, 8],
     ),
-    (Call::Push(Header::Tag(0xff)), &[b"\xd8", b"\xff"]),
+    (Call::Push(Header::Tag(0xff)), b"\xd8\xff", &[1, 1]),
     (
         Call::Push(Header::Float(Float::Single(0x0102_0304))),
-        &[b"\xfa", b"\x01\x02\x03\x04"],
+        b"\xfa\x01\x02\x03\x04",
+        &[1, 4],
     ),
     (
         Call::Push(Header::Negative(0x0102_0304_0506_0708)),
-        &[b"\x3b", b"\x01\x02\x03\x04\x05\x06\x07\x08"],
+        b"\x3b\x01\x02\x03\x04\x05\x06\x07\x08",
+        &[1, 8],
     ),
     (
         Call::Bytes(b"\x01\x02\x03\x04", None),
-        &[b"\x44", b"\x01\x02\x03\x04"],
+        b"\x44\x01\x02\x03\x04",
+        &[1, 4],
     ),
     (
         Call::Bytes(b"\x01\x02\x03", Some(3)),
-        &[b"\x43", b"\x01\x02\x03"],
+        b"\x43\x01\x02\x03",
+        &[1, 3],
     ),
     (
         Call::Bytes(b"\x01\x02\x03", Some(0)),
-        &[
-            b"\x5f", b"\x41", b"\x01", b"\x41", b"\x02", b"\x41", b"\x03", b"\xff",
-        ],
+        b"\x5f\x41\x01\x41\x02\x41\x03\xff",
+        &[1, 1, 1, 1, 1, 1, 1, 1],
     ),
-    (Call::Bytes(b"", Some(0)), &[b"\x40"]),
-    (Call::Text("", Some(9)), &[b"\x60"]),
+    (Call::Bytes(b"", Some(0)), b"\x40", &[1]),
+    (Call::Text("", Some(9)), b"\x60", &[1]),
     (
         Call::Text("Hello, World!", Some(7)),
-        &[b"\x7f", b"\x67", b"Hello, ", b"\x66", b"World!", b"\xff"],
+        b"\x7f\x67Hello, \x66World!\xff",
+        &[1, 1, 7, 1, 6, 1],
     ),
     (
         Call::Text("aé€😀", Some(4)),
-        &[
-            b"\x7f",
-            b"\x63",
-            b"a\xc3\xa9",
-            b"\x63",
-            b"\xe2\x82\xac",
-            b"\x64",
-            b"\xf0\x9f\x98\x80",
-            b"\xff",
-        ],
+        b"\x7f\x63a\xc3\xa9\x63\xe2\x82\xac\x64\xf0\x9f\x98\x80\xff",
+        &[1, 1, 3, 1, 3, 1, 4, 1],
     ),
     (
         Call::Text("aé€😀", None),
-        &[b"\x6a", b"a\xc3\xa9\xe2\x82\xac\xf0\x9f\x98\x80"],
+        b"\x6aa\xc3\xa9\xe2\x82\xac\xf0\x9f\x98\x80",
+        &[1, 10],
     ),
     (
         Call::Pieces,
-        &[
-            b"\xa1", b"\x07", b"\x7f", b"\x67", b"Hello, ", b"\x66", b"World!", b"\xff",
-        ],
+        b"\xa1\x07\x7f\x67Hello, \x66World!\xff",
+        &[1, 1, 1, 1, 7, 1, 6, 1],
     ),
 ];
 
@@ -110,58 +107,49 @@ fn pushes_break(encoder: &mut Encoder<FailingWriter<'_>>) -> bool {
     encoder.push(Header::Break).is_ok()
 }
 
-// How many bytes of a write of this number stand where that of another number fails, and gives its first half.
-fn length_of(part: &[u8], number: usize, failing: usize) -> usize {
-    if number < failing {
-        part.len()
-    } else if number == failing {
-        part.len() / 2
-    } else {
-        0
+// How many bytes stand of writes of these lengths where the one of this number fails, and gives its first half.
+fn standing(lengths: &[usize], failing: usize) -> usize {
+    let mut count = 0usize;
+    for (number, length) in lengths.iter().enumerate() {
+        if number < failing {
+            count = count.saturating_add(*length);
+        } else if number == failing {
+            count = count.saturating_add(*length / 2);
+        }
     }
+    count
 }
 
-// What stands are these parts, up to the middle of the write that fails, and behind them a break, unless that failed.
-fn stands(written: &[u8], parts: &[&[u8]], failing: usize) -> bool {
-    let mut rest = written;
-    for (number, part) in parts.iter().enumerate() {
-        let front = front_of(part, length_of(part, number, failing));
-        let Some(behind) = rest.strip_prefix(front) else {
-            return false;
-        };
-        rest = behind;
-    }
-    let behind: &[u8] = if failing == parts.len() { &[] } else { &[0xff] };
-    rest == behind
+// What stands begins a whole, so many bytes, and behind them is a break, unless that failed.
+fn stands(written: &[u8], whole: &[u8], count: usize, is_broken: bool) -> bool {
+    let behind: &[u8] = if is_broken { &[0xff] } else { &[] };
+    written.strip_prefix(front_of(whole, count)) == Some(behind)
 }
 
 // Writes a row by a writer that fails at one write, and then a break, which goes on behind what stands.
-fn fails_at(rt: &impl Abort, call: Call, parts: &[&[u8]], failing: usize) {
+fn fails_at(rt: &impl Abort, (call, whole, lengths): Row, failing: usize) {
     let mut space = [0; 32];
     let number = failing.saturating_add(1);
     let mut encoder = failing_encoder(&mut space, Failing::Call(number));
-    let is_right = ends_as(writes(&mut encoder, call), failing < parts.len());
-    let goes_on = pushes_break(&mut encoder) == (failing != parts.len());
+    let is_right = ends_as(writes(&mut encoder, call), failing < lengths.len());
+    let is_broken = pushes_break(&mut encoder);
+    let goes_on = is_broken == (failing != lengths.len());
     let writer = encoder.into_inner();
-    let written = writer.written();
-    let is_due = is_right && goes_on && stands(written, parts, failing);
-    assert!(rt; is_due, "write {number} of {parts:?} gave {written:?}");
+    let is_due = stands(
+        writer.written(),
+        whole,
+        standing(lengths, failing),
+        is_broken,
+    );
+    holds(rt, is_right && goes_on && is_due, number, whole);
 }
 
 // Each write of a row fails in turn, then the break behind it, and then none.
-fn each_write_fails(rt: &impl Abort, call: Call, parts: &[&[u8]]) {
-    for failing in 0..=parts.len().saturating_add(1) {
-        fails_at(rt, call, parts, failing);
-    }
-}
-
-fn each_row(rt: &impl Abort, rows: &[Row]) {
-    for &(call, parts) in rows {
-        each_write_fails(rt, call, parts);
-    }
-}
-
 #[test]
 fn each_write_fails_under_values(rt: HostRuntime) {
-    each_row(&rt, &ROWS);
+    for &row in &ROWS {
+        for failing in 0..=row.2.len().saturating_add(1) {
+            fails_at(&rt, row, failing);
+        }
+    }
 }
