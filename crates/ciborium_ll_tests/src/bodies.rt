@@ -31,7 +31,8 @@ fn copies_all<P: Chunked>(
     last
 }
 
-// A string, its header, the room of the writer, how the last body ended, what is then written, and the offset of the decoder.
+// A string, its header, the room of the writer, how the last body ended, what is then written, and the offset of the
+// decoder.
 type Row = (
     &'static [u8],
     Header,
