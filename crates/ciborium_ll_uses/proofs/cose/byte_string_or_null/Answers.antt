@@ -26,3 +26,7 @@ returns-in_err-body-in-Bytes-Some-clause-stops g c =
       pulled = pulled;
       fails = c.in_err-body-in-Bytes-Some.ensures.fails;
     }))
+
+-- a payload that is null is taken
+pub returns-in-Simple-eq22-clause-stops : goal.returns-in-Simple-eq22-clause-stops
+returns-in-Simple-eq22-clause-stops g c = tt
