@@ -10,6 +10,9 @@ use std::alloc::{AllocError, Global};
 use std::io;
 use std::process::Abort;
 
+// An array of a number and a text.
+pub const PAIR: &[u8] = b"\x82\x19\x03\xe8\x61a";
+
 // What is said of some digits holds.
 pub fn holds(rt: &impl Abort, is_right: bool, what: &str, digits: &str) {
     assert!(rt; is_right, "{what}, at {digits}");

@@ -1,4 +1,4 @@
-use crate::checks::{holds, holds_at, options_of};
+use crate::checks::{PAIR, holds, holds_at, options_of};
 use cbor_look_service::arguments::Options;
 use cbor_look_service::diag::diag_input;
 use cbor_look_service::digits::Digits;
@@ -48,9 +48,6 @@ fn texts(rt: HostRuntime) {
         holds(&rt, is_right, words, digits);
     }
 }
-
-// An array of a number and a text.
-const PAIR: &[u8] = b"\x82\x19\x03\xe8\x61a";
 
 // Whether a read that fails is found.
 fn is_failed_read(alloc: Global, call: usize) -> bool {

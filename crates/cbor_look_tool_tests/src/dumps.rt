@@ -1,4 +1,4 @@
-use crate::checks::{holds, holds_at, options_of};
+use crate::checks::{PAIR, holds, holds_at, options_of};
 use cbor_look_service::arguments::Options;
 use cbor_look_service::digits::Digits;
 use cbor_look_service::dump::dump_input;
@@ -227,9 +227,6 @@ fn colors_of_dumps(rt: HostRuntime) {
     let is_colored = is_dumped(rt.alloc(), "811c", Options::new(), true, want);
     holds(&rt, is_colored, "colors", "811c");
 }
-
-// An array of a number and a text.
-const PAIR: &[u8] = b"\x82\x19\x03\xe8\x61a";
 
 // Whether a read that fails is found.
 fn is_failed_read(alloc: Global, call: usize) -> bool {
