@@ -2,14 +2,14 @@
 use Rattle.std.proofs.Common.{◌≡◌, ℕ, zero, suc, ◌+◌, ◌-◌, ◌<◌, ◌≤◌, ◌⊎◌, List, length, take, drop, get_or, refl, sym}
 use Rattle.std.proofs.Common.{ap, ◌∙◌, subst, inl, inr, arith}
 use Rattle.std.proofs.lemmas.Bool.{cases_lt}
+use Rattle.std.proofs.lemmas.Bool.Decides.{nat_tests}
 use Rattle.std.proofs.lemmas.List.{take_all, take-take, take-append-drop, length-take-le}
 use Rattle.ciborium_ll_text.specs.declared.state.State.{State}
 use Rattle.ciborium_ll_text.specs.declared.state.State.TheVariants as s
-use Rattle.ciborium_ll_text.specs.States.{after_first, after_next, after_byte, after, IsLastEnd}
+use Rattle.ciborium_ll_text.specs.States.{is_from, after_first, after_next, after_byte, after, IsLastEnd, tail_due}
 use Rattle.ciborium_ll_text.specs.Text.{IsStuck, IsFront}
 use Rattle.ciborium_ll_text.proofs.TextLaws.{front_at}
-use Rattle.ciborium_ll_text.proofs.StateLaws.{First, ascii, two, e0, three_low, ed, three_high, f0, four, f4, none}
-use Rattle.ciborium_ll_text.proofs.StateLaws.{first_view, Next, inside, outside, next_view, after-run, after-rest}
+use Rattle.ciborium_ll_text.proofs.StateLaws.{after-run, after-rest}
 use Rattle.ciborium_ll_text.proofs.StateLaws.{text_ends, text_from}
 
 -- ---- where the last character ends
@@ -19,76 +19,23 @@ pub front_at_end : (x : List ℕ) (n : ℕ) → IsLastEnd x n → IsFront x (tak
 front_at_end x n l =
     front_at x n l.within (text_from (take n x) l.ends) (λ m k r u. l.last m k r (text_ends (take m x) u))
 
--- how many bytes are due
-abbrev pub due : State → ℕ
-due s.Between = 0
-due s.OneDue = 1
-due s.TwoDue = 2
-due s.ThreeDue = 3
-due s.BehindE0 = 2
-due s.BehindEd = 2
-due s.BehindF0 = 3
-due s.BehindF4 = 3
-due s.Damaged = 0
-
--- behind a byte of a range, some bytes are still due
-due_next : (lowest highest : ℕ) (state : State) (b : ℕ) → highest < 0xc0
-    → 0 < due (after_next lowest highest state b)
-    → (b < 0xc0) × (due (after_next lowest highest state b) ≡ due state)
-due_next lowest highest state b h d = go (after_next lowest highest state b) (next_view lowest highest state b) d
-  where
-    go : (next : State) → Next lowest highest state b next → 0 < due next → (b < 0xc0) × (due next ≡ due state)
-    go next (inside p) d = (omega (arith, p), refl)
-    go next outside d = absurd (omega arith)
-
--- a first byte behind which some are due
-due_first : (a : ℕ) → 0 < due (after_first a) → (0xc0 ≤ a) × (due (after_first a) ≤ 3)
-due_first a d = go (after_first a) (first_view a) d
-  where
-    go : (next : State) → First a next → 0 < due next → (0xc0 ≤ a) × (due next ≤ 3)
-    go next (ascii p) d = absurd (omega arith)
-    go next (two p) d = (omega (arith, p), omega arith)
-    go next (e0 p) d = (omega (arith, p), omega arith)
-    go next (three_low p) d = (omega (arith, p), omega arith)
-    go next (ed p) d = (omega (arith, p), omega arith)
-    go next (three_high p) d = (omega (arith, p), omega arith)
-    go next (f0 p) d = (omega (arith, p), omega arith)
-    go next (four p) d = (omega (arith, p), omega arith)
-    go next (f4 p) d = (omega (arith, p), omega arith)
-    go next (none p) d = absurd (omega arith)
-
 -- the byte behind which some are due: a first byte, or a later one
 pub data Back (state : State) (b : ℕ) (left : ℕ) : Type 0 where
   begins : 0xc0 ≤ b → state ≡ s.Between → Back state b left
-  goes_on : b < 0xc0 → due state ≡ left + 1 → Back state b left
+  goes_on : b < 0xc0 → tail_due state ≡ left + 1 → Back state b left
 
 -- each is
-pub back : (state : State) (b : ℕ) → 0 < due (after_byte state b) → Back state b (due (after_byte state b))
-back s.Between b d = begins (due_first b d).0 refl
-back s.OneDue b d = let p = due_next 0x80 0xbf s.Between b (omega arith) d in absurd (omega (arith, p.1))
-back s.TwoDue b d = let p = due_next 0x80 0xbf s.OneDue b (omega arith) d in goes_on p.0 (omega (arith, p.1))
-back s.ThreeDue b d = let p = due_next 0x80 0xbf s.TwoDue b (omega arith) d in goes_on p.0 (omega (arith, p.1))
-back s.BehindE0 b d = let p = due_next 0xa0 0xbf s.OneDue b (omega arith) d in goes_on p.0 (omega (arith, p.1))
-back s.BehindEd b d = let p = due_next 0x80 0x9f s.OneDue b (omega arith) d in goes_on p.0 (omega (arith, p.1))
-back s.BehindF0 b d = let p = due_next 0x90 0xbf s.TwoDue b (omega arith) d in goes_on p.0 (omega (arith, p.1))
-back s.BehindF4 b d = let p = due_next 0x80 0x8f s.TwoDue b (omega arith) d in goes_on p.0 (omega (arith, p.1))
-back s.Damaged b d = absurd (omega arith)
+pub back : (state : State) (b : ℕ) → 0 < tail_due (after_byte state b) → Back state b (tail_due (after_byte state b))
+unfolding is_from after_first after_next
+back state b d = grind (arith, nat_tests, begins, goes_on)
 
 -- at most three are due
-pub due-le : (state : State) → due state ≤ 3
-due-le s.Between = omega arith
-due-le s.OneDue = omega arith
-due-le s.TwoDue = omega arith
-due-le s.ThreeDue = omega arith
-due-le s.BehindE0 = omega arith
-due-le s.BehindEd = omega arith
-due-le s.BehindF0 = omega arith
-due-le s.BehindF4 = omega arith
-due-le s.Damaged = omega arith
+pub due-le : (state : State) → tail_due state ≤ 3
+due-le state = grind arith
 
 -- where some are due, the byte before is
-go_back : (x : List ℕ) (i : ℕ) → i ≤ length x → 0 < due (after s.Between (take i x))
-    → (k : ℕ) × (i ≡ k + 1) × Back (after s.Between (take k x)) (get_or x k 0) (due (after s.Between (take i x)))
+go_back : (x : List ℕ) (i : ℕ) → i ≤ length x → 0 < tail_due (after s.Between (take i x))
+    → (k : ℕ) × (i ≡ k + 1) × Back (after s.Between (take k x)) (get_or x k 0) (tail_due (after s.Between (take i x)))
 go_back x zero l d = absurd (omega arith)
 go_back x (suc k) l d =
     let here : k < length x = omega arith in
@@ -96,75 +43,67 @@ go_back x (suc k) l d =
     let same = ap (λ (z : ℕ). after s.Between (take z x)) one ∙ after-run s.Between x k here in (
       k,
       one,
-      subst (λ (z : State). Back (after s.Between (take k x)) (get_or x k 0) (due z)) (sym same)
-          (back (after s.Between (take k x)) (get_or x k 0) (subst (λ (z : State). 0 < due z) same d)),
+      subst (λ (z : State). Back (after s.Between (take k x)) (get_or x k 0) (tail_due z)) (sym same)
+          (back (after s.Between (take k x)) (get_or x k 0) (subst (λ (z : State). 0 < tail_due z) same d)),
     )
 
 -- the state is inside a character
-pub inside_due : (state : State) → (state ≡ s.Between → ⊥) → (state ≡ s.Damaged → ⊥) → 0 < due state
-inside_due s.Between n d = absurd (n refl)
-inside_due s.OneDue n d = omega arith
-inside_due s.TwoDue n d = omega arith
-inside_due s.ThreeDue n d = omega arith
-inside_due s.BehindE0 n d = omega arith
-inside_due s.BehindEd n d = omega arith
-inside_due s.BehindF0 n d = omega arith
-inside_due s.BehindF4 n d = omega arith
-inside_due s.Damaged n d = absurd (d refl)
+pub inside_due : (state : State) → (state ≡ s.Between → ⊥) → (state ≡ s.Damaged → ⊥) → 0 < tail_due state
+inside_due state n d = grind arith
 
 -- where some are due, no character ends
-not_between : (state : State) → 0 < due state → state ≡ s.Between → ⊥
-not_between state d e = let z = ap due e in omega arith
+not_between : (state : State) → 0 < tail_due state → state ≡ s.Between → ⊥
+not_between state d e = omega (arith, ap tail_due e)
 
 -- what is known behind the last byte where some are due: it begins a character, or the one before has more due
 pub data LastByte (x : List ℕ) (i : ℕ) : Type 0 where
   first_byte : (k : ℕ) → i ≡ k + 1 → 0xc0 ≤ get_or x k 0 → after s.Between (take k x) ≡ s.Between → LastByte x i
   later_byte : (k : ℕ) → i ≡ k + 1 → get_or x k 0 < 0xc0
-      → due (after s.Between (take k x)) ≡ due (after s.Between (take i x)) + 1 → LastByte x i
+      → tail_due (after s.Between (take k x)) ≡ tail_due (after s.Between (take i x)) + 1 → LastByte x i
 
-pub last_byte : (x : List ℕ) (i : ℕ) → i ≤ length x → 0 < due (after s.Between (take i x)) → LastByte x i
+pub last_byte : (x : List ℕ) (i : ℕ) → i ≤ length x → 0 < tail_due (after s.Between (take i x)) → LastByte x i
 last_byte x i l d = let g = go_back x i l d in go g.0 g.1 g.2
   where
     go : (k : ℕ) → i ≡ k + 1
-        → Back (after s.Between (take k x)) (get_or x k 0) (due (after s.Between (take i x))) → LastByte x i
+        → Back (after s.Between (take k x)) (get_or x k 0) (tail_due (after s.Between (take i x))) → LastByte x i
     go k e (begins p q) = first_byte k e p q
     go k e (goes_on p q) = later_byte k e p q
 
--- the last end, where some are due behind each later byte
+-- the last end, where some are tail_due behind each later byte
 ends_at : (x : List ℕ) (n : ℕ) → n ≤ length x → after s.Between (take n x) ≡ s.Between
-    → ((m : ℕ) → n < m → m ≤ length x → 0 < due (after s.Between (take m x)))
+    → ((m : ℕ) → n < m → m ≤ length x → 0 < tail_due (after s.Between (take m x)))
     → IsLastEnd x n
 ends_at x n l e d =
     record { within = l; ends = e; last = λ m k r f. not_between (after s.Between (take m x)) (d m k r) f }
 
 -- the places behind the last end of a cut character
 cut_at : (x : List ℕ) (k : ℕ) → k < length x → length x ≤ k + 3 → after s.Between (take k x) ≡ s.Between
-    → 0 < due (after s.Between (take (length x) x))
-    → 0 < due (after s.Between (take (length x - 1) x)) ⊎ (length x ≡ k + 1)
-    → 0 < due (after s.Between (take (length x - 2) x)) ⊎ (length x ≤ k + 2) → IsLastEnd x k
+    → 0 < tail_due (after s.Between (take (length x) x))
+    → 0 < tail_due (after s.Between (take (length x - 1) x)) ⊎ (length x ≡ k + 1)
+    → 0 < tail_due (after s.Between (take (length x - 2) x)) ⊎ (length x ≤ k + 2) → IsLastEnd x k
 cut_at x k l w e d1 d2 d3 = ends_at x k (omega arith) e (λ m a b. go m a b d2 d3)
   where
-    at : (m j : ℕ) → m ≡ j → 0 < due (after s.Between (take j x)) → 0 < due (after s.Between (take m x))
-    at m j q h = subst (λ (z : ℕ). 0 < due (after s.Between (take z x))) (sym q) h
+    at : (m j : ℕ) → m ≡ j → 0 < tail_due (after s.Between (take j x)) → 0 < tail_due (after s.Between (take m x))
+    at m j q h = subst (λ (z : ℕ). 0 < tail_due (after s.Between (take z x))) (sym q) h
 
     third : (m : ℕ) → k < m → m < length x - 1 → m ≤ length x
-        → 0 < due (after s.Between (take (length x - 2) x)) ⊎ (length x ≤ k + 2)
-        → 0 < due (after s.Between (take m x))
+        → 0 < tail_due (after s.Between (take (length x - 2) x)) ⊎ (length x ≤ k + 2)
+        → 0 < tail_due (after s.Between (take m x))
     third m a b r (inl h) = at m (length x - 2) (omega arith) h
     third m a b r (inr h) = absurd (omega arith)
 
-    second : (m : ℕ) → k < m → m < length x → 0 < due (after s.Between (take (length x - 1) x)) ⊎ (length x ≡ k + 1)
-        → 0 < due (after s.Between (take (length x - 2) x)) ⊎ (length x ≤ k + 2)
-        → 0 < due (after s.Between (take m x))
+    second : (m : ℕ) → k < m → m < length x → 0 < tail_due (after s.Between (take (length x - 1) x)) ⊎ (length x ≡ k + 1)
+        → 0 < tail_due (after s.Between (take (length x - 2) x)) ⊎ (length x ≤ k + 2)
+        → 0 < tail_due (after s.Between (take m x))
     second m a b (inr h) d3 = absurd (omega arith)
     second m a b (inl h) d3 = elim (cases_lt m (length x - 1)) [
       | inl c ↦ third m a c (omega arith) d3
       | inr c ↦ at m (length x - 1) (omega arith) h
     ]
 
-    go : (m : ℕ) → k < m → m ≤ length x → 0 < due (after s.Between (take (length x - 1) x)) ⊎ (length x ≡ k + 1)
-        → 0 < due (after s.Between (take (length x - 2) x)) ⊎ (length x ≤ k + 2)
-        → 0 < due (after s.Between (take m x))
+    go : (m : ℕ) → k < m → m ≤ length x → 0 < tail_due (after s.Between (take (length x - 1) x)) ⊎ (length x ≡ k + 1)
+        → 0 < tail_due (after s.Between (take (length x - 2) x)) ⊎ (length x ≤ k + 2)
+        → 0 < tail_due (after s.Between (take m x))
     go m a b d2 d3 = elim (cases_lt m (length x)) [
       | inl c ↦ second m a c d2 d3
       | inr c ↦ at m (length x) (omega arith) d1
@@ -180,12 +119,12 @@ begins_at x i (later_byte k e p q) h =
 
 -- behind a later byte
 later_at : (x : List ℕ) (i : ℕ) → LastByte x i → get_or x (i - 1) 0 < 0xc0
-    → due (after s.Between (take (i - 1) x)) ≡ due (after s.Between (take i x)) + 1
+    → tail_due (after s.Between (take (i - 1) x)) ≡ tail_due (after s.Between (take i x)) + 1
 later_at x i (first_byte k e p q) h =
     let same : k ≡ i - 1 = omega arith in absurd (omega (arith, ap (λ (z : ℕ). get_or x z 0) same))
 later_at x i (later_byte k e p q) h =
     let same : k ≡ i - 1 = omega arith in subst
-    (λ (z : ℕ). due (after s.Between (take z x)) ≡ due (after s.Between (take i x)) + 1) same q
+    (λ (z : ℕ). tail_due (after s.Between (take z x)) ≡ tail_due (after s.Between (take i x)) + 1) same q
 
 -- some bytes are there
 some_at : (x : List ℕ) (i : ℕ) → LastByte x i → 0 < i
@@ -202,8 +141,8 @@ pub record CutCharacter (x : List ℕ) : Type 0 where
   pub three : get_or x (length x - 1) 0 < 0xc0 → get_or x (length x - 2) 0 < 0xc0 → IsLastEnd x (length x - 3)
 
 -- the byte before the last one, where the last one is later
-second_byte : (x : List ℕ) (n : ℕ) → n ≤ length x → 0 < due (after s.Between (take n x)) → get_or x (n - 1) 0 < 0xc0
-    → (due (after s.Between (take (n - 1) x)) ≡ due (after s.Between (take n x)) + 1) × LastByte x (n - 1)
+second_byte : (x : List ℕ) (n : ℕ) → n ≤ length x → 0 < tail_due (after s.Between (take n x)) → get_or x (n - 1) 0 < 0xc0
+    → (tail_due (after s.Between (take (n - 1) x)) ≡ tail_due (after s.Between (take n x)) + 1) × LastByte x (n - 1)
 second_byte x n l d h =
     let q = later_at x n (last_byte x n l d) h in
     (q, last_byte x (n - 1) (omega arith) (omega (arith, q)))
@@ -217,20 +156,20 @@ back_three : (n : ℕ) → n - 2 - 1 ≡ n - 3
 back_three n = omega arith
 
 -- the byte two before the last one, where both behind it are later
-third_byte : (x : List ℕ) (n : ℕ) → n ≤ length x → 0 < due (after s.Between (take n x))
+third_byte : (x : List ℕ) (n : ℕ) → n ≤ length x → 0 < tail_due (after s.Between (take n x))
     → get_or x (n - 1) 0 < 0xc0 → get_or x (n - 2) 0 < 0xc0
-    → (1 < n) × (due (after s.Between (take (n - 2) x)) ≡ due (after s.Between (take n x)) + 2) × LastByte x (n - 2)
+    → (1 < n) × (tail_due (after s.Between (take (n - 2) x)) ≡ tail_due (after s.Between (take n x)) + 2) × LastByte x (n - 2)
 third_byte x n l d h k =
     let q = second_byte x n l d h in
     let some = some_at x (n - 1) q.1 in
     let k2 = subst (λ (z : ℕ). get_or x z 0 < 0xc0) (sym (back_two n)) k in
     let r = second_byte x (n - 1) (omega arith) (omega (arith, q.0)) k2 in
-    let same = subst (λ (z : ℕ). due (after s.Between (take z x)) ≡ due (after s.Between (take (n - 1) x)) + 1)
+    let same = subst (λ (z : ℕ). tail_due (after s.Between (take z x)) ≡ tail_due (after s.Between (take (n - 1) x)) + 1)
     (back_two n) r.0 in
     (omega arith, omega (arith, same, q.0), subst (λ (z : ℕ). LastByte x z) (back_two n) r.1)
 
 -- where both behind it are later, it begins the character
-third_begins : (x : List ℕ) (n : ℕ) → n ≤ length x → 0 < due (after s.Between (take n x))
+third_begins : (x : List ℕ) (n : ℕ) → n ≤ length x → 0 < tail_due (after s.Between (take n x))
     → get_or x (n - 1) 0 < 0xc0 → get_or x (n - 2) 0 < 0xc0
     → (2 < n) × (after s.Between (take (n - 3) x) ≡ s.Between)
 third_begins x n l d h k =
@@ -242,7 +181,7 @@ third_begins x n l d h k =
         → (2 < n) × (after s.Between (take (n - 3) x) ≡ s.Between)
     three e p = (omega arith, subst (λ (z : ℕ). after s.Between (take z x) ≡ s.Between) (back_three n) e)
 
-    go : LastByte x (n - 2) → due (after s.Between (take (n - 2) x)) ≡ due (after s.Between (take n x)) + 2
+    go : LastByte x (n - 2) → tail_due (after s.Between (take (n - 2) x)) ≡ tail_due (after s.Between (take n x)) + 2
         → (2 < n) × (after s.Between (take (n - 3) x) ≡ s.Between)
     go (first_byte j e p q) f =
         let same : j ≡ n - 2 - 1 = omega arith in three
@@ -250,10 +189,10 @@ third_begins x n l d h k =
     go (later_byte j e p q) f = let m = due-le (after s.Between (take j x)) in absurd (omega (arith, m, q, f, d))
 
 -- a character is cut
-pub cut_character : (x : List ℕ) → 0 < due (after s.Between x) → CutCharacter x
+pub cut_character : (x : List ℕ) → 0 < tail_due (after s.Between x) → CutCharacter x
 cut_character x d =
     let n = length x in
-    let d1 : 0 < due (after s.Between (take n x)) = subst (λ (z : List ℕ). 0 < due (after s.Between z))
+    let d1 : 0 < tail_due (after s.Between (take n x)) = subst (λ (z : List ℕ). 0 < tail_due (after s.Between z))
     (sym (take_all n x (omega arith))) d in
     let b1 = last_byte x n (omega arith) d1 in
     let p1 = some_at x n b1 in

@@ -45,31 +45,6 @@ row_on state x i row e l f =
     ap (λ (z : ℕ). get_or ROWS (get_or x i 0) 0 / 2 ^ z % 64) e
     ∙ (row_step (after state (take i x)) (get_or x i 0) f ∙ ap shift_of (sym (after-run state x i l)))
 
--- the state whose entry begins there
-abbrev state_at : ℕ → State
-state_at n =
-    if n == 0 then s.Between
-    else (if n == 6 then s.OneDue
-    else (if n == 12 then s.TwoDue
-    else (if n == 18 then s.ThreeDue
-    else (if n == 24 then s.BehindE0
-    else (if n == 30 then s.BehindEd
-    else (if n == 36 then s.BehindF0
-    else (if n == 42 then s.BehindF4
-    else s.Damaged)))))))
-
--- is the state itself
-at_shift : (state : State) → state_at (shift_of state) ≡ state
-at_shift s.Between = refl
-at_shift s.OneDue = refl
-at_shift s.TwoDue = refl
-at_shift s.ThreeDue = refl
-at_shift s.BehindE0 = refl
-at_shift s.BehindEd = refl
-at_shift s.BehindF0 = refl
-at_shift s.BehindF4 = refl
-at_shift s.Damaged = refl
-
 -- two states whose entries begin at one place are the same
 pub same_shift : (state other : State) → shift_of state ≡ shift_of other → state ≡ other
-same_shift state other e = sym (at_shift state) ∙ (ap state_at e ∙ at_shift other)
+same_shift state other e = grind arith

@@ -43,15 +43,7 @@ one_front x a r b s p q =
 
 -- a character has from one to four bytes
 pub character_length : (c : List ℕ) → IsCharacter c → (0 < length c) × (length c ≤ 4)
-character_length c (row1 p) = omega arith
-character_length c (row2 p q) = omega arith
-character_length c (row3 p q r) = omega arith
-character_length c (row4 p q r) = omega arith
-character_length c (row5 p q r) = omega arith
-character_length c (row6 p q r) = omega arith
-character_length c (row7 p q r s) = omega arith
-character_length c (row8 p q r s) = omega arith
-character_length c (row9 p q r s) = omega arith
+character_length c p = grind arith
 
 -- one character is a text
 pub character_is_text : (c : List ℕ) → IsCharacter c → IsCharacters c
