@@ -29,107 +29,43 @@ pub back : (state : State) (b : ℕ) → 0 < tail_due (after_byte state b) → B
 unfolding is_from after_first after_next
 back state b d = grind (arith, nat_tests, begins, goes_on)
 
--- at most three are due
-pub due-le : (state : State) → tail_due state ≤ 3
-due-le state = grind arith
-
--- where some are due, the byte before is
-go_back : (x : List ℕ) (i : ℕ) → i ≤ length x → 0 < tail_due (after s.Between (take i x))
-    → (k : ℕ) × (i ≡ k + 1) × Back (after s.Between (take k x)) (get_or x k 0) (tail_due (after s.Between (take i x)))
-go_back x zero l d = absurd (omega arith)
-go_back x (suc k) l d =
-    let here : k < length x = omega arith in
-    let one : suc k ≡ k + 1 = omega arith in
-    let same = ap (λ (z : ℕ). after s.Between (take z x)) one ∙ after-run s.Between x k here in (
-      k,
-      one,
-      subst (λ (z : State). Back (after s.Between (take k x)) (get_or x k 0) (tail_due z)) (sym same)
-          (back (after s.Between (take k x)) (get_or x k 0) (subst (λ (z : State). 0 < tail_due z) same d)),
-    )
-
 -- the state is inside a character
 pub inside_due : (state : State) → (state ≡ s.Between → ⊥) → (state ≡ s.Damaged → ⊥) → 0 < tail_due state
 inside_due state n d = grind arith
 
--- where some are due, no character ends
-not_between : (state : State) → 0 < tail_due state → state ≡ s.Between → ⊥
-not_between state d e = omega (arith, ap tail_due e)
+-- at most three bytes are due
+due-le : (state : State) → tail_due state ≤ 3
+due-le state = grind arith
 
--- what is known behind the last byte where some are due: it begins a character, or the one before has more due
-pub data LastByte (x : List ℕ) (i : ℕ) : Type 0 where
-  first_byte : (k : ℕ) → i ≡ k + 1 → 0xc0 ≤ get_or x k 0 → after s.Between (take k x) ≡ s.Between → LastByte x i
-  later_byte : (k : ℕ) → i ≡ k + 1 → get_or x k 0 < 0xc0
-      → tail_due (after s.Between (take k x)) ≡ tail_due (after s.Between (take i x)) + 1 → LastByte x i
+module _ (x : List ℕ) where
+  -- how many bytes are due behind so many
+  abbrev due : ℕ → ℕ
+  due i = tail_due (after s.Between (take i x))
 
-pub last_byte : (x : List ℕ) (i : ℕ) → i ≤ length x → 0 < tail_due (after s.Between (take i x)) → LastByte x i
-last_byte x i l d = let g = go_back x i l d in go g.0 g.1 g.2
-  where
-    go : (k : ℕ) → i ≡ k + 1
-        → Back (after s.Between (take k x)) (get_or x k 0) (tail_due (after s.Between (take i x))) → LastByte x i
-    go k e (begins p q) = first_byte k e p q
-    go k e (goes_on p q) = later_byte k e p q
+  -- where some are due, some are there
+  some_at : (i : ℕ) → 0 < due i → 0 < i
+  some_at zero d = absurd (omega arith)
+  some_at (suc i) d = omega arith
 
--- the last end, where some are tail_due behind each later byte
-ends_at : (x : List ℕ) (n : ℕ) → n ≤ length x → after s.Between (take n x) ≡ s.Between
-    → ((m : ℕ) → n < m → m ≤ length x → 0 < tail_due (after s.Between (take m x)))
-    → IsLastEnd x n
-ends_at x n l e d =
-    record { within = l; ends = e; last = λ m k r f. not_between (after s.Between (take m x)) (d m k r) f }
+  -- the byte behind which some are due
+  last_byte : (i j : ℕ) → i ≡ j + 1 → i ≤ length x → 0 < due i
+      → Back (after s.Between (take j x)) (get_or x j 0) (due i)
+  last_byte i j e l d =
+      let same = ap (λ (z : ℕ). after s.Between (take z x)) e ∙ after-run s.Between x j (omega arith) in
+      rw same (back (after s.Between (take j x)) (get_or x j 0) (rw same at d))
 
--- the places behind the last end of a cut character
-cut_at : (x : List ℕ) (k : ℕ) → k < length x → length x ≤ k + 3 → after s.Between (take k x) ≡ s.Between
-    → 0 < tail_due (after s.Between (take (length x) x))
-    → 0 < tail_due (after s.Between (take (length x - 1) x)) ⊎ (length x ≡ k + 1)
-    → 0 < tail_due (after s.Between (take (length x - 2) x)) ⊎ (length x ≤ k + 2) → IsLastEnd x k
-cut_at x k l w e d1 d2 d3 = ends_at x k (omega arith) e (λ m a b. go m a b d2 d3)
-  where
-    at : (m j : ℕ) → m ≡ j → 0 < tail_due (after s.Between (take j x)) → 0 < tail_due (after s.Between (take m x))
-    at m j q h = subst (λ (z : ℕ). 0 < tail_due (after s.Between (take z x))) (sym q) h
+  -- it begins the character, or one more is due in front of it
+  begins_at : (i j : ℕ) → i ≡ j + 1 → i ≤ length x → 0 < due i → 0xc0 ≤ get_or x j 0
+      → after s.Between (take j x) ≡ s.Between
+  begins_at i j e l d h = let b = last_byte i j e l d in grind arith
 
-    third : (m : ℕ) → k < m → m < length x - 1 → m ≤ length x
-        → 0 < tail_due (after s.Between (take (length x - 2) x)) ⊎ (length x ≤ k + 2)
-        → 0 < tail_due (after s.Between (take m x))
-    third m a b r (inl h) = at m (length x - 2) (omega arith) h
-    third m a b r (inr h) = absurd (omega arith)
+  later_at : (i j : ℕ) → i ≡ j + 1 → i ≤ length x → 0 < due i → get_or x j 0 < 0xc0 → due j ≡ due i + 1
+  later_at i j e l d h = let b = last_byte i j e l d in grind arith
 
-    second : (m : ℕ) → k < m → m < length x → 0 < tail_due (after s.Between (take (length x - 1) x)) ⊎ (length x ≡ k + 1)
-        → 0 < tail_due (after s.Between (take (length x - 2) x)) ⊎ (length x ≤ k + 2)
-        → 0 < tail_due (after s.Between (take m x))
-    second m a b (inr h) d3 = absurd (omega arith)
-    second m a b (inl h) d3 = elim (cases_lt m (length x - 1)) [
-      | inl c ↦ third m a c (omega arith) d3
-      | inr c ↦ at m (length x - 1) (omega arith) h
-    ]
-
-    go : (m : ℕ) → k < m → m ≤ length x → 0 < tail_due (after s.Between (take (length x - 1) x)) ⊎ (length x ≡ k + 1)
-        → 0 < tail_due (after s.Between (take (length x - 2) x)) ⊎ (length x ≤ k + 2)
-        → 0 < tail_due (after s.Between (take m x))
-    go m a b d2 d3 = elim (cases_lt m (length x)) [
-      | inl c ↦ second m a c d2 d3
-      | inr c ↦ at m (length x) (omega arith) d1
-    ]
-
--- behind a byte that begins a character
-begins_at : (x : List ℕ) (i : ℕ) → LastByte x i → 0xc0 ≤ get_or x (i - 1) 0
-    → after s.Between (take (i - 1) x) ≡ s.Between
-begins_at x i (first_byte k e p q) h =
-    let same : k ≡ i - 1 = omega arith in subst (λ (z : ℕ). after s.Between (take z x) ≡ s.Between) same q
-begins_at x i (later_byte k e p q) h =
-    let same : k ≡ i - 1 = omega arith in absurd (omega (arith, ap (λ (z : ℕ). get_or x z 0) same))
-
--- behind a later byte
-later_at : (x : List ℕ) (i : ℕ) → LastByte x i → get_or x (i - 1) 0 < 0xc0
-    → tail_due (after s.Between (take (i - 1) x)) ≡ tail_due (after s.Between (take i x)) + 1
-later_at x i (first_byte k e p q) h =
-    let same : k ≡ i - 1 = omega arith in absurd (omega (arith, ap (λ (z : ℕ). get_or x z 0) same))
-later_at x i (later_byte k e p q) h =
-    let same : k ≡ i - 1 = omega arith in subst
-    (λ (z : ℕ). tail_due (after s.Between (take z x)) ≡ tail_due (after s.Between (take i x)) + 1) same q
-
--- some bytes are there
-some_at : (x : List ℕ) (i : ℕ) → LastByte x i → 0 < i
-some_at x i (first_byte k e p q) = omega arith
-some_at x i (later_byte k e p q) = omega arith
+  -- the last end, where some are due behind each later byte
+  ends_at : (n : ℕ) → n ≤ length x → after s.Between (take n x) ≡ s.Between
+      → ((m : ℕ) → n < m → m ≤ length x → 0 < due m) → IsLastEnd x n
+  ends_at n l e d = record { within = l; ends = e; last = λ m k r f. omega (arith, d m k r, ap tail_due f) }
 
 -- the character that is cut, by how many bytes it has: the last byte begins it, the one before, or the one before that
 pub record CutCharacter (x : List ℕ) : Type 0 where
@@ -140,80 +76,38 @@ pub record CutCharacter (x : List ℕ) : Type 0 where
   pub most : get_or x (length x - 1) 0 < 0xc0 → get_or x (length x - 2) 0 < 0xc0 → 2 < length x
   pub three : get_or x (length x - 1) 0 < 0xc0 → get_or x (length x - 2) 0 < 0xc0 → IsLastEnd x (length x - 3)
 
--- the byte before the last one, where the last one is later
-second_byte : (x : List ℕ) (n : ℕ) → n ≤ length x → 0 < tail_due (after s.Between (take n x)) → get_or x (n - 1) 0 < 0xc0
-    → (tail_due (after s.Between (take (n - 1) x)) ≡ tail_due (after s.Between (take n x)) + 1) × LastByte x (n - 1)
-second_byte x n l d h =
-    let q = later_at x n (last_byte x n l d) h in
-    (q, last_byte x (n - 1) (omega arith) (omega (arith, q)))
-
--- two places back are one and one
-back_two : (n : ℕ) → n - 1 - 1 ≡ n - 2
-back_two n = omega arith
-
--- three places back are two and one
-back_three : (n : ℕ) → n - 2 - 1 ≡ n - 3
-back_three n = omega arith
-
--- the byte two before the last one, where both behind it are later
-third_byte : (x : List ℕ) (n : ℕ) → n ≤ length x → 0 < tail_due (after s.Between (take n x))
-    → get_or x (n - 1) 0 < 0xc0 → get_or x (n - 2) 0 < 0xc0
-    → (1 < n) × (tail_due (after s.Between (take (n - 2) x)) ≡ tail_due (after s.Between (take n x)) + 2) × LastByte x (n - 2)
-third_byte x n l d h k =
-    let q = second_byte x n l d h in
-    let some = some_at x (n - 1) q.1 in
-    let k2 = subst (λ (z : ℕ). get_or x z 0 < 0xc0) (sym (back_two n)) k in
-    let r = second_byte x (n - 1) (omega arith) (omega (arith, q.0)) k2 in
-    let same = subst (λ (z : ℕ). tail_due (after s.Between (take z x)) ≡ tail_due (after s.Between (take (n - 1) x)) + 1)
-    (back_two n) r.0 in
-    (omega arith, omega (arith, same, q.0), subst (λ (z : ℕ). LastByte x z) (back_two n) r.1)
-
--- where both behind it are later, it begins the character
-third_begins : (x : List ℕ) (n : ℕ) → n ≤ length x → 0 < tail_due (after s.Between (take n x))
-    → get_or x (n - 1) 0 < 0xc0 → get_or x (n - 2) 0 < 0xc0
-    → (2 < n) × (after s.Between (take (n - 3) x) ≡ s.Between)
-third_begins x n l d h k =
-    let t = third_byte x n l d h k in
-    let some = some_at x (n - 2) t.2 in
-    go t.2 t.1
-  where
-    three : (after s.Between (take (n - 2 - 1) x) ≡ s.Between) → 0 < n - 2
-        → (2 < n) × (after s.Between (take (n - 3) x) ≡ s.Between)
-    three e p = (omega arith, subst (λ (z : ℕ). after s.Between (take z x) ≡ s.Between) (back_three n) e)
-
-    go : LastByte x (n - 2) → tail_due (after s.Between (take (n - 2) x)) ≡ tail_due (after s.Between (take n x)) + 2
-        → (2 < n) × (after s.Between (take (n - 3) x) ≡ s.Between)
-    go (first_byte j e p q) f =
-        let same : j ≡ n - 2 - 1 = omega arith in three
-        (subst (λ (z : ℕ). after s.Between (take z x) ≡ s.Between) same q) (omega arith)
-    go (later_byte j e p q) f = let m = due-le (after s.Between (take j x)) in absurd (omega (arith, m, q, f, d))
-
 -- a character is cut
 pub cut_character : (x : List ℕ) → 0 < tail_due (after s.Between x) → CutCharacter x
 cut_character x d =
     let n = length x in
-    let d1 : 0 < tail_due (after s.Between (take n x)) = subst (λ (z : List ℕ). 0 < tail_due (after s.Between z))
-    (sym (take_all n x (omega arith))) d in
-    let b1 = last_byte x n (omega arith) d1 in
-    let p1 = some_at x n b1 in
+    let d1 : 0 < due x n = rw (take_all n x (omega arith)) d in
+    let some = some_at x n d1 in
+    let second : get_or x (n - 1) 0 < 0xc0 → due x (n - 1) ≡ due x n + 1 =
+    later_at x n (n - 1) (omega arith) (omega arith) d1 in
+    let more : get_or x (n - 1) 0 < 0xc0 → 1 < n = λ h. omega (arith, second h, some_at x (n - 1) (omega (arith, second h))) in
+    let third : get_or x (n - 1) 0 < 0xc0 → get_or x (n - 2) 0 < 0xc0 → due x (n - 2) ≡ due x n + 2 = λ h k.
+    omega (arith, second h, later_at x (n - 1) (n - 2) (omega (arith, more h)) (omega arith) (omega (arith, second h)) k) in
+    let most : get_or x (n - 1) 0 < 0xc0 → get_or x (n - 2) 0 < 0xc0 → 2 < n = λ h k.
+    omega (arith, third h k, some_at x (n - 2) (omega (arith, third h k))) in
     record {
-      some = p1;
-      one =
-          λ h. cut_at x (n - 1) (omega arith) (omega arith) (begins_at x n b1 h) d1 (inr (omega arith))
-          (inr (omega arith));
-      more = λ h. let q = second_byte x n (omega arith) d1 h in let some = some_at x (n - 1) q.1 in omega arith;
-      two = λ h k. let q = second_byte x n (omega arith) d1 h in
-          let some = some_at x (n - 1) q.1 in
-          let e = begins_at x (n - 1) q.1 (subst (λ (z : ℕ). 0xc0 ≤ get_or x z 0) (sym (back_two n)) k) in
-          cut_at x (n - 2) (omega arith) (omega arith)
-          (subst (λ (z : ℕ). after s.Between (take z x) ≡ s.Between) (back_two n) e) d1
-          (inl (omega (arith, q.0))) (inr (omega arith));
-      most = λ h k. (third_begins x n (omega arith) d1 h k).0;
-      three = λ h k. let q = second_byte x n (omega arith) d1 h in
-          let t = third_byte x n (omega arith) d1 h k in
-          let b = third_begins x n (omega arith) d1 h k in
-          cut_at x (n - 3) (omega (arith, b.0)) (omega arith) b.1 d1 (inl (omega (arith, q.0)))
-          (inl (omega (arith, t.1)));
+      some = some;
+      one = λ h. ends_at x (n - 1) (omega arith) (begins_at x n (n - 1) (omega arith) (omega arith) d1 h)
+          (λ m a b. grind arith);
+      more = more;
+      two = λ h k. let q = second h in
+          ends_at x (n - 2) (omega arith)
+          (begins_at x (n - 1) (n - 2) (omega (arith, more h)) (omega arith) (omega (arith, q)) k)
+          (λ m a b. grind arith);
+      most = most;
+      three = λ h k. let q = second h in
+          let r = third h k in
+          let l = most h k in
+          let least = due-le (after s.Between (take (n - 3) x)) in
+          let later = later_at x (n - 2) (n - 3) (omega arith) (omega arith) (omega (arith, r)) in
+          let first : 0xc0 ≤ get_or x (n - 3) 0 = grind arith in
+          ends_at x (n - 3) (omega arith)
+          (begins_at x (n - 2) (n - 3) (omega arith) (omega arith) (omega (arith, r)) first)
+          (λ m a b. grind arith);
     }
 
 -- the last end moves to a character's
