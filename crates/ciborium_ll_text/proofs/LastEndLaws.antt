@@ -113,66 +113,31 @@ cut_character x d =
 -- the last end moves to a character's
 pub end_moves : (x : List ℕ) (i : ℕ) → i < length x → after s.Between (take (i + 1) x) ≡ s.Between
     → IsLastEnd (take (i + 1) x) (i + 1)
-end_moves x i l e =
-    let len = length-take-le (i + 1) x (omega arith) in
-    record {
-      within = omega arith;
-      ends = ap (after s.Between) (take-take (i + 1) (i + 1) x (omega arith)) ∙ e;
-      last = λ m a b f. absurd (omega arith);
-    }
+end_moves x i l e = grind (arith, length-take-le, take-take)
 
 -- else it stays
 pub end_stays : (x : List ℕ) (i e : ℕ) → i < length x → IsLastEnd (take i x) e
     → (after s.Between (take (i + 1) x) ≡ s.Between → ⊥) → IsLastEnd (take (i + 1) x) e
-end_stays x i e l last inner =
-    let len = length-take-le (i + 1) x (omega arith) in
-    let len2 = length-take-le i x (omega arith) in
-    let w = last.within in
-    record {
-      within = omega arith;
-      ends =
-          ap (after s.Between) (take-take e (i + 1) x (omega arith) ∙ sym (take-take e i x (omega arith)))
-          ∙ last.ends;
-      last = λ m a b f. (elim (cases_lt i m) [
-        | inl c ↦ inner (ap (after s.Between)
-            (let same : i + 1 ≡ m = omega arith in ap (λ (z : ℕ). take z x) same
-            ∙ sym (take-take m (i + 1) x (omega arith))) ∙ f)
-        | inr c ↦ last.last m a (omega arith)
-            (ap (after s.Between) (take-take m i x c ∙ sym (take-take m (i + 1) x (omega arith))) ∙ f)
-      ]);
-    }
+end_stays x i e l last inner = grind (arith, length-take-le, take-take)
 
 -- a text is its own last end
 pub end_of_text : (x : List ℕ) → after s.Between x ≡ s.Between → IsLastEnd x (length x)
-end_of_text x e = record {
-  within = omega arith;
-  ends = ap (after s.Between) (take_all (length x) x (omega arith)) ∙ e;
-  last = λ m a b f. absurd (omega arith);
-}
-
--- how many bytes the front has
-front_length : (x text : List ℕ) (n : ℕ) → text ≡ take n x → IsLastEnd x n → length text ≡ n
-front_length x text n e l = ap length e ∙ length-take-le n x l.within
+end_of_text x e = grind (arith, take_all)
 
 -- what ends with the last character is the front
-pub front_of_end : (x text : List ℕ) (n : ℕ) → text ≡ take n x → IsLastEnd x n
-    → IsFront x text (drop (length text) x)
-front_of_end x text n e l =
-    subst (λ (z : List ℕ). IsFront x z (drop (length text) x)) (sym e)
-    (subst (λ (k : ℕ). IsFront x (take n x) (drop k x)) (sym (front_length x text n e l)) (front_at_end x n l))
+pub front_of_end : (x : List ℕ) (n : ℕ) → IsLastEnd x n → IsFront x (take n x) (drop (length (take n x)) x)
+front_of_end x n l = rw (length-take-le n x l.within) (front_at_end x n l)
 
 -- and the rest leads to the same state as the whole
-pub state_of_end : (x text : List ℕ) (n : ℕ) → text ≡ take n x → IsLastEnd x n
-    → after s.Between x ≡ after s.Between (drop (length text) x)
-state_of_end x text n e l =
-    after-rest x n l.ends ∙ ap (λ (k : ℕ). after s.Between (drop k x)) (sym (front_length x text n e l))
+pub state_of_end : (x : List ℕ) (n : ℕ) → IsLastEnd x n
+    → after s.Between x ≡ after s.Between (drop (length (take n x)) x)
+state_of_end x n l = rw (length-take-le n x l.within) (after-rest x n l.ends)
 
 -- in bytes that are stuck no character ends
 pub stuck_end : (x : List ℕ) → IsStuck x → IsLastEnd x 0
-stuck_end x stuck =
-    record {
-      within = omega arith;
-      ends = refl;
-      last = λ m a b e. let empty = stuck (take m x) (drop m x) (sym (take-append-drop m x)) (text_from (take m x) e) in
-          absurd (omega (arith, ap length empty, length-take-le m x b));
-    }
+stuck_end x stuck = record {
+  within = omega arith;
+  ends = refl;
+  last = λ m a b e. omega (arith, length-take-le m x b,
+      ap length (stuck (take m x) (drop m x) (sym (take-append-drop m x)) (text_from (take m x) e)));
+}

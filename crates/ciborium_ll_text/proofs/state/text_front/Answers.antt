@@ -1,4 +1,4 @@
-use Rattle.std.proofs.Common.{take, ◌∙◌, refl}
+use Rattle.std.proofs.Common.{◌∙◌}
 use Rattle.ciborium_ll_text.proofs.LastEndLaws.{front_of_end, state_of_end}
 use Rattle.ciborium_ll_text.proofs.StateLaws.{told_whole}
 use Rattle.ciborium_ll_text.proofs.state.text_front.Goals as goal
@@ -9,11 +9,9 @@ front_len-len-requires-clause-behind c =
 
 pub returns-clause-front : goal.returns-clause-front
 returns-clause-front c =
-    front_of_end c.args.bytes.now (take c.front_len-len.result c.args.bytes.now) c.front_len-len.result refl
-    c.front_len-len.ensures
+    front_of_end c.args.bytes.now c.front_len-len.result c.front_len-len.ensures
 
 pub returns-clause-state : goal.returns-clause-state
 returns-clause-state c =
     told_whole c.args.bytes.now c.args.kept c.args.state c.run-behind.result c.run-behind.ensures c.requires.told
-    ∙ state_of_end c.args.bytes.now (take c.front_len-len.result c.args.bytes.now) c.front_len-len.result refl
-    c.front_len-len.ensures
+    ∙ state_of_end c.args.bytes.now c.front_len-len.result c.front_len-len.ensures
