@@ -1,4 +1,5 @@
 -- A full cut has the fewest members, and is the only one.
+use Rattle.std.proofs.lemmas.Bool.Decides.{nat_tests}
 use Rattle.std.proofs.Common.{◌≡◌, ℕ, ◌+◌, ◌<◌, ◌≤◌, List, [], ◌∷◌, ◌++◌, length, refl, sym, ap, ◌∙◌, subst, inl, inr}
 use Rattle.std.proofs.Common.{arith, append_assoc}
 use Rattle.std.proofs.lemmas.Bool.{cases_lt}
@@ -127,5 +128,4 @@ same_members m (c ∷ cs) (d ∷ ds) a b f a' b' f' e =
 
 -- a text has one full cut at most
 pub one_full : (t : List ℕ) (m : ℕ) (cs ds : List (List ℕ)) → IsFullCut t m cs → IsFullCut t m ds → cs ≡ ds
-one_full t m cs ds f g = same_members m cs ds f.cut.each f.nonempty f.filled g.cut.each g.nonempty g.filled
-    (sym f.cut.whole ∙ g.cut.whole)
+one_full t m cs ds f g = grind (arith, nat_tests, same_members)

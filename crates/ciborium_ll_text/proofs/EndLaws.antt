@@ -28,9 +28,7 @@ pub may_back : (xs : List ℕ) (state : State) (left k : ℕ) → k ≡ length x
     → may_end state k ≡ true
 may_back [] state left k e may = subst (λ (z : ℕ). may_end state z ≡ true) (let same : left ≡ k = omega (arith, e) in same) may
 may_back (x ∷ xs) state left k e may =
-    let so_far = may_back xs (after_byte state x) left (length xs + left) refl may in
-    subst (λ (z : ℕ). may_end state z ≡ true) (let same : suc (length xs + left) ≡ k = omega (arith, e) in same)
-    (one_more_due state x (length xs + left) so_far)
+    grind (arith, nat_tests, one_more_due, may_back xs (after_byte state x) left (length xs + left) refl may)
 
 -- and those that may are no fewer than are due
 pub tail_fits : (state : State) (n : ℕ) → may_end state n ≡ true → tail_due state ≤ n

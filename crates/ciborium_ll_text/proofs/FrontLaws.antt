@@ -1,8 +1,9 @@
 -- Longest fronts that are text, and what is stuck behind them.
+use Rattle.std.proofs.lemmas.Bool.Decides.{nat_tests}
 use Rattle.std.specs.Str.{IsValidUpTo}
 use Rattle.std.proofs.Common.{◌≡◌, ℕ, ◌≤◌, List, [], ◌∷◌, ◌++◌, length, take, drop, refl, sym, ap, subst, ◌∙◌, arith}
 use Rattle.std.proofs.Common.{append_assoc, append-nil, length-append, length-take-le}
-use Rattle.ciborium_ll_text.specs.Text.{IsCharacters, IsFront, IsStuck, BeginsNoText}
+use Rattle.ciborium_ll_text.specs.Text.{IsFront, IsStuck, BeginsNoText}
 use Rattle.ciborium_ll_text.proofs.Lists.{length_zero}
 use Rattle.ciborium_ll_text.proofs.TextLaws.{IsCharacters-append, IsCharacters-nil, front_of_valid}
 
@@ -21,13 +22,7 @@ IsStuck-rest bytes front rest f other more e text =
 
 -- bytes that are stuck have an empty front
 pub IsFront-stuck : (bytes : List ℕ) → IsStuck bytes → IsFront (bytes ++ []) [] bytes
-IsFront-stuck bytes stuck =
-    record {
-      parts = append-nil bytes;
-      text = IsCharacters-nil;
-      longest = λ other more e text. let none = stuck other more (sym (append-nil bytes) ∙ e) text in let l =
-          ap length none in omega (arith, l);
-    }
+IsFront-stuck bytes stuck = grind (arith, nat_tests, append-nil, IsCharacters-nil)
 
 -- the front that std finds
 pub IsFront-valid : (bytes text : List ℕ) (n : ℕ) → text ≡ take n bytes → n ≤ length bytes → IsValidUpTo bytes n
@@ -39,5 +34,4 @@ IsFront-valid bytes text n e within valid =
 
 -- bytes that begin no text begin none with more behind them
 pub no_text_behind : (read more : List ℕ) → BeginsNoText read → BeginsNoText (read ++ more)
-no_text_behind read more none = λ others text. none (more ++ others)
-    (subst IsCharacters (append_assoc read more others) text)
+no_text_behind read more none = grind (arith, nat_tests, append_assoc)

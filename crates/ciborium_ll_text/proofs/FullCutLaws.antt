@@ -1,4 +1,5 @@
 -- A text has a full cut for each limit that the longest character fits.
+use Rattle.std.proofs.lemmas.Bool.Decides.{nat_tests}
 use Rattle.std.proofs.Common.{◌≡◌, ℕ, ◌+◌, ◌<◌, ◌≤◌, List, [], ◌∷◌, ◌++◌, length, refl, sym, ap, ◌∙◌, subst, inl, inr}
 use Rattle.std.proofs.Common.{arith, append_assoc}
 use Rattle.std.proofs.lemmas.Bool.{cases_lt}
@@ -24,9 +25,7 @@ record Filling (limit : ℕ) (member : List ℕ) (characters : List (List ℕ)) 
 no_room : (limit : ℕ) (member character rest following : List ℕ) → IsCharacter character → following ≡ character ++ rest
     → limit < length member + length character
     → IsFilled limit member following
-no_room limit member character rest following p e l x r q f =
-    let same = one_character x character r rest q p (sym f ∙ e) in
-    omega (arith, ap length same)
+no_room limit member character rest following p e l x r q f = grind (arith, nat_tests, one_character)
 
 -- one member so far and the characters behind it give a full cut
 filling : (limit : ℕ) → 4 ≤ limit → (member : List ℕ) → IsMember limit member → IsNonempty member → (cs : List (List ℕ))

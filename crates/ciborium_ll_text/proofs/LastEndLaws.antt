@@ -1,7 +1,6 @@
 -- Where the last character of some bytes ends: behind the longest front that is text, and at most three bytes back.
-use Rattle.std.proofs.Common.{◌≡◌, ℕ, zero, suc, ◌+◌, ◌-◌, ◌<◌, ◌≤◌, ◌⊎◌, List, length, take, drop, get_or, refl, sym}
-use Rattle.std.proofs.Common.{ap, ◌∙◌, subst, inl, inr, arith}
-use Rattle.std.proofs.lemmas.Bool.{cases_lt}
+use Rattle.std.proofs.Common.{◌≡◌, ℕ, zero, suc, ◌+◌, ◌-◌, ◌<◌, ◌≤◌, List, length, take, drop, get_or, refl, sym}
+use Rattle.std.proofs.Common.{ap, ◌∙◌, arith}
 use Rattle.std.proofs.lemmas.Bool.Decides.{nat_tests}
 use Rattle.std.proofs.lemmas.List.{take_all, take-take, take-append-drop, length-take-le}
 use Rattle.ciborium_ll_text.specs.declared.state.State.{State}
@@ -138,6 +137,9 @@ pub stuck_end : (x : List ℕ) → IsStuck x → IsLastEnd x 0
 stuck_end x stuck = record {
   within = omega arith;
   ends = refl;
-  last = λ m a b e. omega (arith, length-take-le m x b,
-      ap length (stuck (take m x) (drop m x) (sym (take-append-drop m x)) (text_from (take m x) e)));
+  last = λ m a b e. omega (
+    arith,
+    length-take-le m x b,
+    ap length (stuck (take m x) (drop m x) (sym (take-append-drop m x)) (text_from (take m x) e)),
+  );
 }

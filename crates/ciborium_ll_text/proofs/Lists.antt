@@ -1,6 +1,7 @@
 -- Fronts and rests of lists, empty ones, and lists of bytes.
+use Rattle.std.proofs.lemmas.Bool.Decides.{nat_tests}
 use Rattle.std.proofs.Common.{◌≡◌, ℕ, suc, ◌+◌, ◌-◌, ◌<◌, ◌≤◌, min, List, [], ◌∷◌, ◌++◌, length, take, drop, get_or}
-use Rattle.std.proofs.Common.{refl, sym, ap, ◌∙◌, arith, length-drop}
+use Rattle.std.proofs.Common.{refl, ap, ◌∙◌, arith, length-drop}
 use Rattle.std.proofs.lemmas.List.{get_or-take, length-take-le, take_rest}
 use Rattle.std.proofs.Math.Seq.{take-append_seam, take-append-add}
 
@@ -36,13 +37,11 @@ length_zero (byte ∷ bytes) e = absurd (omega arith)
 -- a first byte is counted where there is one
 pub first_counted : (rest : List ℕ) → drop (min 1 (length rest)) rest ≡ drop 1 rest
 first_counted [] = refl
-first_counted (b ∷ rest) = let one : min 1 (length (b ∷ rest)) ≡ 1 = omega arith in
-    ap (λ (n : ℕ). drop n (b ∷ rest)) one
+first_counted (b ∷ rest) = grind (arith, nat_tests)
 
 -- a list as long as the front asked for is that front
 pub front_of : (len : ℕ) (rest read more : List ℕ) → rest ≡ read ++ more → length read ≡ len → take len rest ≡ read
-front_of len rest read more e l = ap (take len) e ∙ ap (λ (n : ℕ). take n (read ++ more)) (sym l)
-    ∙ take-append_seam read more
+front_of len rest read more e l = grind (arith, nat_tests, take-append_seam)
 
 -- a front that goes on behind what was read
 pub front_behind : (len : ℕ) (rest read more : List ℕ) → rest ≡ read ++ more → length read ≤ len → take len rest
@@ -65,8 +64,4 @@ below_rest x xs below = λ i less. below (suc i) (omega (arith, less))
 
 -- and each of a front
 pub below_take : (n : ℕ) (xs : List ℕ) → n ≤ length xs → Below xs → Below (take n xs)
-below_take n xs le below = λ i less.
-    let long = length-take-le n xs le in
-    let same = get_or-take n xs i 0 (omega (arith, less, long)) in
-    let b = below i (omega (arith, less, long, le)) in
-    omega (arith, same, b)
+below_take n xs le below = grind (arith, nat_tests, length-take-le, get_or-take)

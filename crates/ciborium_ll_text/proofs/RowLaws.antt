@@ -1,6 +1,7 @@
 -- The rows of the table have the state behind each byte.
+use Rattle.std.proofs.lemmas.Bool.Decides.{nat_tests}
 use Rattle.std.proofs.Common.{◌≡◌, ℕ, ◌/◌, ◌%◌, ◌^◌, ◌<◌, ◌+◌, List, map, length, take, get_or, refl, sym, ap, ◌∙◌}
-use Rattle.std.proofs.Common.{arith, if◌then◌else◌, ◌==◌}
+use Rattle.std.proofs.Common.{arith}
 use Rattle.std.proofs.lemmas.List.{get_or-map}
 use Rattle.std.proofs.lemmas.List.FromFn.{get_or-map-range_with_len}
 use Rattle.std.specs.List.{range_with_len}
@@ -41,9 +42,7 @@ row_step state b l =
 pub row_on : (state : State) (x : List ℕ) (i row : ℕ) → row % 64 ≡ shift_of (after state (take i x)) → i < length x
     → get_or x i 0 < 256
     → get_or ROWS (get_or x i 0) 0 / 2 ^ (row % 64) % 64 ≡ shift_of (after state (take (i + 1) x))
-row_on state x i row e l f =
-    ap (λ (z : ℕ). get_or ROWS (get_or x i 0) 0 / 2 ^ z % 64) e
-    ∙ (row_step (after state (take i x)) (get_or x i 0) f ∙ ap shift_of (sym (after-run state x i l)))
+row_on state x i row e l f = grind (arith, nat_tests, row_step, after-run)
 
 -- two states whose entries begin at one place are the same
 pub same_shift : (state other : State) → shift_of state ≡ shift_of other → state ≡ other

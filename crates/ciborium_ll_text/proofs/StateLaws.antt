@@ -1,6 +1,6 @@
 -- The states of a text: the state behind each byte, and that a list is text just where it ends between two characters.
 use Rattle.std.proofs.Common.{◌≡◌, ℕ, zero, suc, ◌+◌, ◌-◌, ◌<◌, ◌≤◌, ◌⊎◌, List, [], ◌∷◌, ◌++◌, length, take, drop}
-use Rattle.std.proofs.Common.{get_or, refl, sym, ap, ◌∙◌, inl, inr, arith, length-append}
+use Rattle.std.proofs.Common.{get_or, refl, sym, ap, ◌∙◌, arith, length-append}
 use Rattle.std.proofs.lemmas.Bool.Decides.{nat_tests}
 use Rattle.std.proofs.lemmas.List.{take_more, take-append-drop, take_rest}
 use Rattle.std.proofs.lemmas.Str.{IsUtf8-from_ascii}
@@ -9,7 +9,7 @@ use Rattle.std.specs.List.{AllByRecursion}
 use Rattle.ciborium_ll_text.specs.declared.state.State.{State}
 use Rattle.ciborium_ll_text.specs.declared.state.State.TheVariants as s
 use Rattle.ciborium_ll_text.specs.States.{is_from, after_first, after_next, after_byte, after}
-use Rattle.ciborium_ll_text.specs.Text.{IsFrom, IsTail, IsCharacter, row1, row2, row3, row4, row5, row6, row7, row8}
+use Rattle.ciborium_ll_text.specs.Text.{IsFrom, IsCharacter, row1, row2, row3, row4, row5, row6, row7, row8}
 use Rattle.ciborium_ll_text.specs.Text.{row9, joined, IsCharacters}
 use Rattle.ciborium_ll_text.proofs.Utf8Laws.{from_std}
 use Rattle.ciborium_ll_text.proofs.TextLaws.{IsCharacters-append, IsCharacters-nil, character_is_text}
@@ -78,8 +78,7 @@ after-rest x n e = sym (after-whole x n s.Between (sym e))
 pub run_on : (state so_far next : State) (x : List ℕ) (i : ℕ) → next ≡ after_byte so_far (get_or x i 0)
     → so_far ≡ after state (take i x) → i < length x
     → next ≡ after state (take (i + 1) x)
-run_on state so_far next x i e f l =
-    e ∙ (ap (λ (z : State). after_byte z (get_or x i 0)) f ∙ sym (after-run state x i l))
+run_on state so_far next x i e f l = grind (arith, nat_tests, after-run)
 
 -- the state behind the new bytes is that behind all
 pub told_whole : (x : List ℕ) (k : ℕ) (state behind : State)

@@ -1,4 +1,5 @@
 -- Texts joined and parted, and the longest beginning of a list that is text.
+use Rattle.std.proofs.lemmas.Bool.Decides.{nat_tests}
 use Rattle.std.proofs.Common.{◌≡◌, ℕ, zero, suc, ◌<◌, ◌≤◌, List, [], ◌∷◌, ◌++◌, length, take, drop, refl, sym, ap}
 use Rattle.std.proofs.Common.{◌∙◌, subst, inl, inr, arith, append_assoc}
 use Rattle.std.proofs.lemmas.Bool.{cases_lt}
@@ -7,7 +8,7 @@ use Rattle.std.proofs.lemmas.List.{append-nil, length-append, take-append-drop, 
 use Rattle.std.specs.Str.{IsUtf8, IsValidUpTo}
 use Rattle.std.specs.List.{AllByRecursion}
 use Rattle.std.proofs.Math.Utf8.{encode, encodes}
-use Rattle.ciborium_ll_text.specs.Text.{IsCharacter, row1, row2, row3, row4, row5, row6, row7, row8, row9, joined}
+use Rattle.ciborium_ll_text.specs.Text.{IsCharacter, joined}
 use Rattle.ciborium_ll_text.specs.Text.{IsCharacters, IsFront}
 use Rattle.ciborium_ll_text.proofs.Lists.{same_front, front_of_front}
 use Rattle.ciborium_ll_text.proofs.Utf8Laws.{to_std, from_std, text_or_none}
@@ -36,10 +37,7 @@ IsCharacters-nil = record { characters = []; each = tt; whole = refl }
 
 -- a list has one front
 pub one_front : (x a r b s : List ℕ) → IsFront x a r → IsFront x b s → (a ≡ b) × (r ≡ s)
-one_front x a r b s p q =
-    let l = p.longest b s q.parts q.text in
-    let k = q.longest a r p.parts p.text in
-    same_front a b r s (omega (arith, l, k)) (sym p.parts ∙ q.parts)
+one_front x a r b s p q = grind (arith, nat_tests, same_front)
 
 -- a character has from one to four bytes
 pub character_length : (c : List ℕ) → IsCharacter c → (0 < length c) × (length c ≤ 4)
@@ -108,12 +106,7 @@ some_front x = front_from (length x) x (omega arith) (λ m k r u. absurd (omega 
 
 -- the front of a text is the whole
 pub front_of_text : (x : List ℕ) → IsCharacters x → IsFront x x []
-front_of_text x u = record {
-  parts = sym (append-nil x);
-  text = u;
-  longest =
-      λ b s e h. omega (arith, length-append b s, ap length e);
-}
+front_of_text x u = grind (arith, nat_tests, append-nil, length-append)
 
 -- what is kept at a text's end says that it is no text
 pub no_rest_of_text : (x a r : List ℕ) → IsFront x a r → IsCharacters x → r ≡ []

@@ -1,13 +1,13 @@
 -- The texts of Table 3-7 are those of std: a row is what std writes for a character.
-use Rattle.std.proofs.Common.{◌≡◌, ℕ, ◌+◌, ◌-◌, ◌*◌, ◌/◌, ◌<◌, ◌≤◌, ◌⊎◌, true, List, [], ◌∷◌, ◌++◌, refl, sym, ap}
-use Rattle.std.proofs.Common.{◌∙◌, subst, inl, inr, arith, lt-ltb, le-ltb, le-leb, Bool, false}
-use Rattle.std.proofs.lemmas.Bool.{cases_lt, and_parts}
+use Rattle.std.proofs.Common.{◌≡◌, ℕ, ◌+◌, ◌-◌, ◌*◌, ◌⊎◌, true, List, [], ◌∷◌, ◌++◌, refl, sym, ap}
+use Rattle.std.proofs.Common.{◌∙◌, subst, inl, inr, arith, Bool, false}
+use Rattle.std.proofs.lemmas.Bool.{and_parts}
 use Rattle.std.proofs.lemmas.Bool.Decides.{nat_tests}
-use Rattle.std.proofs.Math.Utf8.{scalar, scalars, encode, encodes, next, low_scalar, scalar_cases}
+use Rattle.std.proofs.Math.Utf8.{scalar, scalars, encode, encodes, scalar_cases}
 use Rattle.std.specs.Str.{IsUtf8, is_utf8}
 use Rattle.std.proofs.lemmas.Str.{IsUtf8-from_is_utf8, is_utf8-from_IsUtf8}
 use Rattle.std.specs.List.{AllByRecursion}
-use Rattle.ciborium_ll_text.specs.Text.{IsFrom, IsTail, IsCharacter, row1, row2, row3, row4, row5, row6, row7, row8}
+use Rattle.ciborium_ll_text.specs.Text.{IsCharacter, row1, row2, row3, row4, row5, row6, row7, row8}
 use Rattle.ciborium_ll_text.specs.Text.{row9, joined, IsCharacters}
 
 -- ---- each row is written for a character

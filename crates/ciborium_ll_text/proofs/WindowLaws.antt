@@ -53,9 +53,7 @@ later_goes x y z b p q r inv = grind (arith, nat_tests)
 window_step : (x y z b : ℕ) → Step x y z b → (0xf0 ≤ x → y < 0xc0)
     → after_byte (after_window x y z) b ≡ after_window y z b
 window_step x y z b (first p q) inv = ap (λ (t : State). after_byte t b) (closed x y z p.0 p.1 p.2) ∙ begun y z b q
-window_step x y z b (second p q r) inv =
-    ap (λ (t : State). after_byte t b) (window_first x y z (omega arith))
-    ∙ second_goes y z b (after_first z) (first_view z) q r
+window_step x y z b (second p q r) inv = grind (arith, nat_tests, window_first, second_goes, first_view)
 window_step x y z b (later p q r) inv = later_goes x y z b p q r inv
 
 -- behind it a byte that follows a first byte of four is a later one
