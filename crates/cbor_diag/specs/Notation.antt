@@ -1,7 +1,8 @@
 -- The diagnostic notation of what a header says by itself (RFC 8949, section 8).
-use Rattle.std.specs.Prelude.{ℕ, ◌+◌, ◌/◌, ◌%◌, ◌==◌, nat_lt, List, [], ◌∷◌, ◌++◌, codes, decimal, if◌then◌else◌}
+use Rattle.std.specs.Prelude.{ℕ, ◌==◌, nat_lt, List, [], ◌∷◌, ◌++◌, codes, decimal, if◌then◌else◌}
 use Rattle.std.specs.Prelude.{Option, Some, None, negsuc}
 use Rattle.std.specs.Fmt.{signed_decimal}
+use Rattle.ciborium_ll_text.specs.Digits.{hex_text}
 use Rattle.ciborium_ll.specs.Types.Header.{Header}
 use Rattle.ciborium_ll.specs.Types.Header.TheVariants as h
 use Rattle.cbor_diag.specs.declared.strings.quotes.Quotes.{Quotes}
@@ -24,14 +25,6 @@ header_notation (h.Negative number) = Some (signed_decimal (negsuc number))
 header_notation (h.Simple number) = Some (simple_notation number)
 header_notation header = None
 
--- the hexadecimal digit of a number below 16, in lower case
-abbrev pub hex_digit : ℕ → ℕ
-hex_digit number = if nat_lt number 10 then 48 + number else 87 + number
-
--- a byte of a byte string, between the quotes of h'' (RFC 8949, 8)
-abbrev pub hex_text : ℕ → List ℕ
-hex_text byte = hex_digit (byte / 16) ∷ hex_digit (byte % 16) ∷ []
-
 -- a byte of a text, between its quotes, with the escapes of JSON (RFC 8259, 7): a backslash, which is 92, in front of a
 -- quote, a backslash, or the letter of a control character, or of u and four digits; each other byte as it is
 abbrev pub escaped_text : ℕ → List ℕ
@@ -46,7 +39,7 @@ escaped_text byte =
     else (if nat_lt byte 32 then (92 ∷ 117 ∷ 48 ∷ 48 ∷ []) ++ hex_text byte
     else byte ∷ [])))))))
 
--- a byte between quotes of the kind (RFC 8949, 8)
+-- a byte between quotes of the kind, of a byte string by two digits between those of h'' (RFC 8949, 8)
 abbrev pub byte_text : Quotes → ℕ → List ℕ
 byte_text q.Hex byte = hex_text byte
 byte_text q.Text byte = escaped_text byte

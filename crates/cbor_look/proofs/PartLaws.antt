@@ -3,6 +3,7 @@ use Rattle.std.proofs.Common.{◌≡◌, ℕ, ◌+◌, ◌<◌, ◌≤◌, Bool,
 use Rattle.std.proofs.Common.{Result, Ok, Err, inl, inr, refl, sym, ap, subst, ◌∙◌, arith, append_assoc}
 use Rattle.std.proofs.Common.{length-append, None}
 use Rattle.std.proofs.lemmas.Bool.{cases_lt}
+use Rattle.std.proofs.lemmas.Bool.Decides.{nat_tests}
 use Rattle.ciborium_ll.specs.Types.Read.{Ghosts}
 use Rattle.ciborium_ll.specs.Types.Decoder.{Decoder}
 use Rattle.ciborium_ll.specs.Types.Error.{Error}
@@ -14,12 +15,11 @@ use Rattle.ciborium_ll.proofs.DecodingLaws.{Passes-none, Passes-then}
 use Rattle.ciborium_ll.proofs.TextLaws.{IsCharacters-append, IsCharacters-rest, IsCharacters-nil, some_front}
 use Rattle.ciborium_ll.proofs.TextLaws.{no_text_begins}
 use Rattle.ciborium_ll_text.proofs.FrontLaws.{IsStuck-nil, IsStuck-rest}
-use Rattle.ciborium_ll_text.specs.States.{after, after_byte}
+use Rattle.ciborium_ll_text.specs.States.{is_from, after_first, after_next, after, after_byte, tail_due}
 use Rattle.ciborium_ll_text.specs.Text.{IsCharacters, IsFront, IsStuck}
 use Rattle.ciborium_ll_text.specs.declared.state.State.{State}
 use Rattle.ciborium_ll_text.specs.declared.state.State.TheVariants as t
 use Rattle.ciborium_ll_text.proofs.StateLaws.{after-append, text_ends, text_from, none_goes_on, some_goes_on}
-use Rattle.ciborium_ll_text.proofs.LastEndLaws.{due, back, Back, begins, goes_on}
 use Rattle.cbor_look.specs.Takings.{ReadsMore, most_text}
 use Rattle.cbor_look.specs.Parts.{is_between, is_inside, FailsInBody, IsCutText, IsSound, ReadsPart, ReadsTextPart}
 use Rattle.cbor_look.proofs.PullLaws.{passes_idle, first_passed}
@@ -27,71 +27,28 @@ use Rattle.cbor_look.proofs.PullLaws.{passes_idle, first_passed}
 -- ---- states
 
 between_of : (state : State) → is_between state ≡ true → state ≡ t.Between
-between_of t.Between is = refl
-between_of t.OneDue is = absurd cc
-between_of t.TwoDue is = absurd cc
-between_of t.ThreeDue is = absurd cc
-between_of t.BehindE0 is = absurd cc
-between_of t.BehindEd is = absurd cc
-between_of t.BehindF0 is = absurd cc
-between_of t.BehindF4 is = absurd cc
-between_of t.Damaged is = absurd cc
+between_of state is = grind arith
 
 damaged_of : (state : State) → is_inside state ≡ false → is_between state ≡ false → state ≡ t.Damaged
-damaged_of t.Between out not = absurd cc
-damaged_of t.OneDue out not = absurd cc
-damaged_of t.TwoDue out not = absurd cc
-damaged_of t.ThreeDue out not = absurd cc
-damaged_of t.BehindE0 out not = absurd cc
-damaged_of t.BehindEd out not = absurd cc
-damaged_of t.BehindF0 out not = absurd cc
-damaged_of t.BehindF4 out not = absurd cc
-damaged_of t.Damaged out not = refl
+damaged_of state out not = grind arith
 
-inside_not : (state : State) → is_inside state ≡ true → (0 < due state) × (state ≡ t.Damaged → ⊥)
-inside_not t.Between is = absurd cc
-inside_not t.OneDue is = (omega arith, λ e. absurd cc)
-inside_not t.TwoDue is = (omega arith, λ e. absurd cc)
-inside_not t.ThreeDue is = (omega arith, λ e. absurd cc)
-inside_not t.BehindE0 is = (omega arith, λ e. absurd cc)
-inside_not t.BehindEd is = (omega arith, λ e. absurd cc)
-inside_not t.BehindF0 is = (omega arith, λ e. absurd cc)
-inside_not t.BehindF4 is = (omega arith, λ e. absurd cc)
-inside_not t.Damaged is = absurd cc
+inside_not : (state : State) → is_inside state ≡ true → (0 < tail_due state) × (state ≡ t.Damaged → ⊥)
+inside_not state is = grind arith
 
 -- no more than three are due
-pub due_few : (state : State) → due state ≤ 3
-due_few t.Between = omega arith
-due_few t.OneDue = omega arith
-due_few t.TwoDue = omega arith
-due_few t.ThreeDue = omega arith
-due_few t.BehindE0 = omega arith
-due_few t.BehindEd = omega arith
-due_few t.BehindF0 = omega arith
-due_few t.BehindF4 = omega arith
-due_few t.Damaged = omega arith
+pub due_few : (state : State) → tail_due state ≤ 3
+due_few state = grind arith
 
 -- inside a character one byte less is due behind a further one
-due_step : (state : State) (byte : ℕ) → 0 < due state → due (after_byte state byte) < due state
-due_step state byte some =
-    elim (cases_lt 0 (due (after_byte state byte))) [
-      | inl more ↦ go (due (after_byte state byte)) (back state byte more)
-      | inr none ↦ omega (arith, none, some)
-    ]
-  where
-    go : (left : ℕ) → Back state byte left → left < due state
-    go left (begins high is) = absurd (let none = ap due is in omega (arith, none, some))
-    go left (goes_on low is) = omega (arith, is)
+due_step : (state : State) (byte : ℕ) → 0 < tail_due state → tail_due (after_byte state byte) < tail_due state
+unfolding is_from after_first after_next
+due_step state byte some = grind (arith, nat_tests)
 
 pub state_due : (bytes more : List ℕ) → is_inside (after t.Between bytes) ≡ true → length more ≡ 1
-    → due (after t.Between (bytes ++ more)) < due (after t.Between bytes)
-state_due bytes [] is one = absurd (omega (arith, one))
-state_due bytes (byte ∷ []) is one =
-    subst (λ (z : State). due z < due (after t.Between bytes)) (sym (after-append t.Between bytes (byte ∷ [])))
-    (due_step (after t.Between bytes) byte (inside_not (after t.Between bytes) is).0)
-state_due bytes (byte ∷ (other ∷ more)) is one = absurd (omega (arith, one))
+    → tail_due (after t.Between (bytes ++ more)) < tail_due (after t.Between bytes)
+state_due bytes more is one = grind (arith, after-append, due_step, inside_not)
 
-pub inside_some : (bytes : List ℕ) → is_inside (after t.Between bytes) ≡ true → 0 < due (after t.Between bytes)
+pub inside_some : (bytes : List ℕ) → is_inside (after t.Between bytes) ≡ true → 0 < tail_due (after t.Between bytes)
 inside_some bytes is = (inside_not (after t.Between bytes) is).0
 
 -- the state behind bytes is that behind what follows their longest front

@@ -13,7 +13,8 @@ use Rattle.std.specs.Fmt.{HasWritten, IsPlainFormatter, DisplaysOnOk, WritesOnOk
 use Rattle.std.specs.Fmt.{digits_output, styled_digits_output, shown_prefix, radix_prefix}
 use Rattle.std.specs.Option.{option_map}
 use Rattle.std.specs.declared.fmt.Formatter.{Formatter}
-use Rattle.cbor_look.specs.RowTexts.{blank, hex_text, joined_text, more_text, characters_text, character_text}
+use Rattle.ciborium_ll_text.specs.Digits.{hex_text}
+use Rattle.cbor_look.specs.RowTexts.{blank, joined_text, more_text, characters_text, character_text}
 use Rattle.cbor_look.specs.RowTexts.{shown_text}
 use Rattle.cbor_look.specs.RowTexts.{digits_text, margin_text, meaning_text, row_text}
 use Rattle.cbor_look.specs.declared.rows.Meaning.{Meaning}

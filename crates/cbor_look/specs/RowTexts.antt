@@ -6,6 +6,7 @@ use Rattle.std.specs.Char.{encode_utf8}
 use Rattle.std.specs.Fmt.{signed_decimal}
 use Rattle.std.specs.Int.{to_be_bytes, w16, w32, w64}
 use Rattle.std.specs.Str.{chars, is_utf8}
+use Rattle.ciborium_ll_text.specs.Digits.{hex_text}
 use Rattle.ciborium_ll.specs.Types.Float.{Float}
 use Rattle.ciborium_ll.specs.Types.Float.TheVariants as f
 use Rattle.ciborium_ll.specs.Types.Header.{Header}
@@ -20,14 +21,6 @@ use Rattle.cbor_look.specs.declared.rows.Row.{Row}
 abbrev pub blank : ℕ → List ℕ
 blank zero = []
 blank (suc count) = 32 ∷ blank count
-
--- the hexadecimal digit of a number below 16, in lower case
-abbrev pub hex_digit : ℕ → ℕ
-hex_digit number = if nat_lt number 10 then 48 + number else 87 + number
-
--- a byte as two digits
-abbrev pub hex_text : ℕ → List ℕ
-hex_text byte = hex_digit (byte / 16) ∷ hex_digit (byte % 16) ∷ []
 
 -- bytes as digits, one behind the other
 abbrev pub joined_text : List ℕ → List ℕ

@@ -1,4 +1,5 @@
 pub mod Cuts
+pub mod Digits
 pub mod Numbers
 pub mod Rows
 pub mod States

@@ -2,7 +2,8 @@
 
 ghost use Rattle.std.specs.Prelude.{◌≡◌, ◌<◌, true};
 ghost use Rattle.ciborium_ll.specs.Encoding.{WritesBytes};
-ghost use Rattle.cbor_diag.specs.Notation.{body_text, byte_text, escaped_text, hex_digit, hex_text};
+ghost use Rattle.ciborium_ll_text.specs.Digits.{hex_digit, hex_text};
+ghost use Rattle.cbor_diag.specs.Notation.{body_text, byte_text, escaped_text};
 
 use crate::put::{put, put_two};
 use ciborium_ll::io::Write;

@@ -1,6 +1,7 @@
 use Rattle.std.proofs.Common.{◌∙◌, ◌<◌, ◌++◌, List, ℕ, Ok, rules, append_assoc, ap, get_or, length, refl, sym, take}
 use Rattle.std.proofs.Common.{take_all}
-use Rattle.cbor_look.specs.RowTexts.{hex_text, joined_text}
+use Rattle.ciborium_ll_text.specs.Digits.{hex_text}
+use Rattle.cbor_look.specs.RowTexts.{joined_text}
 use Rattle.cbor_look.proofs.RowTextLaws.{hex_shown, joined_at, shows, then_written}
 use Rattle.cbor_look.proofs.rows.bits.Goals as goal
 

@@ -1,7 +1,8 @@
 use Rattle.std.proofs.Common.{◌≡◌, ◌∙◌, ◌<◌, ◌∷◌, [], Some, ap, arith, sym}
 use Rattle.std.proofs.lemmas.Bool.Decides.{nat_tests}
 use Rattle.std.specs.Fmt.{◌++?◌}
-use Rattle.cbor_look.specs.RowTexts.{hex_text, character_text}
+use Rattle.ciborium_ll_text.specs.Digits.{hex_text}
+use Rattle.cbor_look.specs.RowTexts.{character_text}
 use Rattle.cbor_look.proofs.RowTextLaws.{hex_shown, shows}
 use Rattle.cbor_look.proofs.rows.character.Goals as goal
 

@@ -3,7 +3,8 @@ use Rattle.std.proofs.Common.{drop, get_or, length}
 use Rattle.std.proofs.Common.{[], refl, subst, sym, take}
 use Rattle.std.proofs.lemmas.Grind.{common_steps}
 use Rattle.std.specs.Fmt.{◌++?◌, HasWritten}
-use Rattle.cbor_look.specs.RowTexts.{hex_text, more_text, digits_text}
+use Rattle.ciborium_ll_text.specs.Digits.{hex_text}
+use Rattle.cbor_look.specs.RowTexts.{more_text, digits_text}
 use Rattle.cbor_look.proofs.RowTextLaws.{hex_shown, more_at, shows, then_written}
 use Rattle.cbor_look.proofs.rows.digits.Goals as goal
 

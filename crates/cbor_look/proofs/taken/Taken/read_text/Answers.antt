@@ -2,9 +2,8 @@ use Rattle.std.proofs.Common.{◌≡◌, ◌++◌, true, ℕ, List, length, arit
 use Rattle.std.proofs.Common.{length-append}
 use Rattle.ciborium_ll.proofs.DecodingLaws.{exit_is}
 use Rattle.ciborium_ll.specs.Strings.{Text}
-use Rattle.ciborium_ll_text.specs.States.{after}
+use Rattle.ciborium_ll_text.specs.States.{after, tail_due}
 use Rattle.ciborium_ll_text.specs.declared.state.State.TheVariants.{Between}
-use Rattle.ciborium_ll_text.proofs.LastEndLaws.{due}
 use Rattle.cbor_look.specs.Parts.{is_inside, is_between}
 use Rattle.cbor_look.specs.Takings.{taken_bytes}
 use Rattle.cbor_look.proofs.TakingLaws.{keeps_then}
@@ -60,8 +59,8 @@ more-preserved g c =
     let room = so_far.room in
     let one : length reads.bytes ≡ 1 = omega (arith, counted, some, room) in
     let less = state_due row reads.bytes inside one in
-    let moved : due (after Between next) ≡ due (after Between (row ++ reads.bytes)) =
-    ap (λ (z : List ℕ). due (after Between z)) reads.behind in
+    let moved : tail_due (after Between next) ≡ tail_due (after Between (row ++ reads.bytes)) =
+    ap (λ (z : List ℕ). tail_due (after Between z)) reads.behind in
     let long = ap length reads.behind in
     let both = length-append row reads.bytes in
     let value = c.len.ensures.value in

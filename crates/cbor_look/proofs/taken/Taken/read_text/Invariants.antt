@@ -1,8 +1,7 @@
 use Rattle.std.proofs.Common.{◌≡◌, ◌+◌, ◌-◌, length, ◌<◌, ◌≤◌, min, None}
 use Rattle.ciborium_ll.specs.Decoding.{Passes}
-use Rattle.ciborium_ll_text.specs.States.{after}
+use Rattle.ciborium_ll_text.specs.States.{after, tail_due}
 use Rattle.ciborium_ll_text.specs.declared.state.State.TheVariants.{Between}
-use Rattle.ciborium_ll_text.proofs.LastEndLaws.{due}
 use Rattle.cbor_look.specs.Takings.{Keeps, taken_bytes}
 use Rattle.cbor_look.proofs.taken.Taken.read_text.Given as goal
 
@@ -11,7 +10,7 @@ invariant-more g l = record {
   keeps : Keeps g.R.Read (taken_bytes l.fn.self) (taken_bytes l.self) l.fn.decoder l.decoder;
   most : length (taken_bytes l.self) ≤ l.left;
   some : 0 < l.left → 0 < length (taken_bytes l.self);
-  room : length (taken_bytes l.self) + due (after Between (taken_bytes l.self)) ≤ 16;
+  room : length (taken_bytes l.self) + tail_due (after Between (taken_bytes l.self)) ≤ 16;
   many : min l.left 13 ≤ length (taken_bytes l.self);
   passed : l.fn.decoder.waiting ≡ None → Passes g.R.Read l.fn.decoder (taken_bytes l.self) l.decoder;
 }
