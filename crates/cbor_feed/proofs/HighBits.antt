@@ -1,13 +1,10 @@
 -- The highest bits of the bytes of a word: where none of those that count is set, these bytes are ASCII.
-use Rattle.std.proofs.Common.{◌≡◌, ℕ, zero, suc, ◌+◌, ◌-◌, ◌*◌, ◌/◌, ◌%◌, ◌^◌, ◌<◌, ◌≤◌, Bool, true, List, []}
-use Rattle.std.proofs.Common.{◌∷◌}
-use Rattle.std.proofs.Common.{◌&&◌, ◌||◌, eqb, leb, eqb-true, leb-true, get_or, length, length-drop, drop, take, slice_index, refl}
-use Rattle.std.proofs.Common.{sym, ap}
-use Rattle.std.proofs.Common.{subst, ◌∙◌, arith, inl, inr, min, bit_and, bit_or}
-use Rattle.std.proofs.lemmas.Bool.{agree_below_at, and_parts, or_cases}
+use Rattle.std.proofs.Common.{◌≡◌, ℕ, zero, suc, ◌+◌, ◌-◌, ◌*◌, ◌/◌, ◌%◌, ◌^◌, ◌<◌, ◌≤◌, Bool, true, List, [], ◌∷◌}
+use Rattle.std.proofs.Common.{◌&&◌, ◌||◌, eqb, leb, eqb-true, leb-true, get_or, length, length-drop, drop, take}
+use Rattle.std.proofs.Common.{slice_index, refl, sym, ap, subst, ◌∙◌, arith, inl, inr, min, bit_and, bit_or}
+use Rattle.std.proofs.lemmas.Bool.{agree_below_at, and_parts, or_cases, cases_lt}
 use Rattle.std.proofs.lemmas.List.{get_or-drop, get_or-take, length-take-le}
 use Rattle.std.proofs.Math.ListN.{get_or-eq_default}
-use Rattle.std.proofs.lemmas.Bool.{cases_lt}
 use Rattle.std.proofs.lemmas.Nat.{and_le_l, and_le_r}
 use Rattle.std.proofs.lemmas.Nat.Bits.{bit_at_and, bit_at-zero}
 use Rattle.std.specs.Int.{bit_at, to_le_bytes, w64}

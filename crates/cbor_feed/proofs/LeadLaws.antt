@@ -1,7 +1,7 @@
 -- Where several bytes lead at once.
-use Rattle.std.proofs.Common.{◌≡◌, ℕ, zero, suc, ◌+◌, ◌-◌, ◌<◌, ◌≤◌, Bool, true, false, List, [], ◌∷◌, ◌++◌}
-use Rattle.std.proofs.Common.{length, take, drop, slice_index, refl, sym, ap, subst, ◌∙◌, arith}
-use Rattle.std.proofs.Common.{append_assoc, append-nil, length-append, le-leb, Option, Some, None}
+use Rattle.std.proofs.Common.{◌≡◌, ℕ, zero, suc, ◌+◌, ◌-◌, ◌<◌, ◌≤◌, Bool, true, false, List, [], ◌∷◌, ◌++◌, length}
+use Rattle.std.proofs.Common.{take, drop, slice_index, refl, sym, ap, subst, ◌∙◌, arith, append_assoc, append-nil}
+use Rattle.std.proofs.Common.{length-append, le-leb, Option, Some, None}
 use Rattle.std.proofs.lemmas.List.{length-take-le, take_at, take_rest, take-take}
 use Rattle.std.proofs.Math.Seq.{take-add}
 use Rattle.ciborium_ll_text.specs.declared.state.State.{State}
@@ -18,8 +18,8 @@ use Rattle.cbor_feed.specs.declared.phase.Within.{Within}
 use Rattle.cbor_feed.specs.declared.phase.Within.TheVariants as w
 use Rattle.cbor_feed.specs.Levels.{next}
 use Rattle.cbor_feed.specs.Spots.{Spot, at_phase, settled, string_done, bytes_due}
-use Rattle.cbor_feed.specs.Steps.{IsFed, Leads, Step, StepIn, TitleStep, stay, go, more, counted, counted_by}
-use Rattle.cbor_feed.specs.Steps.{text_left, with_byte}
+use Rattle.cbor_feed.specs.Steps.{IsFed, Leads, Step, StepIn, TitleStep, stay, go, more, counted, counted_by, text_left}
+use Rattle.cbor_feed.specs.Steps.{with_byte}
 use Rattle.cbor_feed.specs.Telling.{is_due}
 use Rattle.cbor_feed.proofs.TellLaws.{step_counts}
 

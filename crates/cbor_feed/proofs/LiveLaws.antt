@@ -1,8 +1,6 @@
 -- Where there is no fault, some bytes make an item of those so far.
-use Rattle.std.proofs.Common.{◌≡◌, ℕ, zero, suc, ◌-◌, ◌*◌, ◌<◌, ◌⊎◌, inl, inr, Bool, true, false, List}
-use Rattle.std.proofs.Common.{[]}
-use Rattle.std.proofs.Common.{◌∷◌, ◌++◌, length, Option, Some, None, refl, sym, ap, subst, ◌∙◌, arith, append_assoc}
-use Rattle.std.proofs.Common.{length-append, le-leb}
+use Rattle.std.proofs.Common.{◌≡◌, ℕ, zero, suc, ◌-◌, ◌*◌, ◌<◌, ◌⊎◌, inl, inr, Bool, true, false, List, [], ◌∷◌, ◌++◌}
+use Rattle.std.proofs.Common.{length, refl, sym, ap, ◌∙◌, arith, append_assoc, length-append}
 use Rattle.std.proofs.Math.ListN.{replicate}
 use Rattle.std.proofs.lemmas.List.{length-replicate}
 use Rattle.ciborium_ll_grammar.specs.declared.hdr.Header.{Header}
@@ -23,17 +21,15 @@ use Rattle.cbor_feed.specs.declared.phase.Phase.TheVariants as p
 use Rattle.cbor_feed.specs.declared.phase.Fault.{Fault}
 use Rattle.cbor_feed.specs.declared.phase.Within.{Within}
 use Rattle.cbor_feed.specs.declared.phase.Within.TheVariants as w
-use Rattle.cbor_feed.specs.Levels.{closes, contents, next}
-use Rattle.cbor_feed.specs.Spots.{Spot, settled, string_done, bytes_due, text_due, nested, broken, body_placed}
-use Rattle.cbor_feed.specs.Spots.{item_entered, open_entered, string_closed, bytes_entered, text_entered, entered}
-use Rattle.cbor_feed.specs.Steps.{SomeTaken, with_byte, titled, TitleStep, cut, early, whole, none}
-use Rattle.cbor_feed.specs.Steps.{text_left, counted, StepIn, IsFed, fresh, more}
+use Rattle.cbor_feed.specs.Spots.{Spot}
+use Rattle.cbor_feed.specs.Steps.{SomeTaken, with_byte, titled, TitleStep, cut, early, whole, none, text_left, counted}
+use Rattle.cbor_feed.specs.Steps.{StepIn, IsFed, fresh, more}
 use Rattle.cbor_feed.proofs.Waiting.{Takes, Ends, EndsString, EndsStrings, BodyThen, AnyBody, TextBody, TitleDue}
 use Rattle.cbor_feed.proofs.Waiting.{StringDone, WaitsIn}
 use Rattle.cbor_feed.proofs.StringLaws.{taken_none}
 use Rattle.cbor_feed.proofs.StepLaws.{fed_same}
 use Rattle.cbor_feed.proofs.TitleDueLaws.{title_enters}
-use Rattle.cbor_feed.proofs.KeptLaws.{entered_kept}
+use Rattle.cbor_feed.proofs.KeptLaws.{Ready, Kept, string_kept, bytes_kept, entered_kept}
 
 -- ---- what ends levels and strings
 
@@ -171,95 +167,17 @@ FrontSound spot = (spot.front ≡ []) ⊎ (AreBytes spot.front × IsCutTitle spo
     → IsTitle (spot.front ++ behind) x
     → (titled x spot).phase ≡ p.Faulted fault → ⊥))
 
-abbrev pub SoundIn : Phase → Spot → Type 0
-SoundIn p.Title spot = FrontSound spot
-SoundIn (p.Bytes zero) spot = ⊥
-SoundIn (p.Text zero state) spot = ⊥
-SoundIn (p.Text (suc left) state) spot = may_end state (suc left) ≡ true
-SoundIn phase spot = Unit {0}
-
 abbrev pub Sound : Spot → Type 0
-Sound spot = SoundIn spot.phase spot
+Sound spot = Ready spot.phase × (spot.phase ≡ p.Title → FrontSound spot)
 
--- a spot with no part of a title
-module _ (spot : Spot) (clear : spot.front ≡ []) where
-  settled_by : (o : Option Level) (g : Level) (gs : List Level) (d : ℕ) → next g ≡ o → Sound (settled (suc d) gs spot)
-      → Sound (settled d (g ∷ gs) spot)
-  settled_by None g gs d e sound = rw (e, settled) sound
-  settled_by (Some left) g gs d e sound = rw (e, settled) (inl clear)
+kept_sound : (spot new : Spot) → spot.front ≡ [] → Kept spot new → Sound new
+kept_sound spot new clear kept = (kept.2, λ at. inl (kept.0 ∙ clear))
 
-  settled_sound : (levels : List Level) (d : ℕ) → Sound (settled d levels spot)
-  settled_sound [] d = tt
-  settled_sound (g ∷ gs) d = settled_by (next g) g gs d refl (settled_sound gs (suc d))
-
-  string_sound : (i : Within) → Sound (string_done i spot)
-  string_sound w.Nothing = settled_sound spot.levels spot.depth
-  string_sound (w.Bytes n) = inl clear
-  string_sound (w.Text n) = inl clear
-
-  bytes_sound : (len : ℕ) → Sound (bytes_due len spot)
-  bytes_sound zero = string_sound spot.within
-  bytes_sound (suc len) = tt
-
-  text_sound : (len : ℕ) → Sound (text_due len spot)
-  text_sound zero = string_sound spot.within
-  text_sound (suc len) = le-leb 0 (suc len) (omega arith)
-
-  nested_sound : (depth : ℕ) (level : Level) → Sound (nested depth level spot)
-  nested_sound zero level = tt
-  nested_sound (suc d) level = settled_sound (level ∷ spot.levels) d
-
-  broken_by : (b : Bool) (g : Level) (gs : List Level) → closes g ≡ b → Sound (broken (g ∷ gs) spot)
-  broken_by true g gs e = rw (e, broken) (settled_sound gs (suc spot.depth))
-  broken_by false g gs e = rw (e, broken) tt
-
-  broken_sound : (levels : List Level) → Sound (broken levels spot)
-  broken_sound [] = tt
-  broken_sound (g ∷ gs) = broken_by (closes g) g gs refl
-
-  closed_sound : (i : ℕ → Within) (n : ℕ) → Sound (string_closed i n spot)
-  closed_sound i zero = settled_sound spot.levels spot.depth
-  closed_sound i (suc n) = inl clear
-
-  open_sound : (s : Bool) (i : Within) → Sound (open_entered s i spot)
-  open_sound true i = tt
-  open_sound false i = inl clear
-
-  in_bytes_sound : (x : Header) (n : ℕ) → Sound (bytes_entered x n spot)
-  in_bytes_sound (h.Bytes (Some len)) n = bytes_sound len
-  in_bytes_sound (h.Bytes None) n = open_sound spot.strict (w.Bytes (suc n))
-  in_bytes_sound h.Break n = closed_sound w.Bytes n
-  in_bytes_sound x n = tt
-
-  in_text_sound : (x : Header) (n : ℕ) → Sound (text_entered x n spot)
-  in_text_sound (h.Text (Some len)) n = text_sound len
-  in_text_sound (h.Text None) n = open_sound spot.strict (w.Text (suc n))
-  in_text_sound h.Break n = closed_sound w.Text n
-  in_text_sound x n = tt
-
-  left_sound : (b : Bool) (left : ℕ) (state : State) → may_end state left ≡ b → Sound (text_left b left state spot)
-  left_sound false left state e = tt
-  left_sound true zero state e = string_sound spot.within
-  left_sound true (suc left) state e = e
-
-item_sound : (x : Header) (spot : Spot) → spot.front ≡ [] → Sound (item_entered x spot)
-item_sound (h.Bytes (Some n)) spot clear = bytes_sound spot clear n
-item_sound (h.Bytes None) spot clear = inl clear
-item_sound (h.Text (Some n)) spot clear = text_sound (body_placed n spot) clear n
-item_sound (h.Text None) spot clear = inl clear
-item_sound (h.Tag n) spot clear = nested_sound spot clear spot.depth (contents (h.Tag n))
-item_sound (h.Array n) spot clear = nested_sound spot clear spot.depth (contents (h.Array n))
-item_sound (h.Map n) spot clear = nested_sound spot clear spot.depth (contents (h.Map n))
-item_sound h.Break spot clear = broken_sound spot clear spot.levels
-item_sound (h.Positive n) spot clear = settled_sound spot clear spot.levels spot.depth
-item_sound (h.Negative n) spot clear = settled_sound spot clear spot.levels spot.depth
-item_sound (h.Float n) spot clear = settled_sound spot clear spot.levels spot.depth
-item_sound (h.Simple n) spot clear = settled_sound spot clear spot.levels spot.depth
-
-entered_sound : (i : Within) (x : Header) (spot : Spot) → spot.front ≡ [] → Sound (entered i x spot)
-entered_sound w.Nothing x spot clear = item_sound x spot clear
-entered_sound (w.Bytes n) x spot clear = in_bytes_sound spot clear x n
-entered_sound (w.Text n) x spot clear = in_text_sound spot clear x n
+left_sound : (b : Bool) (left : ℕ) (state : State) (spot : Spot) → spot.front ≡ [] → may_end state left ≡ b
+    → Sound (text_left b left state spot)
+left_sound true zero state spot clear e = kept_sound spot _ clear (string_kept spot.within spot)
+left_sound true (suc left) state spot clear e = (e, λ at. inl clear)
+left_sound false left state spot clear e = (tt, λ at. inl clear)
 
 -- ---- each spot that bytes lead to is sound
 
@@ -268,29 +186,24 @@ byte_front spot b byte (inl clear) = rw clear (byte, tt)
 byte_front spot b byte (inr o) = AreBytes-append spot.front (b ∷ []) o.0 (byte, tt)
 
 title_sound : (spot new : Spot) → TitleStep spot new → spot.phase ≡ p.Title → AreBytes spot.front → Sound new
-title_sound spot new (cut c some may) e bytes =
-    subst (λ (z : Phase). SoundIn z spot) (sym e) (inr (bytes, c, some, may))
-title_sound spot new (early fault c some all) e bytes = tt
-title_sound spot new (whole x q g) e bytes = entered_sound spot.within x (record spot { front = [] }) refl
-title_sound spot new (none r) e bytes = tt
+title_sound spot new (cut c some may) e bytes = (rw e tt, λ at. inr (bytes, c, some, may))
+title_sound spot new (early fault c some all) e bytes = (tt, λ at. absurd cc)
+title_sound spot new (whole x q g) e bytes =
+    kept_sound (record spot { front = [] }) _ refl (entered_kept spot.within x (record spot { front = [] }))
+title_sound spot new (none r) e bytes = (tt, λ at. inl refl)
 
-step_sound : (phase : Phase) (spot new : Spot) (b : ℕ) → phase ≡ spot.phase → SoundIn phase spot → b < 256
-    → StepIn phase spot b new
-    → Sound new
+step_sound : (phase : Phase) (spot new : Spot) (b : ℕ) → phase ≡ spot.phase → Sound spot → b < 256
+    → StepIn phase spot b new → Sound new
 step_sound p.Title spot new b e sound byte step =
-    title_sound (with_byte b spot) new step (sym e) (byte_front spot b byte sound)
-step_sound (p.Bytes zero) spot new b e sound byte step = absurd step
+    title_sound (with_byte b spot) new step (sym e) (byte_front spot b byte (sound.1 (sym e)))
 step_sound (p.Bytes (suc left)) spot new b e sound byte step =
-    subst Sound (sym step) (bytes_sound (counted spot) refl left)
-step_sound (p.Text zero state) spot new b e sound byte step = absurd step
+    rw step (kept_sound (counted spot) _ refl (bytes_kept left (counted spot)))
 step_sound (p.Text (suc left) state) spot new b e sound byte step =
-    let next = after_byte state b in
-    subst Sound (sym step) (left_sound (counted spot) refl (may_end next left) left next refl)
-step_sound p.Ended spot new b e sound byte step = absurd step
-step_sound (p.Faulted fault) spot new b e sound byte step = absurd step
+    rw step (left_sound _ left (after_byte state b) (counted spot) refl refl)
+step_sound phase spot new b e sound byte step = absurd step
 
 pub fed_sound : (s : Bool) (d : ℕ) (fed : List ℕ) (spot : Spot) → IsFed s d fed spot → Sound spot
-fed_sound s d fed spot fresh = inl refl
+fed_sound s d fed spot fresh = (tt, λ at. inl refl)
 fed_sound s d fed spot (more {bytes = a} {spot = before} b byte is step) =
     step_sound before.phase before spot b refl (fed_sound s d a before is) byte step
 
@@ -332,50 +245,34 @@ text_goes n state spot may =
 
 first_goes : (spot : Spot) → spot.front ≡ []
     → (y : List ℕ) × TitleDue spot.strict spot.within spot.depth spot.levels (spot.front ++ y)
-first_goes spot clear =
-    let o = some_due spot.strict spot.within spot.depth spot.levels in
-    (o.0, subst (λ (z : List ℕ). TitleDue spot.strict spot.within spot.depth spot.levels (z ++ o.0)) (sym clear) o.1)
+first_goes spot clear = rw clear (some_due spot.strict spot.within spot.depth spot.levels)
 
--- with no part of a title
-clear_in : (phase : Phase) (spot : Spot) → phase ≡ spot.phase → SoundIn phase spot → spot.front ≡ [] → NoFault spot
-    → (y : List ℕ) × WaitsIn phase spot y
-clear_in p.Title spot e sound clear goes = first_goes spot clear
-clear_in (p.Bytes n) spot e sound clear goes = bytes_goes n spot
-clear_in (p.Text zero state) spot e sound clear goes = absurd sound
-clear_in (p.Text (suc n) state) spot e sound clear goes = text_goes (suc n) state spot sound
-clear_in p.Ended spot e sound clear goes = ([], refl)
-clear_in (p.Faulted fault) spot e sound clear goes = absurd (goes fault (sym e))
+-- from a sound spot, if some do where a title is due
+live_in : (phase : Phase) (spot : Spot) → phase ≡ spot.phase → Ready phase → NoFault spot
+    → (phase ≡ p.Title → (y : List ℕ) × WaitsIn p.Title spot y) → (y : List ℕ) × WaitsIn phase spot y
+live_in p.Title spot e ready goes title = title refl
+live_in (p.Bytes n) spot e ready goes title = bytes_goes n spot
+live_in (p.Text zero state) spot e ready goes title = absurd ready
+live_in (p.Text (suc n) state) spot e ready goes title = text_goes (suc n) state spot ready
+live_in p.Ended spot e ready goes title = ([], refl)
+live_in (p.Faulted fault) spot e ready goes title = absurd (goes fault (sym e))
 
 title_goes : (spot : Spot) → FrontSound spot
     → (y : List ℕ) × TitleDue spot.strict spot.within spot.depth spot.levels (spot.front ++ y)
 title_goes spot (inl clear) = first_goes spot clear
-title_goes spot (inr o) =
-    let some = o.2 in
-    let behind = some.0 in
-    let header = some.1 in
+title_goes spot (inr (bytes, c, (behind, header, is_title, taken), may)) =
     let at = titled header spot in
     let before = record spot { front = [] } in
-    let sound = entered_sound spot.within header before refl in
     let kept = entered_kept spot.within header before in
-    let goes = clear_in at.phase at refl sound kept.0 (λ fault is. o.3 behind header fault some.2 is) in
-    let due = (title_enters spot.within before (spot.front ++ behind) goes.0 header refl refl some.2 some.3).1
-    goes.1 in (
-      behind ++ goes.0,
-      subst (TitleDue spot.strict spot.within spot.depth spot.levels) (append_assoc spot.front behind goes.0) due,
-    )
-
-live_in : (phase : Phase) (spot : Spot) → phase ≡ spot.phase → SoundIn phase spot → NoFault spot
-    → (y : List ℕ) × WaitsIn phase spot y
-live_in p.Title spot e sound goes = title_goes spot sound
-live_in (p.Bytes n) spot e sound goes = bytes_goes n spot
-live_in (p.Text zero state) spot e sound goes = absurd sound
-live_in (p.Text (suc n) state) spot e sound goes = text_goes (suc n) state spot sound
-live_in p.Ended spot e sound goes = ([], refl)
-live_in (p.Faulted fault) spot e sound goes = absurd (goes fault (sym e))
+    let goes = live_in at.phase at refl kept.2 (λ fault is. may behind header fault is_title is)
+    (λ title. first_goes at kept.0) in
+    let due = (title_enters spot.within before (spot.front ++ behind) goes.0 header refl refl is_title taken).1
+    goes.1 in (behind ++ goes.0, rw append_assoc at due)
 
 -- where there is no fault, some bytes make an item
 pub fed_goes : (s : Bool) (d : ℕ) (fed : List ℕ) (spot : Spot) → IsFed s d fed spot → NoFault spot
     → (y : List ℕ) × IsItem s d (fed ++ y)
 fed_goes s d fed spot is goes =
-    let o = live_in spot.phase spot refl (fed_sound s d fed spot is) goes in
+    let sound = fed_sound s d fed spot is in
+    let o = live_in spot.phase spot refl sound.0 goes (λ at. title_goes spot (sound.1 at)) in
     (o.0, (fed_same s d fed spot is o.0).1 o.1)

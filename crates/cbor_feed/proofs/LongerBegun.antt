@@ -1,7 +1,6 @@
 -- Which bytes begin a title that is the shortest of its header.
-use Rattle.std.proofs.Common.{◌≡◌, ℕ, zero, suc, ◌+◌, ◌-◌, ◌<◌, ◌≤◌, ◌%◌, ◌^◌, inl, inr, Bool, true, false, cond}
-use Rattle.std.proofs.Common.{List, [], ◌∷◌, ◌++◌, length, get_or, refl, sym, ap, subst, ◌∙◌, arith}
-use Rattle.std.proofs.Common.{length-append, ◌==◌, nat_lt}
+use Rattle.std.proofs.Common.{◌≡◌, ℕ, zero, suc, ◌+◌, ◌-◌, ◌<◌, ◌≤◌, ◌%◌, ◌^◌, inl, inr, Bool, true, false, cond, List}
+use Rattle.std.proofs.Common.{[], ◌∷◌, ◌++◌, length, get_or, refl, sym, ap, subst, ◌∙◌, arith, length-append, ◌==◌, nat_lt}
 use Rattle.std.proofs.Common.{slice_index, Option, Some, None, IfSome, IfNone}
 use Rattle.std.proofs.Math.ListN.{replicate}
 use Rattle.std.proofs.lemmas.Bool.{cases_lt}
@@ -11,8 +10,8 @@ use Rattle.ciborium_ll_grammar.specs.declared.hdr.Header.{Header}
 use Rattle.ciborium_ll_grammar.specs.declared.hdr.Minor.{Minor}
 use Rattle.ciborium_ll_grammar.specs.Title.{Major, Unsigned, Negative, ByteString, TextString, Array, Map, Tag, Other}
 use Rattle.ciborium_ll_grammar.specs.Title.{major_code, first_byte, Size, Small, One, Two, Four, Eight, size_limit}
-use Rattle.ciborium_ll_grammar.specs.Title.{affix_len, numbered_title, numbered_header, IsTitle}
-use Rattle.ciborium_ll_grammar.specs.Title.{numbered, alone, IsStrictTitle, AreBytes, BeginsRefused, IsNeverOpen}
+use Rattle.ciborium_ll_grammar.specs.Title.{affix_len, numbered_title, numbered_header, IsTitle, numbered, alone}
+use Rattle.ciborium_ll_grammar.specs.Title.{IsStrictTitle, AreBytes, BeginsRefused, IsNeverOpen}
 use Rattle.ciborium_ll_grammar.specs.Parts.{IsMinor, minor_code, parts_bytes, longer_parts}
 use Rattle.ciborium_ll_grammar.specs.Items.{IsTakenTitle}
 use Rattle.ciborium_ll_grammar.proofs.TitleLaws.{one_title, title_refused}
