@@ -38,8 +38,10 @@ string_sound i spot fault is = cc
 may_stand : (i : Within) (d : ℕ) (m : Major) (s : Size) (n : ℕ) (spot : Spot) (fault : Fault) → d ≡ spot.depth
     → blocked i d spot.place (kind_of m) ≡ None
     → (entered i (numbered_header m s n) spot).phase ≡ p.Faulted fault → ⊥
-may_stand w.Nothing (suc d) Array s n spot fault e b is = settled_sound (l.Items n ∷ spot.levels) d _ fault (rw (← e) at is)
-may_stand w.Nothing (suc d) Map s n spot fault e b is = settled_sound (l.Pairs n ∷ spot.levels) d _ fault (rw (← e) at is)
+may_stand w.Nothing (suc d) Array s n spot fault e b is =
+    settled_sound (l.Items n ∷ spot.levels) d _ fault (rw (← e) at is)
+may_stand w.Nothing (suc d) Map s n spot fault e b is =
+    settled_sound (l.Pairs n ∷ spot.levels) d _ fault (rw (← e) at is)
 may_stand w.Nothing (suc d) Tag s n spot fault e b is = let bad = rw (← e) at is in cc
 may_stand w.Nothing d Other Small n spot fault e b is = settled_sound spot.levels spot.depth spot fault is
 may_stand w.Nothing d TextString s zero spot fault e b is = string_sound spot.within (body_placed 0 spot) fault is

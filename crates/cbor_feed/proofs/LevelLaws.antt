@@ -52,8 +52,8 @@ module _ (s : Bool) (f g : Level) (d : ℕ) (Then : List ℕ → Type 0) (goes :
   level_opens n items e rest y no_items t k is =
       let o = next_end f g e goes t in
       inr (record { rest = rest; may = o.0; behind = k; is = rw o.1 at is })
-  level_opens n items e rest y (more_items {count = m} {title = t} {rest = r} {others = a} {header = x} q v c i) u k is =
-      inl (record {
+  level_opens n items e rest y (more_items {count = m} {title = t} {rest = r} {others = a} {header = x} q v c i) u k
+      is = inl (record {
         item = t ++ r;
         rest = a ++ (e ++ rest);
         is_item = item_of s d t r x q v c;
