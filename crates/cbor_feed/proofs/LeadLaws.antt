@@ -1,7 +1,7 @@
 -- Where several bytes lead at once.
 use Rattle.std.proofs.Common.{◌≡◌, ℕ, zero, suc, ◌+◌, ◌-◌, ◌<◌, ◌≤◌, Bool, true, false, List, [], ◌∷◌, ◌++◌, length}
 use Rattle.std.proofs.Common.{take, drop, slice_index, refl, sym, ap, subst, ◌∙◌, arith, append_assoc, append-nil}
-use Rattle.std.proofs.Common.{length-append, le-leb, Option, Some, None}
+use Rattle.std.proofs.Common.{length-append, le-leb}
 use Rattle.std.proofs.lemmas.List.{length-take-le, take_at, take_rest, take-take}
 use Rattle.std.proofs.Math.Seq.{take-add}
 use Rattle.ciborium_ll_text.specs.declared.state.State.{State}
@@ -12,6 +12,7 @@ use Rattle.ciborium_ll_text.proofs.EndLaws.{may_back}
 use Rattle.ciborium_ll_text.proofs.Lists.{Below, below_rest, below_take, rest_long}
 use Rattle.ciborium_ll_text.proofs.StateLaws.{after-append, text_ends}
 use Rattle.cbor_feed.specs.declared.level.Level.{Level}
+use Rattle.cbor_feed.specs.declared.level.Level.TheVariants as l
 use Rattle.cbor_feed.specs.declared.phase.Phase.{Phase}
 use Rattle.cbor_feed.specs.declared.phase.Phase.TheVariants as p
 use Rattle.cbor_feed.specs.declared.phase.Within.{Within}
@@ -28,10 +29,9 @@ use Rattle.cbor_feed.proofs.TellLaws.{step_counts}
 -- they were fed behind those before
 pub leads_fed : (s : Bool) (d : ℕ) (fed xs : List ℕ) (spot new : Spot) → IsFed s d fed spot → Leads spot xs new
     → IsFed s d (fed ++ xs) new
-leads_fed s d fed xs spot new is stay = subst (λ (z : List ℕ). IsFed s d z spot) (sym (append-nil fed)) is
+leads_fed s d fed xs spot new is stay = rw append-nil is
 leads_fed s d fed xs spot new is (go {bytes = ys} {next = m} b below one rest) =
-    subst (λ (z : List ℕ). IsFed s d z new) (append_assoc fed (b ∷ []) ys)
-    (leads_fed s d (fed ++ b ∷ []) ys m new (more b below is one) rest)
+    rw append_assoc at (leads_fed s d (fed ++ b ∷ []) ys m new (more b below is one) rest)
 
 pub leads_more : (a b c : Spot) (xs ys : List ℕ) → Leads a xs b → Leads b ys c → Leads a (xs ++ ys) c
 leads_more a b c xs ys stay f = f
@@ -47,11 +47,9 @@ leads_counts spot new xs (go {bytes = ys} {next = m} b below one rest) =
     omega (arith, first, others)
 
 not_due : (phase : Phase) (spot new : Spot) (b : ℕ) → is_due phase ≡ false → StepIn phase spot b new → ⊥
-not_due p.Title spot new b off step = cc
-not_due (p.Bytes left) spot new b off step = cc
-not_due (p.Text left state) spot new b off step = cc
 not_due p.Ended spot new b off step = step
 not_due (p.Faulted fault) spot new b off step = step
+not_due phase spot new b off step = cc
 
 -- none comes where none is due
 pub leads_stays : (spot new : Spot) (xs : List ℕ) → is_due spot.phase ≡ false → Leads spot xs new
@@ -67,20 +65,14 @@ one_leads (x ∷ xs) spot new below some step = go x (below 0 (omega arith)) ste
 
 -- ---- what was due does not count behind a body
 
-settled_by : (o : Option Level) (g : Level) (gs : List Level) (d : ℕ) (s : Spot) (a : Phase) → next g ≡ o
-    → settled (suc d) gs (at_phase a s) ≡ settled (suc d) gs s
-    → settled d (g ∷ gs) (at_phase a s) ≡ settled d (g ∷ gs) s
-settled_by None g gs d s a e same = rw (e, settled) same
-settled_by (Some left) g gs d s a e same = rw (e, settled) refl
-
 settled_alike : (gs : List Level) (d : ℕ) (s : Spot) (a : Phase) → settled d gs (at_phase a s) ≡ settled d gs s
-settled_alike [] d s a = refl
-settled_alike (g ∷ gs) d s a = settled_by (next g) g gs d s a refl (settled_alike gs (suc d) s a)
+settled_alike (l.Items zero ∷ gs) d s a = settled_alike gs (suc d) s a
+settled_alike (l.Pairs zero ∷ gs) d s a = settled_alike gs (suc d) s a
+settled_alike gs d s a = refl
 
 done_alike : (i : Within) (s : Spot) (a : Phase) → string_done i (at_phase a s) ≡ string_done i s
 done_alike w.Nothing s a = settled_alike s.levels s.depth s a
-done_alike (w.Bytes n) s a = refl
-done_alike (w.Text n) s a = refl
+done_alike i s a = refl
 
 pub due_alike : (len : ℕ) (s : Spot) (a : Phase) → bytes_due len (at_phase a s) ≡ bytes_due len s
 due_alike zero s a = done_alike s.within s a
@@ -88,9 +80,8 @@ due_alike (suc n) s a = refl
 
 pub left_alike : (m : Bool) (len : ℕ) (x : State) (s : Spot) (a : Phase)
     → text_left m len x (at_phase a s) ≡ text_left m len x s
-left_alike false len x s a = refl
 left_alike true zero x s a = done_alike s.within s a
-left_alike true (suc n) x s a = refl
+left_alike m len x s a = refl
 
 -- ---- bytes of a byte string
 
@@ -105,27 +96,21 @@ body_leads [] left total n s below at all on some = absurd (omega arith)
 body_leads (x ∷ []) left total n s below at all on some =
     let here : s.phase ≡ p.Bytes (suc left) = at ∙ ap p.Bytes (omega (arith, all)) in
     let counts : n ≡ s.offset + 1 = omega (arith, on) in
-    let new = bytes_due left (at_count n s) in
-    go x (below 0 (omega arith))
-    (subst (λ (z : Phase). StepIn z s x new) (sym here)
-    (ap (λ (z : ℕ). bytes_due left (at_count z s)) counts))
-    stay
+    go x (below 0 (omega arith)) (rw (here, counts)) stay
 body_leads (x ∷ y ∷ ys) left total n s below at all on some =
     let k : ℕ = length ys + left in
     let here : s.phase ≡ p.Bytes (suc (suc k)) = at ∙ ap p.Bytes (omega (arith, all)) in
     let m : Spot = at_phase (p.Bytes (suc k)) (counted s) in
     let rest = body_leads (y ∷ ys) left (suc k) n m (below_rest x (y ∷ ys) below) refl (omega arith)
     (omega (arith, on)) (omega arith) in
-    go x (below 0 (omega arith)) (subst (λ (z : Phase). StepIn z s x m) (sym here) refl)
-    (subst (λ (z : Spot). Leads m (y ∷ ys) z) (due_alike left (at_count n s) (p.Bytes (suc k))) rest)
+    go x (below 0 (omega arith)) (rw here refl) (rw (due_alike left (at_count n s) (p.Bytes (suc k))) at rest)
 
 -- as many as are there
 pub bytes_lead : (xs : List ℕ) (n left : ℕ) (s new : Spot) → Below xs → s.phase ≡ p.Bytes left → 0 < n
     → n ≤ length xs → n ≤ left → new ≡ bytes_due (left - n) (counted_by n s) → Leads s (take n xs) new
 bytes_lead xs n left s new below at some le within e =
     let long = length-take-le n xs le in
-    subst (λ (z : Spot). Leads s (take n xs) z) (sym e)
-    (body_leads (take n xs) (left - n) left (s.offset + n) s (below_take n xs le below) at
+    rw e (body_leads (take n xs) (left - n) left (s.offset + n) s (below_take n xs le below) at
     (omega (arith, long, within)) (omega (arith, long)) (omega (arith, long, some)))
 
 -- ---- bytes of a text
@@ -137,12 +122,7 @@ chars_lead [] left total n state s below at all on some may = absurd (omega arit
 chars_lead (x ∷ []) left total n state s below at all on some may =
     let here : s.phase ≡ p.Text (suc left) state = at ∙ ap (λ (z : ℕ). p.Text z state) (omega (arith, all)) in
     let counts : n ≡ s.offset + 1 = omega (arith, on) in
-    let new = text_left true left (after_byte state x) (at_count n s) in
-    go x (below 0 (omega arith))
-    (subst (λ (z : Phase). StepIn z s x new) (sym here)
-    (ap (λ (z : ℕ). text_left true left (after_byte state x) (at_count z s)) counts
-    ∙ ap (λ (z : Bool). text_left z left (after_byte state x) (counted s)) (sym may)))
-    stay
+    go x (below 0 (omega arith)) (rw (here, counts, may)) stay
 chars_lead (x ∷ y ∷ ys) left total n state s below at all on some may =
     let k : ℕ = length ys + left in
     let behind : State = after_byte state x in
@@ -151,11 +131,8 @@ chars_lead (x ∷ y ∷ ys) left total n state s below at all on some may =
     let m : Spot = at_phase (p.Text (suc k) behind) (counted s) in
     let rest = chars_lead (y ∷ ys) left (suc k) n behind m (below_rest x (y ∷ ys) below) refl (omega arith)
     (omega (arith, on)) (omega arith) may in
-    go x (below 0 (omega arith))
-    (subst (λ (z : Phase). StepIn z s x m) (sym here)
-    (ap (λ (z : Bool). text_left z (suc k) behind (counted s)) (sym goes)))
-    (subst (λ (z : Spot). Leads m (y ∷ ys) z)
-    (left_alike true left (after behind (y ∷ ys)) (at_count n s) (p.Text (suc k) behind)) rest)
+    go x (below 0 (omega arith)) (rw (here, goes))
+    (rw (left_alike true left (after behind (y ∷ ys)) (at_count n s) (p.Text (suc k) behind)) at rest)
 
 -- as many as are there, or as make a text
 pub text_leads : (xs : List ℕ) (n left : ℕ) (state behind : State) (s new : Spot) → Below xs
@@ -164,51 +141,37 @@ pub text_leads : (xs : List ℕ) (n left : ℕ) (state behind : State) (s new : 
     → new ≡ text_left (may_end behind (left - n)) (left - n) behind (counted_by n s) → Leads s (take n xs) new
 text_leads xs n left state behind s new below at some le within is may e =
     let long = length-take-le n xs le in
-    let known : new ≡ text_left true (left - n) (after state (take n xs)) (counted_by n s) =
-    e ∙ (ap (λ (z : Bool). text_left z (left - n) behind (counted_by n s)) may
-    ∙ ap (λ (z : State). text_left true (left - n) z (counted_by n s)) is) in
-    subst (λ (z : Spot). Leads s (take n xs) z) (sym known)
-    (chars_lead (take n xs) (left - n) left (s.offset + n) state s (below_take n xs le below) at
-    (omega (arith, long, within)) (omega (arith, long)) (omega (arith, long, some))
-    (subst (λ (z : State). may_end z (left - n) ≡ true) is may))
+    rw (e, may, is) (chars_lead (take n xs) (left - n) left (s.offset + n) state s (below_take n xs le below) at
+    (omega (arith, long, within)) (omega (arith, long)) (omega (arith, long, some)) (rw is at may))
 
 -- ---- bytes of a list that come run by run
 
 pub run_more : (xs : List ℕ) (at n : ℕ) (s m new : Spot) → Leads s (take at xs) m
     → Leads m (take n (take (length xs - at) (drop at xs))) new → Leads s (take (at + n) xs) new
-run_more xs at n s m new so_far run =
-    subst (λ (z : List ℕ). Leads s z new)
-    (ap (λ (z : List ℕ). take at xs ++ take n z) (take_rest xs at) ∙ sym (take-add at n xs))
-    (leads_more s m new (take at xs) (take n (take (length xs - at) (drop at xs))) so_far run)
+run_more xs at n s m new so_far run = rw take-add (leads_more s m new _ _ so_far (rw take_rest at run))
 
 -- so many came, and the others have room
 pub run_room : (xs : List ℕ) (at most : ℕ) (s m : Spot) → at ≤ length xs → s.offset + length xs ≤ most
     → Leads s (take at xs) m → m.offset + length (take (length xs - at) (drop at xs)) ≤ most
 run_room xs at most s m le room so_far =
-    let counts = leads_counts s m (take at xs) so_far in
-    let long = length-take-le at xs le in
-    let rest = rest_long xs at in
-    omega (arith, counts, long, rest, le, room)
+    omega (arith, leads_counts s m (take at xs) so_far, length-take-le at xs le, rest_long xs at, le, room)
 
 -- where none came, those behind are all
 pub none_before : (xs : List ℕ) (at n : ℕ) (s m new : Spot) → at ≡ 0 → Leads s (take at xs) m → Leads m (take n xs) new
     → Leads s (take n xs) new
-none_before xs at n s m new none so_far run =
-    leads_more s m new [] (take n xs) (subst (λ (z : ℕ). Leads s (take z xs) m) none so_far) run
+none_before xs at n s m new none so_far run = leads_more s m new [] (take n xs) (rw none at so_far) run
 
 -- and there is as much room
 pub none_room : (xs : List ℕ) (at most : ℕ) (s m : Spot) → at ≡ 0 → s.offset + length xs ≤ most
     → Leads s (take at xs) m → m.offset + length xs ≤ most
-none_room xs at most s m none room so_far =
-    let counts = leads_counts s m [] (subst (λ (z : ℕ). Leads s (take z xs) m) none so_far) in
-    omega (arith, counts, room)
+none_room xs at most s m none room so_far = omega (arith, leads_counts s m [] (rw none at so_far), room)
 
 -- of a list only so many counted
 pub run_front : (xs : List ℕ) (n most : ℕ) (s new : Spot) → n ≤ length (take most xs) → most ≤ length xs
     → Leads s (take n (take most xs)) new → Leads s (take n xs) new
 run_front xs n most s new le fits run =
     let long = length-take-le most xs fits in
-    subst (λ (z : List ℕ). Leads s z new) (take-take n most xs (omega (arith, le, long))) run
+    let short : n ≤ most = omega (arith, le, long) in rw take-take at run
 
 -- ---- the front of bytes that is text
 
@@ -221,20 +184,20 @@ pub whole_state : (x front : List ℕ) (behind : State) → IsFront x front (dro
     → behind ≡ after s.Between (drop (length front) x) → behind ≡ after s.Between x
 whole_state x front behind is e =
     let rest = drop (length front) x in
-    e ∙ (ap (λ (z : State). after z rest) (sym (text_ends front is.text))
-    ∙ (sym (after-append s.Between front rest) ∙ ap (after s.Between) (sym is.parts)))
+    cc (after-append s.Between front rest, text_ends front is.text, is.parts)
 
 -- behind the front it is the one between two characters
-pub front_state : (xs front : List ℕ) (n : ℕ) → n ≤ length xs → IsFront (take n xs) front (drop (length front) (take n xs))
-    → s.Between ≡ after s.Between (take (length front) xs)
+pub front_state : (xs front : List ℕ) (n : ℕ) → n ≤ length xs
+    → IsFront (take n xs) front (drop (length front) (take n xs)) → s.Between ≡ after s.Between (take (length front) xs)
 front_state xs front n le is =
     let x = take n xs in
-    let long = front_long x front is in
-    let all = length-take-le n xs le in
-    let same : take (length front) xs ≡ front =
-    sym (take-take (length front) n xs (omega (arith, long, all)))
-    ∙ (ap (take (length front)) is.parts ∙ take_at front (drop (length front) x) (length front) refl) in
-    sym (ap (after s.Between) same ∙ text_ends front is.text)
+    let short : length front ≤ n = omega (arith, front_long x front is, length-take-le n xs le) in
+    cc (
+      take-take (length front) n xs short,
+      is.parts,
+      take_at front (drop (length front) x) (length front) refl,
+      text_ends front is.text,
+    )
 
 pub between_ends : (left : ℕ) → may_end s.Between left ≡ true
 between_ends left = le-leb 0 left (omega arith)
@@ -245,10 +208,7 @@ pub text_one : (left : ℕ) (state : State) (x : ℕ) (s new : Spot) → s.phase
     → Step s x new
 text_one zero state x s new at some e = absurd (omega arith)
 text_one (suc left) state x s new at some e =
-    let less : suc left - 1 ≡ left = omega arith in
-    let behind = after_byte state x in
-    subst (λ (z : Phase). StepIn z s x new) (sym at)
-    (subst (λ (z : ℕ). new ≡ text_left (may_end behind z) z behind (counted s)) less e)
+    let less : suc left - 1 ≡ left = omega arith in subst (λ (z : Phase). StepIn z s x new) (sym at) (rw less at e)
 
 -- one byte of a title
 pub title_one : (x : ℕ) (s new : Spot) → s.phase ≡ p.Title → TitleStep (with_byte x s) new → Step s x new

@@ -1,6 +1,7 @@
 -- The kind of a first byte, and the titles that begin with one that announces others.
-use Rattle.std.proofs.Common.{◌≡◌, ℕ, ◌/◌, ◌%◌, ◌<◌, ◌≤◌, Bool, true, false, List, [], ◌∷◌, length}
-use Rattle.std.proofs.Common.{refl, sym, ap, subst, arith, cond, ◌==◌, slice_index, drop}
+use Rattle.std.proofs.Common.{◌≡◌, ℕ, ◌/◌, ◌%◌, ◌<◌, ◌≤◌, List, [], ◌∷◌, length, refl, sym, ap, arith, slice_index}
+use Rattle.std.proofs.Common.{drop}
+use Rattle.std.proofs.lemmas.Bool.Decides.{nat_tests}
 use Rattle.ciborium_ll_grammar.specs.declared.hdr.Header.{Header}
 use Rattle.ciborium_ll_grammar.specs.declared.hdr.table.TitleKind.{TitleKind}
 use Rattle.ciborium_ll_grammar.specs.declared.hdr.table.TitleKind.TheVariants as t
@@ -8,7 +9,7 @@ use Rattle.ciborium_ll_grammar.specs.Title.{Major, Unsigned, Negative, ByteStrin
 use Rattle.ciborium_ll_grammar.specs.Title.{major_code, first_byte, Size, minor_of, affix_len, numbered_header, IsTitle}
 use Rattle.ciborium_ll_grammar.specs.Title.{numbered, alone, NamesNoTitle}
 use Rattle.ciborium_ll_grammar.specs.TitleRows.{IsTitleKind}
-use Rattle.ciborium_ll_grammar.proofs.TitleLaws.{same_major, minor_below}
+use Rattle.ciborium_ll_grammar.proofs.TitleLaws.{minor_below}
 use Rattle.ciborium_ll_grammar.proofs.AffixLaws.{refused_affix}
 
 -- ---- the kind of a major type
@@ -26,27 +27,13 @@ kind_of Other = t.Other
 pub kind_is : (kind : TitleKind) (m : Major) (minor : ℕ) → IsTitleKind kind (major_code m) minor
     → (NamesNoTitle (major_code m) minor → ⊥)
     → kind ≡ kind_of m
-kind_is t.Positive m minor i some = sym (ap kind_of (same_major m Unsigned i.0))
-kind_is t.Negative m minor i some = sym (ap kind_of (same_major m Negative i.0))
-kind_is t.Bytes m minor i some = sym (ap kind_of (same_major m ByteString i.0))
-kind_is t.Text m minor i some = sym (ap kind_of (same_major m TextString i.0))
-kind_is t.Array m minor i some = sym (ap kind_of (same_major m Array i.0))
-kind_is t.Map m minor i some = sym (ap kind_of (same_major m Map i.0))
-kind_is t.Tag m minor i some = sym (ap kind_of (same_major m Tag i.0))
-kind_is t.Other m minor i some = sym (ap kind_of (same_major m Other i.0))
-kind_is t.Refused m minor i some = absurd (some i)
+kind_is kind m minor i some = grind arith
 
 -- the kind that a first byte has which announces others
 pub kind_names : (m : Major) (major minor : ℕ) → major_code m ≡ major → (NamesNoTitle major minor → ⊥)
     → IsTitleKind (kind_of m) major minor
 kind_names Unsigned major minor e some = (sym e, some)
-kind_names Negative major minor e some = (sym e, some)
-kind_names ByteString major minor e some = (sym e, some)
-kind_names TextString major minor e some = (sym e, some)
-kind_names Array major minor e some = (sym e, some)
-kind_names Map major minor e some = (sym e, some)
-kind_names Tag major minor e some = (sym e, some)
-kind_names Other major minor e some = (sym e, some)
+kind_names m major minor e some = (sym e, some)
 
 -- ---- titles that begin with a byte that announces others
 
@@ -73,21 +60,12 @@ numbered_title byte v t x (alone m y o) e more =
 pub kind_at : (kind : TitleKind) (byte : ℕ) (m : Major) → major_code m ≡ byte / 32 → 0 < affix_len (byte % 32)
     → IsTitleKind kind (byte / 32) (byte % 32) → kind ≡ kind_of m
 kind_at kind byte m e more i =
-    kind_is kind m (byte % 32) (subst (λ (z : ℕ). IsTitleKind kind z (byte % 32)) (sym e) i)
-    (λ refuses. let empty = refused_affix byte (subst (λ (z : ℕ). NamesNoTitle z (byte % 32)) e refuses) in
+    kind_is kind m (byte % 32) (rw e i) (λ refuses. let empty = refused_affix byte (rw e at refuses) in
     omega (arith, empty, more))
-
-cond_most : (b : Bool) (m n most : ℕ) → m ≤ most → n ≤ most → cond b m n ≤ most
-cond_most true m n most l k = l
-cond_most false m n most l k = k
 
 -- no byte announces more than eight
 pub affix_most : (minor : ℕ) → affix_len minor ≤ 8
-affix_most minor =
-    let eight = cond_most (minor == 27) 8 0 8 (omega arith) (omega arith) in
-    let four = cond_most (minor == 26) 4 (cond (minor == 27) 8 0) 8 (omega arith) eight in
-    let two = cond_most (minor == 25) 2 (cond (minor == 26) 4 (cond (minor == 27) 8 0)) 8 (omega arith) four in
-    cond_most (minor == 24) 1 (cond (minor == 25) 2 (cond (minor == 26) 4 (cond (minor == 27) 8 0))) 8 (omega arith) two
+affix_most minor = grind (arith, nat_tests)
 
 -- a first byte, and the others
 pub parted : (xs : List ℕ) → 0 < length xs → xs ≡ slice_index xs 0 ∷ drop 1 xs
