@@ -86,13 +86,6 @@ pub part_ascii : (xs : List ℕ) (at len start : ℕ) → at + len ≤ length xs
 part_ascii xs at len start le least few one two = λ i.
     let sum : start + (at - start + i) ≡ at + i = omega (arith, least) in
     let other : 8 ≤ at - start + i → start + 8 + (at - start + i - 8) ≡ at + i = λ l. omega (arith, least, l) in
-    grind (
-      arith,
-      get_or-take,
-      get_or-drop,
-      get_or_past,
-      length-take-le,
-      length-drop,
-      one (at - start + i),
-      two (at - start + i - 8),
-    )
+    let low = one (at - start + i) in
+    let high = two (at - start + i - 8) in
+    grind (arith, get_or-take, get_or-drop, get_or_past, length-take-le, length-drop)

@@ -192,12 +192,9 @@ pub front_state : (xs front : List ℕ) (n : ℕ) → n ≤ length xs
 front_state xs front n le is =
     let x = take n xs in
     let short : length front ≤ n = omega (arith, front_long x front is, length-take-le n xs le) in
-    cc (
-      take-take (length front) n xs short,
-      is.parts,
-      take_at front (drop (length front) x) (length front) refl,
-      text_ends front is.text,
-    )
+    let same = take-take (length front) n xs short in
+    let there = take_at front (drop (length front) x) (length front) refl in
+    cc (is.parts, text_ends front is.text)
 
 pub between_ends : (left : ℕ) → may_end s.Between left ≡ true
 between_ends left = le-leb 0 left (omega arith)

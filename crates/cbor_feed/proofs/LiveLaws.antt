@@ -1,19 +1,19 @@
 -- Where there is no fault, some bytes make an item of those so far.
 use Rattle.std.proofs.Common.{◌≡◌, ℕ, zero, suc, ◌-◌, ◌*◌, ◌<◌, ◌⊎◌, inl, inr, Bool, true, false, List, [], ◌∷◌, ◌++◌}
-use Rattle.std.proofs.Common.{length, refl, sym, ap, ◌∙◌, arith, append_assoc, length-append}
+use Rattle.std.proofs.Common.{length, le-leb, refl, sym, ◌∙◌, arith, append_assoc}
 use Rattle.std.proofs.Math.ListN.{replicate}
+use Rattle.std.proofs.lemmas.Bool.Decides.{nat_tests}
 use Rattle.std.proofs.lemmas.List.{length-replicate}
 use Rattle.ciborium_ll_grammar.specs.declared.hdr.Header.{Header}
 use Rattle.ciborium_ll_grammar.specs.declared.hdr.Header.TheVariants as h
 use Rattle.ciborium_ll_grammar.specs.Title.{IsTitle, IsCutTitle, AreBytes, numbered, Unsigned, Small}
 use Rattle.ciborium_ll_grammar.specs.Items.{AreItems, IsItem, IsTakenTitle, no_items, more_items, positive}
-use Rattle.ciborium_ll_grammar.specs.Strings.{Kind, Bytes, Text, none as no_strings}
+use Rattle.ciborium_ll_grammar.specs.Strings.{Kind, Bytes, Text}
 use Rattle.ciborium_ll_grammar.proofs.AffixLaws.{AreBytes-append}
 use Rattle.ciborium_ll_text.specs.declared.state.State.{State}
 use Rattle.ciborium_ll_text.specs.declared.state.State.TheVariants as s
-use Rattle.ciborium_ll_text.specs.States.{is_from, after_first, after_next, after_byte, after, tail_due, may_end}
-use Rattle.ciborium_ll_text.proofs.EndLaws.{not_damaged, tail_fits}
-use Rattle.ciborium_ll_text.proofs.StateLaws.{after-append}
+use Rattle.ciborium_ll_text.specs.States.{is_from, after_first, after_next, after_byte, after, may_end}
+use Rattle.ciborium_ll_text.proofs.EndLaws.{none_left}
 use Rattle.cbor_feed.specs.declared.level.Level.{Level}
 use Rattle.cbor_feed.specs.declared.level.Level.TheVariants as l
 use Rattle.cbor_feed.specs.declared.phase.Phase.{Phase}
@@ -24,9 +24,9 @@ use Rattle.cbor_feed.specs.declared.phase.Within.TheVariants as w
 use Rattle.cbor_feed.specs.Spots.{Spot}
 use Rattle.cbor_feed.specs.Steps.{SomeTaken, with_byte, titled, TitleStep, cut, early, whole, none, text_left, counted}
 use Rattle.cbor_feed.specs.Steps.{StepIn, IsFed, fresh, more}
-use Rattle.cbor_feed.proofs.Waiting.{Takes, Ends, EndsString, EndsStrings, BodyThen, AnyBody, TextBody, TitleDue}
-use Rattle.cbor_feed.proofs.Waiting.{StringDone, WaitsIn}
-use Rattle.cbor_feed.proofs.StringLaws.{taken_none}
+use Rattle.cbor_feed.proofs.Waiting.{Takes, Ends, EndsStrings, BodyThen, AnyBody, TextBody, TitleDue, StringDone}
+use Rattle.cbor_feed.proofs.Waiting.{WaitsIn}
+use Rattle.cbor_feed.proofs.StringLaws.{end_back}
 use Rattle.cbor_feed.proofs.StepLaws.{fed_same}
 use Rattle.cbor_feed.proofs.TitleDueLaws.{title_enters}
 use Rattle.cbor_feed.proofs.KeptLaws.{Ready, Kept, string_kept, bytes_kept, entered_kept}
@@ -48,115 +48,68 @@ zeros s d (suc n) =
     )
 
 -- so many items end the level
-record Ending (level : Level) : Type 0 where
-  count : ℕ
-  end : List ℕ
-  takes : Takes level count end
-
-level_ending : (level : Level) → Ending level
-level_ending (l.Items n) = record { count = n; end = []; takes = (refl, refl) }
-level_ending (l.Pairs n) = record { count = 2 * n; end = []; takes = (refl, refl) }
-level_ending (l.Value n) = record { count = suc (2 * n); end = []; takes = (refl, refl) }
-level_ending l.OpenItems = record { count = 0; end = 0xff ∷ []; takes = (tt, refl) }
-level_ending l.OpenPairs = record { count = 0; end = 0xff ∷ []; takes = ((0, omega arith), refl) }
-level_ending l.OpenValue = record { count = 1; end = 0xff ∷ []; takes = ((0, omega arith), refl) }
+level_ending : (level : Level) → (n : ℕ) × (end : List ℕ) × Takes level n end
+level_ending (l.Items n) = (n, [], (refl, refl))
+level_ending (l.Pairs n) = (2 * n, [], (refl, refl))
+level_ending (l.Value n) = (suc (2 * n), [], (refl, refl))
+level_ending l.OpenItems = (0, 0xff ∷ [], (tt, refl))
+level_ending l.OpenPairs = (0, 0xff ∷ [], ((0, omega arith), refl))
+level_ending l.OpenValue = (1, 0xff ∷ [], ((0, omega arith), refl))
 
 some_ends : (s : Bool) (levels : List Level) (d : ℕ) → (y : List ℕ) × Ends s d levels y
 some_ends s [] d = ([], refl)
 some_ends s (level ∷ levels) d =
-    let others = some_ends s levels (suc d) in
-    let ending = level_ending level in
-    let items = zeros s d ending.count in (
-      items.0 ++ (ending.end ++ others.0),
+    let (rest, behind) = some_ends s levels (suc d) in
+    let (n, end, takes) = level_ending level in
+    let (items, are) = zeros s d n in (
+      items ++ (end ++ rest),
       record {
-        count = ending.count;
-        items = items.0;
-        end = ending.end;
-        rest = others.0;
-        takes = ending.takes;
-        are_items = items.1;
-        behind = others.1;
+        count = n;
+        items = items;
+        end = end;
+        rest = rest;
+        takes = takes;
+        are_items = are;
+        behind = behind;
         is = refl;
       },
     )
 
-string_ended : (s : Bool) (k : Kind) (Then : List ℕ → Type 0) (y : List ℕ) → Then y → EndsString s k Then (0xff ∷ y)
-string_ended s k Then y behind = record {
-  strings = [];
-  bodies = [];
-  rest = y;
-  are = no_strings;
-  taken = taken_none s k;
-  sound = tt;
-  behind = behind;
-  is = refl;
-}
-
-some_strings : (s : Bool) (k : Kind) (n : ℕ) (Then : List ℕ → Type 0) (y : List ℕ) → Then y
+some_strings : (s : Bool) (k : Kind) (n : ℕ) (Then : List ℕ → Type 0) → (y : List ℕ) × Then y
     → (z : List ℕ) × EndsStrings s k n Then z
-some_strings s k zero Then y behind = (0xff ∷ y, string_ended s k Then y behind)
-some_strings s k (suc n) Then y behind =
-    let inner = some_strings s k n Then y behind in
-    (0xff ∷ inner.0, string_ended s k (EndsStrings s k n Then) inner.0 inner.1)
+some_strings s k zero Then (y, behind) = (0xff ∷ y, end_back s k Then (0xff ∷ []) y refl behind)
+some_strings s k (suc n) Then o =
+    let (y, behind) = some_strings s k n Then o in
+    (0xff ∷ y, end_back s k (EndsStrings s k n Then) (0xff ∷ []) y refl behind)
 
 some_done : (s : Bool) (i : Within) (d : ℕ) (levels : List Level) → (y : List ℕ) × StringDone s i d levels y
 some_done s w.Nothing d levels = some_ends s levels d
-some_done s (w.Bytes n) d levels = let o = some_ends s levels d in some_strings s Bytes n (Ends s d levels) o.0 o.1
-some_done s (w.Text n) d levels = let o = some_ends s levels d in some_strings s Text n (Ends s d levels) o.0 o.1
+some_done s (w.Bytes n) d levels = some_strings s Bytes n (Ends s d levels) (some_ends s levels d)
+some_done s (w.Text n) d levels = some_strings s Text n (Ends s d levels) (some_ends s levels d)
 
 some_due : (s : Bool) (i : Within) (d : ℕ) (levels : List Level) → (y : List ℕ) × TitleDue s i d levels y
 some_due s w.Nothing d levels =
-    let o = some_ends s levels d in
-    let item = zeros s d 1 in
-    (item.0 ++ o.0, inl (record { item = item.0; rest = o.0; is_item = item.1; behind = o.1; is = refl }))
-some_due s (w.Bytes n) d levels = let o = some_ends s levels d in some_strings s Bytes n (Ends s d levels) o.0 o.1
-some_due s (w.Text n) d levels = let o = some_ends s levels d in some_strings s Text n (Ends s d levels) o.0 o.1
+    let (rest, behind) = some_ends s levels d in
+    let (item, is_item) = zeros s d 1 in
+    (item ++ rest, inl (record { item = item; rest = rest; is_item = is_item; behind = behind; is = refl }))
+some_due s i d levels = some_done s i d levels
 
 -- ---- what ends a text
 
--- the bytes that end a character
-record Tail (state : State) : Type 0 where
-  bytes : List ℕ
-  ends : after state bytes ≡ s.Between
-  long : length bytes ≡ tail_due state
+-- a byte goes on to its end
+some_byte : (state : State) (n : ℕ) → may_end state (suc n) ≡ true → (b : ℕ) × (may_end (after_byte state b) n ≡ true)
+unfolding is_from after_first after_next
+some_byte s.Between n may = (0, le-leb 0 n (omega arith))
+some_byte s.BehindE0 n may = (0xa0, grind (arith, nat_tests))
+some_byte s.BehindF0 n may = (0x90, grind (arith, nat_tests))
+some_byte state n may = (0x80, grind (arith, nat_tests))
 
-tail_of : (state : State) → (state ≡ s.Damaged → ⊥) → Tail state
-unfolding is_from after_next
-tail_of s.Between sound = record { bytes = []; ends = refl; long = refl }
-tail_of s.OneDue sound = record { bytes = 0x80 ∷ []; ends = refl; long = refl }
-tail_of s.TwoDue sound = record { bytes = 0x80 ∷ 0x80 ∷ []; ends = refl; long = refl }
-tail_of s.ThreeDue sound = record { bytes = 0x80 ∷ 0x80 ∷ 0x80 ∷ []; ends = refl; long = refl }
-tail_of s.BehindE0 sound = record { bytes = 0xa0 ∷ 0x80 ∷ []; ends = refl; long = refl }
-tail_of s.BehindEd sound = record { bytes = 0x80 ∷ 0x80 ∷ []; ends = refl; long = refl }
-tail_of s.BehindF0 sound = record { bytes = 0x90 ∷ 0x80 ∷ 0x80 ∷ []; ends = refl; long = refl }
-tail_of s.BehindF4 sound = record { bytes = 0x80 ∷ 0x80 ∷ 0x80 ∷ []; ends = refl; long = refl }
-tail_of s.Damaged sound = absurd (sound refl)
-
-zero_stays : after_first 0 ≡ s.Between
-unfolding is_from after_first
-zero_stays = refl
-
-zeros_stay : (n : ℕ) → after s.Between (replicate n 0) ≡ s.Between
-zeros_stay zero = refl
-zeros_stay (suc n) = ap (λ (z : State). after z (replicate n 0)) zero_stays ∙ zeros_stay n
-
--- a body of so many bytes that ends so
-record Body (state : State) (n : ℕ) : Type 0 where
-  bytes : List ℕ
-  ends : after state bytes ≡ s.Between
-  long : length bytes ≡ n
-
-some_body : (state : State) (n : ℕ) → may_end state n ≡ true → Body state n
-some_body state n may =
-    let tail = tail_of state (not_damaged state n may) in
-    let pad = n - tail_due state in
-    let fits = tail_fits state n may in
-    record {
-      bytes = tail.bytes ++ replicate pad 0;
-      ends = after-append state tail.bytes (replicate pad 0)
-          ∙ (ap (λ (z : State). after z (replicate pad 0)) tail.ends ∙ zeros_stay pad);
-      long = omega (arith, fits, tail.long, length-append tail.bytes (replicate pad 0), length-replicate {A = ℕ} pad 0);
-    }
+some_body : (state : State) (n : ℕ) → may_end state n ≡ true
+    → (b : List ℕ) × (length b ≡ n) × (after state b ≡ s.Between)
+some_body state zero may = ([], refl, none_left state may)
+some_body state (suc n) may =
+    let (b, goes) = some_byte state n may in
+    let (body, long, ends) = some_body (after_byte state b) n goes in (b ∷ body, omega (arith, long), ends)
 
 -- ---- spots that are sound
 
@@ -181,7 +134,7 @@ left_sound false left state spot clear e = (tt, λ at. inl clear)
 
 -- ---- each spot that bytes lead to is sound
 
-pub byte_front : (spot : Spot) (b : ℕ) → b < 256 → FrontSound spot → AreBytes (spot.front ++ b ∷ [])
+byte_front : (spot : Spot) (b : ℕ) → b < 256 → FrontSound spot → AreBytes (spot.front ++ b ∷ [])
 byte_front spot b byte (inl clear) = rw clear (byte, tt)
 byte_front spot b byte (inr o) = AreBytes-append spot.front (b ∷ []) o.0 (byte, tt)
 
@@ -212,36 +165,11 @@ fed_sound s d fed spot (more {bytes = a} {spot = before} b byte is step) =
 abbrev NoFault : Spot → Type 0
 NoFault spot = (fault : Fault) → spot.phase ≡ p.Faulted fault → ⊥
 
-bytes_goes : (n : ℕ) (spot : Spot)
-    → (y : List ℕ) × BodyThen n AnyBody (StringDone spot.strict spot.within spot.depth spot.levels) y
-bytes_goes n spot =
-    let o = some_done spot.strict spot.within spot.depth spot.levels in (
-      replicate n 0 ++ o.0,
-      record {
-        body = replicate n 0;
-        rest = o.0;
-        long = length-replicate n 0;
-        sound = tt;
-        behind = o.1;
-        is = refl;
-      },
-    )
-
-text_goes : (n : ℕ) (state : State) (spot : Spot) → may_end state n ≡ true
-    → (y : List ℕ) × BodyThen n (TextBody state) (StringDone spot.strict spot.within spot.depth spot.levels) y
-text_goes n state spot may =
-    let o = some_done spot.strict spot.within spot.depth spot.levels in
-    let b = some_body state n may in (
-      b.bytes ++ o.0,
-      record {
-        body = b.bytes;
-        rest = o.0;
-        long = b.long;
-        sound = b.ends;
-        behind = o.1;
-        is = refl;
-      },
-    )
+body_goes : (Sound : List ℕ → Type 0) (n : ℕ) (spot : Spot) → (b : List ℕ) × (length b ≡ n) × Sound b
+    → (y : List ℕ) × BodyThen n Sound (StringDone spot.strict spot.within spot.depth spot.levels) y
+body_goes Sound n spot (body, long, sound) =
+    let (rest, behind) = some_done spot.strict spot.within spot.depth spot.levels in
+    (body ++ rest, record { body = body; rest = rest; long = long; sound = sound; behind = behind; is = refl })
 
 first_goes : (spot : Spot) → spot.front ≡ []
     → (y : List ℕ) × TitleDue spot.strict spot.within spot.depth spot.levels (spot.front ++ y)
@@ -251,9 +179,10 @@ first_goes spot clear = rw clear (some_due spot.strict spot.within spot.depth sp
 live_in : (phase : Phase) (spot : Spot) → phase ≡ spot.phase → Ready phase → NoFault spot
     → (phase ≡ p.Title → (y : List ℕ) × WaitsIn p.Title spot y) → (y : List ℕ) × WaitsIn phase spot y
 live_in p.Title spot e ready goes title = title refl
-live_in (p.Bytes n) spot e ready goes title = bytes_goes n spot
+live_in (p.Bytes n) spot e ready goes title = body_goes AnyBody n spot (replicate n 0, length-replicate n 0, tt)
 live_in (p.Text zero state) spot e ready goes title = absurd ready
-live_in (p.Text (suc n) state) spot e ready goes title = text_goes (suc n) state spot ready
+live_in (p.Text (suc n) state) spot e ready goes title =
+    body_goes (TextBody state) (suc n) spot (some_body state (suc n) ready)
 live_in p.Ended spot e ready goes title = ([], refl)
 live_in (p.Faulted fault) spot e ready goes title = absurd (goes fault (sym e))
 

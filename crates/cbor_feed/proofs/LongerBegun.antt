@@ -94,33 +94,18 @@ module _ (a : List ℕ) (k : ℕ) (some : 0 < length a) (more : 0 < k) (never : 
   not_longer m Two n p e longer =
       let (low, less) = told m n (2 ^ 8) longer in
       let at = byte_at (numbered_title m Two n) e in
-      never (
-        omega (arith, at 0 (omega arith), low, some),
-        inl (omega (arith, at 0 (omega arith), at 1 (omega arith), less, some)),
-      )
+      let zeroth = at 0 (omega arith) in let first = at 1 (omega arith) in never (omega arith, inl (omega arith))
   not_longer m Four n p e longer =
       let (low, less) = told m n (2 ^ 16) longer in
       let at = byte_at (numbered_title m Four n) e in
-      never (
-        omega (arith, at 0 (omega arith), low, some),
-        inr (inl (omega (arith, at 0 (omega arith), at 1 (omega arith), at 2 (omega arith), less, some))),
-      )
+      let zeroth = at 0 (omega arith) in let first = at 1 (omega arith) in let second = at 2 (omega arith) in
+      never (omega arith, inr (inl (omega arith)))
   not_longer m Eight n p e longer =
       let (low, less) = told m n (2 ^ 32) longer in
       let at = byte_at (numbered_title m Eight n) e in
-      never (
-        omega (arith, at 0 (omega arith), low, some),
-        inr (inr (omega (
-          arith,
-          at 0 (omega arith),
-          at 1 (omega arith),
-          at 2 (omega arith),
-          at 3 (omega arith),
-          at 4 (omega arith),
-          less,
-          some,
-        ))),
-      )
+      let zeroth = at 0 (omega arith) in let first = at 1 (omega arith) in let second = at 2 (omega arith) in
+      let third = at 3 (omega arith) in let fourth = at 4 (omega arith) in
+      never (omega arith, inr (inr (omega arith)))
 
   whole_taken : (t : List ℕ) (x : Header) → IsTitle t x → t ≡ Whole → IsStrictTitle t x
   whole_taken t x (numbered m s n p) e = taken m s n p (false_from_ne_true _ (not_longer m s n p e))
