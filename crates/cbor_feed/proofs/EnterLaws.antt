@@ -45,66 +45,29 @@ module _ (spot : Spot) (clear : spot.front ≡ []) (plain : spot.within ≡ w.No
   Behind = Ends spot.strict spot.depth spot.levels
 
   nest_on : (d : ℕ) (level : Level) (n : ℕ) (items end rest y : List ℕ) → suc d ≡ spot.depth
-      → AreItems spot.strict d n items → Takes level n end → Behind rest → y ≡ (items ++ end) ++ rest
+      → AreItems spot.strict d n items → Takes level n end → Behind rest → y ≡ items ++ (end ++ rest)
       → Waits (nested spot.depth level spot) y
   nest_on d level n items end rest y same i t k e =
-      subst (λ (n : ℕ). Waits (nested n level spot) y) same ((settles (level ∷ spot.levels) d spot y clear).0 (record {
-        count = n;
-        items = items;
-        end = end;
-        rest = rest;
-        takes = t;
-        are_items = i;
-        behind = rw same k;
-        is = e ∙ append_assoc items end rest;
-      }))
-
-  strings_on : (k : Kind) (u rest y : List ℕ) (bs : List (List ℕ)) → AreStrings k u bs
-      → AreTakenStrings spot.strict k u bs → AreWritable k bs → Behind rest → y ≡ (u ++ 0xff ∷ []) ++ rest
-      → EndsString spot.strict k Behind (spot.front ++ y)
-  strings_on k u rest y bs i g sound behind e = rw clear (record {
-    strings = u;
-    bodies = bs;
-    rest = rest;
-    are = i;
-    taken = g;
-    sound = sound;
-    behind = behind;
-    is = e ∙ append_assoc u (0xff ∷ []) rest;
-  })
+      let behind : Ends spot.strict (suc d) spot.levels rest = rw same k in
+      subst (λ (n : ℕ). Waits (nested n level spot) y) same ((settles (level ∷ spot.levels) d spot y clear).0 (search))
 
   completes_on : (d : ℕ) (x : Header) (r rest y : List ℕ) → Completes spot.strict d x r → d ≡ spot.depth → Behind rest
       → y ≡ r ++ rest → Waits (item_entered x spot) y
-  completes_on d x r rest y (byte_string {len = n} long) same k e = (bytes_body n spot y clear).0 (rw plain (record {
-    body = r;
-    rest = rest;
-    long = long;
-    sound = tt;
-    behind = k;
-    is = e;
-  }))
+  completes_on d x r rest y (byte_string {len = n} long) same k e = (bytes_body n spot y clear).0 (rw plain (search))
   completes_on d x r rest y (text_string {len = n} long sound) same k e =
-      (text_body n (body_placed n spot) y clear).0 (rw plain (record {
-        body = r;
-        rest = rest;
-        long = long;
-        sound = text_ends r sound;
-        behind = k;
-        is = e;
-      }))
-  completes_on d x r rest y (open_bytes {strings = u} {bodies = bs} i g) same k e =
-      strings_on Bytes u rest y bs i g (bytes_writable bs) k e
-  completes_on d x r rest y (open_text {strings = u} {bodies = bs} i g sound) same k e =
-      strings_on Text u rest y bs i g sound k e
-  completes_on d x r rest y (tag i) same k e = nest_on _ _ 1 r [] rest y same i (refl, refl) k (rw append-nil e)
+      let ends = text_ends r sound in (text_body n (body_placed n spot) y clear).0 (rw plain (search))
+  completes_on d x r rest y (open_bytes {bodies = bs} i g) same k e =
+      let sound = bytes_writable bs in let is = rw append_assoc at e in rw clear (search)
+  completes_on d x r rest y (open_text i g sound) same k e = let is = rw append_assoc at e in rw clear (search)
+  completes_on d x r rest y (tag i) same k e = nest_on _ (l.Items 1) 1 r [] rest y same i (refl, refl) k e
   completes_on d x r rest y (array {count = n} i) same k e =
-      nest_on _ (l.Items n) n r [] rest y same i (refl, refl) k (rw append-nil e)
+      nest_on _ (l.Items n) n r [] rest y same i (refl, refl) k e
   completes_on d x r rest y (pairs {count = n} i) same k e =
-      nest_on _ (l.Pairs n) (2 * n) r [] rest y same i (refl, refl) k (rw append-nil e)
+      nest_on _ (l.Pairs n) (2 * n) r [] rest y same i (refl, refl) k e
   completes_on d x r rest y (open_array {count = n} {items = u} i) same k e =
-      nest_on _ l.OpenItems n u _ rest y same i (tt, refl) k e
+      nest_on _ l.OpenItems n u _ rest y same i (tt, refl) k (rw append_assoc at e)
   completes_on d x r rest y (open_pairs {items = u} n i) same k e =
-      nest_on _ l.OpenPairs (2 * n) u _ rest y same i ((n, refl), refl) k e
+      nest_on _ l.OpenPairs (2 * n) u _ rest y same i ((n, refl), refl) k (rw append_assoc at e)
   completes_on d x r rest y c same k e = rw e ((settles spot.levels spot.depth spot rest clear).0 k)
 
   -- an item in front of a title's bytes
@@ -134,21 +97,17 @@ module _ (spot : Spot) (clear : spot.front ≡ []) (plain : spot.within ≡ w.No
   break_back : (levels : List Level) (y : List ℕ) → Waits (broken levels spot) y
       → Breaks spot.strict spot.depth levels (0xff ∷ y)
   break_back (l.OpenItems ∷ levels) y waits =
-      record { rest = y; may = refl; behind = (settles levels (suc spot.depth) spot y clear).1 waits; is = refl }
+      let behind = (settles levels (suc spot.depth) spot y clear).1 waits in search
   break_back (l.OpenValue ∷ levels) y waits =
-      record { rest = y; may = refl; behind = (settles levels (suc spot.depth) spot y clear).1 waits; is = refl }
+      let behind = (settles levels (suc spot.depth) spot y clear).1 waits in search
   break_back levels y waits = absurd waits
 
   module _ (t y : List ℕ) (x : Header) (p : IsTitle t x) (g : IsTakenTitle spot.strict t x) where
     item_back : (r rest : List ℕ) → Completes spot.strict spot.depth x r → Behind rest → y ≡ r ++ rest
         → ItemDue spot.strict spot.depth spot.levels (t ++ y)
-    item_back r rest c k e = inl (record {
-      item = t ++ r;
-      rest = rest;
-      is_item = item_of spot.strict spot.depth t r x p g c;
-      behind = k;
-      is = simp (e, append_assoc);
-    })
+    item_back r rest c k e =
+        let is_item = item_of spot.strict spot.depth t r x p g c in
+        let there : t ++ y ≡ (t ++ r) ++ rest = simp (e, append_assoc) in inl (search)
 
     -- what a nest takes completes it
     nest_back : (depth : ℕ) (level : Level) → depth ≡ spot.depth

@@ -50,54 +50,28 @@ module _ (s : Bool) (f g : Level) (d : ℕ) (Then : List ℕ → Type 0) (goes :
   level_opens : (n : ℕ) (items e rest y : List ℕ) → AreItems s d n items → Takes f n e → Then rest
       → y ≡ items ++ (e ++ rest) → ItemThen s d (EndsLevel s g d Then) y ⊎ BreakThen g Then y
   level_opens n items e rest y no_items t k is =
-      let o = next_end f g e goes t in
-      inr (record { rest = rest; may = o.0; behind = k; is = rw o.1 at is })
+      let (may, end) = next_end f g e goes t in let there = rw end at is in inr (search)
   level_opens n items e rest y (more_items {count = m} {title = t} {rest = r} {others = a} {header = x} q v c i) u k
-      is = inl (record {
-        item = t ++ r;
-        rest = a ++ (e ++ rest);
-        is_item = item_of s d t r x q v c;
-        behind = record {
-          count = m;
-          items = a;
-          end = e;
-          rest = rest;
-          takes = next_takes f g m e goes u;
-          are_items = i;
-          behind = k;
-          is = refl;
-        };
-        is = simp (is, append_assoc);
-      })
+      is =
+      let is_item = item_of s d t r x q v c in
+      let takes = next_takes f g m e goes u in
+      let behind : EndsLevel s g d Then (a ++ (e ++ rest)) = search in
+      let there : y ≡ (t ++ r) ++ (a ++ (e ++ rest)) = simp (is, append_assoc) in inl (search)
 
   -- an item in front of items
   item_then_items : (n : ℕ) (item a e rest y : List ℕ) → IsItem s d item → AreItems s d n a → Takes g n e → Then rest
       → y ≡ item ++ (a ++ (e ++ rest)) → EndsLevel s f d Then y
-  item_then_items n item a e rest y (more_items {title = t} {rest = r} {header = x} q v c no_items) i u k is = record {
-    count = suc n;
-    items = t ++ (r ++ a);
-    end = e;
-    rest = rest;
-    takes = next_back f g n e goes u;
-    are_items = more_items q v c i;
-    behind = k;
-    is = simp (is, append_assoc, append-nil);
-  }
+  item_then_items n item a e rest y (more_items {title = t} {rest = r} {header = x} q v c no_items) i u k is =
+      let takes = next_back f g n e goes u in
+      let are : AreItems s d (suc n) (t ++ (r ++ a)) = more_items q v c i in
+      let there : y ≡ (t ++ (r ++ a)) ++ (e ++ rest) = simp (is, append_assoc, append-nil) in search
 
   level_closes : (y : List ℕ) → ItemThen s d (EndsLevel s g d Then) y ⊎ BreakThen g Then y → EndsLevel s f d Then y
   level_closes y (inl o) =
       let b = o.behind in
       item_then_items b.count o.item b.items b.end b.rest y o.is_item b.are_items b.takes b.behind (simp (o.is, b.is))
-  level_closes y (inr o) = record {
-    count = 0;
-    items = [];
-    end = 0xff ∷ [];
-    rest = o.rest;
-    takes = end_back f g goes o.may;
-    are_items = no_items;
-    behind = o.behind;
-    is = o.is;
-  }
+  level_closes y (inr o) =
+      let takes = end_back f g goes o.may in let none : AreItems s d 0 [] = no_items in search
 
 -- ---- all levels
 
@@ -120,16 +94,8 @@ settled_next None f fs d spot y e clear same =
     rw (e, settled) (
       λ o. same.0 (done_level spot.strict f d (Ends spot.strict (suc d) fs) e o.count o.items o.end o.rest y
           o.are_items o.takes o.behind o.is),
-      λ waits. record {
-        count = 0;
-        items = [];
-        end = [];
-        rest = y;
-        takes = done_none f e;
-        are_items = no_items;
-        behind = same.1 waits;
-        is = refl;
-      },
+      λ waits. let behind = same.1 waits in let takes = done_none f e in
+          let none : AreItems spot.strict d 0 [] = no_items in search,
     )
 settled_next (Some g) f fs d spot y e clear same =
     rw (e, settled, clear) (

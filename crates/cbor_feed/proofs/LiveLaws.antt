@@ -61,19 +61,7 @@ some_ends s [] d = ([], refl)
 some_ends s (level ∷ levels) d =
     let (rest, behind) = some_ends s levels (suc d) in
     let (n, end, takes) = level_ending level in
-    let (items, are) = zeros s d n in (
-      items ++ (end ++ rest),
-      record {
-        count = n;
-        items = items;
-        end = end;
-        rest = rest;
-        takes = takes;
-        are_items = are;
-        behind = behind;
-        is = refl;
-      },
-    )
+    let (items, are) = zeros s d n in (items ++ (end ++ rest), search)
 
 some_strings : (s : Bool) (k : Kind) (n : ℕ) (Then : List ℕ → Type 0) → (y : List ℕ) × Then y
     → (z : List ℕ) × EndsStrings s k n Then z
@@ -91,7 +79,7 @@ some_due : (s : Bool) (i : Within) (d : ℕ) (levels : List Level) → (y : List
 some_due s w.Nothing d levels =
     let (rest, behind) = some_ends s levels d in
     let (item, is_item) = zeros s d 1 in
-    (item ++ rest, inl (record { item = item; rest = rest; is_item = is_item; behind = behind; is = refl }))
+    (item ++ rest, inl (search))
 some_due s i d levels = some_done s i d levels
 
 -- ---- what ends a text
@@ -169,7 +157,7 @@ body_goes : (Sound : List ℕ → Type 0) (n : ℕ) (spot : Spot) → (b : List 
     → (y : List ℕ) × BodyThen n Sound (StringDone spot.strict spot.within spot.depth spot.levels) y
 body_goes Sound n spot (body, long, sound) =
     let (rest, behind) = some_done spot.strict spot.within spot.depth spot.levels in
-    (body ++ rest, record { body = body; rest = rest; long = long; sound = sound; behind = behind; is = refl })
+    (body ++ rest, search)
 
 first_goes : (spot : Spot) → spot.front ≡ []
     → (y : List ℕ) × TitleDue spot.strict spot.within spot.depth spot.levels (spot.front ++ y)
