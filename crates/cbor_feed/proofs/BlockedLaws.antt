@@ -54,24 +54,17 @@ may_stand i d m s n spot fault e b is = first_of (cc, search settled_sound)
 may_not : (i : Within) (d : ℕ) (m : Major) (s : Size) (n : ℕ) (spot : Spot) (fault : Fault) → d ≡ spot.depth
     → blocked i d spot.place (kind_of m) ≡ Some fault
     → (entered i (numbered_header m s n) spot).phase ≡ p.Faulted fault
-may_not w.Nothing zero Array s n spot fault e b = rw (← e) (cc)
-may_not w.Nothing zero Map s n spot fault e b = rw (← e) (cc)
-may_not w.Nothing zero Tag s n spot fault e b = rw (← e) (cc)
-may_not (w.Bytes j) d Other Small n spot fault e b = cc
-may_not (w.Text j) d Other Small n spot fault e b = cc
-may_not i d m s n spot fault e b = cc
+may_not i d m s n spot fault e b = grind arith
 
 -- ---- a number, a float or a simple value
 
 -- it may stand wherever an item is due
 pub value_free : (d place : ℕ) (kind : TitleKind) → is_value kind ≡ true → blocked w.Nothing d place kind ≡ None
-value_free zero place k.Positive v = refl
-value_free d place kind v = cc
+value_free d place kind v = grind arith
 
 value_numbered : (m : Major) (s : Size) (n : ℕ) (spot : Spot) → is_value (kind_of m) ≡ true
     → item_entered (numbered_header m s n) spot ≡ item_done spot
-value_numbered Other Small n spot v = refl
-value_numbered m s n spot v = cc
+value_numbered m s n spot v = grind arith
 
 -- where its title announces bytes, its first byte tells it
 pub value_entered : (byte : ℕ) (v t : List ℕ) (x : Header) (kind : TitleKind) (spot : Spot) → IsTitle t x → t ≡ byte ∷ v

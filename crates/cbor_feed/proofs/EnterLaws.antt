@@ -1,6 +1,6 @@
 -- What is due behind a whole title.
 use Rattle.std.proofs.Common.{◌≡◌, ℕ, zero, suc, ◌*◌, List, [], ◌∷◌, ◌++◌, Some, None, refl, subst, ◌∙◌, inl, inr}
-use Rattle.std.proofs.Common.{append_assoc, append-nil}
+use Rattle.std.proofs.Common.{append_assoc, append-nil, arith}
 use Rattle.ciborium_ll_grammar.specs.declared.hdr.Header.{Header}
 use Rattle.ciborium_ll_grammar.specs.declared.hdr.Header.TheVariants as h
 use Rattle.ciborium_ll_grammar.specs.Title.{IsTitle, numbered, alone, Major, Array, Map, Tag, Other, Size, Small}
@@ -26,17 +26,9 @@ ruleset plain_completes = (positive, negative, float, simple)
 
 -- ---- the break has one title
 
-number_no_break : (m : Major) (s : Size) (n : ℕ) → numbered_header m s n ≡ h.Break → ⊥
-number_no_break Other Small n e = cc
-number_no_break m s n e = cc
-
-open_break : (m : Major) (x : Header) → open_header m ≡ Some x → x ≡ h.Break → first_byte m 31 ∷ [] ≡ 0xff ∷ []
-open_break Other x o e = refl
-open_break m x o e = cc
-
 pub break_bytes : (t : List ℕ) (x : Header) → IsTitle t x → x ≡ h.Break → t ≡ 0xff ∷ []
-break_bytes t x (numbered m s n p) e = absurd (number_no_break m s n e)
-break_bytes t x (alone m x' o) e = open_break m x' o e
+break_bytes t x (numbered m s n p) e = absurd (grind arith)
+break_bytes t x (alone m x' o) e = grind arith
 
 module _ (spot : Spot) (clear : spot.front ≡ []) (plain : spot.within ≡ w.Nothing) where
   -- ---- behind a title, an item is completed

@@ -18,12 +18,10 @@ use Rattle.cbor_feed.proofs.KeptLaws.{Ready}
 -- ---- a fault
 
 fault_none : (phase : Phase) (spot : Spot) (y : List ℕ) → FaultIn phase → WaitsIn phase spot y → ⊥
-fault_none (p.Faulted fault) spot y has waits = waits
-fault_none phase spot y has waits = has
+fault_none phase spot y has waits = grind arith
 
 fault_or : (phase : Phase) → (((fault : Fault) → phase ≡ p.Faulted fault → ⊥) → ⊥) → FaultIn phase
-fault_or (p.Faulted fault) has = tt
-fault_or phase has = has (λ fault same. cc)
+fault_or phase has = grind arith
 
 -- there is a fault just where no item begins so
 pub fault_exact : (s : Bool) (d : ℕ) (fed : List ℕ) (spot : Spot) → IsFed s d fed spot
@@ -60,8 +58,7 @@ ended_in (p.Text (suc n) state) spot ready sound waits = body_none n _ _ waits
 ended_in phase spot ready sound waits = absurd (search)
 
 whole_in : (phase : Phase) (spot : Spot) → EndedIn phase → WaitsIn phase spot []
-whole_in p.Ended spot has = refl
-whole_in phase spot has = absurd has
+whole_in phase spot has = grind arith
 
 -- the item has ended just where the bytes so far are one
 pub ended_exact : (s : Bool) (d : ℕ) (fed : List ℕ) (spot : Spot) → IsFed s d fed spot → HasEnded spot ↔ IsItem s d fed

@@ -47,9 +47,7 @@ leads_counts spot new xs (go {bytes = ys} {next = m} b below one rest) =
     omega (arith, first, others)
 
 not_due : (phase : Phase) (spot new : Spot) (b : ℕ) → is_due phase ≡ false → StepIn phase spot b new → ⊥
-not_due p.Ended spot new b off step = step
-not_due (p.Faulted fault) spot new b off step = step
-not_due phase spot new b off step = cc
+not_due phase spot new b off step = grind arith
 
 -- none comes where none is due
 pub leads_stays : (spot new : Spot) (xs : List ℕ) → is_due spot.phase ≡ false → Leads spot xs new
