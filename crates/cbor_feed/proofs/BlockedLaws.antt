@@ -3,9 +3,7 @@ use Rattle.std.proofs.Common.{◌≡◌, ℕ, zero, suc, ◌/◌, ◌%◌, ◌<�
 use Rattle.std.proofs.Common.{refl, arith, slice_index, length-drop}
 use Rattle.ciborium_ll_grammar.specs.declared.hdr.Header.{Header}
 use Rattle.ciborium_ll_grammar.specs.declared.hdr.table.TitleKind.{TitleKind}
-use Rattle.ciborium_ll_grammar.specs.declared.hdr.table.TitleKind.TheVariants as k
-use Rattle.ciborium_ll_grammar.specs.Title.{Major, ByteString, TextString, Array, Map, Tag, Other, Size, Small}
-use Rattle.ciborium_ll_grammar.specs.Title.{affix_len, numbered_header, IsTitle}
+use Rattle.ciborium_ll_grammar.specs.Title.{Major, Size, affix_len, numbered_header, IsTitle}
 use Rattle.ciborium_ll_grammar.specs.Items.{IsTakenTitle}
 use Rattle.ciborium_ll_grammar.specs.TitleRows.{IsTitleKind, IsRow}
 use Rattle.ciborium_ll_grammar.specs.declared.hdr.table.Row.{Row}
@@ -17,8 +15,7 @@ use Rattle.cbor_feed.specs.declared.phase.Within.{Within}
 use Rattle.cbor_feed.specs.declared.phase.Within.TheVariants as w
 use Rattle.cbor_feed.specs.declared.phase.Fault.{Fault}
 use Rattle.cbor_feed.specs.Blocked.{blocked, is_value}
-use Rattle.cbor_feed.specs.Spots.{Spot, at_phase, settled, string_done, entered, item_done, body_placed, item_entered}
-use Rattle.cbor_feed.specs.Spots.{refused}
+use Rattle.cbor_feed.specs.Spots.{Spot, at_phase, settled, string_done, entered, item_done, item_entered, refused}
 use Rattle.cbor_feed.specs.Steps.{SomeTaken, NoneTaken, titled, TitleStep, cut, early, whole, none}
 
 -- ---- no fault behind a whole item
@@ -30,24 +27,14 @@ settled_sound (l.Pairs zero ∷ gs) d spot fault is = settled_sound gs (suc d) s
 settled_sound gs d spot fault is = cc
 
 pub string_sound : (i : Within) (spot : Spot) (fault : Fault) → (string_done i spot).phase ≡ p.Faulted fault → ⊥
-string_sound w.Nothing spot fault is = settled_sound spot.levels spot.depth spot fault is
-string_sound i spot fault is = cc
+string_sound i spot fault is = grind (arith, settled_sound)
 
 -- ---- a title that may stand there
 
 may_stand : (i : Within) (d : ℕ) (m : Major) (s : Size) (n : ℕ) (spot : Spot) (fault : Fault) → d ≡ spot.depth
     → blocked i d spot.place (kind_of m) ≡ None
     → (entered i (numbered_header m s n) spot).phase ≡ p.Faulted fault → ⊥
-may_stand w.Nothing (suc d) Array s n spot fault e b is =
-    settled_sound (l.Items n ∷ spot.levels) d _ fault (rw (← e) at is)
-may_stand w.Nothing (suc d) Map s n spot fault e b is =
-    settled_sound (l.Pairs n ∷ spot.levels) d _ fault (rw (← e) at is)
-may_stand w.Nothing (suc d) Tag s n spot fault e b is = let bad = rw (← e) at is in cc
-may_stand w.Nothing d Other Small n spot fault e b is = settled_sound spot.levels spot.depth spot fault is
-may_stand w.Nothing d TextString s zero spot fault e b is = string_sound spot.within (body_placed 0 spot) fault is
-may_stand (w.Text j) d TextString s zero spot fault e b is = string_sound spot.within spot fault is
-may_stand i d ByteString s zero spot fault e b is = first_of (cc, search string_sound)
-may_stand i d m s n spot fault e b is = first_of (cc, search settled_sound)
+may_stand i d m s n spot fault e b is = grind (arith, settled_sound, string_sound)
 
 -- ---- a title that may not
 

@@ -1,10 +1,9 @@
 -- What is due behind a whole title.
-use Rattle.std.proofs.Common.{◌≡◌, ℕ, zero, suc, ◌*◌, List, [], ◌∷◌, ◌++◌, Some, None, refl, subst, ◌∙◌, inl, inr}
+use Rattle.std.proofs.Common.{◌≡◌, ℕ, zero, suc, ◌*◌, List, [], ◌∷◌, ◌++◌, Some, None, refl, subst, inl, inr}
 use Rattle.std.proofs.Common.{append_assoc, append-nil, arith}
 use Rattle.ciborium_ll_grammar.specs.declared.hdr.Header.{Header}
 use Rattle.ciborium_ll_grammar.specs.declared.hdr.Header.TheVariants as h
-use Rattle.ciborium_ll_grammar.specs.Title.{IsTitle, numbered, alone, Major, Array, Map, Tag, Other, Size, Small}
-use Rattle.ciborium_ll_grammar.specs.Title.{numbered_header, open_header, first_byte}
+use Rattle.ciborium_ll_grammar.specs.Title.{IsTitle, numbered, alone, Array, Map, Tag}
 use Rattle.ciborium_ll_grammar.specs.Items.{Completes, positive, negative, float, simple, byte_string, text_string}
 use Rattle.ciborium_ll_grammar.specs.Items.{open_bytes, open_text, tag, array, pairs, open_array, open_pairs, AreItems}
 use Rattle.ciborium_ll_grammar.specs.Items.{no_items, more_items, IsItem, IsTakenTitle, AreTakenStrings}

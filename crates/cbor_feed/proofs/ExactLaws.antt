@@ -1,6 +1,6 @@
 -- Where an item has ended and where there is a fault, in terms of the bytes alone.
-use Rattle.std.proofs.Common.{◌≡◌, ℕ, suc, ◌↔◌, Bool, List, [], ◌++◌, length, refl, sym, ap, subst, ◌∙◌, arith}
-use Rattle.std.proofs.Common.{append-nil, length-append, inl, inr}
+use Rattle.std.proofs.Common.{◌≡◌, ℕ, suc, ◌↔◌, Bool, List, [], ◌++◌, length, sym, ap, subst, ◌∙◌, arith, append-nil}
+use Rattle.std.proofs.Common.{length-append, inl, inr}
 use Rattle.ciborium_ll_grammar.specs.Items.{IsItem}
 use Rattle.ciborium_ll_grammar.specs.Title.{IsCutTitle}
 use Rattle.ciborium_ll_grammar.proofs.AffixLaws.{announced, title_not_cut}
@@ -50,12 +50,7 @@ body_none n P Then o = let whole = ap length o.is in omega (arith, whole, o.long
 
 ended_in : (phase : Phase) (spot : Spot) → Ready phase → (phase ≡ p.Title → FrontSound spot) → WaitsIn phase spot []
     → EndedIn phase
-ended_in p.Ended spot ready sound waits = tt
-ended_in p.Title spot ready sound waits = no_title spot (sound refl)
-    (due_titled spot.strict spot.within spot.depth spot.levels (spot.front ++ []) waits)
-ended_in (p.Bytes (suc n)) spot ready sound waits = body_none n _ _ waits
-ended_in (p.Text (suc n) state) spot ready sound waits = body_none n _ _ waits
-ended_in phase spot ready sound waits = absurd (search)
+ended_in phase spot ready sound waits = grind (arith, no_title, body_none, due_titled)
 
 whole_in : (phase : Phase) (spot : Spot) → EndedIn phase → WaitsIn phase spot []
 whole_in phase spot has = grind arith

@@ -12,13 +12,10 @@ use Rattle.ciborium_ll_text.proofs.EndLaws.{may_back}
 use Rattle.ciborium_ll_text.proofs.Lists.{Below, below_rest, below_take, rest_long}
 use Rattle.ciborium_ll_text.proofs.StateLaws.{after-append, text_ends}
 use Rattle.cbor_feed.specs.declared.level.Level.{Level}
-use Rattle.cbor_feed.specs.declared.level.Level.TheVariants as l
 use Rattle.cbor_feed.specs.declared.phase.Phase.{Phase}
 use Rattle.cbor_feed.specs.declared.phase.Phase.TheVariants as p
-use Rattle.cbor_feed.specs.declared.phase.Within.{Within}
-use Rattle.cbor_feed.specs.declared.phase.Within.TheVariants as w
 use Rattle.cbor_feed.specs.Levels.{next}
-use Rattle.cbor_feed.specs.Spots.{Spot, at_phase, settled, string_done, bytes_due}
+use Rattle.cbor_feed.specs.Spots.{Spot, at_phase, settled, bytes_due}
 use Rattle.cbor_feed.specs.Steps.{IsFed, Leads, Step, StepIn, TitleStep, stay, go, more, counted, counted_by, text_left}
 use Rattle.cbor_feed.specs.Steps.{with_byte}
 use Rattle.cbor_feed.specs.Telling.{is_due}
@@ -64,22 +61,15 @@ one_leads (x ∷ xs) spot new below some step = go x (below 0 (omega arith)) ste
 -- ---- what was due does not count behind a body
 
 settled_alike : (gs : List Level) (d : ℕ) (s : Spot) (a : Phase) → settled d gs (at_phase a s) ≡ settled d gs s
-settled_alike (l.Items zero ∷ gs) d s a = settled_alike gs (suc d) s a
-settled_alike (l.Pairs zero ∷ gs) d s a = settled_alike gs (suc d) s a
-settled_alike gs d s a = refl
-
-done_alike : (i : Within) (s : Spot) (a : Phase) → string_done i (at_phase a s) ≡ string_done i s
-done_alike w.Nothing s a = settled_alike s.levels s.depth s a
-done_alike i s a = refl
+settled_alike [] d s a = refl
+settled_alike (g ∷ gs) d s a = grind (arith, settled_alike gs)
 
 pub due_alike : (len : ℕ) (s : Spot) (a : Phase) → bytes_due len (at_phase a s) ≡ bytes_due len s
-due_alike zero s a = done_alike s.within s a
-due_alike (suc n) s a = refl
+due_alike len s a = grind (arith, settled_alike)
 
 pub left_alike : (m : Bool) (len : ℕ) (x : State) (s : Spot) (a : Phase)
     → text_left m len x (at_phase a s) ≡ text_left m len x s
-left_alike true zero x s a = done_alike s.within s a
-left_alike m len x s a = refl
+left_alike m len x s a = grind (arith, settled_alike)
 
 -- ---- bytes of a byte string
 

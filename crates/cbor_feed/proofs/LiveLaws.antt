@@ -116,9 +116,7 @@ kept_sound spot new clear kept = (kept.2, λ at. inl (kept.0 ∙ clear))
 
 left_sound : (b : Bool) (left : ℕ) (state : State) (spot : Spot) → spot.front ≡ [] → may_end state left ≡ b
     → Sound (text_left b left state spot)
-left_sound true zero state spot clear e = kept_sound spot _ clear (string_kept spot.within spot)
-left_sound true (suc left) state spot clear e = (e, λ at. inl clear)
-left_sound false left state spot clear e = (tt, λ at. inl clear)
+left_sound b left state spot clear e = grind (arith, string_kept)
 
 -- ---- each spot that bytes lead to is sound
 
