@@ -36,11 +36,7 @@ fault_exact s d fed spot is = (
 -- a title is due where no byte follows: there is none
 no_title : (spot : Spot) → FrontSound spot → Titled spot.strict (spot.front ++ []) → ⊥
 no_title spot (inl clear) o =
-    let a = announced o.title o.header o.is_title in
-    let none : spot.front ++ [] ≡ [] = ap (λ (z : List ℕ). z ++ []) clear in
-    let whole = ap length (sym o.is ∙ none) in
-    let some = ap length a.is in
-    omega (arith, whole, some, length-append o.title o.rest)
+    let begun = announced o.title o.header o.is_title in grind (arith, length-append)
 no_title spot (inr c) o =
     title_not_cut o.title o.rest o.header o.is_title
     (subst IsCutTitle (sym (append-nil spot.front) ∙ o.is) c.1)

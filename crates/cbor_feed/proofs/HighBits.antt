@@ -1,7 +1,7 @@
 -- The highest bits of the bytes of a word: where none of those that count is set, these bytes are ASCII.
 use Rattle.std.proofs.Common.{◌≡◌, ℕ, zero, suc, ◌+◌, ◌-◌, ◌*◌, ◌/◌, ◌%◌, ◌<◌, ◌≤◌, Bool, true, List, [], ◌∷◌, ◌&&◌}
-use Rattle.std.proofs.Common.{◌||◌, eqb, leb, get_or, length, length-drop, drop, take, slice_index, refl, sym, ap, ◌∙◌}
-use Rattle.std.proofs.Common.{arith, min, bit_and, bit_or}
+use Rattle.std.proofs.Common.{◌||◌, eqb, leb, get_or, length, length-drop, drop, take, slice_index, refl, ap, arith}
+use Rattle.std.proofs.Common.{bit_and, bit_or}
 use Rattle.std.proofs.lemmas.Bool.{agree_below_at}
 use Rattle.std.proofs.lemmas.List.{get_or-drop, get_or-take, get_or_past, length-take-le}
 use Rattle.std.proofs.lemmas.Bool.Decides.{nat_tests}
@@ -40,10 +40,8 @@ other_by number j counts e = grind (arith, nat_tests)
 clear_by : (word mask other i : ℕ) → bit_and (bit_and word mask) other ≡ 0 → bit_at mask i ≡ 1 → bit_at other i ≡ 1
     → bit_at word i ≡ 0
 clear_by word mask other i none set too =
-    let inner = bit_at_and word mask i in
-    let outer : min (bit_at (bit_and word mask) i) (bit_at other i) ≡ 0 =
-    sym (bit_at_and (bit_and word mask) other i) ∙ (ap (λ (z : ℕ). bit_at z i) none ∙ bit_at-zero i) in
-    omega (arith, inner, outer, set, too)
+    let outer : bit_at (bit_and (bit_and word mask) other) i ≡ 0 = rw none (bit_at-zero i) in
+    omega (arith, bit_at_and word mask i, bit_at_and (bit_and word mask) other i)
 
 -- ---- eight bytes of a list
 

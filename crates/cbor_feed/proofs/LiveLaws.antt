@@ -1,6 +1,6 @@
 -- Where there is no fault, some bytes make an item of those so far.
-use Rattle.std.proofs.Common.{◌≡◌, ℕ, zero, suc, ◌-◌, ◌*◌, ◌<◌, ◌⊎◌, inl, inr, Bool, true, false, List, [], ◌∷◌, ◌++◌}
-use Rattle.std.proofs.Common.{length, le-leb, refl, sym, ◌∙◌, arith, append_assoc}
+use Rattle.std.proofs.Common.{◌≡◌, ℕ, zero, suc, ◌-◌, ◌*◌, ◌<◌, ◌⊎◌, inl, inr, Bool, true, List, [], ◌∷◌, ◌++◌, length}
+use Rattle.std.proofs.Common.{le-leb, refl, sym, ◌∙◌, arith, append_assoc}
 use Rattle.std.proofs.Math.ListN.{replicate}
 use Rattle.std.proofs.lemmas.Bool.Decides.{nat_tests}
 use Rattle.std.proofs.lemmas.List.{length-replicate}
@@ -22,8 +22,7 @@ use Rattle.cbor_feed.specs.declared.phase.Fault.{Fault}
 use Rattle.cbor_feed.specs.declared.phase.Within.{Within}
 use Rattle.cbor_feed.specs.declared.phase.Within.TheVariants as w
 use Rattle.cbor_feed.specs.Spots.{Spot}
-use Rattle.cbor_feed.specs.Steps.{SomeTaken, with_byte, titled, TitleStep, cut, early, whole, none, text_left, counted}
-use Rattle.cbor_feed.specs.Steps.{StepIn, IsFed, fresh, more}
+use Rattle.cbor_feed.specs.Steps.{SomeTaken, titled, TitleStep, text_left, StepIn, IsFed, fresh, more}
 use Rattle.cbor_feed.proofs.Waiting.{Takes, Ends, EndsStrings, BodyThen, AnyBody, TextBody, TitleDue, StringDone}
 use Rattle.cbor_feed.proofs.Waiting.{WaitsIn}
 use Rattle.cbor_feed.proofs.StringLaws.{end_back}
@@ -35,8 +34,7 @@ use Rattle.cbor_feed.proofs.KeptLaws.{Ready, Kept, string_kept, bytes_kept, ente
 
 -- zero is a number under its shortest title
 zero_taken : (s : Bool) → IsTakenTitle s (0 ∷ []) (h.Positive 0)
-zero_taken true = record { shortest = refl; meant = λ small. small }
-zero_taken false = tt
+zero_taken s = grind arith
 
 -- zeros are items
 zeros : (s : Bool) (d n : ℕ) → (items : List ℕ) × AreItems s d n items
@@ -121,25 +119,15 @@ left_sound b left state spot clear e = grind (arith, string_kept)
 -- ---- each spot that bytes lead to is sound
 
 byte_front : (spot : Spot) (b : ℕ) → b < 256 → FrontSound spot → AreBytes (spot.front ++ b ∷ [])
-byte_front spot b byte (inl clear) = rw clear (byte, tt)
-byte_front spot b byte (inr o) = AreBytes-append spot.front (b ∷ []) o.0 (byte, tt)
+byte_front spot b byte sound = grind (arith, AreBytes-append)
 
 title_sound : (spot new : Spot) → TitleStep spot new → spot.phase ≡ p.Title → AreBytes spot.front → Sound new
-title_sound spot new (cut c some may) e bytes = (rw e tt, λ at. inr (bytes, c, some, may))
-title_sound spot new (early fault c some all) e bytes = (tt, λ at. absurd cc)
-title_sound spot new (whole x q g) e bytes =
-    kept_sound (record spot { front = [] }) _ refl (entered_kept spot.within x (record spot { front = [] }))
-title_sound spot new (none r) e bytes = (tt, λ at. inl refl)
+title_sound spot new step e bytes = grind (arith, entered_kept)
 
 step_sound : (phase : Phase) (spot new : Spot) (b : ℕ) → phase ≡ spot.phase → Sound spot → b < 256
     → StepIn phase spot b new → Sound new
-step_sound p.Title spot new b e sound byte step =
-    title_sound (with_byte b spot) new step (sym e) (byte_front spot b byte (sound.1 (sym e)))
-step_sound (p.Bytes (suc left)) spot new b e sound byte step =
-    rw step (kept_sound (counted spot) _ refl (bytes_kept left (counted spot)))
-step_sound (p.Text (suc left) state) spot new b e sound byte step =
-    rw step (left_sound _ left (after_byte state b) (counted spot) refl refl)
-step_sound phase spot new b e sound byte step = absurd step
+step_sound phase spot new b e sound byte step =
+    grind (arith, title_sound, byte_front, bytes_kept, left_sound)
 
 pub fed_sound : (s : Bool) (d : ℕ) (fed : List ℕ) (spot : Spot) → IsFed s d fed spot → Sound spot
 fed_sound s d fed spot fresh = (tt, λ at. inl refl)

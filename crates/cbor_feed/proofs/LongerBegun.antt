@@ -1,7 +1,7 @@
 -- Which bytes begin a title that is the shortest of its header.
-use Rattle.std.proofs.Common.{◌≡◌, ℕ, zero, suc, ◌+◌, ◌-◌, ◌<◌, ◌≤◌, ◌%◌, ◌^◌, ◌⊎◌, inl, inr, Bool, true, false, List}
-use Rattle.std.proofs.Common.{[], ◌∷◌, ◌++◌, length, get_or, refl, ap, subst, arith, length-append, ◌==◌, if◌then◌else◌}
-use Rattle.std.proofs.Common.{nat_lt, slice_index, Option, Some, None, IfSome, IfNone}
+use Rattle.std.proofs.Common.{◌≡◌, ℕ, zero, suc, ◌+◌, ◌-◌, ◌<◌, ◌≤◌, ◌%◌, ◌⊎◌, inl, inr, Bool, true, false, List, []}
+use Rattle.std.proofs.Common.{◌∷◌, ◌++◌, length, get_or, refl, ap, subst, arith, length-append, slice_index, Option}
+use Rattle.std.proofs.Common.{Some, None, IfSome, IfNone}
 use Rattle.std.proofs.Math.ListN.{replicate}
 use Rattle.std.proofs.lemmas.Bool.{false_from_ne_true}
 use Rattle.std.proofs.lemmas.Bool.Decides.{nat_tests}
@@ -9,9 +9,9 @@ use Rattle.std.proofs.Math.Seq.{get_or-append_right}
 use Rattle.std.proofs.lemmas.List.{length-replicate, get_or_append_left, get_or-replicate}
 use Rattle.ciborium_ll_grammar.specs.declared.hdr.Header.{Header}
 use Rattle.ciborium_ll_grammar.specs.declared.hdr.Minor.{Minor}
-use Rattle.ciborium_ll_grammar.specs.Title.{Major, major_code, first_byte, Size, Small, One, Two, Four, Eight}
-use Rattle.ciborium_ll_grammar.specs.Title.{size_limit, affix_len, numbered_title, IsTitle, numbered, alone}
-use Rattle.ciborium_ll_grammar.specs.Title.{IsStrictTitle, AreBytes, BeginsRefused, IsNeverOpen}
+use Rattle.ciborium_ll_grammar.specs.Title.{Major, major_code, first_byte, Size, size_limit, affix_len, numbered_title}
+use Rattle.ciborium_ll_grammar.specs.Title.{IsTitle, numbered, alone, IsStrictTitle, AreBytes, BeginsRefused}
+use Rattle.ciborium_ll_grammar.specs.Title.{IsNeverOpen}
 use Rattle.ciborium_ll_grammar.specs.Parts.{IsMinor, minor_code, parts_bytes, longer_parts}
 use Rattle.ciborium_ll_grammar.specs.Items.{IsTakenTitle}
 use Rattle.ciborium_ll_grammar.proofs.TitleLaws.{one_title, title_refused}
@@ -24,14 +24,6 @@ ruleset tests = (arith, nat_tests)
 
 -- ---- a number whose first half is 0 has a smaller form
 
--- what tells so of two, four or eight bytes
-tested : (major n half : ℕ) → major < 7 → n < half → (if major == 7 then false else nat_lt n half) ≡ true
-tested major n half c l = grind tests
-
-told : (m : Major) (n half : ℕ) → (if major_code m == 7 then false else nat_lt n half) ≡ true
-    → (major_code m < 7) × (n < half)
-told m n half e = grind tests
-
 -- the bytes of a list in front are those of the whole
 same_at : (a m t r : List ℕ) → a ++ m ≡ t ++ r → (i : ℕ) → i < length a → i < length t → get_or a i 0 ≡ get_or t i 0
 same_at a m t r e i la lt = cc (get_or_append_left t r 0 i lt, get_or_append_left a m 0 i la)
@@ -39,26 +31,10 @@ same_at a m t r e i la lt = cc (get_or_append_left t r 0 i lt, get_or_append_lef
 -- no such title is the shortest
 by_title : (front m t r : List ℕ) (x : Header) → BeginsLonger front → 0 < length front → IsTitle t x
     → front ++ m ≡ t ++ r → IsStrictTitle t x → ⊥
-by_title front m t r x (low, inl zeros) some (numbered k Two n p) e strict =
-    let at = same_at front m (numbered_title k Two n) r e in
-    let less : n < 2 ^ 8 = omega (arith, at, zeros, p) in
-    refused k Two n p (tested (major_code k) n (2 ^ 8) (omega (arith, at, low, some)) less) strict
-by_title front m t r x (low, inr (inl zeros)) some (numbered k Four n p) e strict =
-    let at = same_at front m (numbered_title k Four n) r e in
-    let less : n < 2 ^ 16 = omega (arith, at, zeros, p) in
-    refused k Four n p (tested (major_code k) n (2 ^ 16) (omega (arith, at, low, some)) less) strict
-by_title front m t r x (low, inr (inr zeros)) some (numbered k Eight n p) e strict =
-    let at = same_at front m (numbered_title k Eight n) r e in
-    let less : n < 2 ^ 32 = omega (arith, at, zeros, p) in
-    refused k Eight n p (tested (major_code k) n (2 ^ 32) (omega (arith, at, low, some)) less) strict
-by_title front m t r x (low, inl zeros) some (numbered k s n p) e strict =
-    absurd (omega (arith, same_at front m (numbered_title k s n) r e 0 some (omega arith), zeros, p))
-by_title front m t r x (low, inr (inl zeros)) some (numbered k s n p) e strict =
-    absurd (omega (arith, same_at front m (numbered_title k s n) r e 0 some (omega arith), zeros, p))
-by_title front m t r x (low, inr (inr zeros)) some (numbered k s n p) e strict =
-    absurd (omega (arith, same_at front m (numbered_title k s n) r e 0 some (omega arith), zeros, p))
-by_title front m t r x (low, minors) some (alone k y o) e strict =
-    absurd (omega (arith, same_at front m (first_byte k 31 ∷ []) r e 0 some (omega arith), minors))
+by_title front m t r x longer some (numbered k s n p) e strict =
+    let at = same_at front m (numbered_title k s n) r e in refused k s n p (grind tests) strict
+by_title front m t r x longer some (alone k y o) e strict =
+    let first = same_at front m (first_byte k 31 ∷ []) r e 0 some (omega arith) in omega arith
 
 -- bytes that begin so begin no such title
 pub longer_none : (front : List ℕ) → 0 < length front → BeginsLonger front → NoneTaken true front
@@ -87,25 +63,9 @@ module _ (a : List ℕ) (k : ℕ) (some : 0 < length a) (more : 0 < k) (never : 
 
   not_longer : (m : Major) (s : Size) (n : ℕ) → n < size_limit s → numbered_title m s n ≡ Whole
       → longer_parts (major_code m) (minor_as s n) ≡ true → ⊥
-  not_longer m Small n p e longer = cc
-  not_longer m One n p e longer =
-      let long = ap length e in
-      grind (tests, byte_at (numbered_title m One n) e 1 (omega arith), length-append, length-replicate)
-  not_longer m Two n p e longer =
-      let (low, less) = told m n (2 ^ 8) longer in
-      let at = byte_at (numbered_title m Two n) e in
-      let zeroth = at 0 (omega arith) in let first = at 1 (omega arith) in never (omega arith, inl (omega arith))
-  not_longer m Four n p e longer =
-      let (low, less) = told m n (2 ^ 16) longer in
-      let at = byte_at (numbered_title m Four n) e in
-      let zeroth = at 0 (omega arith) in let first = at 1 (omega arith) in let second = at 2 (omega arith) in
-      never (omega arith, inr (inl (omega arith)))
-  not_longer m Eight n p e longer =
-      let (low, less) = told m n (2 ^ 32) longer in
-      let at = byte_at (numbered_title m Eight n) e in
-      let zeroth = at 0 (omega arith) in let first = at 1 (omega arith) in let second = at 2 (omega arith) in
-      let third = at 3 (omega arith) in let fourth = at 4 (omega arith) in
-      never (omega arith, inr (inr (omega arith)))
+  not_longer m s n p e longer =
+      let at = byte_at (numbered_title m s n) e in let long = ap length e in
+      grind (tests, length-append, length-replicate)
 
   whole_taken : (t : List ℕ) (x : Header) → IsTitle t x → t ≡ Whole → IsStrictTitle t x
   whole_taken t x (numbered m s n p) e = taken m s n p (false_from_ne_true _ (not_longer m s n p e))
