@@ -1,34 +1,24 @@
 -- Where an item has ended and where there is a fault, in terms of the bytes alone.
-use Rattle.std.proofs.Common.{◌≡◌, ℕ, suc, ◌↔◌, Bool, List, [], ◌++◌, length, sym, ap, subst, ◌∙◌, arith, append-nil}
+use Rattle.std.proofs.Common.{ℕ, suc, ◌↔◌, Bool, List, [], ◌++◌, length, sym, ap, subst, ◌∙◌, arith, append-nil}
 use Rattle.std.proofs.Common.{length-append, inl, inr}
 use Rattle.ciborium_ll_grammar.specs.Items.{IsItem}
 use Rattle.ciborium_ll_grammar.specs.Title.{IsCutTitle}
 use Rattle.ciborium_ll_grammar.proofs.AffixLaws.{announced, title_not_cut}
-use Rattle.cbor_feed.specs.declared.phase.Phase.{Phase}
-use Rattle.cbor_feed.specs.declared.phase.Phase.TheVariants as p
-use Rattle.cbor_feed.specs.declared.phase.Fault.{Fault}
 use Rattle.cbor_feed.specs.Spots.{Spot}
 use Rattle.cbor_feed.specs.Steps.{IsFed}
-use Rattle.cbor_feed.specs.Telling.{EndedIn, HasEnded, FaultIn, IsAtFault}
-use Rattle.cbor_feed.proofs.Waiting.{BodyThen, WaitsIn}
+use Rattle.cbor_feed.specs.Telling.{HasEnded, IsAtFault}
+use Rattle.cbor_feed.proofs.Waiting.{BodyThen}
 use Rattle.cbor_feed.proofs.StepLaws.{Titled, due_titled, fed_same}
 use Rattle.cbor_feed.proofs.LiveLaws.{FrontSound, fed_sound, fed_goes}
-use Rattle.cbor_feed.proofs.KeptLaws.{Ready}
 
 -- ---- a fault
-
-fault_none : (phase : Phase) (spot : Spot) (y : List ℕ) → FaultIn phase → WaitsIn phase spot y → ⊥
-fault_none phase spot y has waits = grind arith
-
-fault_or : (phase : Phase) → (((fault : Fault) → phase ≡ p.Faulted fault → ⊥) → ⊥) → FaultIn phase
-fault_or phase has = grind arith
 
 -- there is a fault just where no item begins so
 pub fault_exact : (s : Bool) (d : ℕ) (fed : List ℕ) (spot : Spot) → IsFed s d fed spot
     → IsAtFault spot ↔ ((more : List ℕ) → IsItem s d (fed ++ more) → ⊥)
 fault_exact s d fed spot is = (
-  λ has y i. fault_none spot.phase spot y has ((fed_same s d fed spot is y).0 i),
-  λ never. fault_or spot.phase (λ sound. let o = fed_goes s d fed spot is sound in never o.0 o.1),
+  λ has y i. let waits = (fed_same s d fed spot is y).0 i in grind arith,
+  λ never. let goes = fed_goes s d fed spot is in grind arith,
 )
 
 -- ---- an end
@@ -44,18 +34,11 @@ no_title spot (inr c) o =
 body_none : (n : ℕ) (P Then : List ℕ → Type 0) → BodyThen (suc n) P Then [] → ⊥
 body_none n P Then o = let whole = ap length o.is in omega (arith, whole, o.long, length-append o.body o.rest)
 
-ended_in : (phase : Phase) (spot : Spot) → Ready phase → (phase ≡ p.Title → FrontSound spot) → WaitsIn phase spot []
-    → EndedIn phase
-ended_in phase spot ready sound waits = grind (arith, no_title, body_none, due_titled)
-
-whole_in : (phase : Phase) (spot : Spot) → EndedIn phase → WaitsIn phase spot []
-whole_in phase spot has = grind arith
-
 -- the item has ended just where the bytes so far are one
 pub ended_exact : (s : Bool) (d : ℕ) (fed : List ℕ) (spot : Spot) → IsFed s d fed spot → HasEnded spot ↔ IsItem s d fed
 ended_exact s d fed spot is =
     let same = fed_same s d fed spot is [] in
     let sound = fed_sound s d fed spot is in (
-      λ has. rw append-nil at (same.1 (whole_in spot.phase spot has)),
-      λ item. ended_in spot.phase spot sound.0 sound.1 (same.0 (rw append-nil item)),
+      λ has. rw append-nil at (same.1 (grind arith)),
+      λ item. let waits = same.0 (rw append-nil item) in grind (arith, no_title, body_none, due_titled),
     )

@@ -27,14 +27,6 @@ bits_say number j less lt =
     rw (row, column) at (agree_below_at (λ b. bit_test (b / 8) (b % 8)) (λ b. true) 264 (8 * number + j) refl
     (omega (arith, less, lt)))
 
-set_by : (number j : ℕ) → j + 16 < number → bit_test number j ≡ true
-    → bit_at (get_or HIGH_BITS number 0) (8 * j + 7) ≡ 1
-set_by number j counts e = grind (arith, nat_tests)
-
-other_by : (number j : ℕ) → number ≤ j + 16 → bit_test number j ≡ true
-    → bit_at (get_or OTHER_BITS number 0) (8 * j + 7) ≡ 1
-other_by number j counts e = grind (arith, nat_tests)
-
 -- ---- a byte of a word whose highest bit is not set
 
 clear_by : (word mask other i : ℕ) → bit_and (bit_and word mask) other ≡ 0 → bit_at mask i ≡ 1 → bit_at other i ≡ 1
@@ -61,8 +53,10 @@ pub low_in : (word mask other from until : ℕ) (xs : List ℕ) (at : ℕ) → b
     → to_le_bytes w64 word ≡ eight xs at → (j : ℕ) → j < 8 → from ≤ j + 16 → j + 16 < until
     → slice_index xs (at + j) < 128
 low_in word mask other from until xs at none mask_is other_is first last same j lt least most =
-    low j lt (clear_by word mask other (8 * j + 7) none (rw mask_is (set_by until j most (bits_say until j last lt)))
-    (rw other_is (other_by from j least (bits_say from j first lt))))
+    let set = bits_say until j last lt in
+    let too = bits_say from j first lt in
+    low j lt (clear_by word mask other (8 * j + 7) none (rw mask_is (grind (arith, nat_tests)))
+    (rw other_is (grind (arith, nat_tests))))
   where
     low : (j : ℕ) → j < 8 → bit_at word (8 * j + 7) ≡ 0 → slice_index xs (at + j) < 128
     low (suc (suc (suc (suc (suc (suc (suc (suc j)))))))) lt c = absurd (omega (arith, lt))

@@ -18,9 +18,6 @@ use Rattle.cbor_feed.proofs.Waiting.{Takes, EndsLevel, Ends, ItemThen, BreakThen
 done_takes : (f : Level) (n : ℕ) (e : List ℕ) → next f ≡ None → Takes f n e → (n ≡ 0) × (e ≡ [])
 done_takes f n e d t = grind arith
 
-done_none : (f : Level) → next f ≡ None → Takes f 0 []
-done_none f d = grind arith
-
 -- behind one item more
 next_takes : (f g : Level) (n : ℕ) (e : List ℕ) → next f ≡ Some g → Takes f (suc n) e → Takes g n e
 next_takes l.OpenPairs g n e d ((k, q), u) =
@@ -31,13 +28,6 @@ next_back : (f g : Level) (n : ℕ) (e : List ℕ) → next f ≡ Some g → Tak
 next_back l.OpenPairs g n e d t =
     let same : g ≡ l.OpenValue = cc in let ((k, q), u) = rw same at t in ((suc k, omega (arith, q)), u)
 next_back f g n e d t = grind arith
-
--- where no item more comes, a break does
-next_end : (f g : Level) (e : List ℕ) → next f ≡ Some g → Takes f 0 e → (closes g ≡ true) × (e ≡ 0xff ∷ [])
-next_end f g e d t = grind arith
-
-end_back : (f g : Level) → next f ≡ Some g → closes g ≡ true → Takes f 0 (0xff ∷ [])
-end_back f g d c = grind arith
 
 -- ---- a level where one item more is due
 
@@ -50,7 +40,7 @@ module _ (s : Bool) (f g : Level) (d : ℕ) (Then : List ℕ → Type 0) (goes :
   level_opens : (n : ℕ) (items e rest y : List ℕ) → AreItems s d n items → Takes f n e → Then rest
       → y ≡ items ++ (e ++ rest) → ItemThen s d (EndsLevel s g d Then) y ⊎ BreakThen g Then y
   level_opens n items e rest y no_items t k is =
-      let (may, end) = next_end f g e goes t in let there = rw end at is in inr (search)
+      let end : (closes g ≡ true) × (e ≡ 0xff ∷ []) = grind arith in let there = rw end.1 at is in inr (search)
   level_opens n items e rest y (more_items {count = m} {title = t} {rest = r} {others = a} {header = x} q v c i) u k
       is =
       let is_item = item_of s d t r x q v c in
@@ -71,7 +61,7 @@ module _ (s : Bool) (f g : Level) (d : ℕ) (Then : List ℕ → Type 0) (goes :
       let b = o.behind in
       item_then_items b.count o.item b.items b.end b.rest y o.is_item b.are_items b.takes b.behind (simp (o.is, b.is))
   level_closes y (inr o) =
-      let takes = end_back f g goes o.may in let none : AreItems s d 0 [] = no_items in search
+      let takes : Takes f 0 (0xff ∷ []) = grind arith in let none : AreItems s d 0 [] = no_items in search
 
 -- ---- all levels
 
@@ -94,7 +84,7 @@ settled_next None f fs d spot y e clear same =
     rw (e, settled) (
       λ o. same.0 (done_level spot.strict f d (Ends spot.strict (suc d) fs) e o.count o.items o.end o.rest y
           o.are_items o.takes o.behind o.is),
-      λ waits. let behind = same.1 waits in let takes = done_none f e in
+      λ waits. let behind = same.1 waits in let takes : Takes f 0 [] = grind arith in
           let none : AreItems spot.strict d 0 [] = no_items in search,
     )
 settled_next (Some g) f fs d spot y e clear same =

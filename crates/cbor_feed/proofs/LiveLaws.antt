@@ -1,13 +1,12 @@
 -- Where there is no fault, some bytes make an item of those so far.
 use Rattle.std.proofs.Common.{◌≡◌, ℕ, zero, suc, ◌-◌, ◌*◌, ◌<◌, ◌⊎◌, inl, inr, Bool, true, List, [], ◌∷◌, ◌++◌, length}
-use Rattle.std.proofs.Common.{le-leb, refl, sym, ◌∙◌, arith, append_assoc}
+use Rattle.std.proofs.Common.{le-leb, refl, sym, arith, append_assoc}
 use Rattle.std.proofs.Math.ListN.{replicate}
 use Rattle.std.proofs.lemmas.Bool.Decides.{nat_tests}
 use Rattle.std.proofs.lemmas.List.{length-replicate}
 use Rattle.ciborium_ll_grammar.specs.declared.hdr.Header.{Header}
-use Rattle.ciborium_ll_grammar.specs.declared.hdr.Header.TheVariants as h
 use Rattle.ciborium_ll_grammar.specs.Title.{IsTitle, IsCutTitle, AreBytes, numbered, Unsigned, Small}
-use Rattle.ciborium_ll_grammar.specs.Items.{AreItems, IsItem, IsTakenTitle, no_items, more_items, positive}
+use Rattle.ciborium_ll_grammar.specs.Items.{AreItems, IsItem, no_items, more_items, positive}
 use Rattle.ciborium_ll_grammar.specs.Strings.{Kind, Bytes, Text}
 use Rattle.ciborium_ll_grammar.proofs.AffixLaws.{AreBytes-append}
 use Rattle.ciborium_ll_text.specs.declared.state.State.{State}
@@ -22,28 +21,22 @@ use Rattle.cbor_feed.specs.declared.phase.Fault.{Fault}
 use Rattle.cbor_feed.specs.declared.phase.Within.{Within}
 use Rattle.cbor_feed.specs.declared.phase.Within.TheVariants as w
 use Rattle.cbor_feed.specs.Spots.{Spot}
-use Rattle.cbor_feed.specs.Steps.{SomeTaken, titled, TitleStep, text_left, StepIn, IsFed, fresh, more}
+use Rattle.cbor_feed.specs.Steps.{SomeTaken, titled, TitleStep, StepIn, IsFed, fresh, more}
 use Rattle.cbor_feed.proofs.Waiting.{Takes, Ends, EndsStrings, BodyThen, AnyBody, TextBody, TitleDue, StringDone}
 use Rattle.cbor_feed.proofs.Waiting.{WaitsIn}
 use Rattle.cbor_feed.proofs.StringLaws.{end_back}
 use Rattle.cbor_feed.proofs.StepLaws.{fed_same}
 use Rattle.cbor_feed.proofs.TitleDueLaws.{title_enters}
-use Rattle.cbor_feed.proofs.KeptLaws.{Ready, Kept, string_kept, bytes_kept, entered_kept}
+use Rattle.cbor_feed.proofs.KeptLaws.{Ready, string_kept, bytes_kept, entered_kept}
 
 -- ---- what ends levels and strings
 
--- zero is a number under its shortest title
-zero_taken : (s : Bool) → IsTakenTitle s (0 ∷ []) (h.Positive 0)
-zero_taken s = grind arith
-
--- zeros are items
+-- zeros are items, under their shortest titles
 zeros : (s : Bool) (d n : ℕ) → (items : List ℕ) × AreItems s d n items
 zeros s d zero = ([], no_items)
 zeros s d (suc n) =
-    let others = zeros s d n in (
-      (0 ∷ []) ++ ([] ++ others.0),
-      more_items (numbered Unsigned Small 0 (omega arith)) (zero_taken s) positive others.1,
-    )
+    let (others, are) = zeros s d n in
+    (0 ∷ others, more_items (numbered Unsigned Small 0 (omega arith)) (grind arith) positive are)
 
 -- so many items end the level
 level_ending : (level : Level) → (n : ℕ) × (end : List ℕ) × Takes level n end
@@ -109,13 +102,6 @@ FrontSound spot = (spot.front ≡ []) ⊎ (AreBytes spot.front × IsCutTitle spo
 abbrev pub Sound : Spot → Type 0
 Sound spot = Ready spot.phase × (spot.phase ≡ p.Title → FrontSound spot)
 
-kept_sound : (spot new : Spot) → spot.front ≡ [] → Kept spot new → Sound new
-kept_sound spot new clear kept = (kept.2, λ at. inl (kept.0 ∙ clear))
-
-left_sound : (b : Bool) (left : ℕ) (state : State) (spot : Spot) → spot.front ≡ [] → may_end state left ≡ b
-    → Sound (text_left b left state spot)
-left_sound b left state spot clear e = grind (arith, string_kept)
-
 -- ---- each spot that bytes lead to is sound
 
 byte_front : (spot : Spot) (b : ℕ) → b < 256 → FrontSound spot → AreBytes (spot.front ++ b ∷ [])
@@ -127,7 +113,7 @@ title_sound spot new step e bytes = grind (arith, entered_kept)
 step_sound : (phase : Phase) (spot new : Spot) (b : ℕ) → phase ≡ spot.phase → Sound spot → b < 256
     → StepIn phase spot b new → Sound new
 step_sound phase spot new b e sound byte step =
-    grind (arith, title_sound, byte_front, bytes_kept, left_sound)
+    grind (arith, title_sound, byte_front, bytes_kept, string_kept)
 
 pub fed_sound : (s : Bool) (d : ℕ) (fed : List ℕ) (spot : Spot) → IsFed s d fed spot → Sound spot
 fed_sound s d fed spot fresh = (tt, λ at. inl refl)
