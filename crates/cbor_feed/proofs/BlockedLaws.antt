@@ -3,7 +3,7 @@ use Rattle.std.proofs.Common.{◌≡◌, ℕ, zero, suc, ◌/◌, ◌%◌, ◌<�
 use Rattle.std.proofs.Common.{refl, arith, slice_index, length-drop}
 use Rattle.ciborium_ll_grammar.specs.declared.hdr.Header.{Header}
 use Rattle.ciborium_ll_grammar.specs.declared.hdr.table.TitleKind.{TitleKind}
-use Rattle.ciborium_ll_grammar.specs.Title.{Major, Size, affix_len, numbered_header, IsTitle}
+use Rattle.ciborium_ll_grammar.specs.Title.{affix_len, IsTitle}
 use Rattle.ciborium_ll_grammar.specs.Items.{IsTakenTitle}
 use Rattle.ciborium_ll_grammar.specs.TitleRows.{IsTitleKind, IsRow}
 use Rattle.ciborium_ll_grammar.specs.declared.hdr.table.Row.{Row}
@@ -15,7 +15,7 @@ use Rattle.cbor_feed.specs.declared.phase.Within.{Within}
 use Rattle.cbor_feed.specs.declared.phase.Within.TheVariants as w
 use Rattle.cbor_feed.specs.declared.phase.Fault.{Fault}
 use Rattle.cbor_feed.specs.Blocked.{blocked, is_value}
-use Rattle.cbor_feed.specs.Spots.{Spot, at_phase, settled, string_done, entered, item_done, item_entered, refused}
+use Rattle.cbor_feed.specs.Spots.{Spot, at_phase, settled, string_done, item_done, item_entered, refused}
 use Rattle.cbor_feed.specs.Steps.{SomeTaken, NoneTaken, titled, TitleStep, cut, early, whole, none}
 
 -- ---- no fault behind a whole item
@@ -29,29 +29,11 @@ settled_sound gs d spot fault is = cc
 pub string_sound : (i : Within) (spot : Spot) (fault : Fault) → (string_done i spot).phase ≡ p.Faulted fault → ⊥
 string_sound i spot fault is = grind (arith, settled_sound)
 
--- ---- a title that may stand there
-
-may_stand : (i : Within) (d : ℕ) (m : Major) (s : Size) (n : ℕ) (spot : Spot) (fault : Fault) → d ≡ spot.depth
-    → blocked i d spot.place (kind_of m) ≡ None
-    → (entered i (numbered_header m s n) spot).phase ≡ p.Faulted fault → ⊥
-may_stand i d m s n spot fault e b is = grind (arith, settled_sound, string_sound)
-
--- ---- a title that may not
-
-may_not : (i : Within) (d : ℕ) (m : Major) (s : Size) (n : ℕ) (spot : Spot) (fault : Fault) → d ≡ spot.depth
-    → blocked i d spot.place (kind_of m) ≡ Some fault
-    → (entered i (numbered_header m s n) spot).phase ≡ p.Faulted fault
-may_not i d m s n spot fault e b = grind arith
-
 -- ---- a number, a float or a simple value
 
 -- it may stand wherever an item is due
 pub value_free : (d place : ℕ) (kind : TitleKind) → is_value kind ≡ true → blocked w.Nothing d place kind ≡ None
 value_free d place kind v = grind arith
-
-value_numbered : (m : Major) (s : Size) (n : ℕ) (spot : Spot) → is_value (kind_of m) ≡ true
-    → item_entered (numbered_header m s n) spot ≡ item_done spot
-value_numbered m s n spot v = grind arith
 
 -- where its title announces bytes, its first byte tells it
 pub value_entered : (byte : ℕ) (v t : List ℕ) (x : Header) (kind : TitleKind) (spot : Spot) → IsTitle t x → t ≡ byte ∷ v
@@ -59,7 +41,9 @@ pub value_entered : (byte : ℕ) (v t : List ℕ) (x : Header) (kind : TitleKind
     → item_entered x spot ≡ item_done spot
 value_entered byte v t x kind spot q e more i value =
     let o = numbered_title byte v t x q e more in
-    rw o.is (value_numbered o.major o.size o.number spot (rw (kind_at kind byte o.major o.code more i) at value))
+    let known = rw (kind_at kind byte o.major o.code more i) at value in rw o.is (grind arith)
+
+-- ---- a title that may stand there, and one that may not
 
 module _ (spot : Spot) (kind : TitleKind) (byte : ℕ) (bytes : List ℕ) (front : spot.front ≡ byte ∷ bytes)
     (is_cut : length bytes < affix_len (byte % 32)) (is_kind : IsTitleKind kind (byte / 32) (byte % 32))
@@ -76,15 +60,14 @@ module _ (spot : Spot) (kind : TitleKind) (byte : ℕ) (bytes : List ℕ) (front
   blocked_early fault b =
       early fault (rw front is_cut) some (λ behind x q.
       let (o, same) = title_of behind x q in
-      rw o.is (may_not spot.within spot.depth o.major o.size o.number (record spot { front = [] }) fault refl
-      (rw same at b)))
+      let known = rw same at b in rw o.is (grind arith))
 
   pub blocked_none : blocked spot.within spot.depth spot.place kind ≡ None → TitleStep spot spot
   blocked_none b =
       cut (rw front is_cut) some (λ behind x fault q is.
       let (o, same) = title_of behind x q in
-      may_stand spot.within spot.depth o.major o.size o.number (record spot { front = [] }) fault refl
-      (rw same at b) (rw o.is at is))
+      let known = rw same at b in
+      let faulted = rw o.is at is in grind (arith, settled_sound, string_sound))
 
 -- ---- where a byte of a title leads, as the code finds it
 

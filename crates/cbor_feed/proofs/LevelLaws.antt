@@ -14,10 +14,6 @@ use Rattle.cbor_feed.proofs.Waiting.{Takes, EndsLevel, Ends, ItemThen, BreakThen
 
 -- ---- one level
 
--- a level that is done takes nothing
-done_takes : (f : Level) (n : ℕ) (e : List ℕ) → next f ≡ None → Takes f n e → (n ≡ 0) × (e ≡ [])
-done_takes f n e d t = grind arith
-
 -- behind one item more
 next_takes : (f g : Level) (n : ℕ) (e : List ℕ) → next f ≡ Some g → Takes f (suc n) e → Takes g n e
 next_takes l.OpenPairs g n e d ((k, q), u) =
@@ -73,9 +69,9 @@ Same A B = (A → B) × (B → A)
 done_level : (s : Bool) (f : Level) (d : ℕ) (Then : List ℕ → Type 0) → next f ≡ None → (n : ℕ) (items e rest y : List ℕ)
     → AreItems s d n items → Takes f n e → Then rest → y ≡ items ++ (e ++ rest) → Then y
 done_level s f d Then done n items e rest y no_items t k is =
-    let o = done_takes f n e done t in rw (is, o.1) k
+    let end : e ≡ [] = grind arith in rw (is, end) k
 done_level s f d Then done n items e rest y (more_items q v c i) t k is =
-    absurd (let o = done_takes f n e done t in omega (arith, o.0))
+    absurd (grind arith)
 
 settled_next : (o : Option Level) (f : Level) (fs : List Level) (d : ℕ) (spot : Spot) (y : List ℕ) → next f ≡ o
     → spot.front ≡ [] → Same (Ends spot.strict (suc d) fs y) (Waits (settled (suc d) fs spot) y)
