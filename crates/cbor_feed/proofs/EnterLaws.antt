@@ -145,5 +145,4 @@ module _ (spot : Spot) (clear : spot.front ≡ []) (plain : spot.within ≡ w.No
       nest_back t y _ p g spot.depth _ refl (λ d m u end o i. rw (o.1, append-nil) (pairs (rw o.0 at i))) waits
   entered_back t y h.Break p g waits = inr (rw (break_bytes t h.Break p refl) (break_back spot.levels y waits))
   entered_back t y x p g waits =
-      item_back t y x p g [] y (search plain_completes)
-      ((settles spot.levels spot.depth spot y clear).1 waits) refl
+      item_back t y x p g [] y (search plain_completes) ((settles spot.levels spot.depth spot y clear).1 waits) refl

@@ -39,9 +39,7 @@ leads_more a b c xs ys (go {bytes = zs} {next = m} x below one rest) f =
 pub leads_counts : (spot new : Spot) (xs : List ℕ) → Leads spot xs new → new.offset ≡ spot.offset + length xs
 leads_counts spot new xs stay = omega arith
 leads_counts spot new xs (go {bytes = ys} {next = m} b below one rest) =
-    let first = step_counts spot.phase spot m b one in
-    let others = leads_counts m new ys rest in
-    omega (arith, first, others)
+    omega (arith, step_counts spot.phase spot m b one, leads_counts m new ys rest)
 
 not_due : (phase : Phase) (spot new : Spot) (b : ℕ) → is_due phase ≡ false → StepIn phase spot b new → ⊥
 not_due phase spot new b off step = grind arith
@@ -164,8 +162,7 @@ run_front xs n most s new le fits run =
 -- ---- the front of bytes that is text
 
 pub front_long : (x front : List ℕ) → IsFront x front (drop (length front) x) → length front ≤ length x
-front_long x front is =
-    let whole = ap length is.parts in omega (arith, whole, length-append front (drop (length front) x))
+front_long x front is = omega (arith, ap length is.parts, length-append front (drop (length front) x))
 
 -- behind all bytes the state is that behind the ones that follow the front
 pub whole_state : (x front : List ℕ) (behind : State) → IsFront x front (drop (length front) x)

@@ -1,6 +1,5 @@
 -- The kind of a first byte, and the titles that begin with one that announces others.
-use Rattle.std.proofs.Common.{◌≡◌, ℕ, ◌/◌, ◌%◌, ◌<◌, ◌≤◌, List, [], ◌∷◌, length, refl, sym, ap, arith, slice_index}
-use Rattle.std.proofs.Common.{drop}
+use Rattle.std.proofs.Common.{◌≡◌, ℕ, ◌/◌, ◌%◌, ◌<◌, ◌≤◌, List, [], ◌∷◌, length, refl, arith, slice_index, drop}
 use Rattle.std.proofs.lemmas.Bool.Decides.{nat_tests}
 use Rattle.ciborium_ll_grammar.specs.declared.hdr.Header.{Header}
 use Rattle.ciborium_ll_grammar.specs.declared.hdr.table.TitleKind.{TitleKind}
@@ -24,16 +23,10 @@ kind_of Map = t.Map
 kind_of Tag = t.Tag
 kind_of Other = t.Other
 
-pub kind_is : (kind : TitleKind) (m : Major) (minor : ℕ) → IsTitleKind kind (major_code m) minor
-    → (NamesNoTitle (major_code m) minor → ⊥)
-    → kind ≡ kind_of m
-kind_is kind m minor i some = grind arith
-
 -- the kind that a first byte has which announces others
 pub kind_names : (m : Major) (major minor : ℕ) → major_code m ≡ major → (NamesNoTitle major minor → ⊥)
     → IsTitleKind (kind_of m) major minor
-kind_names Unsigned major minor e some = (sym e, some)
-kind_names m major minor e some = (sym e, some)
+kind_names m major minor e some = grind arith
 
 -- ---- titles that begin with a byte that announces others
 
@@ -51,17 +44,11 @@ numbered_title byte v t x (numbered m s n q) e more =
     let below = minor_below s n q in
     let heads : first_byte m (minor_of s n) ≡ byte = cc in
     record { major = m; size = s; number = n; is = refl; code = omega (arith, below, heads) }
-numbered_title byte v t x (alone m y o) e more =
-    let heads : first_byte m 31 ≡ byte = cc in
-    let minor : byte % 32 ≡ 31 = omega (arith, heads) in
-    let empty = ap affix_len minor in
-    absurd (omega (arith, empty, more))
+numbered_title byte v t x (alone m y o) e more = absurd (grind (arith, nat_tests))
 
 pub kind_at : (kind : TitleKind) (byte : ℕ) (m : Major) → major_code m ≡ byte / 32 → 0 < affix_len (byte % 32)
     → IsTitleKind kind (byte / 32) (byte % 32) → kind ≡ kind_of m
-kind_at kind byte m e more i =
-    kind_is kind m (byte % 32) (rw e i) (λ refuses. let empty = refused_affix byte (rw e at refuses) in
-    omega (arith, empty, more))
+kind_at kind byte m e more i = grind (arith, refused_affix)
 
 -- no byte announces more than eight
 pub affix_most : (minor : ℕ) → affix_len minor ≤ 8
