@@ -1,4 +1,4 @@
--- Titles and ends leave what came of a title, and count nothing.
+-- Titles and ends leave what came of a title, count nothing, and leave no body due that cannot end.
 use Rattle.std.proofs.Common.{◌≡◌, ℕ, zero, suc, Bool, true, List, [], ◌∷◌, refl, arith}
 use Rattle.std.proofs.lemmas.Bool.Decides.{nat_tests}
 use Rattle.ciborium_ll_grammar.specs.declared.hdr.Header.{Header}

@@ -70,8 +70,7 @@ module _ (a : List ℕ) (k : ℕ) (some : 0 < length a) (more : 0 < k) (never : 
   whole_taken : (t : List ℕ) (x : Header) → IsTitle t x → t ≡ Whole → IsStrictTitle t x
   whole_taken t x (numbered m s n p) e = taken m s n p (false_from_ne_true _ (not_longer m s n p e))
   whole_taken t x (alone m y o) e =
-      let long = ap length e in
-      absurd (omega (arith, long, length-append a (replicate k 255), length-replicate {A = ℕ} k 255, some, more))
+      absurd (omega (arith, ap length e, length-append a (replicate k 255), length-replicate {A = ℕ} k 255, some, more))
 
 -- bytes that begin no longer title go on to the shortest of some header
 longer_some : (b : ℕ) (a : List ℕ) → b < 256 → AreBytes a → length a < affix_len (b % 32)
