@@ -3,7 +3,7 @@ use Rattle.std.proofs.Common.{◌≡◌, ℕ, zero, suc, ◌*◌, List, [], ◌�
 use Rattle.std.proofs.Common.{append_assoc, append-nil, arith}
 use Rattle.ciborium_ll_grammar.specs.declared.hdr.Header.{Header}
 use Rattle.ciborium_ll_grammar.specs.declared.hdr.Header.TheVariants as h
-use Rattle.ciborium_ll_grammar.specs.Title.{IsTitle, numbered, alone, Array, Map, Tag}
+use Rattle.ciborium_ll_grammar.specs.Title.{IsTitle, numbered, alone}
 use Rattle.ciborium_ll_grammar.specs.Items.{Completes, positive, negative, float, simple, byte_string, text_string}
 use Rattle.ciborium_ll_grammar.specs.Items.{open_bytes, open_text, tag, array, pairs, open_array, open_pairs, AreItems}
 use Rattle.ciborium_ll_grammar.specs.Items.{no_items, more_items, IsItem, IsTakenTitle, AreTakenStrings}
@@ -110,7 +110,7 @@ module _ (spot : Spot) (clear : spot.front ≡ []) (plain : spot.within ≡ w.No
         let o = (settles (level ∷ spot.levels) d spot y clear).1 waits in
         item_back (o.items ++ o.end) o.rest
         (rw same at (completes d o.count o.items o.end o.takes o.are_items)) (rw same at o.behind)
-        (simp (o.is, append_assoc))
+        (rw append_assoc o.is)
 
     strings_back : (k : Kind) → EndsString spot.strict k Behind (spot.front ++ y)
         → ((u : List ℕ) (bs : List (List ℕ)) → AreStrings k u bs → AreTakenStrings spot.strict k u bs → AreWritable k bs
@@ -119,7 +119,7 @@ module _ (spot : Spot) (clear : spot.front ≡ []) (plain : spot.within ≡ w.No
     strings_back k waits completes =
         let o = rw clear at waits in
         item_back (o.strings ++ 0xff ∷ []) o.rest (completes o.strings o.bodies o.are o.taken o.sound) o.behind
-        (simp (o.is, append_assoc))
+        (rw append_assoc o.is)
 
   pub entered_back : (t y : List ℕ) (x : Header) → IsTitle t x → IsTakenTitle spot.strict t x
       → Waits (item_entered x spot) y → ItemDue spot.strict spot.depth spot.levels (t ++ y)

@@ -14,7 +14,6 @@ use Rattle.ciborium_ll_text.proofs.StateLaws.{after-append, text_ends}
 use Rattle.cbor_feed.specs.declared.level.Level.{Level}
 use Rattle.cbor_feed.specs.declared.phase.Phase.{Phase}
 use Rattle.cbor_feed.specs.declared.phase.Phase.TheVariants as p
-use Rattle.cbor_feed.specs.Levels.{next}
 use Rattle.cbor_feed.specs.Spots.{Spot, at_phase, settled, bytes_due}
 use Rattle.cbor_feed.specs.Steps.{IsFed, Leads, Step, StepIn, TitleStep, stay, go, more, counted, counted_by, text_left}
 use Rattle.cbor_feed.specs.Steps.{with_byte}
