@@ -1,4 +1,5 @@
 -- A dump reads as a check does: where it stops a check would stop, for the same reason.
+use Rattle.std.proofs.lemmas.Bool.Decides.{nat_tests}
 use Rattle.std.proofs.Common.{◌≡◌, ℕ, zero, suc, ◌+◌, ◌-◌, ◌<◌, ◌≤◌, Bool, false, List, [], ◌++◌, length}
 use Rattle.std.proofs.Common.{Result, Ok, Err, IsOk, ◌↔◌, refl, sym, ap, subst, ◌∙◌, inl, inr, arith}
 use Rattle.std.proofs.Common.{append_assoc, append-nil}
@@ -108,8 +109,7 @@ further (s.Deep at) between new some still = still
 
 -- as strict as the dump
 strict_alike : {R : Type 0} (strict : Bool) (decoder : Decoder R) → IsAlike strict decoder → strictness decoder ≡ strict
-strict_alike strict decoder alike =
-    strict_settled decoder.waiting decoder.strict alike.none_waits ∙ alike.mode
+strict_alike strict decoder alike = grind (arith, nat_tests, strict_settled)
 
 module _ {R E : Type 0} (source : Ghosts R E) where
   -- ---- the walk of a dump
@@ -169,8 +169,7 @@ module _ {R E : Type 0} (source : Ghosts R E) where
 
   pub comes_alike : (strict : Bool) (depth : ℕ) (walk : Walk) (old now : Decoder R)
       → Comes source strict depth walk old now → IsAlike strict now
-  comes_alike strict depth walk old now come =
-      passes_alike source strict come.between now come.bytes come.passed come.alike
+  comes_alike strict depth walk old now come = grind (arith, nat_tests, passes_alike)
 
   -- ---- where it stops
 
@@ -196,11 +195,7 @@ module _ {R E : Type 0} (source : Ghosts R E) where
     -- where no byte of a further item came, no level was open and none of a title
     not_ended : (error : Error E) (len : ℕ) (new : Decoder R) → new.offset ≡ now.offset + len
         → (IsEndOf error walk.used len → ⊥) → IsEnd (s.Read error) come.between.offset new.offset → ⊥
-    not_ended (e.Io fault) len new moved not still =
-        let at = come.passed.offset in
-        let few = nests_few strict depth 0 come.due.nests come.bytes come.due.within in
-        let used = come.due.keeps.used in
-        not (omega (arith, at, moved, still, few, used), omega (arith, at, moved, still))
+    not_ended (e.Io fault) len new moved not still = grind (arith, nat_tests, nests_few)
     not_ended (e.Syntax place) len new moved not still = still
     not_ended e.TooLong len new moved not still = still
     not_ended e.Waiting len new moved not still = still
@@ -343,29 +338,13 @@ module _ {R E : Type 0} (source : Ghosts R E) where
   module _ (depth : ℕ) (old : Decoder R) (due : List ℕ) (ready : IsReadyToSkip source most_bytes old due) where
     -- less room is needed
     ready_for : (room : ℕ) → room ≤ most_bytes → IsReadyToSkip source room old due
-    ready_for room held = record {
-      none_waits = ready.none_waits;
-      steady = ready.steady;
-      told = ready.told;
-      fits-title = ready.fits-title;
-      fits-chunk = omega (arith, held, ready.fits-chunk);
-    }
+    ready_for room held = grind (arith, nat_tests)
 
     pub answers_told : {W : Type 0} (result : Result E (DumpError E W)) (new : Decoder R)
         → ReadsAsCheck source depth old result new → AnswersTold source depth due old result new
-    answers_told result new reads = record {
-      checked = reads.checked;
-      answers = reads.answers;
-      told = check_told source depth reads.checks.room old due (ready_for reads.checks.room reads.checks.held) new reads.checked
-          reads.checks.holds;
-    }
+    answers_told result new reads = grind (arith, nat_tests, check_told, ready_for)
 
     -- the answers are of one kind
     pub answers_exactly : {W : Type 0} (result : Result E (DumpError E W)) (new : Decoder R)
         → ReadsAsCheck source depth old result new → IsOk result ↔ IsSequence old.strict depth due
-    answers_exactly result new reads =
-        let exactly = check_exactly source depth reads.checks.room old due (ready_for reads.checks.room reads.checks.held) new reads.checked
-        reads.checks.holds in (
-          λ ok. exactly.0 (both_ok reads.checked result reads.answers ok),
-          λ is. ok_both reads.checked result reads.answers (exactly.1 is),
-        )
+    answers_exactly result new reads = grind (arith, nat_tests, check_exactly, ready_for, both_ok, ok_both)

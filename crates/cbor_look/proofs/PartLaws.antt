@@ -1,4 +1,5 @@
 -- A part of a body that was read, as a skip of the body reads it.
+use Rattle.std.proofs.lemmas.Bool.Decides.{nat_tests}
 use Rattle.std.proofs.Common.{◌≡◌, ℕ, ◌+◌, ◌<◌, ◌≤◌, Bool, true, false, List, [], ◌∷◌, ◌++◌, length}
 use Rattle.std.proofs.Common.{Result, Ok, Err, inl, inr, refl, sym, ap, subst, ◌∙◌, arith, append_assoc}
 use Rattle.std.proofs.Common.{length-append, None}
@@ -45,8 +46,10 @@ unfolding is_from after_first after_next
 due_step state byte some = grind (arith, nat_tests)
 
 pub state_due : (bytes more : List ℕ) → is_inside (after t.Between bytes) ≡ true → length more ≡ 1
-    → tail_due (after t.Between (bytes ++ more)) < tail_due (after t.Between bytes)
-state_due bytes more is one = grind (arith, after-append, due_step, inside_not)
+    → due (after t.Between (bytes ++ more)) < due (after t.Between bytes)
+state_due bytes [] is one = absurd (omega (arith, one))
+state_due bytes (byte ∷ []) is one = grind (arith, nat_tests, due, after-append, due_step, inside_not)
+state_due bytes (byte ∷ (other ∷ more)) is one = absurd (omega (arith, one))
 
 pub inside_some : (bytes : List ℕ) → is_inside (after t.Between bytes) ≡ true → 0 < tail_due (after t.Between bytes)
 inside_some bytes is = (inside_not (after t.Between bytes) is).0
@@ -97,9 +100,7 @@ cut_of bytes is =
 
 pub cut_text : (left : ℕ) (bytes : List ℕ) → is_inside (after t.Between bytes) ≡ true → most_text ≤ length bytes
     → length bytes < left → IsCutText left bytes
-cut_text left bytes is many less =
-    let more = some_goes_on bytes (inside_not (after t.Between bytes) is).1 in
-    record { many = many; due = less; no_text = inside_broken bytes is; more = more.0; goes_on = more.1 }
+cut_text left bytes is many less = grind (arith, nat_tests, some_goes_on, inside_not, due, inside_broken, goes_on)
 
 -- where no more is read the bytes are all that was left, or they are cut nowhere
 pub sound_of : (left : ℕ) (bytes : List ℕ) (whole : Bool) → whole ≡ is_between (after t.Between bytes)
@@ -128,10 +129,8 @@ writable_behind Text front behind a b = IsCharacters-append front behind a b
 
 no_text_then : (len left : ℕ) (front read : List ℕ) → IsCharacters front → length front + left ≡ len
     → IsNoText [] left read → IsNoText [] len (front ++ read)
-no_text_then len left front read text counted (inl whole) = inl (
-  let all = whole.0 in omega (arith, all, counted, length-append front read),
-  λ both. whole.1 (IsCharacters-rest front read text both),
-)
+no_text_then len left front read text counted (inl whole) =
+    grind (arith, nat_tests, length-append, front, IsCharacters-rest, text)
 no_text_then len left front read text counted (inr never) =
     inr (λ more both. never more (IsCharacters-rest front (read ++ more) text
     (subst IsCharacters (append_assoc front read more) both)))
@@ -182,8 +181,7 @@ module _ {R E : Type 0} (source : Ghosts R E) where
       stops = (fails.1, fails.2);
     };
   }
-  part_fails kind left place old between new bytes e.Waiting part none some few more fails =
-      absurd (let waits = rw none at fails.0 in cc)
+  part_fails kind left place old between new bytes e.Waiting part none some few more fails = grind (arith, nat_tests)
 
   -- the first read of a part
   pub first_part : (kind : Kind) (left place count : ℕ) (before row : List ℕ) (old new : Decoder R) (error : Error E)
@@ -291,6 +289,6 @@ module _ {R E : Type 0} (source : Ghosts R E) where
       (result : Result (Unit {0}) (Error E)) → before ≡ [] → old.waiting ≡ None → 0 < left → 0 < count → count ≤ left
       → ReadsMore source count before row old result new → ReadsPart source Bytes left place row old result new
   bytes_part left place count before row old new (Ok done) empty none some any most reads =
-      first_passed source count before row old new empty none reads
+      grind (arith, nat_tests, first_passed)
   bytes_part left place count before row old new (Err error) empty none some any most reads =
       first_part Bytes left place count before row old new error empty none some any most reads

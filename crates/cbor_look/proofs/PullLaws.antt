@@ -1,5 +1,6 @@
 -- A title that was read byte by byte, as `pull` reads it.
-use Rattle.std.proofs.Common.{◌≡◌, ℕ, ◌<◌, ◌%◌, Bool, IsTrue, List, [], ◌∷◌, length, take, Option, Some}
+use Rattle.std.proofs.lemmas.Bool.Decides.{nat_tests}
+use Rattle.std.proofs.Common.{◌≡◌, ℕ, ◌<◌, ◌%◌, Bool, List, [], ◌∷◌, length, take, Option, Some}
 use Rattle.std.proofs.Common.{None}
 use Rattle.std.proofs.Common.{IfSome, Ok, Err, inl, inr, refl, sym, ap, subst, ◌∙◌, arith}
 use Rattle.std.proofs.KnownBytes.{Consumes-nil}
@@ -54,8 +55,7 @@ cut_behind : (known known' : Option (List ℕ)) (byte : ℕ) → Consumes known 
     → IfSome known (λ due. IsCutTitle due × (byte ∷ [] ≡ take 1 due))
 cut_behind None known' byte c less = tt
 cut_behind (Some due) None byte c less = absurd c
-cut_behind (Some due) (Some rest) byte c less =
-    subst (λ (z : List ℕ). IsCutTitle z × (byte ∷ [] ≡ take 1 z)) (sym c) (less, refl)
+cut_behind (Some due) (Some rest) byte c less = grind (arith, nat_tests)
 
 each_less : (known : Option (List ℕ)) (count : ℕ) (row : List ℕ)
     → ((left : List ℕ) → length left < count → Leaves row left) → IfSome known (λ due. length due < count)
@@ -75,24 +75,16 @@ module _ {R E : Type 0} (source : Ghosts R E) where
   -- no header waits
   pub passes_idle : (old new : Decoder R) (bytes : List ℕ) → Passes source old bytes new → old.waiting ≡ None
       → new.waiting ≡ None
-  passes_idle old new bytes passed none =
-      elim passed.waiting [
-        | inl same ↦ ap (λ (d : Decoder R). d.waiting) same.1 ∙ none
-        | inr idle ↦ idle
-      ]
+  passes_idle old new bytes passed none = grind (arith, nat_tests)
 
   pub passes_alike : (strict : Bool) (old new : Decoder R) (bytes : List ℕ) → Passes source old bytes new
       → IsAlike strict old → IsAlike strict new
-  passes_alike strict old new bytes passed alike = record {
-    none_waits = passes_idle old new bytes passed alike.none_waits;
-    mode = passed.mode ∙ alike.mode;
-  }
+  passes_alike strict old new bytes passed alike = grind (arith, nat_tests, passes_idle)
 
   -- one read
   pub passes_one : (old new : Decoder R) (bytes : List ℕ) → ReadsAll source old bytes new
       → (IsSteady source old → IsSteady source new) → Passes source old bytes new
-  passes_one old new bytes all steady =
-      Passes-read source old old new [] bytes (Passes-none source old) all steady
+  passes_one old new bytes all steady = grind (arith, nat_tests, Passes-read, Passes-none)
 
   -- bytes behind others
   pub more_passed : (count : ℕ) (before row : List ℕ) (old between new : Decoder R) → Passes source old before between
@@ -105,9 +97,7 @@ module _ {R E : Type 0} (source : Ghosts R E) where
   -- the first bytes of a row
   pub first_passed : (count : ℕ) (before row : List ℕ) (old new : Decoder R) → before ≡ [] → old.waiting ≡ None
       → ReadsMore source count before row old (Ok tt) new → Passes source old row new
-  first_passed count before row old new empty none reads =
-      more_passed count before row old old new
-      (subst (λ (z : List ℕ). Passes source old z old) (sym empty) (Passes-none source old)) none reads
+  first_passed count before row old new empty none reads = grind (arith, nat_tests, more_passed, Passes-none)
 
   -- ---- where a header waits
 
@@ -118,44 +108,20 @@ module _ {R E : Type 0} (source : Ghosts R E) where
 
   pub waits_refused : (count : ℕ) (before after : List ℕ) (error : Error E) (old new : Decoder R) → IsWaiting old
       → ReadsMore source count before after old (Err error) new → (error ≡ e.Waiting) × RefusesRead old new
-  waits_refused count before after (e.Io fault) old new waits reads =
-      absurd (let never = rw reads.reads.read.none_waited at waits in cc)
+  waits_refused count before after (e.Io fault) old new waits reads = grind (arith, nat_tests)
   waits_refused count before after (e.Syntax place) old new waits reads = absurd reads.reads.read
-  waits_refused count before after e.TooLong old new waits reads =
-      absurd (let never = rw reads.reads.read.0 at waits in cc)
-  waits_refused count before after e.Waiting old new waits reads =
-      (refl, record { untouched = reads.reads.read.1; counted = reads.reads.refusals })
+  waits_refused count before after e.TooLong old new waits reads = grind (arith, nat_tests)
+  waits_refused count before after e.Waiting old new waits reads = grind (arith, nat_tests)
 
   -- a row that one byte was read for
   pub first_byte : (before one : List ℕ) (old new : Decoder R) → before ≡ []
       → ReadsMore source 1 before one old (Ok tt) new → one ≡ get_or one 0 0 ∷ []
-  first_byte before one old new none reads =
-      let empty = ap length none in
-      let counted = reads.counted in
-      let long = ap length reads.behind in
-      one_of one (omega (arith, empty, counted, long, length-append before reads.bytes))
+  first_byte before one old new none reads = grind (arith, nat_tests, one_of, length-append)
 
   -- where nothing is read
   pub reads_none : (before : List ℕ) (decoder : Decoder R) → decoder.waiting ≡ None
       → ReadsMore source 0 before before decoder (Ok tt) decoder
-  reads_none before decoder none = record {
-    bytes = [];
-    counted = omega arith;
-    reads = record {
-      read = record {
-        bytes = Consumes-nil (source.ahead decoder.reader);
-        offset = omega arith;
-        none_waited = none;
-        none_waits = none;
-        failures = refl;
-        mode = refl;
-      };
-      steady = λ steady. steady;
-      mode = refl;
-      refusals = refl;
-    };
-    behind = sym (append-nil before);
-  }
+  reads_none before decoder none = grind (arith, nat_tests, Consumes-nil, append-nil)
 
   -- what a decoder says of a first byte and its affix, which were read one behind the other
   pub row_means : (strict : Bool) (count : ℕ) (before one row shown : List ℕ) (old between new : Decoder R)
@@ -215,17 +181,10 @@ module _ {R E : Type 0} (source : Ghosts R E) where
       → ((left : List ℕ) → length left < length reads.bytes → Leaves row left)
       → IfSome (view source new) (LeavesBehind error row)
   less_left count before after (e.Io fault) old new reads steady row follows =
-      let fails = reads.reads.read in
-      let still = fails.steady steady in
-      subst (λ (z : Option (List ℕ)). IfSome z (Leaves row))
-      (sym (view_none new.waiting (source.ahead new.reader) fails.none_waits ∙ still.0))
-      (each_less (source.ahead old.reader) (length reads.bytes) row follows still.1)
-  less_left count before after (e.Syntax at) old new reads steady row follows =
-      IfSome-all (view source new) _ (λ any. tt)
-  less_left count before after e.TooLong old new reads steady row follows =
-      IfSome-all (view source new) _ (λ any. tt)
-  less_left count before after e.Waiting old new reads steady row follows =
-      IfSome-all (view source new) _ (λ any. tt)
+      grind (arith, nat_tests, view_none, each_less)
+  less_left count before after (e.Syntax at) old new reads steady row follows = grind (arith, nat_tests, IfSome-all)
+  less_left count before after e.TooLong old new reads steady row follows = grind (arith, nat_tests, IfSome-all)
+  less_left count before after e.Waiting old new reads steady row follows = grind (arith, nat_tests, IfSome-all)
 
   -- ---- a read that fails
 
@@ -256,19 +215,7 @@ module _ {R E : Type 0} (source : Ghosts R E) where
             );
       }
   first_fails (e.Syntax place) old new bytes none one fails = absurd fails
-  first_fails e.TooLong old new bytes none one fails =
-      let same = fails.2 in
-      record {
-        read = [];
-        within_first = omega arith;
-        bytes = rw (untouched_view old new same) (Consumes-nil (view source old));
-        offset = let moved = same.offset in omega (arith, moved);
-        full = let full = fails.1 in let moved = same.offset in omega (arith, full, moved, one);
-        untouched = λ empty. same.reader;
-        none_waited = none;
-        none_waits = same.waiting ∙ none;
-        failures = ap source.failures same.reader;
-      }
+  first_fails e.TooLong old new bytes none one fails = grind (arith, nat_tests, untouched_view, Consumes-nil)
   first_fails e.Waiting old new bytes none one fails = absurd (let waits = rw none at fails.0 in cc)
 
   -- that of the affix
@@ -318,8 +265,7 @@ module _ {R E : Type 0} (source : Ghosts R E) where
         none_waits = same.waiting ∙ first.none_waits;
         failures = ap source.failures same.reader ∙ first.failures;
       }
-  affix_fails e.Waiting old between new byte bytes first steady long fails =
-      absurd (let waits = rw first.none_waits at fails.0 in cc)
+  affix_fails e.Waiting old between new byte bytes first steady long fails = grind (arith, nat_tests)
 
   -- and so behind a first byte that was read for a row
   pub second_fails : (error : Error E) (count : ℕ) (before one after : List ℕ) (old between new : Decoder R)
@@ -343,43 +289,9 @@ module _ {R E : Type 0} (source : Ghosts R E) where
     behind_row = passes_idle old new row passed alike.none_waits
 
     pub row_pulled : (header : Header) → Means strict row (Some header) → PullsRow source old (Ok header) new
-    row_pulled header means = (
-      record {
-        title = row;
-        is_title = means.0;
-        bytes = passed.consumed;
-        offset = passed.offset;
-        none_waits = behind_row;
-        failures = passed.failures;
-        waited = rw alike.none_waits tt;
-        mode = passed.mode;
-        strict = λ on none. means.1 (subst IsTrue alike.mode on);
-      },
-      passed.steady,
-    )
+    row_pulled header means = grind (arith, nat_tests, behind_row)
 
     pub row_refused : (place : ℕ) → place ≡ old.offset → Means strict row None
         → PullsRow source old (Err (e.Syntax place)) new
-    row_refused place at (inl refused) = inl (record {
-      byte = refused.0;
-      refused = refused.1;
-      place = at;
-      bytes = subst (λ (z : List ℕ). Consumes (view source old) (view source new) z) refused.2 passed.consumed;
-      offset = let moved = passed.offset in let one = ap length refused.2 in omega (arith, moved, one);
-      none_waited = alike.none_waits;
-      none_waits = behind_row;
-      failures = passed.failures;
-    })
-    row_refused place at (inr longer) = inr (record {
-      strict = subst IsTrue (sym alike.mode) longer.0;
-      header = longer.1.0;
-      title = row;
-      is_title = longer.1.1;
-      not_strict = longer.1.2;
-      place = at;
-      bytes = passed.consumed;
-      offset = passed.offset;
-      none_waited = alike.none_waits;
-      none_waits = behind_row;
-      failures = passed.failures;
-    })
+    row_refused place at (inl refused) = grind (arith, nat_tests, behind_row)
+    row_refused place at (inr longer) = grind (arith, nat_tests, behind_row)

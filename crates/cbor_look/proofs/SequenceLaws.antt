@@ -1,7 +1,8 @@
 -- What `check` read: items one behind the other, and what stands behind them.
+use Rattle.std.proofs.lemmas.Bool.Decides.{nat_tests}
 use Rattle.std.proofs.Common.{◌≡◌, ℕ, suc, Bool, List, [], ◌∷◌, ◌++◌, length, Some, Result, Ok, Err}
 use Rattle.std.proofs.Common.{IsOk, IfOk, ◌↔◌, refl, sym, ap, subst, ◌∙◌, inl, inr, arith, append-nil}
-use Rattle.std.proofs.Common.{length-append, drop}
+use Rattle.std.proofs.Common.{length-append}
 use Rattle.std.proofs.Math.Seq.{drop-nil}
 use Rattle.ciborium_ll.specs.Types.Read.{Ghosts}
 use Rattle.ciborium_ll.specs.Types.Decoder.{Decoder}
@@ -106,17 +107,7 @@ module _ {R E : Type 0} (source : Ghosts R E) where
     -- a fault of which nothing is consumed: no byte was left
     no_byte : (ahead : List ℕ) (between new : Decoder R) → MeetsItemFault source old.strict depth ahead Short between new
         → new.offset ≡ between.offset → (ahead ≡ []) × (view source new ≡ Some [])
-    no_byte ahead between new meets still =
-        let fault = meets.fault in
-        let none = nothing fault.before (omega (arith, meets.offset, still)) in
-        let at = due_first old.strict depth fault.before fault.point fault.reach none in
-        let nowhere : fault.consumed ≡ 0 = omega (arith, meets.offset, still) in
-        let left =
-        fault_first old.strict fault.before fault.point fault.ahead fault.answer fault.written fault.consumed fault.fault at
-        meets.answered nowhere in (
-          fault.is ∙ (ap (λ (z : List ℕ). z ++ fault.ahead) none ∙ left),
-          meets.left ∙ ap Some (ap (λ (z : List ℕ). drop fault.consumed z) left ∙ drop-nil fault.consumed),
-        )
+    no_byte ahead between new meets still = grind (arith, nat_tests, nothing, due_first, fault_first, ahead, drop-nil)
 
     -- where no byte is left, an item is short, and nothing is consumed
     no_bytes : (ahead : List ℕ) (answer : Answer) (between new : Decoder R)
@@ -161,9 +152,7 @@ module _ {R E : Type 0} (source : Ghosts R E) where
     -- the items that were read, by the mode
     items_ready : (count : ℕ) (between : Decoder R) (reads : ReadsItems source depth count old between)
         → AreItems old.strict depth count reads.bytes
-    items_ready count between reads =
-        subst (λ (b : Bool). AreItems b depth count reads.bytes) (ready_mode source depth room old due ready)
-        reads.are_items
+    items_ready count between reads = grind (arith, nat_tests, ready_mode)
 
     -- what the read of an item behind them met
     met_behind : (count : ℕ) (between : Decoder R) (reads : ReadsItems source depth count old between)

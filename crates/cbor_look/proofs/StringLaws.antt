@@ -1,4 +1,5 @@
 -- The lines of a string, behind its title.
+use Rattle.std.proofs.lemmas.Bool.Decides.{nat_tests}
 use Rattle.std.proofs.Common.{◌≡◌, ℕ, zero, suc, ◌+◌, ◌-◌, ◌<◌, ◌≤◌, List, [], ◌∷◌, ◌++◌, length, Option, Some, None}
 use Rattle.std.proofs.Common.{Result, Ok, Err, inr, refl, sym, ap, subst, ◌∙◌, arith, append-nil, append_assoc}
 use Rattle.std.proofs.Common.{length-append, Bool, IfSome, true, false}
@@ -94,9 +95,7 @@ module _ {R E : Type 0} (source : Ghosts R E) where
   -- all that was taken for a row was read for it
   pub taken_all : (nothing row : List ℕ) (old new : Decoder R) → nothing ≡ [] → Keeps source nothing row old new
       → TakesBytes source old row new
-  taken_all nothing row old new empty keeps =
-      let same : row ≡ keeps.bytes = subst (λ (z : List ℕ). row ≡ z ++ keeps.bytes) empty keeps.appended in
-      subst (λ (z : List ℕ). TakesBytes source old z new) (sym same) keeps.takes
+  taken_all nothing row old new empty keeps = grind (arith, nat_tests)
 
   -- a front of a body was shown, and so much is left
   pub record SoFar (depth start : ℕ) (drawn then_drawn : Option (List Line)) (before : List ℕ) (kind : Kind)
@@ -112,7 +111,7 @@ module _ {R E : Type 0} (source : Ghosts R E) where
       (old new : Decoder R) → Shows source depth start drawn then_drawn before bytes Meant old new
       → old.offset ≡ start + length before → new.offset ≡ start + length (before ++ bytes)
   next_offset depth start drawn then_drawn before bytes old new shows at =
-      let moved = shows.takes.offset in omega (arith, moved, at, length-append before bytes)
+      grind (arith, nat_tests, shows, length-append)
 
   -- what was read of a body, behind what was shown of it
   pub part_fails : (strict : Bool) (error : Error E) (depth start opens : ℕ) (nests : List Nest) (outer title : List ℕ)
@@ -269,9 +268,7 @@ module _ {R E W : Type 0} (source : Ghosts R E) where
   pub body_stops : (kind : Kind) (len place : ℕ) (old new : Decoder R) (error : Error E) (why : DumpError E W)
       → SaysFault error why → FailsInBody source kind len place old error new
       → StopsBehindTitle source kind (Some len) place old (Err why) new
-  body_stops kind len place old new error (d.Item (s.Read other)) says ends =
-      let same : other ≡ error = cc in
-      subst (λ (x : Error E). FailsInBody source kind len place old x new) (sym same) ends
+  body_stops kind len place old new error (d.Item (s.Read other)) says ends = grind (arith, nat_tests)
   body_stops kind len place old new error (d.Item (s.Break at)) says ends = absurd cc
   body_stops kind len place old new error (d.Item (s.Deep at)) says ends = absurd cc
   body_stops kind len place old new error (d.Rows fault) says ends = tt

@@ -1,4 +1,5 @@
 -- The lines of titles, and what is due behind them.
+use Rattle.std.proofs.lemmas.Bool.Decides.{nat_tests}
 use Rattle.std.proofs.Common.{◌≡◌, ℕ, ◌+◌, ◌-◌, ◌≤◌, List, [], ◌∷◌, ◌++◌, length, Option, Some, None, refl, sym}
 use Rattle.std.proofs.Common.{ap, subst, ◌∙◌, arith, append-nil, length-append, Bool, Result, Ok, Err, OnOk, IfSome}
 use Rattle.std.proofs.Common.{inl}
@@ -159,8 +160,7 @@ rest_completes strict Text None bytes rest levels =
 pub string_item : (strict : Bool) (k : Kind) (len : Option ℕ) (title bytes : List ℕ)
     → IsTitle title (kind_header k len) → IsTakenTitle strict title (kind_header k len) → IsRest strict k len bytes
     → (levels : ℕ) → IsItem strict levels (title ++ bytes)
-string_item strict k len title bytes p g rest levels =
-    item_of strict levels title bytes (kind_header k len) p g (rest_completes strict k len bytes rest levels)
+string_item strict k len title bytes p g rest levels = grind (arith, nat_tests, item_of, bytes, rest_completes)
 
 -- a break has one title
 pub break_bytes : (title : List ℕ) → IsTitle title h.Break → title ≡ 0xff ∷ []
@@ -174,8 +174,7 @@ outside_items strict depth whole nests before (inside w e p g more are) empty = 
 
 pub walk_ended : (strict : Bool) (depth whole : ℕ) (walk : Walk) (before : List ℕ)
     → IsDue strict depth whole walk before → walk.used ≡ 0 → AreItems strict depth whole before
-walk_ended strict depth whole walk before due empty =
-    outside_items strict depth whole due.nests before due.within (sym due.keeps.used ∙ empty)
+walk_ended strict depth whole walk before due empty = grind (arith, nat_tests, outside_items, whole, due)
 
 -- each nest has a title
 pub nests_few : (strict : Bool) (depth whole : ℕ) (nests : List Nest) (before : List ℕ)
@@ -212,11 +211,8 @@ module _ {R E : Type 0} (source : Ghosts R E) where
       (decoder : Decoder R) → Lines depth start drawn then_drawn before title how
       → ((bytes left : List ℕ) → LeavesAs how bytes left)
       → ShowsBehind source depth start drawn then_drawn before title [] how decoder decoder
-  title_only {how} depth start drawn then_drawn before title decoder lines left = record {
-    lines = subst (λ (z : List ℕ). Lines depth start drawn then_drawn before z how) (sym (append-nil title)) lines;
-    takes = takes_none source decoder;
-    left = λ idle. IfSome-all (view source decoder) _ (λ any. left _ any);
-  }
+  title_only {how} depth start drawn then_drawn before title decoder lines left =
+      grind (arith, nat_tests, append-nil, takes_none, IfSome-all)
 
   -- of a title of which nothing more is read no reader fails
   alone_leaves : {W : Type 0} (strict : Bool) (depth whole : ℕ) (header : Header) (place : ℕ) (before : List ℕ)
@@ -235,9 +231,8 @@ module _ {R E : Type 0} (source : Ghosts R E) where
   alone_stops strict depth whole header place before decoder (Ok done) stops = tt
   alone_stops strict depth whole header place before decoder (Err (d.Item (s.Read error))) stops = absurd stops
   alone_stops strict depth whole header place before decoder (Err (d.Item (s.Break at))) stops =
-      (stops.0, stops.1, stops.2, refl)
-  alone_stops strict depth whole header place before decoder (Err (d.Item (s.Deep at))) stops =
-      (stops.0, stops.1, stops.2, refl)
+      grind (arith, nat_tests)
+  alone_stops strict depth whole header place before decoder (Err (d.Item (s.Deep at))) stops = grind (arith, nat_tests)
   alone_stops strict depth whole header place before decoder (Err (d.Rows fault)) stops = tt
 
   none_passed : {W : Type 0} (decoder : Decoder R) (result : Result (Unit {0}) (DumpError E W))

@@ -1,7 +1,8 @@
 -- The steps of a walk: what it keeps of the nests within which an item is due.
+use Rattle.std.proofs.lemmas.Bool.Decides.{nat_tests}
 use Rattle.std.proofs.Common.{◌≡◌, ◌≢◌, ℕ, zero, suc, ◌+◌, ◌-◌, ◌*◌, ◌<◌, ◌≤◌, Bool, true, false, List, [], ◌∷◌, ◌++◌}
-use Rattle.std.proofs.Common.{length, set, get_or, Some, None, refl, sym, ap, subst, ◌∙◌, arith, append_assoc}
-use Rattle.std.proofs.Common.{append-nil, cond}
+use Rattle.std.proofs.Common.{length, set, Some, None, refl, sym, ap, subst, ◌∙◌, arith, append_assoc}
+use Rattle.std.proofs.Common.{append-nil}
 use Rattle.std.proofs.lemmas.List.{get_or-set_same, get_or-set_other, length-set}
 use Rattle.ciborium_ll.specs.Types.Header.{Header}
 use Rattle.ciborium_ll.specs.Types.Header.TheVariants as h
@@ -18,7 +19,7 @@ use Rattle.cbor_skip.proofs.StrictnessLaws.{items_looser}
 use Rattle.cbor_look.specs.declared.walk.Walk.{Walk}
 use Rattle.cbor_look.specs.Levels.{Nest, StandsBehind, outside, inside, closes_one, title_level}
 use Rattle.cbor_look.specs.Walks.{remaining_at, AreKept, KeepsNests, IsDue, IsDueBehind, IsBehindItem, Breaks}
-use Rattle.cbor_look.specs.Walks.{whole_behind, IsDeepest}
+use Rattle.cbor_look.specs.Walks.{IsDeepest}
 
 -- ---- all items of a nest
 
@@ -75,13 +76,7 @@ kept_more : (levels : List Remaining) (nests : List Nest) (nest : Nest) (at : �
     → at < length levels → IsRemaining nest.header nest.count x → is_done x ≡ false → AreKept levels nests
     → AreKept (set levels at x) (nest ∷ nests)
 kept_more levels nests nest at x end room is some kept =
-    let same : remaining_at (set levels at x) (length nests) ≡ x =
-    subst (λ (k : ℕ). get_or (set levels at x) k (r.Items 0) ≡ x) end (get_or-set_same levels at x (r.Items 0) room)
-    in (
-      subst (λ (y : Remaining). IsRemaining nest.header nest.count y) (sym same) is,
-      ap is_done same ∙ some,
-      kept_below levels nests at x (omega (arith, end)) kept,
-    )
+    grind (arith, nat_tests, levels, get_or-set_same, is, some, kept_below)
 
 -- ---- the innermost nest
 
@@ -168,14 +163,12 @@ stands_any strict depth whole nests bytes
 within_nest : (strict : Bool) (depth whole used : ℕ) (walk : Walk) (bytes : List ℕ) → walk.used ≡ used → 0 < used
     → IsDue strict depth whole walk bytes → IsDueBehind strict depth whole walk bytes
 within_nest strict depth whole zero walk bytes same some due = absurd (omega (arith, some))
-within_nest strict depth whole (suc used) walk bytes same some due =
-    subst (λ (n : ℕ). IsDue strict depth (whole_behind whole n) walk bytes) (sym same) due
+within_nest strict depth whole (suc used) walk bytes same some due = grind (arith, nat_tests)
 
 -- outside of all nests one more is
 due_outside : (strict : Bool) (depth whole : ℕ) (walk : Walk) (bytes : List ℕ) → walk.used ≡ 0
     → IsDue strict depth (suc whole) walk bytes → IsDueBehind strict depth whole walk bytes
-due_outside strict depth whole walk bytes none due =
-    subst (λ (n : ℕ). IsDue strict depth (whole_behind whole n) walk bytes) (sym none) due
+due_outside strict depth whole walk bytes none due = grind (arith, nat_tests)
 
 pub due_first : (strict : Bool) (depth : ℕ) (walk : Walk) → walk.used ≡ 0 → walk.depth ≡ depth
     → length walk.levels ≡ 256
@@ -247,12 +240,10 @@ enters_within strict depth whole walk new before title header x due p g within s
 -- ---- a break
 
 level_open : (nests : List Nest) → closes_one nests 0 ≡ false → title_level h.Break nests 0 ≡ length nests
-level_open nests e =
-    ap (λ (b : Bool). cond b ((length nests + 0) - 1) (length nests + 0)) e ∙ omega arith
+level_open nests e = grind (arith, nat_tests)
 
 level_closed : (nests : List Nest) → closes_one nests 0 ≡ true → title_level h.Break nests 0 ≡ length nests - 1
-level_closed nests e =
-    ap (λ (b : Bool). cond b ((length nests + 0) - 1) (length nests + 0)) e ∙ omega arith
+level_closed nests e = grind (arith, nat_tests)
 
 breaks_not : (strict : Bool) (depth whole : ℕ) (walk : Walk) (before : List ℕ)
     (due : IsDue strict depth whole walk before)
@@ -273,8 +264,7 @@ outside_no_break (nest ∷ nests) e = absurd (omega (arith, e))
 pub break_outside : (strict : Bool) (depth whole : ℕ) (walk : Walk) (before : List ℕ)
     → IsDue strict depth whole walk before → walk.used ≡ 0
     → Breaks strict depth whole false walk before
-break_outside strict depth whole walk before due none =
-    breaks_not strict depth whole walk before due (outside_no_break due.nests (sym due.keeps.used ∙ none))
+break_outside strict depth whole walk before due none = grind (arith, nat_tests, breaks_not, before, outside_no_break)
 
 -- whether one may is whether the innermost nest takes it
 closes_as_kept : (depth : ℕ) (walk : Walk) (nests : List Nest) → KeepsNests depth walk nests → (walk.used ≡ 0 → ⊥)
@@ -292,7 +282,7 @@ pub break_refused : (strict : Bool) (depth whole : ℕ) (walk : Walk) (before : 
     → (walk.used ≡ 0 → ⊥)
     → closes (remaining_at walk.levels (walk.used - 1)) ≡ false → Breaks strict depth whole false walk before
 break_refused strict depth whole walk before due some refused =
-    breaks_not strict depth whole walk before due (closes_as_kept depth walk due.nests due.keeps some ∙ refused)
+    grind (arith, nat_tests, breaks_not, before, closes_as_kept, some)
 
 closed_behind : (strict : Bool) (depth whole : ℕ) (walk new : Walk) (before : List ℕ) (nests : List Nest)
     → StandsBehind strict depth whole nests before
@@ -344,10 +334,8 @@ outside_more : (strict : Bool) (depth whole levels : ℕ) (nests : List Nest) (b
     (before ++ item)
 outside_more strict depth whole levels nests before item (outside i) none same is_item =
     outside (items_item strict depth whole before item i (subst (λ (k : ℕ). IsItem strict k item) same is_item))
-outside_more strict depth whole levels nests before item (inside w e p g more are) none same is_item = absurd (omega (
-  arith,
-  none,
-))
+outside_more strict depth whole levels nests before item (inside w e p g more are) none same is_item =
+    grind (arith, nat_tests)
 
 pub end_outside : (strict : Bool) (depth whole : ℕ) (walk : Walk) (bytes : List ℕ)
     → IsBehindItem strict depth whole walk bytes → walk.used ≡ 0
