@@ -118,9 +118,8 @@ module _ {R E : Type 0} (source : Ghosts R E) where
     passed = λ idle. Passes-none source decoder;
   }
 
-  module _ (strict : Bool) (depth start : ℕ) (drawn middle : Option (List Line)) (nests : List Nest)
-      (items title : List ℕ)
-      (kind : Kind) (inner : ℕ) (old between : Decoder R) (stands : StandsWithin depth nests items)
+  module _ {strict : Bool} {depth start : ℕ} {drawn middle : Option (List Line)} {nests : List Nest}
+      {items title : List ℕ} {kind : Kind} {inner : ℕ} {old between : Decoder R} (stands : StandsWithin depth nests items)
       (so_far : Within strict depth start drawn middle nests items title kind inner old between)
       (begun : old.offset ≡ start + length (items ++ title)) where
     -- what is before, as it is cut

@@ -33,14 +33,11 @@ returns-in-Err g c = record {
   shows = λ depth start nests items title stands p level at all.
       let so_far = c.parts.invariant.within depth start nests items title stands p level at in
       let row = taken_bytes c.read_title.new.self in
-      let keeps = rw c.offset-place.ensures.same at c.read_title.ensures.keeps in
-      let takes = taken_all g.R.Read _ row _ _ c.new-taken.ensures keeps in
+      let takes = taken_all g.R.Read _ row _ _ c.new-taken.ensures (rw c.offset-place.ensures.same at c.read_title.ensures.keeps) in
       let place = c.offset-place.ensures.value in
       record {
         bytes = so_far.bytes ++ row;
-        shows = within_fails g.R.Read c.args.strict depth start _ _ nests items title
-            (kind_of c.args.kind) c.parts.inner _ _ stands
-            so_far at c.in-Err.error c.fault.result _ row c.offset-place.result _ c.fault.ensures.says all takes place
+        shows = within_fails g.R.Read stands so_far at c.in-Err.error c.fault.result _ row c.offset-place.result _ c.fault.ensures.says all takes place
             (c.fault.ensures.draws all)
             (title_row c.args.strict (kind_of c.args.kind) (suc so_far.opens) c.in-Err.error row
             (rw c.in-Err.is at c.read_title.ensures.row)) (row_few c.read_title.new.self)
@@ -50,12 +47,8 @@ returns-in-Err g c = record {
         passed = λ alike. tt;
         stops = λ alike.
             let fails = (rw (c.offset-place.ensures.same, c.in-Err.is) at c.read_title.ensures.pulls)
-            (alike_here g.R.Read c.args.strict depth start _ _ nests items title
-            (kind_of c.args.kind) c.parts.inner _ _ stands
-            so_far at alike) place in
-            within_no_title g.R.Read c.args.strict depth start _ _ nests items title
-            (kind_of c.args.kind) c.parts.inner _ _ stands
-            so_far at p c.in-Err.error _ fails c.fault.result c.fault.ensures.says
+            (alike_here g.R.Read stands so_far at alike) place in
+            within_no_title g.R.Read stands so_far at p c.in-Err.error _ fails c.fault.result c.fault.ensures.says
             alike;
       };
 }
@@ -65,14 +58,11 @@ returns-in-Other g c = record {
   shows = λ depth start nests items title stands p level at all.
       let so_far = c.parts.invariant.within depth start nests items title stands p level at in
       let row = taken_bytes c.read_title.new.self in
-      let keeps = rw c.offset-place.ensures.same at c.read_title.ensures.keeps in
-      let takes = taken_all g.R.Read _ row _ _ c.new-taken.ensures keeps in
+      let takes = taken_all g.R.Read _ row _ _ c.new-taken.ensures (rw c.offset-place.ensures.same at c.read_title.ensures.keeps) in
       let place = c.offset-place.ensures.value in
       record {
         bytes = so_far.bytes ++ row;
-        shows = within_fails g.R.Read c.args.strict depth start _ _ nests items title
-            (kind_of c.args.kind) c.parts.inner _ _ stands
-            so_far at (Syntax c.offset-place.result) c.fault-in-Other.result _ row c.offset-place.result _
+        shows = within_fails g.R.Read stands so_far at (Syntax c.offset-place.result) c.fault-in-Other.result _ row c.offset-place.result _
             c.fault-in-Other.ensures.says all takes place (c.fault-in-Other.ensures.draws all)
             (λ any. inr (omega arith, (c.in-Ok.header, c.in-Ok.ensures.title, c.in-Other.ensures)))
             (row_few c.read_title.new.self) (title_some row c.in-Ok.header c.in-Ok.ensures.title)
@@ -81,12 +71,8 @@ returns-in-Other g c = record {
         passed = λ alike. tt;
         stops = λ alike.
             let pulls = (rw c.offset-place.ensures.same at c.in-Ok.ensures.pulls)
-            (alike_here g.R.Read c.args.strict depth start _ _ nests items title
-            (kind_of c.args.kind) c.parts.inner _ _ stands
-            so_far at alike) place in
-            within_other g.R.Read c.args.strict depth start _ _ nests items title
-            (kind_of c.args.kind) c.parts.inner _ _ stands
-            so_far at p c.in-Ok.header c.offset-place.result _ pulls.0 c.in-Other.ensures place
+            (alike_here g.R.Read stands so_far at alike) place in
+            within_other g.R.Read stands so_far at p c.in-Ok.header c.offset-place.result _ pulls.0 c.in-Other.ensures place
             c.fault-in-Other.result c.fault-in-Other.ensures.says alike;
       };
 }
@@ -108,43 +94,31 @@ returns-in_err-body-in-Piece g c =
       shows = λ depth start nests items title stands p level at all.
           let so_far = c.parts.invariant.within depth start nests items title stands p level at in
           let row = taken_bytes c.read_title.new.self in
-          let keeps = rw c.offset-place.ensures.same at c.read_title.ensures.keeps in
-          let takes = taken_all g.R.Read _ row _ _ c.new-taken.ensures keeps in
+          let takes = taken_all g.R.Read _ row _ _ c.new-taken.ensures (rw c.offset-place.ensures.same at c.read_title.ensures.keeps) in
           let place = c.offset-place.ensures.value in
           let titled : IsTitle row c.in-Ok.header = c.in-Ok.ensures.title in
           let is = c.in-Piece.ensures in
           let title_row = subst (λ (x : Header). IsTitle row x) is titled in
           let inner = so_far.level in
-          let due = piece_due g.R.Read c.args.strict depth start _ _ nests items title
-          (kind_of c.args.kind) c.parts.inner _ _ stands
-          so_far at in
+          let due = piece_due g.R.Read stands so_far at in
           let rest = c.in_err-body-in-Piece.ensures.shows depth start (suc so_far.opens) nests (items ++ so_far.parts) row
           c.args.strict due
-          title_row (ap (λ (n : ℕ). n + 1) inner) (piece_offset g.R.Read c.args.strict depth start _ _ nests items title
-          (kind_of c.args.kind)
-          c.parts.inner _ _ stands so_far at row _ takes) all in
-          let first = within_title g.R.Read c.args.strict depth start _ _ nests items title
-          (kind_of c.args.kind) c.parts.inner _ _ stands so_far at
+          title_row (ap (λ (n : ℕ). n + 1) inner) (piece_offset g.R.Read stands so_far at row _ takes) all in
+          let first = within_title g.R.Read stands so_far at
           _ row c.in-Ok.header c.offset-place.result c.title_level-at.result _ takes place titled
           (c.title_level-at.ensures nests so_far.opens inner) (c.in_ok-shown.ensures.draws tt) in
           record {
             bytes = so_far.bytes ++ (row ++ rest.bytes);
-            shows = within_piece g.R.Read c.args.strict depth start _ _ nests items title
-                (kind_of c.args.kind) c.parts.inner _ _ stands
-                so_far at _ _ row rest.bytes _ _ first rest.shows;
+            shows = within_piece g.R.Read stands so_far at _ _ row rest.bytes _ _ first rest.shows;
             whole = tt;
             passed = λ alike. tt;
             stops = λ alike.
-                let here = alike_here g.R.Read c.args.strict depth start _ _ nests items title
-                (kind_of c.args.kind) c.parts.inner _ _
-                stands so_far at alike in
+                let here = alike_here g.R.Read stands so_far at alike in
                 let went = (rw c.offset-place.ensures.same at c.in-Ok.ensures.passes) here.none_waits in
                 let pulls = (rw c.offset-place.ensures.same at c.in-Ok.ensures.pulls) here place in
                 let pulled = subst (λ (x : Header). PullsTitle g.R.Read c.parts.decoder x c.read_title.new.decoder) is
                 pulls.0 in
-                within_body g.R.Read c.args.strict depth start _ _ nests items title
-                (kind_of c.args.kind) c.parts.inner _ _ stands
-                so_far at p c.in-Piece.len _ _ _ pulled pulls.1 error
+                within_body g.R.Read stands so_far at p c.in-Piece.len _ _ _ pulled pulls.1 error
                 (rest.stops (passes_alike g.R.Read c.args.strict _ _ row went here)) place alike;
           };
     })
@@ -154,8 +128,7 @@ parts-preserved-in-Continue-branch-2 g c = record {
   within = λ depth start nests items title stands p level at.
       let so_far = c.parts.invariant.within depth start nests items title stands p level at in
       let row = taken_bytes c.read_title.new.self in
-      let keeps = rw c.offset-place.ensures.same at c.read_title.ensures.keeps in
-      let takes = taken_all g.R.Read _ row _ _ c.new-taken.ensures keeps in
+      let takes = taken_all g.R.Read _ row _ _ c.new-taken.ensures (rw c.offset-place.ensures.same at c.read_title.ensures.keeps) in
       let place = c.offset-place.ensures.value in
       let titled : IsTitle row c.in-Ok.header = c.in-Ok.ensures.title in
       let is = c.in-Piece.ensures in
@@ -163,23 +136,16 @@ parts-preserved-in-Continue-branch-2 g c = record {
       let taken : IsTakenTitle c.args.strict row c.in-Ok.header = c.in-Ok.ensures.taken in
       let taken_row = subst (λ (x : Header). IsTakenTitle c.args.strict row x) is taken in
       let inner = so_far.level in
-      let due = piece_due g.R.Read c.args.strict depth start _ _ nests items title
-      (kind_of c.args.kind) c.parts.inner _ _ stands
-      so_far at in
+      let due = piece_due g.R.Read stands so_far at in
       let rest = c.in_ok-body-in-Piece.ensures.shows depth start (suc so_far.opens) nests
       (items ++ so_far.parts) row c.read_title.new.decoder.strict due title_row (ap (λ (n : ℕ). n + 1) inner) (piece_offset
-      g.R.Read c.args.strict depth start _ _ nests
-      items title (kind_of c.args.kind) c.parts.inner _ _ stands so_far at row _ takes) tt in
+      g.R.Read stands so_far at row _ takes) tt in
       let went = rw c.offset-place.ensures.same at c.in-Ok.ensures.passes in
-      let first = within_title g.R.Read c.args.strict depth start _ _ nests items title
-      (kind_of c.args.kind) c.parts.inner _ _ stands so_far at
+      let first = within_title g.R.Read stands so_far at
       _ row c.in-Ok.header c.offset-place.result c.title_level-at.result _ takes place titled
       (c.title_level-at.ensures nests so_far.opens inner) (c.in_ok-shown.ensures.draws tt) in
-      let shows = within_piece g.R.Read c.args.strict depth start _ _ nests items title
-      (kind_of c.args.kind) c.parts.inner _ _
-      stands so_far at _ _ row rest.bytes _ _ first rest.shows in
-      within_whole g.R.Read c.args.strict depth start _ _ nests items title
-      (kind_of c.args.kind) c.parts.inner _ _ stands so_far at
+      let shows = within_piece g.R.Read stands so_far at _ _ row rest.bytes _ _ first rest.shows in
+      within_whole g.R.Read stands so_far at
       _ row rest.bytes c.in-Piece.len _ title_row taken_row rest.whole.0 rest.whole.1
       (λ idle. let titled = went idle in
       Passes-then g.R.Read _ _ _ row rest.bytes titled
@@ -187,8 +153,7 @@ parts-preserved-in-Continue-branch-2 g c = record {
   above = c.parts.invariant.above;
   below =
       let row = taken_bytes c.read_title.new.self in
-      let keeps = rw c.offset-place.ensures.same at c.read_title.ensures.keeps in
-      let takes = taken_all g.R.Read _ row _ _ c.new-taken.ensures keeps in
+      let takes = taken_all g.R.Read _ row _ _ c.new-taken.ensures (rw c.offset-place.ensures.same at c.read_title.ensures.keeps) in
       let moved = takes.offset in
       let rises = c.body.ensures.rises in
       let inner = c.parts.invariant.below in
@@ -200,24 +165,20 @@ parts-preserved-in-Open g c = record {
   within = λ depth start nests items title stands p level at.
       let so_far = c.parts.invariant.within depth start nests items title stands p level at in
       let row = taken_bytes c.read_title.new.self in
-      let keeps = rw c.offset-place.ensures.same at c.read_title.ensures.keeps in
-      let takes = taken_all g.R.Read _ row _ _ c.new-taken.ensures keeps in
+      let takes = taken_all g.R.Read _ row _ _ c.new-taken.ensures (rw c.offset-place.ensures.same at c.read_title.ensures.keeps) in
       let place = c.offset-place.ensures.value in
       let titled : IsTitle row c.in-Ok.header = c.in-Ok.ensures.title in
       let title_row = subst (λ (x : Header). IsTitle row x) c.in-Open.ensures.0 titled in
       let went = rw c.offset-place.ensures.same at c.in-Ok.ensures.passes in
-      let first = within_title g.R.Read c.args.strict depth start _ _ nests items title
-      (kind_of c.args.kind) c.parts.inner _ _ stands so_far at
+      let first = within_title g.R.Read stands so_far at
       _ row c.in-Ok.header c.offset-place.result c.title_level-at.result _ takes place titled
       (c.title_level-at.ensures nests so_far.opens so_far.level) (c.in_ok-shown.ensures.draws tt) in
-      within_open g.R.Read c.args.strict depth start _ _ nests items title
-      (kind_of c.args.kind) c.parts.inner _ _ stands so_far at
+      within_open g.R.Read stands so_far at
       _ row _ c.in-Open.ensures.1 went title_row first;
   above = let inner = c.parts.invariant.above in omega (arith, inner);
   below =
       let row = taken_bytes c.read_title.new.self in
-      let keeps = rw c.offset-place.ensures.same at c.read_title.ensures.keeps in
-      let takes = taken_all g.R.Read _ row _ _ c.new-taken.ensures keeps in
+      let takes = taken_all g.R.Read _ row _ _ c.new-taken.ensures (rw c.offset-place.ensures.same at c.read_title.ensures.keeps) in
       let moved = takes.offset in
       let some = title_some row c.in-Ok.header c.in-Ok.ensures.title in
       let inner = c.parts.invariant.below in
@@ -229,8 +190,7 @@ returns-then-at-level g c = record {
   shows = λ depth start nests items title stands p level at all.
       let so_far = c.parts.invariant.within depth start nests items title stands p level at in
       let row = taken_bytes c.read_title.new.self in
-      let keeps = rw c.offset-place.ensures.same at c.read_title.ensures.keeps in
-      let takes = taken_all g.R.Read _ row _ _ c.new-taken.ensures keeps in
+      let takes = taken_all g.R.Read _ row _ _ c.new-taken.ensures (rw c.offset-place.ensures.same at c.read_title.ensures.keeps) in
       let place = c.offset-place.ensures.value in
       let titled : IsTitle row c.in-Ok.header = c.in-Ok.ensures.title in
       let is = only_break c.args.strict (kind_of c.args.kind) c.in-Ok.header c.part_of-part.result
@@ -241,16 +201,12 @@ returns-then-at-level g c = record {
       let went = rw c.offset-place.ensures.same at c.in-Ok.ensures.passes in
       record {
         bytes = so_far.bytes ++ row;
-        shows = within_title g.R.Read c.args.strict depth start _ _ nests items title
-            (kind_of c.args.kind) c.parts.inner _ _ stands so_far at
+        shows = within_title g.R.Read stands so_far at
             _ row c.in-Ok.header c.offset-place.result c.title_level-at.result _ takes place titled higher
             (c.in_ok-shown.ensures.draws tt);
-        whole = within_ends g.R.Read c.args.strict depth start _ _ nests items title
-            (kind_of c.args.kind) c.parts.inner _ _ stands so_far at
+        whole = within_ends g.R.Read stands so_far at
             row c.title_level-at.result p title_row same (c.if-at-level.true ∙ level);
-        passed = λ alike. passed_row g.R.Read c.args.strict depth start _ _ nests items title
-            (kind_of c.args.kind) c.parts.inner _
-            _ stands so_far at row _ went alike.none_waits;
+        passed = λ alike. passed_row g.R.Read stands so_far at row _ went alike.none_waits;
         stops = λ alike. tt;
       };
 }
@@ -260,8 +216,7 @@ parts-preserved g c = record {
   within = λ depth start nests items title stands p level at.
       let so_far = c.parts.invariant.within depth start nests items title stands p level at in
       let row = taken_bytes c.read_title.new.self in
-      let keeps = rw c.offset-place.ensures.same at c.read_title.ensures.keeps in
-      let takes = taken_all g.R.Read _ row _ _ c.new-taken.ensures keeps in
+      let takes = taken_all g.R.Read _ row _ _ c.new-taken.ensures (rw c.offset-place.ensures.same at c.read_title.ensures.keeps) in
       let place = c.offset-place.ensures.value in
       let titled : IsTitle row c.in-Ok.header = c.in-Ok.ensures.title in
       let is = only_break c.args.strict (kind_of c.args.kind) c.in-Ok.header c.part_of-part.result
@@ -270,12 +225,10 @@ parts-preserved g c = record {
       let higher = c.title_level-at.ensures nests so_far.opens so_far.level in
       let same = subst (λ (x : Header). c.title_level-at.result ≡ title_level x nests (suc so_far.opens)) is higher in
       let went = rw c.offset-place.ensures.same at c.in-Ok.ensures.passes in
-      let first = within_title g.R.Read c.args.strict depth start _ _ nests items title
-      (kind_of c.args.kind) c.parts.inner _ _ stands so_far at
+      let first = within_title g.R.Read stands so_far at
       _ row c.in-Ok.header c.offset-place.result c.title_level-at.result _ takes place titled higher
       (c.in_ok-shown.ensures.draws tt) in
-      within_break g.R.Read c.args.strict depth start _ _ nests items title
-      (kind_of c.args.kind) c.parts.inner _ _ stands so_far at
+      within_break g.R.Read stands so_far at
       _ row c.title_level-at.result _ went title_row same (λ e. c.if-at-level.false (e ∙ sym level)) first;
   above =
       let is = only_break c.args.strict (kind_of c.args.kind) c.in-Ok.header c.part_of-part.result
@@ -287,8 +240,7 @@ parts-preserved g c = record {
       omega (arith, at, inner, other);
   below =
       let row = taken_bytes c.read_title.new.self in
-      let keeps = rw c.offset-place.ensures.same at c.read_title.ensures.keeps in
-      let takes = taken_all g.R.Read _ row _ _ c.new-taken.ensures keeps in
+      let takes = taken_all g.R.Read _ row _ _ c.new-taken.ensures (rw c.offset-place.ensures.same at c.read_title.ensures.keeps) in
       let moved = takes.offset in
       let is = only_break c.args.strict (kind_of c.args.kind) c.in-Ok.header c.part_of-part.result
       c.part_of-part.ensures c.in_default-part.not-Piece c.in_default-part.not-Open c.in_default.not-Other in
@@ -311,39 +263,34 @@ title_level-at-requires g c = record { some = level_some _ _ c.parts.invariant.a
 pub overflow_add-inner-in-Piece : goal.overflow_add-inner-in-Piece
 overflow_add-inner-in-Piece g c =
     let row = taken_bytes c.read_title.new.self in
-    let keeps = rw c.offset-place.ensures.same at c.read_title.ensures.keeps in
-    let takes = taken_all g.R.Read _ row _ _ c.new-taken.ensures keeps in
+    let takes = taken_all g.R.Read _ row _ _ c.new-taken.ensures (rw c.offset-place.ensures.same at c.read_title.ensures.keeps) in
     let some = title_some row c.in-Ok.header c.in-Ok.ensures.title in
     level_fits _ _ _ _ _ c.parts.invariant.below takes.offset some c.read_title.new.decoder.covered
 
 pub parts-smaller-in-Continue-branch-2 : goal.parts-smaller-in-Continue-branch-2
 parts-smaller-in-Continue-branch-2 g c =
     let row = taken_bytes c.read_title.new.self in
-    let keeps = rw c.offset-place.ensures.same at c.read_title.ensures.keeps in
-    let takes = taken_all g.R.Read _ row _ _ c.new-taken.ensures keeps in
+    let takes = taken_all g.R.Read _ row _ _ c.new-taken.ensures (rw c.offset-place.ensures.same at c.read_title.ensures.keeps) in
     let some = title_some row c.in-Ok.header c.in-Ok.ensures.title in
     comes_nearer _ _ _ _ _ takes.offset some c.body.ensures.rises c.body.new.decoder.covered
 
 pub overflow_add-inner-in-Open : goal.overflow_add-inner-in-Open
 overflow_add-inner-in-Open g c =
     let row = taken_bytes c.read_title.new.self in
-    let keeps = rw c.offset-place.ensures.same at c.read_title.ensures.keeps in
-    let takes = taken_all g.R.Read _ row _ _ c.new-taken.ensures keeps in
+    let takes = taken_all g.R.Read _ row _ _ c.new-taken.ensures (rw c.offset-place.ensures.same at c.read_title.ensures.keeps) in
     let some = title_some row c.in-Ok.header c.in-Ok.ensures.title in
     level_fits _ _ _ _ _ c.parts.invariant.below takes.offset some c.read_title.new.decoder.covered
 
 pub parts-smaller-in-Open : goal.parts-smaller-in-Open
 parts-smaller-in-Open g c =
     let row = taken_bytes c.read_title.new.self in
-    let keeps = rw c.offset-place.ensures.same at c.read_title.ensures.keeps in
-    let takes = taken_all g.R.Read _ row _ _ c.new-taken.ensures keeps in
+    let takes = taken_all g.R.Read _ row _ _ c.new-taken.ensures (rw c.offset-place.ensures.same at c.read_title.ensures.keeps) in
     let some = title_some row c.in-Ok.header c.in-Ok.ensures.title in
     comes_nearer _ _ _ _ _ takes.offset some (le_refl _) c.read_title.new.decoder.covered
 
 pub parts-smaller : goal.parts-smaller
 parts-smaller g c =
     let row = taken_bytes c.read_title.new.self in
-    let keeps = rw c.offset-place.ensures.same at c.read_title.ensures.keeps in
-    let takes = taken_all g.R.Read _ row _ _ c.new-taken.ensures keeps in
+    let takes = taken_all g.R.Read _ row _ _ c.new-taken.ensures (rw c.offset-place.ensures.same at c.read_title.ensures.keeps) in
     let some = title_some row c.in-Ok.header c.in-Ok.ensures.title in
     comes_nearer _ _ _ _ _ takes.offset some (le_refl _) c.read_title.new.decoder.covered
