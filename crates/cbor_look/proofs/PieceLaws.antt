@@ -54,10 +54,7 @@ open_inside kind (suc opens) parts bodies
 -- what is no piece, no open and not refused, is a break
 pub only_break : (strict : Bool) (kind : Kind) (header : Header) (part : Part) → IsPart strict kind header part
     → ((len : ℕ) → part ≡ p.Piece len → ⊥) → (part ≡ p.Open → ⊥) → (part ≡ p.Other → ⊥) → header ≡ h.Break
-only_break strict kind header p.Break is piece opens other = is
-only_break strict kind header (p.Piece len) is piece opens other = absurd (piece len refl)
-only_break strict kind header p.Open is piece opens other = absurd (opens refl)
-only_break strict kind header p.Other is piece opens other = absurd (other refl)
+only_break strict kind header part is piece opens other = grind arith
 
 -- a break stands a level less deep than the titles that it ends
 pub break_level : (header : Header) (inner level : ℕ) → header ≡ h.Break → 0 < inner
@@ -346,17 +343,11 @@ module _ {R E : Type 0} (source : Ghosts R E) where
     -- of any room, as no byte of a body was read
     no_title_stops : (room : ℕ) (error : Error E) (new : Decoder R) → MeetsNoTitle source kind old error new
         → StopsInside source kind room old error new
-    no_title_stops room (e.Io fault) new meets = inl meets
-    no_title_stops room (e.Syntax at) new meets = inl meets
-    no_title_stops room e.TooLong new meets = inl meets
-    no_title_stops room e.Waiting new meets = absurd meets.fails
+    no_title_stops room error new meets = grind arith
 
     body_stops : (room : ℕ) (error : Error E) (new : Decoder R) → MeetsBody source kind room old error new
         → StopsInside source kind room old error new
-    body_stops room (e.Io fault) new meets = inr meets
-    body_stops room (e.Syntax at) new meets = inr (inr meets)
-    body_stops room e.TooLong new meets = inr meets
-    body_stops room e.Waiting new meets = absurd meets.ends.stops
+    body_stops room error new meets = grind arith
 
     -- no title came
     pub within_no_title : {W : Type 0} → IsTitle title (kind_header kind None) → (error : Error E)

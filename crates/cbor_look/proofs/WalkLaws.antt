@@ -27,34 +27,13 @@ use Rattle.cbor_look.specs.Walks.{IsDeepest}
 all_read : (strict : Bool) (x : Header) (d count : ℕ) (items : List ℕ) (remaining : Remaining)
     → IsRemaining x count remaining
     → is_done remaining ≡ true → AreItems strict d count items → Completes strict (suc d) x items
-all_read strict (h.Tag n) d count items (r.Items zero) is done i =
-    let one : count ≡ 1 = omega (arith, is) in tag (subst (λ (m : ℕ). AreItems strict d m items) one i)
-all_read strict (h.Array (Some n)) d count items (r.Items zero) is done i =
-    let all : count ≡ n = omega (arith, is) in array (subst (λ (m : ℕ). AreItems strict d m items) all i)
-all_read strict (h.Map (Some n)) d count items (r.Pairs zero) is done i =
-    let all : count ≡ 2 * n = omega (arith, is) in pairs (subst (λ (m : ℕ). AreItems strict d m items) all i)
-all_read strict (h.Tag n) d count items (r.Items (suc m)) is done i = absurd cc
-all_read strict (h.Array (Some n)) d count items (r.Items (suc m)) is done i = absurd cc
-all_read strict (h.Map (Some n)) d count items (r.Pairs (suc m)) is done i = absurd cc
-all_read strict (h.Map (Some n)) d count items (r.Value m) is done i = absurd cc
-all_read strict (h.Array None) d count items r.OpenItems is done i = absurd cc
-all_read strict (h.Map None) d count items r.OpenPairs is done i = absurd cc
-all_read strict (h.Map None) d count items r.OpenValue is done i = absurd cc
-all_read strict x d count items remaining is done i = absurd is
+all_read strict x d count items remaining is done i = grind (arith, tag, array, pairs)
 
 -- a break ended them, by what remains
 all_closed : (strict : Bool) (x : Header) (d count : ℕ) (items : List ℕ) (remaining : Remaining)
     → IsRemaining x count remaining
     → closes remaining ≡ true → AreItems strict d count items → Completes strict (suc d) x (items ++ 0xff ∷ [])
-all_closed strict (h.Array None) d count items r.OpenItems is may i = open_array i
-all_closed strict (h.Map None) d count items r.OpenPairs is may i =
-    open_pairs is.0 (subst (λ (m : ℕ). AreItems strict d m items) is.1 i)
-all_closed strict (h.Tag n) d count items (r.Items m) is may i = absurd cc
-all_closed strict (h.Array (Some n)) d count items (r.Items m) is may i = absurd cc
-all_closed strict (h.Map (Some n)) d count items (r.Pairs m) is may i = absurd cc
-all_closed strict (h.Map (Some n)) d count items (r.Value m) is may i = absurd cc
-all_closed strict (h.Map None) d count items r.OpenValue is may i = absurd cc
-all_closed strict x d count items remaining is may i = absurd is
+all_closed strict x d count items remaining is may i = grind (arith, open_array, open_pairs)
 
 -- ---- what is kept
 
@@ -63,13 +42,8 @@ kept_below : (levels : List Remaining) (nests : List Nest) (at : ℕ) (x : Remai
     → AreKept levels nests → AreKept (set levels at x) nests
 kept_below levels [] at x few kept = tt
 kept_below levels (nest ∷ nests) at x few kept =
-    let other : length nests ≢ at = omega (arith, few) in
-    let same : remaining_at (set levels at x) (length nests) ≡ remaining_at levels (length nests) =
-    get_or-set_other levels at (length nests) x (r.Items 0) other in (
-      subst (λ (y : Remaining). IsRemaining nest.header nest.count y) (sym same) kept.0,
-      ap is_done same ∙ kept.1,
-      kept_below levels nests at x (omega (arith, few)) kept.2,
-    )
+    let inner = kept_below levels nests at x (omega (arith, few)) kept.2 in
+    grind (arith, get_or-set_other, inner)
 
 -- a write at their end keeps one more
 kept_more : (levels : List Remaining) (nests : List Nest) (nest : Nest) (at : ℕ) (x : Remaining) → at ≡ length nests
@@ -173,17 +147,12 @@ due_outside strict depth whole walk bytes none due = grind (arith, nat_tests)
 pub due_first : (strict : Bool) (depth : ℕ) (walk : Walk) → walk.used ≡ 0 → walk.depth ≡ depth
     → length walk.levels ≡ 256
     → IsDue strict depth 0 walk []
-due_first strict depth walk used same room = record {
-  nests = [];
-  within = outside no_items;
-  keeps = record { kept = tt; used = used; same_depth = same; room = room };
-}
+due_first strict depth walk used same room = grind (arith, outside, no_items)
 
 -- no level is left
 pub deepest : (strict : Bool) (depth whole : ℕ) (walk : Walk) (before : List ℕ) → IsDue strict depth whole walk before
     → walk.used ≡ walk.depth → IsDeepest strict depth whole before
-deepest strict depth whole walk before due full =
-    record { nests = due.nests; within = due.within; full = sym due.keeps.used ∙ (full ∙ due.keeps.same_depth) }
+deepest strict depth whole walk before due full = grind arith
 
 -- a nest with nothing in it is an item
 pub enters_empty : (strict : Bool) (depth whole : ℕ) (walk : Walk) (before title : List ℕ) (header : Header)
@@ -258,8 +227,7 @@ breaks_not strict depth whole walk before due none = record {
 
 -- no break may stand where no nest is open
 outside_no_break : (nests : List Nest) → length nests ≡ 0 → closes_one nests 0 ≡ false
-outside_no_break [] e = refl
-outside_no_break (nest ∷ nests) e = absurd (omega (arith, e))
+outside_no_break nests e = grind arith
 
 pub break_outside : (strict : Bool) (depth whole : ℕ) (walk : Walk) (before : List ℕ)
     → IsDue strict depth whole walk before → walk.used ≡ 0
@@ -269,13 +237,7 @@ break_outside strict depth whole walk before due none = grind (arith, nat_tests,
 -- whether one may is whether the innermost nest takes it
 closes_as_kept : (depth : ℕ) (walk : Walk) (nests : List Nest) → KeepsNests depth walk nests → (walk.used ≡ 0 → ⊥)
     → closes_one nests 0 ≡ closes (remaining_at walk.levels (walk.used - 1))
-closes_as_kept depth walk [] keeps some = absurd (some keeps.used)
-closes_as_kept depth walk (nest ∷ nests) keeps some =
-    let used = keeps.used in
-    let at : length nests ≡ walk.used - 1 = omega (arith, used) in
-    let kept = keeps.kept in
-    let same = takes_more nest.header nest.count (remaining_at walk.levels (length nests)) kept.0 kept.1 in
-    same.1 ∙ ap (λ (k : ℕ). closes (remaining_at walk.levels k)) at
+closes_as_kept depth walk nests keeps some = grind (arith, takes_more)
 
 pub break_refused : (strict : Bool) (depth whole : ℕ) (walk : Walk) (before : List ℕ)
     → IsDue strict depth whole walk before
@@ -332,10 +294,7 @@ outside_more : (strict : Bool) (depth whole levels : ℕ) (nests : List Nest) (b
     → StandsBehind strict depth whole nests before
     → length nests ≡ 0 → levels ≡ depth → IsItem strict levels item → StandsBehind strict depth (suc whole) []
     (before ++ item)
-outside_more strict depth whole levels nests before item (outside i) none same is_item =
-    outside (items_item strict depth whole before item i (subst (λ (k : ℕ). IsItem strict k item) same is_item))
-outside_more strict depth whole levels nests before item (inside w e p g more are) none same is_item =
-    grind (arith, nat_tests)
+outside_more strict depth whole levels nests before item stands none same is_item = grind (arith, outside, items_item)
 
 pub end_outside : (strict : Bool) (depth whole : ℕ) (walk : Walk) (bytes : List ℕ)
     → IsBehindItem strict depth whole walk bytes → walk.used ≡ 0
