@@ -8,7 +8,6 @@ use Rattle.ciborium_ll.specs.Types.Header.{Header}
 use Rattle.ciborium_ll.specs.Types.Header.TheVariants as h
 use Rattle.ciborium_ll.specs.Types.Decoder.{Decoder}
 use Rattle.ciborium_ll.specs.Types.Error.{Error}
-use Rattle.ciborium_ll.specs.Types.Error.TheVariants as e
 use Rattle.ciborium_ll.specs.Title.{IsTitle}
 use Rattle.ciborium_ll.specs.Items.{AreItems, no_items, IsItem, IsTakenTitle}
 use Rattle.ciborium_ll.specs.Decoding.{IsSteady, Passes, PullsHeader, PullsTitle}
@@ -79,33 +78,22 @@ stands_due strict depth nests bytes
 -- there are no more nests than levels
 stands_few : (strict : Bool) (depth : ℕ) (nests : List Nest) (bytes : List ℕ)
     → StandsBehind strict depth 0 nests bytes → length nests + (depth - length nests) ≡ depth
-stands_few strict depth nests bytes (outside are) = omega arith
-stands_few strict depth nests bytes (inside w e p g more are) = omega (arith, e)
+stands_few strict depth nests bytes p = grind (arith, nat_tests)
 
 -- ---- answers
 
 both_ok : {E W : Type 0} (checked : Result (Sequence E) (Stopped E)) (result : Result E (DumpError E W))
     → AnswersAs checked result → IsOk result → IsOk checked
-both_ok (Ok sequence) result answers ok = refl
-both_ok (Err stopped) (Ok fault) answers ok = absurd answers
-both_ok (Err stopped) (Err error) answers ok = absurd cc
+both_ok checked result p q = grind (arith, nat_tests)
 
 ok_both : {E W : Type 0} (checked : Result (Sequence E) (Stopped E)) (result : Result E (DumpError E W))
     → AnswersAs checked result → IsOk checked → IsOk result
-ok_both checked (Ok fault) answers ok = refl
-ok_both (Ok sequence) (Err (d.Item error)) answers ok = absurd answers
-ok_both (Ok sequence) (Err (d.Rows fault)) answers ok = absurd answers
-ok_both (Err stopped) (Err error) answers ok = absurd cc
+ok_both checked result p q = grind (arith, nat_tests)
 
 -- bytes were read
 further : {R E : Type 0} (error : SkipError E) (between new : Decoder R) → between.offset < new.offset
     → IsEnd error between.offset new.offset → ⊥
-further (s.Read (e.Io fault)) between new some still = omega (arith, some, still)
-further (s.Read (e.Syntax place)) between new some still = still
-further (s.Read e.TooLong) between new some still = still
-further (s.Read e.Waiting) between new some still = still
-further (s.Break at) between new some still = still
-further (s.Deep at) between new some still = still
+further error between new p q = grind (arith, nat_tests)
 
 -- as strict as the dump
 strict_alike : {R : Type 0} (strict : Bool) (decoder : Decoder R) → IsAlike strict decoder → strictness decoder ≡ strict
@@ -195,10 +183,7 @@ module _ {R E : Type 0} (source : Ghosts R E) where
     -- where no byte of a further item came, no level was open and none of a title
     not_ended : (error : Error E) (len : ℕ) (new : Decoder R) → new.offset ≡ now.offset + len
         → (IsEndOf error walk.used len → ⊥) → IsEnd (s.Read error) come.between.offset new.offset → ⊥
-    not_ended (e.Io fault) len new moved not still = grind (arith, nat_tests, nests_few)
-    not_ended (e.Syntax place) len new moved not still = still
-    not_ended e.TooLong len new moved not still = still
-    not_ended e.Waiting len new moved not still = still
+    not_ended error len new p q r = grind (arith, nat_tests, nat_tests, nests_few)
 
     -- the end of it all, by the error of the title
     pub comes_end : {W : Type 0} (error : Error E) (len : ℕ) (new : Decoder R) (result : Result E (DumpError E W))

@@ -1,9 +1,10 @@
 -- The lines of a dump, one behind the other.
-use Rattle.std.proofs.Common.{◌≡◌, ℕ, ◌+◌, List, [], ◌∷◌, ◌++◌, length, Option, Some, None, refl, sym, ap, subst, ◌∙◌}
-use Rattle.std.proofs.Common.{append_assoc, append-nil, inl, inr, arith, ◌<◌, ◌≤◌, Bool, IfSome}
+use Rattle.std.proofs.lemmas.Bool.Decides.{nat_tests}
+use Rattle.std.proofs.Common.{◌≡◌, ℕ, ◌+◌, List, [], ◌∷◌, ◌++◌, length, Option, refl, sym, ap, subst, ◌∙◌}
+use Rattle.std.proofs.Common.{append_assoc, append-nil, arith, ◌<◌, ◌≤◌, Bool, IfSome}
 use Rattle.ciborium_ll.specs.Types.Read.{Ghosts}
 use Rattle.ciborium_ll.specs.Types.Decoder.{Decoder}
-use Rattle.cbor_look.specs.Levels.{Line, bytes_of, FitsRow, Stands, AllStand, Ending, Meant, Refused, Failed, Stopped}
+use Rattle.cbor_look.specs.Levels.{Line, bytes_of, FitsRow, Stands, AllStand, Ending, Meant}
 use Rattle.cbor_look.specs.Levels.{IsTitleFault, IsTextFault}
 use Rattle.cbor_look.specs.Endings.{HasMeaning, AreMeant, EndAtFault, EndAs, LeavesAs, ending_before, ending_of}
 use Rattle.cbor_look.specs.Endings.{bytes_at_fault, fault_part}
@@ -17,31 +18,23 @@ use Rattle.ciborium_ll.proofs.NestLaws.{title_some}
 use Rattle.ciborium_ll.proofs.TextLaws.{IsCharacters-nil}
 use Rattle.ciborium_ll.specs.Types.Error.{Error}
 use Rattle.ciborium_ll.specs.Types.Error.TheVariants as e
-use Rattle.cbor_skip.specs.declared.SkipError.TheVariants as s
 use Rattle.cbor_look.specs.Takings.{IsIdle, IsTitleRow, LeavesBehind, TakesBytes, most_bytes}
 use Rattle.cbor_look.specs.Dumps.{Draws, IsRefusal, IsTaken, Lines, SaysFault, Shows, ShowsBehind, fault_lines}
 use Rattle.cbor_look.specs.declared.dump.DumpError.{DumpError}
-use Rattle.cbor_look.specs.declared.dump.DumpError.TheVariants as d
 use Rattle.cbor_look.proofs.TakingLaws.{takes_none, takes_then}
 
 -- where a row was refused, not each was taken
 pub not_taken : {E W : Type 0} (why : DumpError E W) → IsRefusal why → IsTaken why → ⊥
-not_taken (d.Item error) refusal taken = absurd refusal
-not_taken (d.Rows fault) refusal taken = absurd taken
+not_taken why p q = grind (arith, nat_tests)
 
 -- ---- lines
 
 pub draws_none : (old : Option (List Line)) → Draws old old []
-draws_none None = tt
-draws_none (Some lines) = sym (append-nil lines)
+draws_none old = grind (arith, nat_tests, append-nil)
 
 draws_then : (old middle new : Option (List Line)) (first second : List Line) → Draws old middle first
     → Draws middle new second → Draws old new (first ++ second)
-draws_then None middle new first second a b = tt
-draws_then (Some x) None new first second a b = absurd a
-draws_then (Some x) (Some y) None first second a b = absurd b
-draws_then (Some x) (Some y) (Some z) first second a b =
-    b ∙ (ap (λ (w : List Line). w ++ second) a ∙ append_assoc x first second)
+draws_then old middle new first second p q = grind (arith, nat_tests, append_assoc)
 
 bytes_then : (first second : List Line) → bytes_of (first ++ second) ≡ bytes_of first ++ bytes_of second
 bytes_then [] second = refl
@@ -52,11 +45,7 @@ bytes_then (line ∷ first) second =
 -- a line that is meant stands however lines end
 stands_meant : (how : Ending) (depth : ℕ) (before : List ℕ) (meaning : Meaning) (line : Line)
     → Stands Meant depth before meaning line → Stands how depth before meaning line
-stands_meant how depth before (m.Header header) line stands = stands
-stands_meant how depth before m.Bytes line stands = stands
-stands_meant how depth before m.Text line stands = stands
-stands_meant how depth before m.Fault line (inl none) = absurd none.fault
-stands_meant how depth before m.Fault line (inr none) = absurd none.fault
+stands_meant how depth before meaning line p = grind (arith, nat_tests)
 
 stand_then : (how : Ending) (depth start : ℕ) (before : List ℕ) (first second : List Line)
     → AllStand Meant depth start before first → AllStand how depth start (before ++ bytes_of first) second
@@ -81,8 +70,7 @@ meant_then (line ∷ first) second a b = (a.0, meant_then first second a.1 b)
 
 fault_behind : (line : Line) (lines : List Line) → HasMeaning line.meaning → EndAtFault lines
     → EndAtFault (line ∷ lines)
-fault_behind line [] a b = absurd b
-fault_behind line (next ∷ lines) a b = (a, b)
+fault_behind line lines p q = grind (arith, nat_tests)
 
 -- lines that end at fault, behind others
 fault_then : (first second : List Line) → AreMeant first → EndAtFault second → EndAtFault (first ++ second)
@@ -91,12 +79,7 @@ fault_then (line ∷ first) second a b = fault_behind line (first ++ second) a.0
 
 ends_then : (how : Ending) (first second : List Line) → AreMeant first → EndAs how second
     → EndAs how (first ++ second)
-ends_then Meant first second a b = meant_then first second a b
-ends_then (Refused strict) first second a b = fault_then first second a b
-ends_then Failed first second a (inl b) = inl (meant_then first second a b)
-ends_then Failed first second a (inr b) = inr (fault_then first second a b)
-ends_then Stopped first second a (inl b) = inl (meant_then first second a b)
-ends_then Stopped first second a (inr b) = inr (fault_then first second a b)
+ends_then how first second p q = grind (arith, nat_tests, meant_then, fault_then)
 
 -- where bytes are no item, some were read
 abbrev pub HasBytesAtFault : {E : Type 0} → Error E → List ℕ → Type 0
@@ -105,47 +88,23 @@ HasBytesAtFault error bytes = Unit {0}
 
 pub title_fault : {E : Type 0} (strict : Bool) (error : Error E) (bytes : List ℕ) → IsTitleRow strict error bytes
     → HasBytesAtFault error bytes
-title_fault strict (e.Syntax at) bytes (inl refused) = let one = ap length refused.2 in omega (arith, one)
-title_fault strict (e.Syntax at) bytes (inr longer) = title_some bytes longer.1.0 longer.1.1
-title_fault strict (e.Io fault) bytes row = tt
-title_fault strict e.TooLong bytes row = tt
-title_fault strict e.Waiting bytes row = tt
+title_fault strict error bytes p = grind (arith, nat_tests, title_some)
 
 pub part_fault : {E : Type 0} (kind : Kind) (left : ℕ) (error : Error E) (bytes : List ℕ) → 0 < left
     → IsPartRow kind left error bytes → HasBytesAtFault error bytes
-part_fault kind left (e.Syntax at) [] some (is, inl all, full) =
-    absurd (let whole = all.0 in omega (arith, whole, some))
-part_fault kind left (e.Syntax at) [] some (is, inr never, full) = absurd (never [] IsCharacters-nil)
-part_fault kind left (e.Syntax at) (byte ∷ bytes) some row = omega arith
-part_fault kind left (e.Io fault) bytes some row = tt
-part_fault kind left e.TooLong bytes some row = tt
-part_fault kind left e.Waiting bytes some row = tt
+part_fault kind left error bytes p q = grind (arith, nat_tests, IsCharacters-nil)
 
 -- what was read before a read stopped
 pub read_ends : {E : Type 0} (strict : Bool) (error : Error E) (level offset : ℕ) (bytes : List ℕ)
     → HasBytesAtFault error bytes → EndAs (ending_of strict error) (fault_lines level offset bytes)
-read_ends strict (e.Syntax at) level offset [] some = absurd (omega (arith, some))
-read_ends strict (e.Syntax at) level offset (byte ∷ bytes) some = refl
-read_ends strict (e.Io fault) level offset [] some = inl tt
-read_ends strict (e.Io fault) level offset (byte ∷ bytes) some = inr refl
-read_ends strict e.TooLong level offset [] some = inl tt
-read_ends strict e.TooLong level offset (byte ∷ bytes) some = inr refl
-read_ends strict e.Waiting level offset [] some = inl tt
-read_ends strict e.Waiting level offset (byte ∷ bytes) some = inr refl
+read_ends strict error level offset bytes p = grind (arith, nat_tests)
 
 -- ---- rows at fault
 
 -- what was read of a title
 pub title_row : {E : Type 0} (strict : Bool) (kind : Kind) (opens : ℕ) (error : Error E) (bytes : List ℕ)
     → IsTitleRow strict error bytes → 0 < length bytes → IsTitleFault (ending_of strict error) kind opens bytes
-title_row strict kind opens (e.Syntax at) bytes row some = inl row
-title_row strict kind opens (e.Io fault) bytes (inl none) some =
-    absurd (let l = ap length none in omega (arith, l, some))
-title_row strict kind opens (e.Io fault) bytes (inr first) some = first
-title_row strict kind opens e.TooLong bytes (inl none) some = absurd (let l = ap length none in omega (arith, l, some))
-title_row strict kind opens e.TooLong bytes (inr first) some = first
-title_row strict kind opens e.Waiting bytes (inl none) some = absurd (let l = ap length none in omega (arith, l, some))
-title_row strict kind opens e.Waiting bytes (inr first) some = first
+title_row strict kind opens error bytes p q = grind (arith, nat_tests)
 
 full_cut : (left : ℕ) (bytes : List ℕ) → IsCutText left bytes → IsFullPart Text left bytes
 full_cut left bytes cut = let many = cut.many in omega (arith, many)
@@ -154,28 +113,16 @@ full_cut left bytes cut = let many = cut.many in omega (arith, many)
 pub part_row : {E : Type 0} (strict : Bool) (kind : Kind) (left : ℕ) (error : Error E) (bytes : List ℕ)
     → IsPartRow kind left error bytes → 0 < length bytes
     → (kind ≡ Text) × IsTextFault (ending_of strict error) left bytes × IsFullPart Text left bytes
-part_row strict kind left (e.Syntax at) bytes row some = row
-part_row strict kind left (e.Io fault) bytes (inl none) some = absurd (let l = ap length none in omega (arith, l, some))
-part_row strict kind left (e.Io fault) bytes (inr cut) some = (cut.0, cut.1, full_cut left bytes cut.1)
-part_row strict kind left e.TooLong bytes (inl none) some = absurd (let l = ap length none in omega (arith, l, some))
-part_row strict kind left e.TooLong bytes (inr cut) some = (cut.0, cut.1, full_cut left bytes cut.1)
-part_row strict kind left e.Waiting bytes (inl none) some = absurd (let l = ap length none in omega (arith, l, some))
-part_row strict kind left e.Waiting bytes (inr cut) some = (cut.0, cut.1, full_cut left bytes cut.1)
+part_row strict kind left error bytes p q = grind (arith, nat_tests, full_cut)
 
 -- what is left behind it
 pub leaves_as : {E : Type 0} (strict : Bool) (error : Error E) (bytes : List ℕ) (known : Option (List ℕ))
     → IfSome known (LeavesBehind error bytes) → IfSome known (LeavesAs (ending_of strict error) bytes)
-leaves_as strict (e.Syntax at) bytes known left = IfSome-all known _ (λ any. tt)
-leaves_as strict (e.Io fault) bytes known left = left
-leaves_as strict e.TooLong bytes known left = IfSome-all known _ (λ any. tt)
-leaves_as strict e.Waiting bytes known left = IfSome-all known _ (λ any. tt)
+leaves_as strict error bytes known p = grind (arith, nat_tests, IfSome-all)
 
 -- lines that are meant have nothing at fault
 no_fault : (meaning : Meaning) (bytes : List ℕ) → HasMeaning meaning → fault_part meaning bytes ≡ []
-no_fault (m.Header header) bytes meant = refl
-no_fault m.Bytes bytes meant = refl
-no_fault m.Text bytes meant = refl
-no_fault m.Fault bytes meant = absurd meant
+no_fault meaning bytes p = grind (arith, nat_tests)
 
 pub fault_behind_meant : (first second : List Line) → AreMeant first
     → bytes_at_fault (first ++ second) ≡ bytes_at_fault second
@@ -270,16 +217,8 @@ module _ {R E : Type 0} (source : Ghosts R E) where
       (drawn then_drawn : Option (List Line)) (before bytes : List ℕ) (old new : Decoder R) → SaysFault error why
       → IsTaken why → Shows source depth start drawn then_drawn before bytes (ending_of strict error) old new
       → Shows source depth start drawn then_drawn before bytes (ending_before strict why) old new
-  shows_says strict error (d.Item (s.Read other)) depth start drawn then_drawn before bytes old new says taken shows =
-      let same : other ≡ error = cc in
-      subst (λ (x : Error E). Shows source depth start drawn then_drawn before bytes (ending_of strict x) old new)
-      (sym same) shows
-  shows_says strict error (d.Item (s.Break at)) depth start drawn then_drawn before bytes old new says taken shows =
-      absurd cc
-  shows_says strict error (d.Item (s.Deep at)) depth start drawn then_drawn before bytes old new says taken shows =
-      absurd cc
-  shows_says strict error (d.Rows fault) depth start drawn then_drawn before bytes old new says taken shows =
-      absurd taken
+  shows_says strict error why depth start drawn then_drawn before bytes old new p q r =
+      grind (arith, nat_tests, ending_of)
 
   -- what was read before a read stopped, in a row at fault where there is some
   pub shows_fault : (strict : Bool) (error : Error E) (depth start : ℕ) (drawn then_drawn : Option (List Line))
@@ -317,10 +256,5 @@ module _ {R E : Type 0} (source : Ghosts R E) where
       (row : List ℕ) (old new : Decoder R) → TakesBytes source old row new
       → Draws drawn then_drawn (fault_lines level offset row) → length row ≡ 0
       → Shows source depth start drawn then_drawn before row Meant old new
-  shows_nothing depth start drawn then_drawn before level offset [] old new takes draws none = record {
-    lines = record { lines = []; drawn = draws; stand = tt; joined = refl; ends = tt };
-    takes = takes;
-    left = λ idle. IfSome-all (view source new) _ (λ any. tt);
-  }
-  shows_nothing depth start drawn then_drawn before level offset (byte ∷ bytes) old new takes draws none =
-      absurd (omega (arith, none))
+  shows_nothing depth start drawn then_drawn before level offset row old new p q r =
+      grind (arith, nat_tests, IfSome-all, view)

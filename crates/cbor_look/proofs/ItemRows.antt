@@ -1,12 +1,11 @@
 -- Rows of items in lists of bytes: how many they are, and what may follow some of them.
+use Rattle.std.proofs.lemmas.Bool.Decides.{nat_tests}
 use Rattle.std.proofs.Common.{◌≡◌, ℕ, suc, ◌<◌, ◌≤◌, ◌⊎◌, List, [], ◌∷◌, ◌++◌, length, Some, refl, Bool}
-use Rattle.std.proofs.Common.{sym, ap, subst, ◌∙◌, inl, inr, arith, append_assoc, length-append}
-use Rattle.ciborium_ll.specs.Title.{BeginsRefused}
+use Rattle.std.proofs.Common.{sym, ap, ◌∙◌, inl, inr, arith, append_assoc, length-append}
 use Rattle.ciborium_ll.specs.Strings.{Kind, kind_header}
 use Rattle.ciborium_ll.specs.Items.{AreItems, no_items, more_items}
 use Rattle.ciborium_ll.specs.Faults.{Point, Due, IsInside, opened, deeper, Answer, Short}
-use Rattle.ciborium_ll.specs.Faults.{FirstFault, CutTitle, NoTitle, LongTitle, OtherTitle, DamagedText, CutBody}
-use Rattle.ciborium_ll.specs.Faults.{CutDamagedText}
+use Rattle.ciborium_ll.specs.Faults.{FirstFault}
 use Rattle.ciborium_ll.proofs.ItemLaws.{one_item}
 use Rattle.ciborium_ll.proofs.NestLaws.{title_some}
 use Rattle.cbor_skip.specs.Due.{ReachesItem, at_item, at_string, at_body, at_piece}
@@ -78,29 +77,10 @@ due_first s d u at (at_piece {bytes = a} {title = t} {len = l} {kind = k} r p g)
 pub fault_first : (s : Bool) (before : List ℕ) (at : Point) (ahead : List ℕ) (answer : Answer) (written : List ℕ)
     (consumed : ℕ) → FirstFault s before [] at ahead answer written consumed → at ≡ Due → answer ≡ Short → consumed ≡ 0
     → ahead ≡ []
-fault_first s before at ahead answer written consumed (CutTitle title cut) due is none = nothing ahead (omega (
-  arith,
-  none,
-))
-fault_first s before at ahead answer written consumed (NoTitle title refused) due is none = absurd cc
-fault_first s before at ahead answer written consumed (LongTitle header rest title p longer e) due is none = absurd cc
-fault_first s before at ahead answer written consumed (OtherTitle header rest p m e) due is none = absurd cc
-fault_first s before at ahead answer written consumed (DamagedText front rest l damaged e t w c) due is none = absurd cc
-fault_first s before at ahead answer written consumed (CutBody front rest l e w a b c) due is none = absurd cc
-fault_first s before at ahead answer written consumed (CutDamagedText front rest l damaged e t w c) due is none =
-    absurd cc
+fault_first s before at ahead answer written consumed p q r t = grind (arith, nat_tests, nothing)
 
 -- where there is none, it is short, and none is consumed
 pub first_fault : (s : Bool) (before : List ℕ) (at : Point) (ahead : List ℕ) (answer : Answer) (written : List ℕ)
     (consumed : ℕ) → FirstFault s before [] at ahead answer written consumed → at ≡ Due → ahead ≡ []
     → (answer ≡ Short) × (consumed ≡ 0)
-first_fault s before at ahead answer written consumed (CutTitle title cut) due none =
-    let counted = ap length none in (refl, omega (arith, counted))
-first_fault s before at ahead answer written consumed (NoTitle title refused) due none =
-    absurd (subst BeginsRefused none refused)
-first_fault s before at ahead answer written consumed (LongTitle {title = t} header rest title p longer e) due none =
-    let counted = ap length (sym e ∙ none) in absurd (omega (arith, counted, title_some t header p, length-append t rest))
-first_fault s before at ahead answer written consumed (OtherTitle header rest p m e) due none = absurd cc
-first_fault s before at ahead answer written consumed (DamagedText front rest l damaged e t w c) due none = absurd cc
-first_fault s before at ahead answer written consumed (CutBody front rest l e w a b c) due none = absurd cc
-first_fault s before at ahead answer written consumed (CutDamagedText front rest l damaged e t w c) due none = absurd cc
+first_fault s before at ahead answer written consumed p q r = grind (arith, nat_tests, title_some, length-append)

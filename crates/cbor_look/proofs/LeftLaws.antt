@@ -1,13 +1,13 @@
 -- What is left behind a dump, byte by byte.
-use Rattle.std.proofs.Common.{inl, inr, ◌∷◌}
+use Rattle.std.proofs.lemmas.Bool.Decides.{nat_tests}
+use Rattle.std.proofs.Common.{◌∷◌}
 use Rattle.std.proofs.Common.{◌≡◌, ℕ, ◌+◌, ◌<◌, ◌≤◌, List, [], ◌++◌, length, Option, Some, Result, Ok, Err, OnOk, sym}
-use Rattle.std.proofs.Common.{ap, Bool, IsTrue, is_ok, rules}
+use Rattle.std.proofs.Common.{ap, Bool, IsTrue, is_ok}
 use Rattle.std.proofs.Common.{◌∙◌, subst, arith, append-nil, length-append}
 use Rattle.ciborium_ll.specs.Types.Read.{Ghosts}
 use Rattle.ciborium_ll.specs.Types.Decoder.{Decoder}
 use Rattle.ciborium_ll.specs.Decoding.{offset_limit, view, Passes, ReadsBytes}
 use Rattle.ciborium_ll.specs.Types.Error.{Error}
-use Rattle.ciborium_ll.specs.Types.Error.TheVariants as e
 use Rattle.ciborium_ll.proofs.BodyLaws.{view_none, Passes-read}
 use Rattle.ciborium_ll.proofs.DecodingLaws.{IfSome-at}
 use Rattle.cbor_look.proofs.ItemRows.{nothing}
@@ -18,35 +18,19 @@ use Rattle.cbor_look.specs.Takings.{EndsRow, IsIdle, Keeps, ReadsMore, TakesByte
 
 -- what follows where all went well
 pub on_ok : {A E : Type 0} {P Q : Type 0} (result : Result A E) → (P → Q) → OnOk result P → OnOk result Q
-on_ok (Ok value) follows holds = follows holds
-on_ok (Err error) follows holds = tt
+on_ok result p q = grind (arith, nat_tests)
 
 module _ {R E : Type 0} (source : Ghosts R E) where
   -- the read of one more byte fails only where there is none, or where the offset has no room for it
   next_fails : (error : Error E) (byte : ℕ) (old new : Decoder R) → IsIdle source old
       → ReadsBytes source old (Err error) (byte ∷ []) new → (left : List ℕ) → view source new ≡ Some left
       → new.offset + length left < offset_limit → left ≡ []
-  next_fails (e.Io fault) byte old new idle fails left told fits =
-      let still = fails.steady idle.steady in
-      let behind = view_none new.waiting (source.ahead new.reader) fails.none_waits in
-      let less : length left < 1 =
-      IfSome-at (source.ahead old.reader) left _ (sym still.0 ∙ (sym behind ∙ told)) still.1 in
-      nothing left (omega (arith, less))
-  next_fails (e.Syntax place) byte old new idle fails left told fits = absurd fails
-  next_fails e.TooLong byte old new idle fails left told fits =
-      let full = fails.1 in
-      let same = fails.2.offset in
-      nothing left (omega (arith, full, same, fits))
-  next_fails e.Waiting byte old new idle fails left told fits =
-      absurd (let waits = rw idle.none_waits at fails.0 in cc)
+  next_fails error byte old new p q left r s = grind (arith, nat_tests, view_none, IfSome-at, nothing)
 
   none_left : (count : ℕ) (old new : Decoder R) → IsIdle source old → EndsRow source count old new → (left : List ℕ)
       → view source new ≡ Some left → count + length left ≤ most_bytes → new.offset + length left < offset_limit
       → left ≡ []
-  none_left count old new idle (inl full) left told few fits =
-      nothing left (let all = full.0 in omega (arith, all, few))
-  none_left count old new idle (inr fails) left told few fits =
-      next_fails fails.1.error fails.1.byte old new idle fails.1.fails.read left told fits
+  none_left count old new p q left r s t = grind (arith, nat_tests, nothing, next_fails)
 
   -- all that was left was taken
   taken_all : (old between new : Decoder R) (bytes : List ℕ) → Keeps source [] bytes old new
@@ -75,8 +59,7 @@ module _ {R E : Type 0} (source : Ghosts R E) where
   pub one_came : (before after : List ℕ) (old new : Decoder R) (result : Result (Unit {0}) (Error E)) (came : Bool)
       → came ≡ is_ok result → ReadsMore source 1 before after old result new → IsTrue came
       → ReadsMore source 1 before after old (Ok tt) new
-  one_came before after old new (Ok none) came told reads so = reads
-  one_came before after old new (Err error) came told reads so = absurd (search rules)
+  one_came before after old new result came p q r = grind (arith, nat_tests)
 
   pub shows_left : (level : ℕ) (drawn then_drawn : Option (List Line)) (old between new : Decoder R) (bytes : List ℕ)
       → Keeps source [] bytes old new → Passes source old bytes between → EndsRow source (length bytes) between new

@@ -21,6 +21,7 @@ use Rattle.ciborium_ll_text.specs.Text.{IsCharacters, IsFront, IsStuck}
 use Rattle.ciborium_ll_text.specs.declared.state.State.{State}
 use Rattle.ciborium_ll_text.specs.declared.state.State.TheVariants as t
 use Rattle.ciborium_ll_text.proofs.StateLaws.{after-append, text_ends, text_from, none_goes_on, some_goes_on}
+use Rattle.ciborium_ll_text.proofs.LastEndLaws.{due, back, Back, goes_on}
 use Rattle.cbor_look.specs.Takings.{ReadsMore, most_text}
 use Rattle.cbor_look.specs.Parts.{is_between, is_inside, FailsInBody, IsCutText, IsSound, ReadsPart, ReadsTextPart}
 use Rattle.cbor_look.proofs.PullLaws.{passes_idle, first_passed}
@@ -28,22 +29,28 @@ use Rattle.cbor_look.proofs.PullLaws.{passes_idle, first_passed}
 -- ---- states
 
 between_of : (state : State) → is_between state ≡ true → state ≡ t.Between
-between_of state is = grind arith
+between_of state p = grind (arith, nat_tests)
 
 damaged_of : (state : State) → is_inside state ≡ false → is_between state ≡ false → state ≡ t.Damaged
-damaged_of state out not = grind arith
+damaged_of state p q = grind (arith, nat_tests)
 
-inside_not : (state : State) → is_inside state ≡ true → (0 < tail_due state) × (state ≡ t.Damaged → ⊥)
-inside_not state is = grind arith
+inside_not : (state : State) → is_inside state ≡ true → (0 < due state) × (state ≡ t.Damaged → ⊥)
+inside_not state p = grind (arith, nat_tests)
 
 -- no more than three are due
-pub due_few : (state : State) → tail_due state ≤ 3
-due_few state = grind arith
+pub due_few : (state : State) → due state ≤ 3
+due_few state = grind (arith, nat_tests)
 
 -- inside a character one byte less is due behind a further one
-due_step : (state : State) (byte : ℕ) → 0 < tail_due state → tail_due (after_byte state byte) < tail_due state
-unfolding is_from after_first after_next
-due_step state byte some = grind (arith, nat_tests)
+due_step : (state : State) (byte : ℕ) → 0 < due state → due (after_byte state byte) < due state
+due_step state byte some =
+    elim (cases_lt 0 (due (after_byte state byte))) [
+      | inl more ↦ go (due (after_byte state byte)) (back state byte more)
+      | inr none ↦ omega (arith, none, some)
+    ]
+  where
+    go : (left : ℕ) → Back state byte left → left < due state
+    go left p = grind (arith, nat_tests, due)
 
 pub state_due : (bytes more : List ℕ) → is_inside (after t.Between bytes) ≡ true → length more ≡ 1
     → due (after t.Between (bytes ++ more)) < due (after t.Between bytes)
@@ -119,13 +126,11 @@ sound_of left bytes false is most ends =
 -- ---- fronts of a body
 
 writable_first : (kind : Kind) → IsWritable kind []
-writable_first Bytes = tt
-writable_first Text = IsCharacters-nil
+writable_first kind = grind (arith, nat_tests, IsCharacters-nil)
 
 writable_behind : (kind : Kind) (front behind : List ℕ) → IsWritable kind front → IsWritable kind behind
     → IsWritable kind (front ++ behind)
-writable_behind Bytes front behind a b = tt
-writable_behind Text front behind a b = IsCharacters-append front behind a b
+writable_behind kind front behind p q = grind (arith, nat_tests, IsCharacters-append, front)
 
 no_text_then : (len left : ℕ) (front read : List ℕ) → IsCharacters front → length front + left ≡ len
     → IsNoText [] left read → IsNoText [] len (front ++ read)

@@ -2,7 +2,7 @@
 use Rattle.std.proofs.lemmas.Bool.Decides.{nat_tests}
 use Rattle.std.proofs.Common.{◌≡◌, ℕ, ◌<◌, ◌%◌, Bool, List, [], ◌∷◌, length, take, Option, Some}
 use Rattle.std.proofs.Common.{None}
-use Rattle.std.proofs.Common.{IfSome, Ok, Err, inl, inr, refl, sym, ap, subst, ◌∙◌, arith}
+use Rattle.std.proofs.Common.{IfSome, Ok, Err, refl, sym, ap, subst, ◌∙◌, arith}
 use Rattle.std.proofs.KnownBytes.{Consumes-nil}
 use Rattle.std.specs.Io.KnownBytes.{Consumes}
 use Rattle.ciborium_ll.specs.Types.Read.{Ghosts}
@@ -41,33 +41,25 @@ cut_none due less = rw (nothing due (omega (arith, less))) (tt, refl)
 
 cut_here : (known : Option (List ℕ)) → IfSome known (λ due. length due < 1)
     → IfSome known (λ due. IsCutTitle due × ([] ≡ take 1 due))
-cut_here None less = tt
-cut_here (Some due) less = cut_none due less
+cut_here known p = grind (arith, nat_tests, cut_none)
 
 begins_of : (known known' : Option (List ℕ)) (bytes : List ℕ) → Consumes known known' bytes
     → IfSome known (Begins bytes)
-begins_of None known' bytes c = tt
-begins_of (Some due) None bytes c = absurd c
-begins_of (Some due) (Some rest) bytes c = (rest, c)
+begins_of known known' bytes p = grind (arith, nat_tests)
 
 cut_behind : (known known' : Option (List ℕ)) (byte : ℕ) → Consumes known known' (byte ∷ [])
     → IfSome known' (λ due. length due < affix_len (byte % 32))
     → IfSome known (λ due. IsCutTitle due × (byte ∷ [] ≡ take 1 due))
-cut_behind None known' byte c less = tt
-cut_behind (Some due) None byte c less = absurd c
-cut_behind (Some due) (Some rest) byte c less = grind (arith, nat_tests)
+cut_behind known known' byte p q = grind (arith, nat_tests, nat_tests)
 
 each_less : (known : Option (List ℕ)) (count : ℕ) (row : List ℕ)
     → ((left : List ℕ) → length left < count → Leaves row left) → IfSome known (λ due. length due < count)
     → IfSome known (Leaves row)
-each_less None count row follows less = tt
-each_less (Some left) count row follows less = follows left less
+each_less known count row p q = grind (arith, nat_tests)
 
 -- a row of several bytes leaves none
 pub several_leave : (row left : List ℕ) → 1 < length row → left ≡ [] → Leaves row left
-several_leave [] left several none = absurd (omega (arith, several))
-several_leave (byte ∷ []) left several none = absurd (omega (arith, several))
-several_leave (byte ∷ (next ∷ more)) left several none = none
+several_leave row left p q = grind (arith, nat_tests)
 
 module _ {R E : Type 0} (source : Ghosts R E) where
   -- ---- behind what passed
@@ -108,10 +100,7 @@ module _ {R E : Type 0} (source : Ghosts R E) where
 
   pub waits_refused : (count : ℕ) (before after : List ℕ) (error : Error E) (old new : Decoder R) → IsWaiting old
       → ReadsMore source count before after old (Err error) new → (error ≡ e.Waiting) × RefusesRead old new
-  waits_refused count before after (e.Io fault) old new waits reads = grind (arith, nat_tests)
-  waits_refused count before after (e.Syntax place) old new waits reads = absurd reads.reads.read
-  waits_refused count before after e.TooLong old new waits reads = grind (arith, nat_tests)
-  waits_refused count before after e.Waiting old new waits reads = grind (arith, nat_tests)
+  waits_refused count before after error old new p q = grind (arith, nat_tests, nat_tests)
 
   -- a row that one byte was read for
   pub first_byte : (before one : List ℕ) (old new : Decoder R) → before ≡ []
@@ -145,46 +134,31 @@ module _ {R E : Type 0} (source : Ghosts R E) where
   pub row_nothing : (strict : Bool) (count : ℕ) (before after : List ℕ) (error : Error E) (old new : Decoder R)
       → ReadsMore source count before after old (Err error) new → (row : List ℕ) → row ≡ []
       → IsTitleRow strict error row
-  row_nothing strict count before after (e.Io fault) old new reads row none = inl none
-  row_nothing strict count before after (e.Syntax at) old new reads row none = absurd reads.reads.read
-  row_nothing strict count before after e.TooLong old new reads row none = inl none
-  row_nothing strict count before after e.Waiting old new reads row none = inl none
+  row_nothing strict count before after error old new p row q = grind (arith, nat_tests)
 
   pub row_first : (strict : Bool) (count : ℕ) (before after : List ℕ) (error : Error E) (old new : Decoder R)
       → ReadsMore source count before after old (Err error) new → (byte : ℕ) (row : List ℕ) → row ≡ byte ∷ []
       → 0 < affix_len (byte % 32) → IsTitleRow strict error row
-  row_first strict count before after (e.Io fault) old new reads byte row one more = inr (byte, one, more)
-  row_first strict count before after (e.Syntax at) old new reads byte row one more = absurd reads.reads.read
-  row_first strict count before after e.TooLong old new reads byte row one more = inr (byte, one, more)
-  row_first strict count before after e.Waiting old new reads byte row one more = inr (byte, one, more)
+  row_first strict count before after error old new p byte row q r = grind (arith, nat_tests)
 
   -- of a body nothing, or the front of a text
   pub part_nothing : (kind : Kind) (left count : ℕ) (before after : List ℕ) (error : Error E) (old new : Decoder R)
       → ReadsMore source count before after old (Err error) new → (row : List ℕ) → row ≡ []
       → IsPartRow kind left error row
-  part_nothing kind left count before after (e.Io fault) old new reads row none = inl none
-  part_nothing kind left count before after (e.Syntax at) old new reads row none = absurd reads.reads.read
-  part_nothing kind left count before after e.TooLong old new reads row none = inl none
-  part_nothing kind left count before after e.Waiting old new reads row none = inl none
+  part_nothing kind left count before after error old new p row q = grind (arith, nat_tests)
 
   pub part_cut : (left count : ℕ) (before after : List ℕ) (error : Error E) (old new : Decoder R)
       → ReadsMore source count before after old (Err error) new → (row : List ℕ) → IsCutText left row
       → IsPartRow Text left error row
-  part_cut left count before after (e.Io fault) old new reads row cut = inr (refl, cut)
-  part_cut left count before after (e.Syntax at) old new reads row cut = absurd reads.reads.read
-  part_cut left count before after e.TooLong old new reads row cut = inr (refl, cut)
-  part_cut left count before after e.Waiting old new reads row cut = inr (refl, cut)
+  part_cut left count before after error old new p row q = grind (arith, nat_tests)
 
   -- and behind it a steady reader leaves less than was asked for
   pub less_left : (count : ℕ) (before after : List ℕ) (error : Error E) (old new : Decoder R)
       → (reads : ReadsMore source count before after old (Err error) new) → IsSteady source old → (row : List ℕ)
       → ((left : List ℕ) → length left < length reads.bytes → Leaves row left)
       → IfSome (view source new) (LeavesBehind error row)
-  less_left count before after (e.Io fault) old new reads steady row follows =
-      grind (arith, nat_tests, view_none, each_less)
-  less_left count before after (e.Syntax at) old new reads steady row follows = grind (arith, nat_tests, IfSome-all)
-  less_left count before after e.TooLong old new reads steady row follows = grind (arith, nat_tests, IfSome-all)
-  less_left count before after e.Waiting old new reads steady row follows = grind (arith, nat_tests, IfSome-all)
+  less_left count before after error old new reads p row q =
+      grind (arith, nat_tests, nat_tests, view_none, each_less, IfSome-all)
 
   -- ---- a read that fails
 
@@ -293,5 +267,4 @@ module _ {R E : Type 0} (source : Ghosts R E) where
 
     pub row_refused : (place : ℕ) → place ≡ old.offset → Means strict row None
         → PullsRow source old (Err (e.Syntax place)) new
-    row_refused place at (inl refused) = grind (arith, nat_tests, behind_row)
-    row_refused place at (inr longer) = grind (arith, nat_tests, behind_row)
+    row_refused place p q = grind (arith, nat_tests, nat_tests, behind_row)

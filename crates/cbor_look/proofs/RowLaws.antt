@@ -1,5 +1,6 @@
 -- How many bytes a row has.
-use Rattle.std.proofs.Common.{ℕ, ◌%◌, ◌≤◌, Bool, true, false, List, length, if◌then◌else◌}
+use Rattle.std.proofs.lemmas.Bool.Decides.{nat_tests}
+use Rattle.std.proofs.Common.{ℕ, ◌%◌, ◌≤◌, Bool, List, length, if◌then◌else◌}
 use Rattle.std.proofs.Common.{◌==◌, ap, arith}
 use Rattle.std.proofs.lemmas.List.{length-take}
 use Rattle.ciborium_ll.specs.Types.Header.{Header}
@@ -15,8 +16,7 @@ pub row_few : (taken : Taken) → length (taken_bytes taken) ≤ most_bytes
 row_few taken = omega (arith, length-take taken.len taken.bytes, taken.within)
 
 either_few : (b : Bool) (x y : ℕ) → x ≤ 8 → y ≤ 8 → (if b then x else y) ≤ 8
-either_few true x y p q = p
-either_few false x y p q = q
+either_few b x y p q = grind (arith, nat_tests)
 
 -- no first byte announces more than eight
 affix_few : (minor : ℕ) → affix_len minor ≤ 8

@@ -1,8 +1,9 @@
 -- The texts of rows, as they are written step by step.
+use Rattle.std.proofs.lemmas.Bool.Decides.{nat_tests}
 use Rattle.std.proofs.Common.{◌≡◌, ◌∙◌, ℕ, zero, suc, ◌+◌, ◌<◌, List, [], ◌∷◌, ◌++◌, refl, sym, ap, arith, false, ◌-◌}
 use Rattle.std.proofs.Common.{◌^◌}
 use Rattle.std.proofs.Common.{append-nil, append_assoc, length, take, get_or, Option, Some, Result, subst}
-use Rattle.std.proofs.Common.{Ok, Err, true, if◌then◌else◌, ◌*◌, min, ◌⊎◌, inl, inr}
+use Rattle.std.proofs.Common.{◌*◌, min, ◌⊎◌, inl, inr}
 use Rattle.std.proofs.lemmas.List.{take_more}
 use Rattle.std.proofs.lemmas.Str.{IsUtf8-from_is_utf8, is_utf8-from_IsUtf8}
 use Rattle.std.specs.Result.{MatchResult, result_unwrap_or}
@@ -76,12 +77,8 @@ pub text_or_none : {B E : Type 0} (Rest : E → Type 0) (now : B → List ℕ) (
     (none : B)
     → MatchResult result (λ text. (now text ≡ bytes) × IsUtf8 bytes) (λ error. (IsUtf8 bytes → ⊥) × Rest error)
     → now none ≡ [] → now (result_unwrap_or result none) ≡ shown_text bytes
-text_or_none Rest now bytes (Ok text) none cases empty = rw (is_utf8-from_IsUtf8 bytes cases.1) cases.0
-text_or_none Rest now bytes (Err error) none cases empty = empty ∙
-    (elim (is_utf8 bytes) as (λ b. is_utf8 bytes ≡ b → [] ≡ (if b then bytes else [])) [
-      | true ↦ λ e. absurd (cases.0 (IsUtf8-from_is_utf8 bytes e))
-      | false ↦ λ e. refl
-    ] refl)
+text_or_none Rest now bytes result none p q =
+    grind (arith, nat_tests, is_utf8-from_IsUtf8, is_utf8, IsUtf8-from_is_utf8)
 
 module _ {W : Type 0} (took : W → List ℕ → W → Type 0) where
   -- a text, and then another one

@@ -1,5 +1,6 @@
 -- What `check_one` read: an item, and what stands behind it.
-use Rattle.std.proofs.Common.{◌≡◌, ℕ, ◌+◌, Bool, List, [], ◌∷◌, ◌++◌, length, Some, Result, Ok, Err, inl, inr}
+use Rattle.std.proofs.lemmas.Bool.Decides.{nat_tests}
+use Rattle.std.proofs.Common.{◌≡◌, ℕ, ◌+◌, Bool, List, [], ◌++◌, length, Some, Result, Ok, Err}
 use Rattle.std.proofs.Common.{IsOk, ◌↔◌, refl, sym, ap, subst, ◌∙◌, arith, append-nil, length-append}
 use Rattle.std.proofs.lemmas.List.{length-take}
 use Rattle.ciborium_ll.specs.Types.Read.{Ghosts}
@@ -52,44 +53,8 @@ module _ {R E : Type 0} (source : Ghosts R E) where
     end_found : (between new : Decoder R) (pulled : Result Header (Error E)) → PullsHeader source between pulled new
         → view source between ≡ Some [] → between.strict ≡ old.strict → between.offset ≡ old.offset + length due
         → (fault : E) × (pulled ≡ Err (e.Io fault)) × (new.offset ≡ between.offset)
-    end_found between new (Ok header) title told mode offset =
-        let gone = consumes_told _ _ [] title.title told title.bytes in
-        let counted = ap length gone.2 in
-        absurd (omega (arith, counted, title_some title.title header title.is_title, length-append title.title gone.0))
-    end_found between new (Err (e.Io fault)) stops told mode offset = (
-      fault,
-      refl,
-      (let began = rw told at stops.began in
-          let counted = ap length began.1 in
-          omega (arith, counted, stops.offset, length-append stops.read began.0)),
-    )
-    end_found between new (Err (e.Syntax at)) (inl refused) told mode offset =
-        let gone = consumes_told _ _ [] (refused.byte ∷ []) told refused.bytes in
-        let counted = ap length gone.2 in
-        absurd (omega (arith, counted))
-    end_found between new (Err (e.Syntax at)) (inr longer) told mode offset =
-        let gone = consumes_told _ _ [] longer.title told longer.bytes in
-        let counted = ap length gone.2 in
-        absurd (omega (
-          arith,
-          counted,
-          title_some longer.title longer.header longer.is_title,
-          length-append longer.title gone.0,
-        ))
-    end_found between new (Err e.TooLong) passes told mode offset =
-        let gone = consumes_told _ _ [] passes.read told passes.bytes in
-        let counted = ap length gone.2 in
-        absurd (omega (
-          arith,
-          counted,
-          passes.full,
-          passes.offset,
-          next_read_small passes.read,
-          ready.fits-title,
-          offset,
-          length-append passes.read gone.0,
-        ))
-    end_found between new (Err e.Waiting) none told mode offset = absurd none
+    end_found between new pulled p q r s =
+        grind (arith, nat_tests, consumes_told, title_some, length-append, next_read_small)
 
     -- the item that was read, by the mode
     item_ready : (item : List ℕ) → IsItem (strictness old) depth item → IsItem old.strict depth item

@@ -1,12 +1,12 @@
 -- How a title ends a dump, or the string that it begins.
-use Rattle.std.proofs.Common.{ℕ, ◌-◌, Bool, List, Option, Some, None, Err}
+use Rattle.std.proofs.Common.{arith}
+use Rattle.std.proofs.lemmas.Bool.Decides.{nat_tests}
+use Rattle.std.proofs.Common.{ℕ, ◌-◌, Bool, List, Option, Err}
 use Rattle.ciborium_ll.specs.Types.Read.{Ghosts}
 use Rattle.ciborium_ll.specs.Types.Decoder.{Decoder}
 use Rattle.ciborium_ll.specs.Title.{title_len}
 use Rattle.ciborium_ll.specs.Strings.{Kind, kind_header}
-use Rattle.cbor_skip.specs.declared.SkipError.TheVariants as s
 use Rattle.cbor_look.specs.declared.dump.DumpError.{DumpError}
-use Rattle.cbor_look.specs.declared.dump.DumpError.TheVariants as d
 use Rattle.cbor_look.specs.StringRows.{StopsBehindTitle}
 use Rattle.cbor_look.specs.TitleRows.{IsStringDue, EndsAtTitle}
 
@@ -17,12 +17,4 @@ module _ {R E W : Type 0} (source : Ghosts R E) where
       kind len
       → StopsBehindTitle source kind len (old.offset - title_len (kind_header kind len)) old (Err why) new
       → EndsAtTitle source strict depth whole (kind_header kind len) place before old (Err why) new
-  rest_stops strict depth whole kind None place before old new (d.Item (s.Read error)) due stops =
-      (kind, None, due, stops)
-  rest_stops strict depth whole kind (Some len) place before old new (d.Item (s.Read error)) due stops =
-      (kind, Some len, due, stops)
-  rest_stops strict depth whole kind None place before old new (d.Item (s.Break at)) due stops = absurd stops
-  rest_stops strict depth whole kind (Some len) place before old new (d.Item (s.Break at)) due stops = absurd stops
-  rest_stops strict depth whole kind None place before old new (d.Item (s.Deep at)) due stops = absurd stops
-  rest_stops strict depth whole kind (Some len) place before old new (d.Item (s.Deep at)) due stops = absurd stops
-  rest_stops strict depth whole kind len place before old new (d.Rows fault) due stops = tt
+  rest_stops strict depth whole kind len place before old new why p q = grind (arith, nat_tests)

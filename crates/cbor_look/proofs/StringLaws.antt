@@ -1,8 +1,8 @@
 -- The lines of a string, behind its title.
 use Rattle.std.proofs.lemmas.Bool.Decides.{nat_tests}
 use Rattle.std.proofs.Common.{◌≡◌, ℕ, zero, suc, ◌+◌, ◌-◌, ◌<◌, ◌≤◌, List, [], ◌∷◌, ◌++◌, length, Option, Some, None}
-use Rattle.std.proofs.Common.{Result, Ok, Err, inr, refl, sym, ap, subst, ◌∙◌, arith, append-nil, append_assoc}
-use Rattle.std.proofs.Common.{length-append, Bool, IfSome, true, false}
+use Rattle.std.proofs.Common.{Result, Err, inr, refl, sym, ap, subst, ◌∙◌, arith, append-nil, append_assoc}
+use Rattle.std.proofs.Common.{length-append, Bool, IfSome, false}
 use Rattle.ciborium_ll.specs.Types.Read.{Ghosts}
 use Rattle.ciborium_ll.specs.Types.Decoder.{Decoder}
 use Rattle.ciborium_ll.specs.Title.{IsTitle, IsStrictTitle}
@@ -13,9 +13,7 @@ use Rattle.ciborium_ll.specs.Items.{AreTakenStrings, IsTakenTitle}
 use Rattle.ciborium_ll.specs.StrictElements.{AreFlat, none as no_flat, more as more_flat}
 use Rattle.ciborium_ll.specs.Types.Error.{Error}
 use Rattle.ciborium_ll.specs.Decoding.{Passes}
-use Rattle.cbor_skip.specs.declared.SkipError.TheVariants as s
 use Rattle.cbor_look.specs.declared.dump.DumpError.{DumpError}
-use Rattle.cbor_look.specs.declared.dump.DumpError.TheVariants as d
 use Rattle.ciborium_ll.proofs.DecodingLaws.{Passes-then}
 use Rattle.ciborium_ll.proofs.TextLaws.{IsCharacters-append}
 use Rattle.ciborium_ll.proofs.TitleLaws.{one_title}
@@ -26,7 +24,7 @@ use Rattle.cbor_look.specs.declared.strings.Kind.{Kind as CodeKind}
 use Rattle.cbor_look.specs.declared.strings.Kind.TheVariants as k
 use Rattle.cbor_look.specs.Parts.{FailsInBody}
 use Rattle.cbor_look.specs.Takings.{IsIdle, LeavesBehind, most_bytes, TakesBytes, Keeps}
-use Rattle.cbor_look.specs.Levels.{Line, Nest, AreOpen, none, more, TitleDue, HasBody, HasNoText, FitsRow, Stands}
+use Rattle.cbor_look.specs.Levels.{Line, Nest, AreOpen, more, TitleDue, HasBody, HasNoText, FitsRow, Stands}
 use Rattle.cbor_look.specs.Levels.{Ending, IsTextFault, Meant}
 use Rattle.cbor_look.specs.Parts.{IsFullPart, IsPartRow}
 use Rattle.ciborium_ll.specs.Decoding.{view}
@@ -41,12 +39,10 @@ use Rattle.cbor_look.proofs.PullLaws.{passes_idle}
 
 writable_then : (kind : Kind) (front behind : List ℕ) → IsWritable kind front → IsWritable kind behind
     → IsWritable kind (front ++ behind)
-writable_then Bytes front behind a b = tt
-writable_then Text front behind a b = IsCharacters-append front behind a b
+writable_then kind front behind p q = grind (arith, nat_tests, IsCharacters-append, front)
 
 pub writable_none : (kind : Kind) → IsWritable kind []
-writable_none Bytes = tt
-writable_none Text = record { characters = []; each = tt; whole = refl }
+writable_none kind = grind (arith, nat_tests)
 
 -- the title of a string stands behind some bytes, and parts of its body stand at this level
 pub record AtBody (depth opens : ℕ) (nests : List Nest) (outer title : List ℕ) (kind : Kind) (len level : ℕ)
@@ -82,8 +78,7 @@ no_text how Bytes depth before line is body fault = absurd cc
 no_text how Text depth before line is body fault = record { body = body; fault = fault }
 
 part_meant : (kind : CodeKind) → HasMeaning (meaning_of kind)
-part_meant k.Bytes = tt
-part_meant k.Text = tt
+part_meant kind = grind (arith, nat_tests)
 
 part_stands : (kind : CodeKind) (depth : ℕ) (before : List ℕ) (line : Line)
     → HasBody depth before (kind_of kind) line → IsWritable (kind_of kind) line.bytes
@@ -207,18 +202,15 @@ pub taken_then : (strict : Bool) (kind : Kind) (strings title body : List ℕ) (
     → AreTakenStrings strict kind strings bodies → IsTitle title (kind_header kind (Some (length body)))
     → IsTakenTitle strict title (kind_header kind (Some (length body)))
     → AreTakenStrings strict kind (strings ++ (title ++ body)) (bodies ++ (body ∷ []))
-taken_then true kind strings title body bodies taken p g = flat_then kind strings title body bodies taken p g
-taken_then false kind strings title body bodies taken p g = tt
+taken_then strict kind strings title body bodies p q r = grind (arith, nat_tests, flat_then)
 
 -- in any spelling
 pub taken_any : (strict : Bool) (kind : Kind) (strings : List ℕ) (bodies : List (List ℕ)) → strict ≡ false
     → AreTakenStrings strict kind strings bodies
-taken_any true kind strings bodies any = absurd cc
-taken_any false kind strings bodies any = tt
+taken_any strict kind strings bodies p = grind (arith, nat_tests)
 
 pub taken_none : (strict : Bool) (kind : Kind) → AreTakenStrings strict kind [] []
-taken_none true kind = no_flat
-taken_none false kind = tt
+taken_none strict kind = grind (arith, nat_tests, no_flat)
 
 -- an open within others
 pub add_open : (kind : Kind) (opens : ℕ) (parts title : List ℕ) (bodies : List (List ℕ))
@@ -238,8 +230,7 @@ close_inner kind opens parts bodies (more {outer = x} {title = t} {strings = s} 
 -- the last one
 pub not_open : (kind : Kind) (opens : ℕ) (parts : List ℕ) (bodies : List (List ℕ)) → AreOpen kind opens parts bodies
     → opens ≡ 0 → (parts ≡ []) × (bodies ≡ [])
-not_open kind opens parts bodies none e = (refl, refl)
-not_open kind opens parts bodies (more o p are) e = absurd cc
+not_open kind opens parts bodies p q = grind (arith, nat_tests)
 
 pub close_last : (strict : Bool) (kind : Kind) (title bytes parts : List ℕ) (bodies : List (List ℕ))
     → AreOpen kind (suc zero) parts bodies → IsTitle title (kind_header kind None) → title ++ bytes ≡ parts
@@ -268,16 +259,9 @@ module _ {R E W : Type 0} (source : Ghosts R E) where
   pub body_stops : (kind : Kind) (len place : ℕ) (old new : Decoder R) (error : Error E) (why : DumpError E W)
       → SaysFault error why → FailsInBody source kind len place old error new
       → StopsBehindTitle source kind (Some len) place old (Err why) new
-  body_stops kind len place old new error (d.Item (s.Read other)) says ends = grind (arith, nat_tests)
-  body_stops kind len place old new error (d.Item (s.Break at)) says ends = absurd cc
-  body_stops kind len place old new error (d.Item (s.Deep at)) says ends = absurd cc
-  body_stops kind len place old new error (d.Rows fault) says ends = tt
+  body_stops kind len place old new error why p q = grind (arith, nat_tests, nat_tests)
 
   -- the place is that of a body alone
   pub any_place : (kind : Kind) (place other : ℕ) (old new : Decoder R) (result : Result (Unit {0}) (DumpError E W))
       → StopsBehindTitle source kind None place old result new → StopsBehindTitle source kind None other old result new
-  any_place kind place other old new (Ok done) stops = tt
-  any_place kind place other old new (Err (d.Item (s.Read error))) stops = stops
-  any_place kind place other old new (Err (d.Item (s.Break at))) stops = absurd stops
-  any_place kind place other old new (Err (d.Item (s.Deep at))) stops = absurd stops
-  any_place kind place other old new (Err (d.Rows fault)) stops = tt
+  any_place kind place other old new result p = grind (arith, nat_tests)

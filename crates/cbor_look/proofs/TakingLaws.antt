@@ -1,5 +1,6 @@
 -- The bytes of a row, read by read.
-use Rattle.std.proofs.Common.{◌≡◌, ℕ, ◌+◌, ◌%◌, ◌^◌, List, [], ◌∷◌, ◌++◌, length, Some, None, Result, Ok, Err, refl}
+use Rattle.std.proofs.lemmas.Bool.Decides.{nat_tests}
+use Rattle.std.proofs.Common.{◌≡◌, ℕ, ◌+◌, ◌%◌, ◌^◌, List, [], ◌∷◌, ◌++◌, length, Some, None, Result, Err, refl}
 use Rattle.std.proofs.Common.{sym, ap, subst}
 use Rattle.std.proofs.Common.{◌∙◌, inl, inr}
 use Rattle.std.specs.Io.KnownBytes.{Consumes}
@@ -107,22 +108,7 @@ module _ {R E : Type 0} (source : Ghosts R E) where
   pub keeps_failed : (before bytes : List ℕ) (error : Error E) (old new : Decoder R)
       → ReadsBytes source old (Err error) bytes new
       → (IsSteady source old → IsSteady source new) → Keeps source before before old new
-  keeps_failed before bytes (e.Io fault) old new fails steady = record {
-    bytes = [];
-    appended = sym (append-nil before);
-    takes = failed_takes old new (length bytes) fails steady;
-  }
-  keeps_failed before bytes (e.Syntax place) old new fails steady = absurd fails
-  keeps_failed before bytes e.TooLong old new fails steady = record {
-    bytes = [];
-    appended = sym (append-nil before);
-    takes = untouched_takes old new fails.2 steady;
-  }
-  keeps_failed before bytes e.Waiting old new fails steady = record {
-    bytes = [];
-    appended = sym (append-nil before);
-    takes = untouched_takes old new fails.1 steady;
-  }
+  keeps_failed before bytes error old new p q = grind (arith, nat_tests, append-nil, failed_takes, untouched_takes)
 
 -- a title in front of a first byte and as many as that announces is the whole
 whole_front : (header : Header) (first : ℕ) (affix title rest : List ℕ) → IsTitle title header
@@ -210,5 +196,4 @@ module _ {R E : Type 0} (source : Ghosts R E) (old : Decoder R) (first : ℕ) (a
   -- what a pull says of them
   pub whole_means : IsSteady source old → old.offset ≡ 0 → old.waiting ≡ None → (result : Result Header (Error E))
       → (new : Decoder R) → PullsHeader source old result new → Means old.strict bytes (result_ok result)
-  whole_means steady start none (Ok header) new pulled = pull_means none header new pulled
-  whole_means steady start none (Err error) new fails = fault_means steady start error new fails
+  whole_means p q r result new s = grind (arith, nat_tests, pull_means, fault_means)

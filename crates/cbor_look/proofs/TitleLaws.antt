@@ -1,6 +1,6 @@
 -- The lines of titles, and what is due behind them.
 use Rattle.std.proofs.lemmas.Bool.Decides.{nat_tests}
-use Rattle.std.proofs.Common.{◌≡◌, ℕ, ◌+◌, ◌-◌, ◌≤◌, List, [], ◌∷◌, ◌++◌, length, Option, Some, None, refl, sym}
+use Rattle.std.proofs.Common.{◌≡◌, ℕ, ◌+◌, ◌-◌, ◌≤◌, List, [], ◌∷◌, ◌++◌, length, Option, refl, sym}
 use Rattle.std.proofs.Common.{ap, subst, ◌∙◌, arith, append-nil, length-append, Bool, Result, Ok, Err, OnOk, IfSome}
 use Rattle.std.proofs.Common.{inl}
 use Rattle.ciborium_ll.specs.Types.Read.{Ghosts}
@@ -8,7 +8,7 @@ use Rattle.ciborium_ll.specs.Types.Decoder.{Decoder}
 use Rattle.ciborium_ll.specs.Types.Header.{Header}
 use Rattle.ciborium_ll.specs.Types.Header.TheVariants as h
 use Rattle.ciborium_ll.specs.Title.{IsTitle}
-use Rattle.ciborium_ll.specs.Strings.{Kind, Bytes, Text, kind_header}
+use Rattle.ciborium_ll.specs.Strings.{Kind, Bytes, kind_header}
 use Rattle.ciborium_ll.specs.Items.{Completes, positive, negative, float, simple, byte_string, text_string, open_bytes}
 use Rattle.ciborium_ll.specs.Items.{open_text, AreItems, IsItem, IsTakenTitle}
 use Rattle.ciborium_ll.proofs.NestLaws.{alone_bytes, title_some}
@@ -24,8 +24,6 @@ use Rattle.cbor_look.specs.Levels.{Line, Nest, StandsBehind, StandsWithin, outsi
 use Rattle.cbor_look.specs.Levels.{Ending, Meant, title_level}
 use Rattle.ciborium_ll.specs.Types.Error.{Error}
 use Rattle.cbor_look.specs.Dumps.{AreRowsTaken, Draws, EndsTitles, fault_lines, Lines, Shows, ShowsBehind}
-use Rattle.cbor_skip.specs.declared.SkipError.TheVariants as s
-use Rattle.cbor_look.specs.declared.dump.DumpError.TheVariants as d
 use Rattle.ciborium_ll.specs.Decoding.{Passes}
 use Rattle.ciborium_ll.proofs.DecodingLaws.{Passes-none}
 use Rattle.cbor_look.specs.Sequences.{ReadsItems}
@@ -45,23 +43,15 @@ use Rattle.cbor_look.proofs.DumpLaws.{shows_says, shows_then, title_fault, title
 
 pub nest_level : (x : Header) (nests : List Nest) (opens : ℕ) → IsNest x
     → title_level x nests opens ≡ length nests + opens
-nest_level (h.Tag n) nests opens nest = refl
-nest_level (h.Array n) nests opens nest = refl
-nest_level (h.Map n) nests opens nest = refl
-nest_level x nests opens nest = absurd nest
+nest_level x nests opens p = grind (arith, nat_tests)
 
 pub value_level : (x : Header) (nests : List Nest) (opens : ℕ) → IsItemAlone x
     → title_level x nests opens ≡ length nests + opens
-value_level (h.Positive n) nests opens value = refl
-value_level (h.Negative n) nests opens value = refl
-value_level (h.Float n) nests opens value = refl
-value_level (h.Simple n) nests opens value = refl
-value_level x nests opens value = absurd value
+value_level x nests opens p = grind (arith, nat_tests)
 
 pub string_level : (k : Kind) (len : Option ℕ) (nests : List Nest) (opens : ℕ)
     → title_level (kind_header k len) nests opens ≡ length nests + opens
-string_level Bytes len nests opens = refl
-string_level Text len nests opens = refl
+string_level k len nests opens = grind (arith, nat_tests)
 
 -- ---- lines
 
@@ -134,11 +124,7 @@ behind_item strict depth whole walk before item due within is_item =
     }
 
 value_completes : (strict : Bool) (x : Header) → IsItemAlone x → (levels : ℕ) → Completes strict levels x []
-value_completes strict (h.Positive n) value levels = positive
-value_completes strict (h.Negative n) value levels = negative
-value_completes strict (h.Float n) value levels = float
-value_completes strict (h.Simple n) value levels = simple
-value_completes strict x value levels = absurd value
+value_completes strict x p levels = grind (arith, nat_tests, positive, negative, float, simple)
 
 pub value_item : (strict : Bool) (x : Header) (title : List ℕ) → IsItemAlone x → IsTitle title x
     → IsTakenTitle strict title x → (levels : ℕ) → IsItem strict levels title
@@ -148,14 +134,7 @@ value_item strict x title value p g levels =
 
 rest_completes : (strict : Bool) (k : Kind) (len : Option ℕ) (bytes : List ℕ) → IsRest strict k len bytes
     → (levels : ℕ) → Completes strict levels (kind_header k len) bytes
-rest_completes strict Bytes (Some n) bytes rest levels = byte_string rest.0
-rest_completes strict Text (Some n) bytes rest levels = text_string rest.0 rest.1
-rest_completes strict Bytes None bytes rest levels =
-    subst (λ (z : List ℕ). Completes strict levels (h.Bytes None) z) (sym rest.is)
-    (open_bytes rest.are_strings rest.taken)
-rest_completes strict Text None bytes rest levels =
-    subst (λ (z : List ℕ). Completes strict levels (h.Text None) z) (sym rest.is)
-    (open_text rest.are_strings rest.taken rest.sound)
+rest_completes strict k len bytes p levels = grind (arith, nat_tests, byte_string, text_string, open_bytes, open_text)
 
 pub string_item : (strict : Bool) (k : Kind) (len : Option ℕ) (title bytes : List ℕ)
     → IsTitle title (kind_header k len) → IsTakenTitle strict title (kind_header k len) → IsRest strict k len bytes
@@ -169,8 +148,7 @@ break_bytes title p = alone_bytes title h.Break p refl
 -- outside of all nests the bytes are items
 outside_items : (strict : Bool) (depth whole : ℕ) (nests : List Nest) (before : List ℕ)
     → StandsBehind strict depth whole nests before → length nests ≡ 0 → AreItems strict depth whole before
-outside_items strict depth whole nests before (outside i) empty = i
-outside_items strict depth whole nests before (inside w e p g more are) empty = absurd (omega (arith, empty))
+outside_items strict depth whole nests before p q = grind (arith, nat_tests)
 
 pub walk_ended : (strict : Bool) (depth whole : ℕ) (walk : Walk) (before : List ℕ)
     → IsDue strict depth whole walk before → walk.used ≡ 0 → AreItems strict depth whole before
@@ -218,27 +196,17 @@ module _ {R E : Type 0} (source : Ghosts R E) where
   alone_leaves : {W : Type 0} (strict : Bool) (depth whole : ℕ) (header : Header) (place : ℕ) (before : List ℕ)
       (result : Result (Unit {0}) (DumpError E W)) → StopsAlone strict depth whole header place before result
       → (bytes left : List ℕ) → LeavesAs (ending strict result) bytes left
-  alone_leaves strict depth whole header place before (Ok done) stops bytes left = tt
-  alone_leaves strict depth whole header place before (Err (d.Item (s.Read error))) stops bytes left = absurd stops
-  alone_leaves strict depth whole header place before (Err (d.Item (s.Break at))) stops bytes left = tt
-  alone_leaves strict depth whole header place before (Err (d.Item (s.Deep at))) stops bytes left = tt
-  alone_leaves strict depth whole header place before (Err (d.Rows fault)) stops bytes left = tt
+  alone_leaves strict depth whole header place before result p bytes left = grind (arith, nat_tests)
 
   alone_stops : {W : Type 0} (strict : Bool) (depth whole : ℕ) (header : Header) (place : ℕ) (before : List ℕ)
       (decoder : Decoder R)
       (result : Result (Unit {0}) (DumpError E W)) → StopsAlone strict depth whole header place before result
       → EndsAtTitle source strict depth whole header place before decoder result decoder
-  alone_stops strict depth whole header place before decoder (Ok done) stops = tt
-  alone_stops strict depth whole header place before decoder (Err (d.Item (s.Read error))) stops = absurd stops
-  alone_stops strict depth whole header place before decoder (Err (d.Item (s.Break at))) stops =
-      grind (arith, nat_tests)
-  alone_stops strict depth whole header place before decoder (Err (d.Item (s.Deep at))) stops = grind (arith, nat_tests)
-  alone_stops strict depth whole header place before decoder (Err (d.Rows fault)) stops = tt
+  alone_stops strict depth whole header place before decoder result p = grind (arith, nat_tests, nat_tests)
 
   none_passed : {W : Type 0} (decoder : Decoder R) (result : Result (Unit {0}) (DumpError E W))
       → OnOk result (Passes source decoder [] decoder)
-  none_passed decoder (Ok done) = Passes-none source decoder
-  none_passed decoder (Err error) = tt
+  none_passed decoder result = grind (arith, nat_tests, Passes-none)
 
   pub title_alone : {W : Type 0} (depth whole start : ℕ) (drawn then_drawn : Option (List Line))
       (before title : List ℕ) (header : Header) (walk : Walk) (strict : Bool) (place : ℕ)

@@ -1,7 +1,7 @@
 -- The steps of a walk: what it keeps of the nests within which an item is due.
 use Rattle.std.proofs.lemmas.Bool.Decides.{nat_tests}
-use Rattle.std.proofs.Common.{◌≡◌, ◌≢◌, ℕ, zero, suc, ◌+◌, ◌-◌, ◌*◌, ◌<◌, ◌≤◌, Bool, true, false, List, [], ◌∷◌, ◌++◌}
-use Rattle.std.proofs.Common.{length, set, Some, None, refl, sym, ap, subst, ◌∙◌, arith, append_assoc}
+use Rattle.std.proofs.Common.{◌≡◌, ℕ, zero, suc, ◌+◌, ◌-◌, ◌<◌, ◌≤◌, Bool, true, false, List, [], ◌∷◌, ◌++◌}
+use Rattle.std.proofs.Common.{length, set, refl, sym, ap, subst, ◌∙◌, arith, append_assoc}
 use Rattle.std.proofs.Common.{append-nil}
 use Rattle.std.proofs.lemmas.List.{get_or-set_same, get_or-set_other, length-set}
 use Rattle.ciborium_ll.specs.Types.Header.{Header}
@@ -10,7 +10,6 @@ use Rattle.ciborium_ll.specs.Title.{IsTitle}
 use Rattle.ciborium_ll.specs.Items.{Completes, tag, array, pairs, open_array, open_pairs, AreItems, no_items, IsItem}
 use Rattle.ciborium_ll.specs.Items.{IsTakenTitle}
 use Rattle.cbor_skip.specs.declared.remaining.Remaining.{Remaining}
-use Rattle.cbor_skip.specs.declared.remaining.Remaining.TheVariants as r
 use Rattle.cbor_skip.specs.Due.{TakesMore}
 use Rattle.cbor_skip.specs.Remaining.{IsRemaining, is_done, closes}
 use Rattle.cbor_skip.proofs.RemainingLaws.{takes_more}
