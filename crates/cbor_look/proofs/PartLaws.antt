@@ -21,7 +21,6 @@ use Rattle.ciborium_ll_text.specs.Text.{IsCharacters, IsFront, IsStuck}
 use Rattle.ciborium_ll_text.specs.declared.state.State.{State}
 use Rattle.ciborium_ll_text.specs.declared.state.State.TheVariants as t
 use Rattle.ciborium_ll_text.proofs.StateLaws.{after-append, text_ends, text_from, none_goes_on, some_goes_on}
-use Rattle.ciborium_ll_text.proofs.LastEndLaws.{due, back, Back, goes_on}
 use Rattle.cbor_look.specs.Takings.{ReadsMore, most_text}
 use Rattle.cbor_look.specs.Parts.{is_between, is_inside, FailsInBody, IsCutText, IsSound, ReadsPart, ReadsTextPart}
 use Rattle.cbor_look.proofs.PullLaws.{passes_idle, first_passed}
@@ -34,28 +33,22 @@ between_of state p = grind (arith, nat_tests)
 damaged_of : (state : State) → is_inside state ≡ false → is_between state ≡ false → state ≡ t.Damaged
 damaged_of state p q = grind (arith, nat_tests)
 
-inside_not : (state : State) → is_inside state ≡ true → (0 < due state) × (state ≡ t.Damaged → ⊥)
-inside_not state p = grind (arith, nat_tests)
+inside_not : (state : State) → is_inside state ≡ true → (0 < tail_due state) × (state ≡ t.Damaged → ⊥)
+inside_not state is = grind arith
 
 -- no more than three are due
-pub due_few : (state : State) → due state ≤ 3
-due_few state = grind (arith, nat_tests)
+pub due_few : (state : State) → tail_due state ≤ 3
+due_few state = grind arith
 
 -- inside a character one byte less is due behind a further one
-due_step : (state : State) (byte : ℕ) → 0 < due state → due (after_byte state byte) < due state
-due_step state byte some =
-    elim (cases_lt 0 (due (after_byte state byte))) [
-      | inl more ↦ go (due (after_byte state byte)) (back state byte more)
-      | inr none ↦ omega (arith, none, some)
-    ]
-  where
-    go : (left : ℕ) → Back state byte left → left < due state
-    go left p = grind (arith, nat_tests, due)
+due_step : (state : State) (byte : ℕ) → 0 < tail_due state → tail_due (after_byte state byte) < tail_due state
+unfolding is_from after_first after_next
+due_step state byte some = grind (arith, nat_tests)
 
 pub state_due : (bytes more : List ℕ) → is_inside (after t.Between bytes) ≡ true → length more ≡ 1
-    → due (after t.Between (bytes ++ more)) < due (after t.Between bytes)
+    → tail_due (after t.Between (bytes ++ more)) < tail_due (after t.Between bytes)
 state_due bytes [] is one = absurd (omega (arith, one))
-state_due bytes (byte ∷ []) is one = grind (arith, nat_tests, due, after-append, due_step, inside_not)
+state_due bytes (byte ∷ []) is one = grind (arith, after-append, due_step, inside_not)
 state_due bytes (byte ∷ (other ∷ more)) is one = absurd (omega (arith, one))
 
 pub inside_some : (bytes : List ℕ) → is_inside (after t.Between bytes) ≡ true → 0 < tail_due (after t.Between bytes)
@@ -76,9 +69,6 @@ between_text bytes is = text_from bytes (between_of (after t.Between bytes) is)
 -- bytes that end inside a character, and damaged ones, are no whole characters
 pub inside_broken : (bytes : List ℕ) → is_inside (after t.Between bytes) ≡ true → IsCharacters bytes → ⊥
 inside_broken bytes is text = let ended = ap is_inside (text_ends bytes text) in absurd cc
-
-pub between_broken : (bytes : List ℕ) → is_between (after t.Between bytes) ≡ false → IsCharacters bytes → ⊥
-between_broken bytes is text = let ended = ap is_between (text_ends bytes text) in absurd cc
 
 -- the bytes are characters and a beginning of one more
 record IsCut (bytes : List ℕ) : Type 0 where
@@ -107,7 +97,7 @@ cut_of bytes is =
 
 pub cut_text : (left : ℕ) (bytes : List ℕ) → is_inside (after t.Between bytes) ≡ true → most_text ≤ length bytes
     → length bytes < left → IsCutText left bytes
-cut_text left bytes is many less = grind (arith, nat_tests, some_goes_on, inside_not, due, inside_broken, goes_on)
+cut_text left bytes is many less = grind (arith, nat_tests, some_goes_on, inside_not, inside_broken)
 
 -- where no more is read the bytes are all that was left, or they are cut nowhere
 pub sound_of : (left : ℕ) (bytes : List ℕ) (whole : Bool) → whole ≡ is_between (after t.Between bytes)
