@@ -1,17 +1,16 @@
 -- Titles by their first byte: how many bytes follow it, and that any bytes of that number make a title.
 use Rattle.std.proofs.Common.{◌≡◌, ℕ, zero, suc, ◌-◌, ◌/◌, ◌%◌, ◌<◌, ◌≤◌, ◌⊎◌, List, [], ◌∷◌, ◌++◌, length, take}
-use Rattle.std.proofs.Common.{slice_index, Option, Some, None, refl, sym, ap, subst, ◌∙◌, arith, inl, inr}
+use Rattle.std.proofs.Common.{slice_index, Option, Some, None, refl, sym, ap, ◌∙◌, arith, inl, inr}
 use Rattle.std.specs.Int.{w8, w16, w32, w64, to_be_bytes, from_be_bytes}
 use Rattle.std.proofs.Math.ListN.{replicate}
-use Rattle.std.proofs.lemmas.Bool.{cases_lt, ne_eqb}
-use Rattle.std.proofs.lemmas.List.{append-nil, length-append, length-replicate}
+use Rattle.std.proofs.lemmas.List.{length-append, length-replicate}
 use Rattle.std.proofs.lemmas.Nat.{be_bytes_2, be_bytes_4, be_bytes_8}
 use Rattle.ciborium_ll_grammar.specs.declared.hdr.Header.{Header}
 use Rattle.ciborium_ll_grammar.specs.declared.hdr.Header.TheVariants as h
 use Rattle.ciborium_ll_grammar.specs.Title.{Major, Unsigned, Negative, ByteString, TextString, Array, Map, Tag, Other}
 use Rattle.ciborium_ll_grammar.specs.Title.{major_code, first_byte, Size, Small, One, Two, Four, Eight, size_limit}
-use Rattle.ciborium_ll_grammar.specs.Title.{minor_of, affix_of, numbered_header, open_header, IsTitle, numbered}
-use Rattle.ciborium_ll_grammar.specs.Title.{alone, IsNeverOpen, IsRefused, BeginsRefused, affix_len, IsCutTitle, AreBytes}
+use Rattle.ciborium_ll_grammar.specs.Title.{minor_of, affix_of, numbered_header, open_header, IsTitle, numbered, alone}
+use Rattle.ciborium_ll_grammar.specs.Title.{IsNeverOpen, IsRefused, affix_len, IsCutTitle, AreBytes}
 use Rattle.ciborium_ll_text.proofs.Lists.{length_zero}
 use Rattle.ciborium_ll_grammar.proofs.TitleLaws.{minor_below, title_refused}
 

@@ -7,8 +7,8 @@ use Rattle.ciborium_ll_grammar.specs.Title.{IsTitle, shortest_title}
 use Rattle.ciborium_ll_grammar.specs.Strings.{Kind, Bytes, Text, kind_header, IsString, AreStrings, none, more}
 use Rattle.ciborium_ll_grammar.specs.Strings.IsString.{definite, indefinite}
 use Rattle.ciborium_ll_grammar.specs.Elements.{AreWritable, Mark, Plain, Whole, Open, Piece, Close, IsPlain}
-use Rattle.ciborium_ll_grammar.specs.Elements.{mark_spelling, spelling, pieces, IsElement, plain, string}
-use Rattle.ciborium_ll_grammar.specs.Elements.{IsRun, done, next}
+use Rattle.ciborium_ll_grammar.specs.Elements.{mark_spelling, spelling, pieces, IsElement, plain, string, IsRun, done}
+use Rattle.ciborium_ll_grammar.specs.Elements.{next}
 use Rattle.ciborium_ll_text.proofs.Lists.{same_front}
 use Rattle.ciborium_ll_grammar.proofs.TitleLaws.{one_title, title_in_range, IsTitle-shortest, shortest_no_longer}
 use Rattle.ciborium_ll_grammar.proofs.StringLaws.{some_is, mixed, fronts, one_strings_then}

@@ -1,6 +1,6 @@
 -- At a fault what is due can't come, or is refused where only the shortest spelling is taken.
-use Rattle.std.proofs.Common.{◌≡◌, ℕ, ◌<◌, ◌⊎◌, Bool, true, false, List, ◌++◌, length, None, refl, sym, subst, ◌∙◌}
-use Rattle.std.proofs.Common.{[], ◌∷◌, ap, append_assoc, length-append, arith, inl, inr}
+use Rattle.std.proofs.Common.{◌≡◌, ℕ, ◌<◌, ◌⊎◌, Bool, true, false, List, ◌++◌, length, None, refl, sym, subst, ◌∙◌, []}
+use Rattle.std.proofs.Common.{◌∷◌, ap, append_assoc, length-append, arith, inl, inr}
 use Rattle.ciborium_ll_grammar.specs.declared.hdr.Header.{Header}
 use Rattle.ciborium_ll_grammar.specs.Title.{IsTitle}
 use Rattle.ciborium_ll_grammar.specs.Strings.{Kind, Bytes, Text, kind_header, IsMisplaced}
@@ -12,9 +12,8 @@ use Rattle.ciborium_ll_grammar.specs.Faults.{OtherTitle, DamagedText, CutBody, C
 use Rattle.ciborium_ll_grammar.specs.Items.{IsTakenTitle}
 use Rattle.ciborium_ll_grammar.proofs.ElementLaws.{one_element, element_again, run_again, spelling-append}
 use Rattle.ciborium_ll_text.proofs.Lists.{same_front}
-use Rattle.ciborium_ll_grammar.proofs.HaltLaws.{IsBad, Halt, halt_cut, halt_refused, halt_misplaced, halt_bad}
-use Rattle.ciborium_ll_grammar.proofs.HaltLaws.{opens_of, Stop, stop_cut, stop_refused, stop_bad, element_stops}
-use Rattle.ciborium_ll_grammar.proofs.HaltLaws.{element_inside}
+use Rattle.ciborium_ll_grammar.proofs.HaltLaws.{IsBad, Halt, halt_cut, halt_refused, halt_misplaced, halt_bad, opens_of}
+use Rattle.ciborium_ll_grammar.proofs.HaltLaws.{Stop, stop_cut, stop_refused, stop_bad, element_stops, element_inside}
 
 pub meant_left : (ms ns : List Mark) → AllByRecursion IsMeant (ms ++ ns) → AllByRecursion IsMeant ms
 meant_left [] ns p = tt

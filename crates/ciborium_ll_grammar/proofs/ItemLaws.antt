@@ -1,12 +1,13 @@
 -- No item begins another one.
-use Rattle.std.proofs.Common.{◌≡◌, ℕ, zero, suc, ◌*◌, Bool, List, [], ◌∷◌, ◌++◌, refl, sym, ap, subst, ◌∙◌, append_assoc}
+use Rattle.std.proofs.Common.{◌≡◌, ℕ, zero, suc, ◌*◌, Bool, List, [], ◌∷◌, ◌++◌, refl, sym, ap, subst, ◌∙◌}
+use Rattle.std.proofs.Common.{append_assoc}
 use Rattle.ciborium_ll_grammar.specs.declared.hdr.Header.{Header}
 use Rattle.ciborium_ll_grammar.specs.declared.hdr.Header.TheVariants as h
 use Rattle.ciborium_ll_grammar.specs.Title.{IsTitle}
 use Rattle.ciborium_ll_grammar.specs.Strings.{Bytes, Text}
 use Rattle.ciborium_ll_grammar.specs.Items.{Completes, positive, negative, float, simple, byte_string, text_string}
-use Rattle.ciborium_ll_grammar.specs.Items.{open_bytes, open_text, tag, array, pairs, open_array, open_pairs}
-use Rattle.ciborium_ll_grammar.specs.Items.{AreItems, no_items, more_items, IsItem}
+use Rattle.ciborium_ll_grammar.specs.Items.{open_bytes, open_text, tag, array, pairs, open_array, open_pairs, AreItems}
+use Rattle.ciborium_ll_grammar.specs.Items.{no_items, more_items, IsItem}
 use Rattle.ciborium_ll_text.proofs.Lists.{same_front}
 use Rattle.ciborium_ll_grammar.proofs.TitleLaws.{one_title}
 use Rattle.ciborium_ll_grammar.proofs.StringLaws.{one_strings_then, break_title}

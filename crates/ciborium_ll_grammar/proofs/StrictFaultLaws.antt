@@ -1,26 +1,26 @@
 -- A fault and a run of enough elements exclude each other.
-use Rattle.std.proofs.Common.{◌≡◌, ℕ, ◌+◌, ◌≤◌, Bool, true, false, List, [], ◌∷◌, ◌++◌, length, Option, Some, None, refl, sym}
-use Rattle.std.proofs.Common.{ap, subst, inl, inr, ◌∙◌, arith, append_assoc, append-nil, length-append}
+use Rattle.std.proofs.Common.{◌≡◌, ℕ, ◌+◌, ◌≤◌, Bool, true, false, List, [], ◌∷◌, ◌++◌, length, Option, Some, None}
+use Rattle.std.proofs.Common.{refl, sym, ap, subst, inl, inr, ◌∙◌, arith, append_assoc, append-nil, length-append}
 use Rattle.std.specs.List.{AllByRecursion}
 use Rattle.ciborium_ll_grammar.specs.declared.hdr.Header.{Header}
 use Rattle.ciborium_ll_grammar.specs.declared.hdr.Header.TheVariants as h
 use Rattle.ciborium_ll_grammar.specs.Title.{IsTitle, IsSmallSimple, IsStrictTitle, shortest_title, title_len}
 use Rattle.ciborium_ll_grammar.specs.Strings.{Kind, Bytes, Text, kind_header, IsString, AreStrings, none, more}
 use Rattle.ciborium_ll_grammar.specs.Strings.IsString.{definite, indefinite}
-use Rattle.ciborium_ll_grammar.specs.Elements.{Mark, Open, pieces, spelling, IsElement, plain, string}
-use Rattle.ciborium_ll_grammar.specs.Elements.{IsPlain, IsRun, IsMeant, IsStrictSpelling, IsStrictRun}
+use Rattle.ciborium_ll_grammar.specs.Elements.{Mark, Open, pieces, spelling, IsElement, plain, string, IsPlain, IsRun}
+use Rattle.ciborium_ll_grammar.specs.Elements.{IsMeant, IsStrictSpelling, IsStrictRun}
 use Rattle.ciborium_ll_grammar.specs.Faults.{Point, Due, In, BodyDue, IsAtTitle, IsInside, opened, deeper, Reaches, due}
 use Rattle.ciborium_ll_grammar.specs.Faults.{inside, body, body_inside, due_title, RunInFront, HasFault}
 use Rattle.ciborium_ll_text.proofs.Lists.{same_front}
 use Rattle.ciborium_ll_grammar.proofs.TitleLaws.{one_title, shortest_no_longer, IsTitle-shortest}
 use Rattle.ciborium_ll_grammar.proofs.StringLaws.{mixed, not_break, break_title, string_not_break, one_string}
-use Rattle.ciborium_ll_grammar.proofs.ElementLaws.{not_plain, string_fronts, AreStrings-append}
-use Rattle.ciborium_ll_grammar.proofs.ElementLaws.{pieces-append, spelling-append, respell_one, respell_all}
-use Rattle.ciborium_ll_grammar.proofs.ElementLaws.{open_spelled, run_again}
+use Rattle.ciborium_ll_grammar.proofs.ElementLaws.{not_plain, string_fronts, AreStrings-append, pieces-append}
+use Rattle.ciborium_ll_grammar.proofs.ElementLaws.{spelling-append, respell_one, respell_all, open_spelled, run_again}
 use Rattle.ciborium_ll_grammar.proofs.AloneLaws.{alone_bytes, open_alone, open_length, open_in_range, title_some}
 use Rattle.ciborium_ll_grammar.proofs.SpelledLaws.{spelled_alone}
 use Rattle.ciborium_ll_grammar.proofs.TightLaws.{tight_title}
-use Rattle.ciborium_ll_grammar.proofs.FaultLaws.{follows, reach_stuck, stuck_or_refused, Refuses, long, nested, none_refused}
+use Rattle.ciborium_ll_grammar.proofs.FaultLaws.{follows, reach_stuck, stuck_or_refused, Refuses, long, nested}
+use Rattle.ciborium_ll_grammar.proofs.FaultLaws.{none_refused}
 
 -- ---- titles
 

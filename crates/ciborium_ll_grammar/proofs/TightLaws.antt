@@ -1,12 +1,11 @@
 -- Elements that are no longer than their marks' spelling are that spelling.
-use Rattle.std.proofs.Common.{◌≡◌, ℕ, ◌≤◌, List, [], ◌∷◌, ◌++◌, length, Some, None, refl, sym, ap, ◌∙◌, inl, inr}
-use Rattle.std.proofs.Common.{arith, append-nil, length-append}
+use Rattle.std.proofs.Common.{◌≡◌, ℕ, ◌≤◌, List, [], ◌∷◌, ◌++◌, length, Some, None, refl, sym, ap, ◌∙◌, inl, inr, arith}
+use Rattle.std.proofs.Common.{append-nil, length-append}
 use Rattle.ciborium_ll_grammar.specs.declared.hdr.Header.{Header}
 use Rattle.ciborium_ll_grammar.specs.Title.{IsTitle, shortest_title}
 use Rattle.ciborium_ll_grammar.specs.Strings.{Kind, kind_header, IsString, AreStrings, none, more}
 use Rattle.ciborium_ll_grammar.specs.Strings.IsString.{definite, indefinite}
-use Rattle.ciborium_ll_grammar.specs.Elements.{Mark, pieces, spelling, IsElement, plain, string, IsRun}
-use Rattle.ciborium_ll_grammar.specs.Elements.{done, next}
+use Rattle.ciborium_ll_grammar.specs.Elements.{Mark, pieces, spelling, IsElement, plain, string, IsRun, done, next}
 use Rattle.ciborium_ll_grammar.proofs.TitleLaws.{shortest_or_longer}
 use Rattle.ciborium_ll_grammar.proofs.ElementLaws.{respell_one, respell_all, pieces-append, spelling-append}
 use Rattle.ciborium_ll_grammar.proofs.ElementLaws.{open_spelled, element_again, run_again}

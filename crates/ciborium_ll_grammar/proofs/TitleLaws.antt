@@ -1,20 +1,13 @@
 -- No title begins another one, and the shortest is strictly shorter.
-use Rattle.std.proofs.Common.{◌≡◌, ℕ, zero, suc, ◌%◌, ◌<◌, ◌≤◌, ◌^◌, ◌⊎◌, inl, inr, List, [], ◌∷◌, ◌++◌, length}
-use Rattle.std.proofs.Common.{get_or, drop, Some, None, refl, sym, ap, subst, ◌∙◌, arith}
-use Rattle.std.specs.Prelude.{if◌then◌else◌, nat_lt, ◌==◌}
-use Rattle.std.specs.Int.{w8, w16, w32, w64, to_be_bytes, from_be_bytes}
+use Rattle.std.proofs.Common.{◌≡◌, ℕ, ◌<◌, ◌≤◌, ◌^◌, ◌⊎◌, List, [], ◌∷◌, ◌++◌, length, Some, None, refl, sym, arith}
 use Rattle.std.proofs.lemmas.Nat.{from_be_bytes-to_be_bytes_2, from_be_bytes-to_be_bytes_4, from_be_bytes-to_be_bytes_8}
-use Rattle.std.proofs.lemmas.Bool.{cases_lt, lt-ltb, le-ltb}
 use Rattle.ciborium_ll_grammar.specs.declared.hdr.Header.{Header}
 use Rattle.ciborium_ll_grammar.specs.declared.hdr.Header.TheVariants as h
-use Rattle.ciborium_ll_grammar.specs.declared.hdr.Float.{Float}
 use Rattle.ciborium_ll_grammar.specs.declared.hdr.Float.TheVariants as f
 use Rattle.ciborium_ll_grammar.specs.Title.{Major, Unsigned, Negative, ByteString, TextString, Array, Map, Tag, Other}
-use Rattle.ciborium_ll_grammar.specs.Title.{major_code, first_byte, Size, Small, One, Two, Four, Eight, size_limit}
-use Rattle.ciborium_ll_grammar.specs.Title.{minor_of, affix_of, numbered_title, numbered_header, open_header, IsTitle}
-use Rattle.ciborium_ll_grammar.specs.Title.{numbered, alone, least_size, shortest_numbered, float_title}
-use Rattle.ciborium_ll_grammar.specs.Title.{shortest_title, IsFloatInRange, IsInRange, IsRefused, BeginsRefused}
-use Rattle.ciborium_ll_text.proofs.Lists.{same_front}
+use Rattle.ciborium_ll_grammar.specs.Title.{major_code, first_byte, Size, Two, Four, Eight, size_limit, minor_of}
+use Rattle.ciborium_ll_grammar.specs.Title.{numbered_title, numbered_header, open_header, IsTitle, numbered, alone}
+use Rattle.ciborium_ll_grammar.specs.Title.{least_size, shortest_title, IsInRange, BeginsRefused}
 
 -- ---- first bytes
 

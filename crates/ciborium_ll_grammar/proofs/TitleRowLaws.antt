@@ -1,6 +1,6 @@
 -- The table says of each first byte what the definition of titles says.
-use Rattle.std.proofs.Common.{◌≡◌, ℕ, ◌/◌, ◌%◌, ◌<◌, Bool, true, not, ◌&&◌, ◌||◌, eqb, ltb, leb, get_or, refl, inl}
-use Rattle.std.proofs.Common.{inr, eqb-true, ltb-true, leb-true, eq-eqb}
+use Rattle.std.proofs.Common.{◌≡◌, ℕ, ◌/◌, ◌%◌, ◌<◌, Bool, true, not, ◌&&◌, ◌||◌, eqb, ltb, leb, get_or, refl, inl, inr}
+use Rattle.std.proofs.Common.{eqb-true, ltb-true, leb-true, eq-eqb}
 use Rattle.std.proofs.lemmas.Bool.{agree_below_at, and_parts, or_cases, or_right, le-leb, not-true, both_ways}
 use Rattle.ciborium_ll_grammar.specs.declared.hdr.table.Row.{Row}
 use Rattle.ciborium_ll_grammar.specs.declared.hdr.table.TitleKind.{TitleKind}
