@@ -10,6 +10,8 @@ use Rattle.ciborium_ll_grammar.specs.declared.hdr.table.Affix.TheVariants as a
 use Rattle.ciborium_ll_grammar.specs.declared.hdr.table.TheConstants.{ROWS, POSITIVE}
 use Rattle.ciborium_ll_grammar.specs.Title.{IsReserved, IsNeverOpen, NamesNoTitle}
 use Rattle.ciborium_ll_grammar.specs.TitleRows.{IsAffix, IsTitleKind, IsRow, NamesTitle}
+use Rattle.std.proofs.Common.{arith}
+use Rattle.std.proofs.lemmas.Bool.Decides.{nat_tests}
 
 -- the definitions as tests
 
@@ -50,69 +52,11 @@ row_test first row = kind_test row.kind (first / 32) (first % 32) && affix_test 
 
 -- each test tells its definition
 
-reserved_tells : (minor : ℕ) → reserved_test minor ≡ true → IsReserved minor
-reserved_tells minor e = let parts = and_parts (leb 28 minor) (leb minor 30) e in
-    (leb-true 28 minor parts.0, leb-true minor 30 parts.1)
-
-never_open_tells : (major : ℕ) → never_open_test major ≡ true → IsNeverOpen major
-never_open_tells major e =
-    elim (or_cases (eqb major 0) (eqb major 1 || eqb major 6) e) [
-      | inl unsigned ↦ inl (eqb-true major 0 unsigned)
-      | inr others ↦ elim (or_cases (eqb major 1) (eqb major 6) others) [
-        | inl negative ↦ inr (inl (eqb-true major 1 negative))
-        | inr tag ↦ inr (inr (eqb-true major 6 tag))
-      ]
-    ]
-
-no_title_tells : (major minor : ℕ) → no_title_test major minor ≡ true → NamesNoTitle major minor
-no_title_tells major minor e =
-    elim (or_cases (reserved_test minor) (eqb minor 31 && never_open_test major) e) [
-      | inl reserved ↦ inl (reserved_tells minor reserved)
-      | inr at_31 ↦
-          (let parts = and_parts (eqb minor 31) (never_open_test major) at_31 in
-          inr (eqb-true minor 31 parts.0, never_open_tells major parts.1))
-    ]
-
 affix_tells : (affix : Affix) (minor : ℕ) → affix_test affix minor ≡ true → IsAffix affix minor
-affix_tells a.Within minor e = ltb-true minor 24 e
-affix_tells a.One minor e = eqb-true minor 24 e
-affix_tells a.Two minor e = eqb-true minor 25 e
-affix_tells a.Four minor e = eqb-true minor 26 e
-affix_tells a.Eight minor e = eqb-true minor 27 e
-affix_tells a.Open minor e = eqb-true minor 31 e
-affix_tells a.Reserved minor e = reserved_tells minor e
-
--- and where no title has the major type and the minor, the test of that says so
-
-never_open_told : (major : ℕ) → IsNeverOpen major → never_open_test major ≡ true
-never_open_told major (inl unsigned) = rw unsigned refl
-never_open_told major (inr (inl negative)) = rw negative refl
-never_open_told major (inr (inr tag)) = rw tag refl
-
-no_title_told : (major minor : ℕ) → NamesNoTitle major minor → no_title_test major minor ≡ true
-no_title_told major minor (inl reserved) = rw (le-leb 28 minor reserved.0, le-leb minor 30 reserved.1) refl
-no_title_told major minor (inr never) =
-    or_right (reserved_test minor) (eqb minor 31 && never_open_test major)
-    (rw (eq-eqb minor 31 never.0, never_open_told major never.1) refl)
-
-title_tells : (code major minor : ℕ) → title_test code major minor ≡ true → NamesTitle code major minor
-title_tells code major minor e =
-    let parts = and_parts (eqb major code) (not (no_title_test major minor)) e in (
-      eqb-true major code parts.0,
-      λ none. both_ways (no_title_test major minor) (not-true (no_title_test major minor) parts.1)
-          (no_title_told major minor none),
-    )
+affix_tells affix minor e = grind (arith, nat_tests)
 
 kind_tells : (kind : TitleKind) (major minor : ℕ) → kind_test kind major minor ≡ true → IsTitleKind kind major minor
-kind_tells k.Positive major minor e = title_tells 0 major minor e
-kind_tells k.Negative major minor e = title_tells 1 major minor e
-kind_tells k.Bytes major minor e = title_tells 2 major minor e
-kind_tells k.Text major minor e = title_tells 3 major minor e
-kind_tells k.Array major minor e = title_tells 4 major minor e
-kind_tells k.Map major minor e = title_tells 5 major minor e
-kind_tells k.Tag major minor e = title_tells 6 major minor e
-kind_tells k.Other major minor e = title_tells 7 major minor e
-kind_tells k.Refused major minor e = no_title_tells major minor e
+kind_tells kind major minor e = grind (arith, nat_tests)
 
 -- a row that passes its test says what the byte does
 row_tells : (first : ℕ) (row : Row) → row_test first row ≡ true → IsRow first row
