@@ -1,6 +1,6 @@
 -- Elements begin no other one; their spelling is an element again, and no longer.
 use Rattle.std.proofs.Common.{◌≡◌, ℕ, suc, ◌≤◌, List, [], ◌∷◌, ◌++◌, length, Option, Some, None, refl, sym, ap, subst}
-use Rattle.std.proofs.Common.{◌∙◌, append_assoc, arith}
+use Rattle.std.proofs.Common.{◌∙◌, append_assoc, inl, inr, arith}
 use Rattle.std.proofs.lemmas.List.{append-nil, length-append}
 use Rattle.ciborium_ll_grammar.specs.declared.hdr.Header.{Header}
 use Rattle.ciborium_ll_grammar.specs.Title.{IsTitle, shortest_title}
@@ -10,8 +10,9 @@ use Rattle.ciborium_ll_grammar.specs.Elements.{AreWritable, Mark, Plain, Whole, 
 use Rattle.ciborium_ll_grammar.specs.Elements.{mark_spelling, spelling, pieces, IsElement, plain, string, IsRun, done}
 use Rattle.ciborium_ll_grammar.specs.Elements.{next}
 use Rattle.ciborium_ll_text.proofs.Lists.{same_front}
-use Rattle.ciborium_ll_grammar.proofs.TitleLaws.{one_title, title_in_range, IsTitle-shortest, shortest_no_longer}
-use Rattle.ciborium_ll_grammar.proofs.StringLaws.{some_is, mixed, fronts, one_strings_then}
+use Rattle.ciborium_ll_grammar.proofs.TitleLaws.{one_title, title_in_range, IsTitle-shortest, shortest_or_longer, LeastOr}
+use Rattle.ciborium_ll_grammar.proofs.StringLaws.{one_strings_then}
+pub use Rattle.ciborium_ll_grammar.proofs.StringLaws.{string_fronts}
 
 -- the same bytes, the same marks and the same rest
 abbrev pub SameElement : List ℕ → List ℕ → List Mark → List Mark → List ℕ → List ℕ → Type 0
@@ -19,94 +20,36 @@ SameElement w w' ms ms' v v' = (w ≡ w') × (ms ≡ ms') × (v ≡ v')
 
 -- a string's header is no plain one
 pub not_plain : (k : Kind) (o : Option ℕ) → IsPlain (kind_header k o) → ⊥
-not_plain Bytes o p = p
-not_plain Text o p = p
+not_plain k o p = grind arith
 
--- a title of a plain header is none of a string
-plain_string : (w t u v : List ℕ) (x : Header) (k : Kind) (o : Option ℕ) → IsTitle w x → IsPlain x
-    → IsTitle t (kind_header k o)
-    → w ++ v ≡ t ++ u → ⊥
-plain_string w t u v x k o p q r e =
-    let s = one_title w t v u x (kind_header k o) p r e in
-    not_plain k o (subst IsPlain s.1 q)
-
--- the kind is read off the header
-pub kind_is : (k k' : Kind) (o o' : Option ℕ) → kind_header k o ≡ kind_header k' o' → k ≡ k'
-kind_is Bytes Bytes o o' e = refl
-kind_is Bytes Text o o' e = absurd cc
-kind_is Text Bytes o o' e = absurd cc
-kind_is Text Text o o' e = refl
-
--- two titles of strings
-pub string_fronts : (k k' : Kind) (t t' u u' : List ℕ) (o o' : Option ℕ) → IsTitle t (kind_header k o)
-    → IsTitle t' (kind_header k' o')
-    → t ++ u ≡ t' ++ u' → (k ≡ k') × (t ≡ t') × (o ≡ o') × (u ≡ u')
-string_fronts k k' t t' u u' o o' p p' e =
-    let r = one_title t t' u u' (kind_header k o) (kind_header k' o') p p' e in
-    let kk : k ≡ k' = kind_is k k' o o' r.1 in
-    let f = fronts k t t' u u' o o' p (subst (λ (z : Kind). IsTitle t' (kind_header z o')) (sym kk) p') e in
-    (kk, f.0, f.1, f.2)
+-- a title of a plain header begins no string
+plain_string : (w v w' v' : List ℕ) (x : Header) (k : Kind) (bs : List (List ℕ)) → IsTitle w x → IsPlain x
+    → IsString k w' bs → w ++ v ≡ w' ++ v' → ⊥
+plain_string w v w' v' x k bs p q s e = grind (arith, not_plain, one_title, append_assoc)
 
 -- no element begins another one, nor has two lists of marks
 pub one_element : (w w' v v' : List ℕ) (ms ms' : List Mark) → IsElement w ms → IsElement w' ms' → w ++ v ≡ w' ++ v'
     → SameElement w w' ms ms' v v'
-one_element w w' v v' ms ms' (plain x p q) (plain x' p' q') e =
-    let r = one_title w w' v v' x x' p p' e in
-    let xx : x ≡ x' = r.1 in
-    (r.0, rw xx refl, r.2)
-one_element w w' v v' ms ms' (plain x p q) (string k (definite {title = t} {body = b} r) s) e =
-    absurd (plain_string w t (b ++ v') v x k (Some (length b)) p q r (e ∙ append_assoc t b v'))
-one_element w w' v v' ms ms' (plain x p q) (string k (indefinite {title = t} {strings = y} r s) z) e =
-    absurd (plain_string w t ((y ++ 0xff ∷ []) ++ v') v x k None p q r (e ∙ append_assoc t (y ++ 0xff ∷ []) v'))
-one_element w w' v v' ms ms' (string k (definite {title = t} {body = b} r) s) (plain x p q) e =
-    absurd (plain_string w' t (b ++ v) v' x k (Some (length b)) p q r (sym e ∙ append_assoc t b v))
-one_element w w' v v' ms ms' (string k (indefinite {title = t} {strings = y} r s) z) (plain x p q) e =
-    absurd (plain_string w' t ((y ++ 0xff ∷ []) ++ v) v' x k None p q r (sym e ∙ append_assoc t (y ++ 0xff ∷ []) v))
-one_element w w' v v' ms ms' (string k (definite {title = t} {body = b} p) s)
-    (string k' (definite {title = t'} {body = b'} p') s') e =
-    let r = string_fronts k k' t t' (b ++ v) (b' ++ v') (Some (length b)) (Some (length b')) p p'
-    (sym (append_assoc t b v) ∙ (e ∙ append_assoc t' b' v')) in
-    let f = same_front b b' v v' (some_is (length b) (length b') r.2) r.3 in
-    let kk : k ≡ k' = r.0 in
-    let tt' : t ≡ t' = r.1 in
-    let bb : b ≡ b' = f.0 in
-    (rw (tt', bb) refl, rw (kk, bb) refl, f.1)
-one_element w w' v v' ms ms' (string k (definite {title = t} {body = b} p) s)
-    (string k' (indefinite {title = t'} {strings = y} p' q') s') e =
-    let r = string_fronts k k' t t' (b ++ v) ((y ++ 0xff ∷ []) ++ v') (Some (length b)) None p p'
-    (sym (append_assoc t b v) ∙ (e ∙ append_assoc t' (y ++ 0xff ∷ []) v')) in
-    absurd (mixed (length b) r.2)
-one_element w w' v v' ms ms' (string k (indefinite {title = t} {strings = y} p q) s)
-    (string k' (definite {title = t'} {body = b'} p') s') e =
-    let r = string_fronts k k' t t' ((y ++ 0xff ∷ []) ++ v) (b' ++ v') None (Some (length b')) p p'
-    (sym (append_assoc t (y ++ 0xff ∷ []) v) ∙ (e ∙ append_assoc t' b' v')) in
-    absurd (mixed (length b') (sym r.2))
-one_element w w' v v' ms ms' (string k (indefinite {title = t} {strings = y} {bodies = bs} p q) s)
-    (string k' (indefinite {title = t'} {strings = y'} {bodies = bs'} p' q') s') e =
-    let r = string_fronts k k' t t' ((y ++ 0xff ∷ []) ++ v) ((y' ++ 0xff ∷ []) ++ v') None None p p'
-    (sym (append_assoc t (y ++ 0xff ∷ []) v) ∙ (e ∙ append_assoc t' (y' ++ 0xff ∷ []) v')) in
-    let kk : k ≡ k' = r.0 in
-    let f = one_strings_then k y y' v v' bs bs' q (subst (λ (z : Kind). AreStrings z y' bs') (sym kk) q')
-    (sym (append_assoc y (0xff ∷ []) v) ∙ (r.3 ∙ append_assoc y' (0xff ∷ []) v')) in
-    let tt' : t ≡ t' = r.1 in
-    let yy : y ≡ y' = f.0 in
-    let bb : bs ≡ bs' = f.1 in
-    (rw (tt', yy) refl, rw (kk, bb) refl, f.2)
+one_element w w' v v' ms ms' (plain x p q) (plain x' p' q') e = grind (arith, one_title w w' v v' x x' p p' e)
+one_element w w' v v' ms ms' (plain x p q) (string k s f) e = absurd (plain_string w v w' v' x k _ p q s e)
+one_element w w' v v' ms ms' (string k s f) (plain x p q) e = absurd (plain_string w' v' w v x k _ p q s (sym e))
+one_element w w' v v' ms ms' (string k (definite p) f) (string k' (definite p') f') e =
+    grind (arith, string_fronts, same_front, append_assoc)
+one_element w w' v v' ms ms' (string k (definite p) f) (string k' (indefinite p' q') f') e =
+    absurd (grind (arith, string_fronts, append_assoc))
+one_element w w' v v' ms ms' (string k (indefinite p q) f) (string k' (definite p') f') e =
+    absurd (grind (arith, string_fronts, append_assoc))
+one_element w w' v v' ms ms' (string k (indefinite p q) f) (string k' (indefinite p' q') f') e =
+    grind (arith, string_fronts, one_strings_then, append_assoc)
 
 -- of runs of as many elements none begins another one, nor has two lists of marks
 pub one_run : (n : ℕ) (w : List ℕ) (ms : List Mark) → IsRun n w ms → (w' v v' : List ℕ) (ms' : List Mark)
-    → IsRun n w' ms'
-    → w ++ v ≡ w' ++ v' → SameElement w w' ms ms' v v'
+    → IsRun n w' ms' → w ++ v ≡ w' ++ v' → SameElement w w' ms ms' v v'
 one_run n w ms done w' v v' ms' done e = (refl, refl, e)
-one_run n w ms (next {first = x} {rest = y} {marks = ns} {others = os} a r) w' v v' ms'
-    (next {first = x'} {rest = y'} {marks = ns'} {others = os'} a' r') e =
-    let f = one_element x x' (y ++ v) (y' ++ v') ns ns' a a' (sym (append_assoc x y v) ∙ (e ∙ append_assoc x' y' v')) in
-    let g = one_run _ y os r y' v v' os' r' f.2 in
-    let xx : x ≡ x' = f.0 in
-    let yy : y ≡ y' = g.0 in
-    let nn : ns ≡ ns' = f.1 in
-    let oo : os ≡ os' = g.1 in
-    (rw (xx, yy) refl, rw (nn, oo) refl, g.2)
+one_run n w ms (next {rest = y} a r) w' v v' ms' (next {rest = y'} a' r') e =
+    let f = one_element _ _ (y ++ v) (y' ++ v') _ _ a a' (simp append_assoc at e) in
+    let g = one_run _ y _ r y' v v' _ r' f.2 in
+    grind arith
 
 -- ---- bodies that may be written
 
@@ -144,63 +87,77 @@ spelling-append (m ∷ ms) ns =
     ap (λ y. mark_spelling m ++ y) (spelling-append ms ns) ∙ sym
     (append_assoc (mark_spelling m) (spelling ms) (spelling ns))
 
--- what the pieces of strings spell
-pub record Respelled (k : Kind) (w : List ℕ) (bs : List (List ℕ)) : Type 0 where
-  pub strings : AreStrings k (spelling (pieces k bs)) bs
-  -- a header's shortest title is no longer than any of its titles
-  pub shorter : length (spelling (pieces k bs)) ≤ length w
-
 -- bodies joined give their pieces joined
 pub pieces-append : (k : Kind) (bs cs : List (List ℕ)) → pieces k (bs ++ cs) ≡ pieces k bs ++ pieces k cs
 pieces-append k [] cs = refl
 pieces-append k (b ∷ bs) cs = ap (λ y. Piece k b ∷ y) (pieces-append k bs cs)
 
+-- and are spelled one behind the other
+pub pieces_spelled : (k : Kind) (bs cs : List (List ℕ))
+    → spelling (pieces k (bs ++ cs)) ≡ spelling (pieces k bs) ++ spelling (pieces k cs)
+pieces_spelled k bs cs = ap spelling (pieces-append k bs cs) ∙ spelling-append (pieces k bs) (pieces k cs)
+
 -- strings joined are strings
 pub AreStrings-append : (k : Kind) (w : List ℕ) (bs : List (List ℕ)) → AreStrings k w bs
-    → (v : List ℕ) (cs : List (List ℕ))
-    → AreStrings k v cs → AreStrings k (w ++ v) (bs ++ cs)
+    → (v : List ℕ) (cs : List (List ℕ)) → AreStrings k v cs → AreStrings k (w ++ v) (bs ++ cs)
 AreStrings-append k w bs none v cs r = r
 AreStrings-append k w bs (more {first = x} {rest = y} {bodies = ds} {others = es} s ss) v cs r =
     rw (append_assoc x y v, append_assoc ds es cs) (more s (AreStrings-append k y es ss v cs r))
+
+-- two lists of bytes that are each the shortest, or longer, are so joined
+least_append : (a b a' b' : List ℕ) → LeastOr a a' → LeastOr b b' → LeastOr (a ++ b) (a' ++ b')
+least_append a b a' b' p q = grind (arith, length-append {A = ℕ})
+
+-- what the pieces of strings spell: strings, and the bytes themselves or fewer
+pub record Respelled (k : Kind) (w : List ℕ) (bs : List (List ℕ)) : Type 0 where
+  pub strings : AreStrings k (spelling (pieces k bs)) bs
+  pub least : LeastOr w (spelling (pieces k bs))
+  -- a header's shortest title is no longer than any of its titles
+  pub shorter : length (spelling (pieces k bs)) ≤ length w
+
+respelled : (k : Kind) (w : List ℕ) (bs : List (List ℕ)) → AreStrings k (spelling (pieces k bs)) bs
+    → LeastOr w (spelling (pieces k bs)) → Respelled k w bs
+respelled k w bs strings least = record { strings = strings; least = least; shorter = grind arith }
 
 mutual
   -- a string is spelled again as its pieces, no longer
   pub respell_one : (k : Kind) (w : List ℕ) (bs : List (List ℕ)) → IsString k w bs → Respelled k w bs
   respell_one k w bs (definite {title = t} {body = b} p) =
-      record {
-        strings = more (definite (IsTitle-shortest_of t (kind_header k (Some (length b))) p)) none;
-        shorter = (let l = shortest_no_longer t (kind_header k (Some (length b))) p in
-            simp (length-append, append-nil) (omega arith));
-      }
-  respell_one k w bs (indefinite {title = t} {strings = x} {bodies = cs} p q) =
-      let r = respell_all k x cs q in
-      record {
-        strings = r.strings;
-        shorter = (let l = r.shorter in omega
-            (arith, length-append t (x ++ 0xff ∷ []), length-append x (0xff ∷ [])));
-      }
+      respelled k (t ++ b) _ (more (definite (IsTitle-shortest_of t _ p)) none)
+      (rw append-nil (least_append t b _ b (shortest_or_longer _ t p) (inl refl)))
+  respell_one k w bs (indefinite {title = t} {strings = x} p q) =
+      let r = respell_all k x bs q in
+      respelled k _ bs r.strings (inr (let l = r.shorter in simp length-append (omega arith)))
 
   -- strings are spelled again as their pieces, no longer
   pub respell_all : (k : Kind) (w : List ℕ) (bs : List (List ℕ)) → AreStrings k w bs → Respelled k w bs
-  respell_all k w bs none = record { strings = none; shorter = omega arith }
+  respell_all k w bs none = respelled k [] [] none (inl refl)
   respell_all k w bs (more {first = x} {rest = y} {bodies = ds} {others = es} s ss) =
       let a = respell_one k x ds s in
       let b = respell_all k y es ss in
-      let e : spelling (pieces k (ds ++ es)) ≡ spelling (pieces k ds) ++ spelling (pieces k es) =
-      ap spelling (pieces-append k ds es)
-      ∙ spelling-append (pieces k ds) (pieces k es) in
-      record {
-        strings = subst (λ (z : List ℕ). AreStrings k z (ds ++ es)) (sym e)
-            (AreStrings-append k (spelling (pieces k ds)) ds a.strings (spelling (pieces k es)) es b.strings);
-        shorter = (let l = a.shorter in let m = b.shorter in omega
-            (arith, ap length e, length-append (spelling (pieces k ds)) (spelling (pieces k es)), length-append x y));
-      }
+      respelled k (x ++ y) (ds ++ es)
+      (rw pieces_spelled (AreStrings-append k _ ds a.strings _ es b.strings))
+      (rw pieces_spelled (least_append x y _ _ a.least b.least))
 
 -- the spelling of a string of indefinite length: its open, its pieces and a break
 pub open_spelled : (k : Kind) (bs : List (List ℕ))
     → spelling (Open k ∷ (pieces k bs ++ Close ∷ [])) ≡ shortest_title (kind_header k None) ++
     (spelling (pieces k bs) ++ 0xff ∷ [])
 open_spelled k bs = ap (λ y. shortest_title (kind_header k None) ++ y) (spelling-append (pieces k bs) (Close ∷ []))
+
+-- an element is its marks' spelling, or longer
+pub least_element : (w : List ℕ) (ms : List Mark) → IsElement w ms → LeastOr w (spelling ms)
+least_element w ms (plain x p q) = rw append-nil (shortest_or_longer x w p)
+least_element w ms (string k (definite p) s) = (respell_one k w _ (definite p)).least
+least_element w ms (string k (indefinite {title = t} {strings = y} p q) s) =
+    rw open_spelled (least_append t _ _ _ (shortest_or_longer _ t p)
+    (least_append y _ _ _ (respell_all k y _ q).least (inl refl)))
+
+-- and so is a run
+pub least_run : (n : ℕ) (w : List ℕ) (ms : List Mark) → IsRun n w ms → LeastOr w (spelling ms)
+least_run n w ms done = inl refl
+least_run n w ms (next {first = x} {rest = y} a r) =
+    rw spelling-append (least_append x y _ _ (least_element x _ a) (least_run _ y _ r))
 
 -- the spelling of marks is an element with the same marks, and no longer than the bytes
 pub record Again (w : List ℕ) (ms : List Mark) : Type 0 where
@@ -210,36 +167,13 @@ pub record Again (w : List ℕ) (ms : List Mark) : Type 0 where
 
 -- the spelling of an element's marks is that element again
 pub element_again : (w : List ℕ) (ms : List Mark) → IsElement w ms → Again w ms
-element_again w ms (plain x p q) =
-    record {
-      element = subst (λ (z : List ℕ). IsElement z (Plain x ∷ [])) (sym (append-nil (shortest_title x)))
-          (plain x (IsTitle-shortest_of w x p) q);
-      shorter = (let l = shortest_no_longer w x p in omega (arith, length-append (shortest_title x) []));
-    }
-element_again w ms (string k (definite {title = t} {body = b} p) s) =
-    let x = kind_header k (Some (length b)) in
-    record {
-      element = subst (λ (z : List ℕ). IsElement z (Whole k b ∷ [])) (sym (append-nil (shortest_title x ++ b)))
-          (string k (definite (IsTitle-shortest_of t x p)) s);
-      shorter = (let l = shortest_no_longer t x p in omega
-          (arith, length-append (shortest_title x ++ b) [], length-append (shortest_title x) b, length-append t b));
-    }
-element_again w ms (string k (indefinite {title = t} {strings = y} {bodies = bs} p q) s) =
-    let x = kind_header k None in
-    let r = respell_all k y bs q in
-    record {
-      element = subst (λ (z : List ℕ). IsElement z (Open k ∷ (pieces k bs ++ Close ∷ []))) (sym (open_spelled k bs))
-          (string k (indefinite (IsTitle-shortest_of t x p) r.strings) s);
-      shorter = (let l = shortest_no_longer t x p in let m = r.shorter in
-          omega (
-            arith,
-            ap length (open_spelled k bs),
-            length-append (shortest_title x) (spelling (pieces k bs) ++ 0xff ∷ []),
-            length-append (spelling (pieces k bs)) (0xff ∷ []),
-            length-append t (y ++ 0xff ∷ []),
-            length-append y (0xff ∷ []),
-          ));
-    }
+element_again w ms e = record { element = spelled w ms e; shorter = grind (arith, least_element w ms e) }
+  where
+    spelled : (w : List ℕ) (ms : List Mark) → IsElement w ms → IsElement (spelling ms) ms
+    spelled w ms (plain x p q) = rw append-nil (plain x (IsTitle-shortest_of w x p) q)
+    spelled w ms (string k (definite p) s) = rw append-nil (string k (definite (IsTitle-shortest_of _ _ p)) s)
+    spelled w ms (string k (indefinite p q) s) =
+        rw open_spelled (string k (indefinite (IsTitle-shortest_of _ _ p) (respell_all k _ _ q).strings) s)
 
 -- the spelling of marks is a run with the same marks, and no longer than the bytes
 pub record RunAgain (n : ℕ) (w : List ℕ) (ms : List Mark) : Type 0 where
@@ -250,11 +184,7 @@ pub record RunAgain (n : ℕ) (w : List ℕ) (ms : List Mark) : Type 0 where
 -- the spelling of a run's marks is that run again
 pub run_again : (n : ℕ) (w : List ℕ) (ms : List Mark) → IsRun n w ms → RunAgain n w ms
 run_again n w ms done = record { run = done; shorter = omega arith }
-run_again n w ms (next {count = m} {first = x} {rest = y} {marks = ns} {others = os} a r) =
-    let b = element_again x ns a in
-    let c = run_again m y os r in
-    record {
-      run = subst (λ (z : List ℕ). IsRun (suc m) z (ns ++ os)) (sym (spelling-append ns os)) (next b.element c.run);
-      shorter = (let l = b.shorter in let k = c.shorter in omega
-          (arith, ap length (spelling-append ns os), length-append (spelling ns) (spelling os), length-append x y));
-    }
+run_again n w ms (next {first = x} {rest = y} a r) = record {
+  run = rw spelling-append (next (element_again x _ a).element (run_again _ y _ r).run);
+  shorter = grind (arith, least_run n w ms (next a r));
+}

@@ -23,14 +23,19 @@ not_break k o e = grind arith
 pub break_title : IsTitle (0xff ∷ []) h.Break
 break_title = alone Other h.Break refl
 
--- a header of the kind is of one length
-same_len : (k : Kind) (o o' : Option ℕ) → kind_header k o ≡ kind_header k o' → o ≡ o'
-same_len k o o' e = grind arith
+-- the header of a string tells its kind and its length
+same_string : (k k' : Kind) (o o' : Option ℕ) → kind_header k o ≡ kind_header k' o' → (k ≡ k') × (o ≡ o')
+same_string k k' o o' e = grind arith
+
+-- two titles of strings
+pub string_fronts : (k k' : Kind) (t t' u u' : List ℕ) (o o' : Option ℕ) → IsTitle t (kind_header k o)
+    → IsTitle t' (kind_header k' o') → t ++ u ≡ t' ++ u' → (k ≡ k') × (t ≡ t') × (o ≡ o') × (u ≡ u')
+string_fronts k k' t t' u u' o o' p p' e = grind (arith, same_string, one_title t t' u u' _ _ p p' e)
 
 -- titles with bytes behind them, of which one begins the other
 pub fronts : (k : Kind) (t t' u u' : List ℕ) (o o' : Option ℕ) → IsTitle t (kind_header k o)
     → IsTitle t' (kind_header k o') → t ++ u ≡ t' ++ u' → (t ≡ t') × (o ≡ o') × (u ≡ u')
-fronts k t t' u u' o o' p p' e = grind (arith, same_len, one_title t t' u u' _ _ p p' e)
+fronts k t t' u u' o o' p p' e = let r = string_fronts k k t t' u u' o o' p p' e in (r.1, r.2, r.3)
 
 -- a string's title begins as no break
 title_not_break : (k : Kind) (t u v : List ℕ) (o : Option ℕ) → IsTitle t (kind_header k o) → t ++ u ≡ 0xff ∷ v → ⊥
