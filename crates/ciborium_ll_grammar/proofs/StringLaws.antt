@@ -24,7 +24,7 @@ pub break_title : IsTitle (0xff ∷ []) h.Break
 break_title = alone Other h.Break refl
 
 -- the header of a string tells its kind and its length
-same_string : (k k' : Kind) (o o' : Option ℕ) → kind_header k o ≡ kind_header k' o' → (k ≡ k') × (o ≡ o')
+pub same_string : (k k' : Kind) (o o' : Option ℕ) → kind_header k o ≡ kind_header k' o' → (k ≡ k') × (o ≡ o')
 same_string k k' o o' e = grind arith
 
 -- two titles of strings
@@ -38,7 +38,7 @@ pub fronts : (k : Kind) (t t' u u' : List ℕ) (o o' : Option ℕ) → IsTitle t
 fronts k t t' u u' o o' p p' e = let r = string_fronts k k t t' u u' o o' p p' e in (r.1, r.2, r.3)
 
 -- a string's title begins as no break
-title_not_break : (k : Kind) (t u v : List ℕ) (o : Option ℕ) → IsTitle t (kind_header k o) → t ++ u ≡ 0xff ∷ v → ⊥
+pub title_not_break : (k : Kind) (t u v : List ℕ) (o : Option ℕ) → IsTitle t (kind_header k o) → t ++ u ≡ 0xff ∷ v → ⊥
 title_not_break k t u v o p e = not_break k o (one_title t (0xff ∷ []) u v _ _ p break_title e).1
 
 -- no string begins as a break
