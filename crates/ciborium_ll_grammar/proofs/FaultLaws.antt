@@ -10,7 +10,7 @@ use Rattle.ciborium_ll_grammar.specs.Faults.{Point, Due, In, BodyDue, Reaches, d
 use Rattle.ciborium_ll_grammar.specs.Faults.{IsAtTitle, IsRefusedIn, FirstFault, CutTitle, NoTitle, LongTitle}
 use Rattle.ciborium_ll_grammar.specs.Faults.{OtherTitle, DamagedText, CutBody, CutDamagedText}
 use Rattle.ciborium_ll_grammar.specs.Items.{IsTakenTitle}
-use Rattle.ciborium_ll_grammar.proofs.ElementLaws.{one_element, element_again, run_again, spelling-append}
+use Rattle.ciborium_ll_grammar.proofs.ElementLaws.{one_element, least_element, least_run, spelling-append}
 use Rattle.ciborium_ll_text.proofs.Lists.{same_front}
 use Rattle.ciborium_ll_grammar.proofs.HaltLaws.{IsBad, Halt, halt_cut, halt_refused, halt_misplaced, halt_bad, opens_of}
 use Rattle.ciborium_ll_grammar.proofs.HaltLaws.{Stop, stop_cut, stop_refused, stop_bad, element_stops, element_inside}
@@ -24,24 +24,9 @@ meant_right [] ns p = p
 meant_right (m ∷ ms) ns p = meant_right ms ns p.1
 
 -- an element and elements behind it that are spelled shortest are so each
-next_same : (x y : List ℕ) (ns os : List Mark) (m : ℕ) → IsElement x ns → IsRun m y os → x ++ y
-    ≡ spelling (ns ++ os) → (x ≡ spelling ns) × (y ≡ spelling os)
-next_same x y ns os m a r e =
-    let b = element_again x ns a in
-    let c = run_again m y os r in
-    let lb = b.shorter in
-    let lc = c.shorter in
-    let s = e ∙ spelling-append ns os in
-    let counted = ap length s in
-    same_front x (spelling ns) y (spelling os) (omega (
-      arith,
-      lb,
-      lc,
-      counted,
-      length-append x y,
-      length-append
-          (spelling ns) (spelling os),
-    )) s
+next_same : (x y : List ℕ) (ns os : List Mark) (m : ℕ) → IsElement x ns → IsRun m y os → x ++ y ≡ spelling (ns ++ os)
+    → (x ≡ spelling ns) × (y ≡ spelling os)
+next_same x y ns os m a r e = grind (arith, least_element, least_run, spelling-append ns os, length-append {A = ℕ})
 
 -- the next element of a longer run stands behind a shorter one, and is its own spelling where the run is
 pub record Follows (run : List ℕ) (all : List Mark) (x : List ℕ) : Type 0 where
@@ -55,30 +40,28 @@ pub record Follows (run : List ℕ) (all : List Mark) (x : List ℕ) : Type 0 wh
 
 -- of two runs in front of one list the longer goes on with an element
 pub follows : (i : ℕ) (u : List ℕ) (ms : List Mark) → IsRun i u ms → (n : ℕ) (w : List ℕ) (ns : List Mark)
-    → IsRun n w ns → i < n
-    → (x v : List ℕ) → u ++ x ≡ w ++ v → Follows w ns x
+    → IsRun n w ns → i < n → (x v : List ℕ) → u ++ x ≡ w ++ v → Follows w ns x
 follows i u ms done n w ns done l x v e = absurd (omega arith)
-follows i u ms done n w ns (next {count = j} {first = a} {rest = b} {marks = os} {others = ps} p r) l x v e =
+follows i u ms (next p r) n w ns done l x v e = absurd (omega arith)
+follows i u ms done n w ns (next {first = a} {rest = b} {marks = os} {others = ps} p r) l x v e =
     record {
       word = a;
       marks = os;
       ok = p;
       rest = b ++ v;
-      is = e ∙ append_assoc a b v;
-      spelled = λ same meant. ((next_same a b os ps j p r same).0, meant_left os ps meant);
+      is = simp append_assoc at e;
+      spelled = λ same meant. ((next_same a b os ps _ p r same).0, meant_left os ps meant);
     }
-follows i u ms (next p r) n w ns done l x v e = absurd (omega arith)
-follows i u ms (next {count = j} {first = a} {rest = b} {marks = os} {others = ps} p r) n w ns
-    (next {count = m} {first = a'} {rest = b'} {marks = os'} {others = ps'} p' r') l x v e =
-    let o = one_element a a' (b ++ x) (b' ++ v) os os' p p' (sym (append_assoc a b x) ∙ (e ∙ append_assoc a' b' v)) in
-    let z = follows j b ps r m b' ps' r' (omega arith) x v o.2 in
+follows i u ms (next {rest = b} p r) n w ns (next {first = a'} {rest = b'} {marks = os'} {others = ps'} p' r') l x v e =
+    let o = one_element _ a' (b ++ x) (b' ++ v) _ os' p p' (simp append_assoc at e) in
+    let z = follows _ b _ r _ b' ps' r' (omega arith) x v o.2 in
     record {
       word = z.word;
       marks = z.marks;
       ok = z.ok;
       rest = z.rest;
       is = z.is;
-      spelled = λ same meant. z.spelled (next_same a' b' os' ps' m p' r' same).1 (meant_right os' ps' meant);
+      spelled = λ same meant. z.spelled (next_same a' b' os' ps' _ p' r' same).1 (meant_right os' ps' meant);
     }
 
 -- what is due can't come
@@ -131,21 +114,21 @@ refused_other strict k s t r x p (inr further) e =
 
 -- at a fault what is due can't come, or is refused
 pub stuck_or_refused : (strict : Bool) (u : List ℕ) (ms : List Mark) (at : Point) (s : List ℕ) (a : Answer)
-    (out : List ℕ) (c : ℕ) → FirstFault strict u ms at s a out c
-    → Stuck at s ⊎ Refuses strict at s
-stuck_or_refused strict u ms at s a out c (CutTitle {point = Due} d f) = inl (stop (stop_cut f))
-stuck_or_refused strict u ms at s a out c (CutTitle {point = In k} d f) = inl (halt k (halt_cut f))
-stuck_or_refused strict u ms at s a out c (CutTitle {point = BodyDue k l p} d f) = absurd d
-stuck_or_refused strict u ms at s a out c (NoTitle {point = Due} d f) = inl (stop (stop_refused f))
-stuck_or_refused strict u ms at s a out c (NoTitle {point = In k} d f) = inl (halt k (halt_refused f))
-stuck_or_refused strict u ms at s a out c (NoTitle {point = BodyDue k l p} d f) = absurd d
-stuck_or_refused strict u ms at s a out c (LongTitle x r d p untaken e) = inr (long x r d p untaken e)
-stuck_or_refused strict u ms at s a out c (OtherTitle {kind = k} {title = t} x r p f e) =
-    refused_other strict k s t r x p f e
-stuck_or_refused strict u ms at s a out c (DamagedText b r l f e g w m) = inl (bad_body (inr f))
-stuck_or_refused strict u ms at s a out c (CutBody {kind = k} {len = l} b r f e g m m2 m3) =
-    inl (bad_body (too_short k l s f))
-stuck_or_refused strict u ms at s a out c (CutDamagedText b r f g e p w m) = inl (bad_body (inl f))
+    (out : List ℕ) (c : ℕ) → FirstFault strict u ms at s a out c → Stuck at s ⊎ Refuses strict at s
+stuck_or_refused strict u ms at s a out c f = grind (
+  arith,
+  stop,
+  halt,
+  bad_body,
+  long,
+  nested,
+  stop_cut,
+  stop_refused,
+  halt_cut,
+  halt_refused,
+  halt_misplaced,
+  too_short,
+)
 
 pub stuck : (u : List ℕ) (ms : List Mark) (at : Point) (s : List ℕ) (a : Answer) (out : List ℕ) (c : ℕ)
     → FirstFault false u ms at s a out c → Stuck at s

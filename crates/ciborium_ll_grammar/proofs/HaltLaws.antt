@@ -44,31 +44,26 @@ break_not_misplaced k f = grind arith
 good_body : (k : Kind) (b v : List ℕ) (l : ℕ) → l ≡ length b → IsWritable k b → IsBad k l (b ++ v) → ⊥
 good_body k b v l e s un = grind (arith, length-append b v, take_at b v l (sym e))
 
--- a title that stands there is misplaced, or of a bad body
-title_halts : (k : Kind) (t v y : List ℕ) (x : Header) → Halt k y → IsTitle t x → y ≡ t ++ v
-    → IsMisplaced k x ⊎ ((l : ℕ) × (x ≡ kind_header k (Some l)) × IsBad k l v)
-title_halts k t v y x (halt_cut c) p e = absurd (title_not_cut t v x p (rw e at c))
-title_halts k t v y x (halt_refused r) p e = absurd (title_refused t v x p (rw e at r))
-title_halts k t v y x (halt_misplaced {t = t'} r x' q f z) p e =
-    let o = one_title t' t r v x' x q p (sym z ∙ e) in
-    inl (rw o.1 at f)
-title_halts k t v y x (halt_bad {t = t'} r l q f z) p e =
-    let o = one_title t' t r v _ x q p (sym z ∙ e) in
-    inr (l, sym o.1, rw o.2 at f)
-
 -- no string goes on
 definite_halts : (k : Kind) (t b v y : List ℕ) → Halt k y → IsTitle t (kind_header k (Some (length b)))
     → IsWritable k b → y ≡ t ++ (b ++ v) → ⊥
 definite_halts k t b v y f p s e =
-    grind (arith, title_halts k t (b ++ v) y _ f p e, kind_not_misplaced, good_body, same_string)
+    grind (arith, title_not_cut, title_refused, one_title, kind_not_misplaced, good_body, same_string)
 
 -- no open comes
 pub open_halts : (k : Kind) (t v y : List ℕ) → Halt k y → IsTitle t (kind_header k None) → y ≡ t ++ v → ⊥
-open_halts k t v y f p e = grind (arith, title_halts k t v y _ f p e, kind_not_misplaced, same_string)
+open_halts k t v y f p e = grind (arith, title_not_cut, title_refused, one_title, kind_not_misplaced, same_string)
 
 -- no break comes
 break_halts : (k : Kind) (v y : List ℕ) → Halt k y → y ≡ 0xff ∷ v → ⊥
-break_halts k v y f e = grind (arith, title_halts k (0xff ∷ []) v y _ f break_title e, break_not_misplaced, not_break)
+break_halts k v y f e = grind (
+  arith,
+  title_not_cut (0xff ∷ []) v h.Break break_title,
+  title_refused (0xff ∷ []) v h.Break break_title,
+  one_title,
+  break_not_misplaced,
+  not_break,
+)
 
 -- ---- opens that aren't closed
 
@@ -114,9 +109,7 @@ goes_on k P behind w bs (more {rest = y} s ss) w' x v bs' (more {first = a} {res
 -- no string comes
 pub string_halts : (k : Kind) (w : List ℕ) (bs : List (List ℕ)) → IsString k w bs → AreWritable k bs → (v y : List ℕ)
     → Halt k y → y ≡ w ++ v → ⊥
-string_halts k w bs (definite {title = t} {body = b} p) s v y f e =
-    definite_halts k t b v y f p s.0 (simp append_assoc at e)
-string_halts k w bs (indefinite {title = t} p q) s v y f e = open_halts k t _ y f p (simp append_assoc at e)
+string_halts k w bs p s v y f e = grind (arith, definite_halts, open_halts, append_assoc)
 
 -- no strings and a break come
 goes_halts : (k : Kind) (w : List ℕ) (bs : List (List ℕ)) → AreStrings k w bs → AreWritable k bs → (v y : List ℕ)
@@ -175,8 +168,8 @@ opens_halt k u (link {t = t0} {w = w0} {u = x} p s c) y f t w v bs q r ok e =
 pub data Stop : List ℕ → Type 0 where
   stop_cut : {y : List ℕ} → IsCutTitle y → Stop y
   stop_refused : {y : List ℕ} → BeginsRefused y → Stop y
-  stop_bad : {y t : List ℕ} (s : List ℕ) (k : Kind) (l : ℕ) → IsTitle t (kind_header k (Some l)) → IsBad k l s → y
-      ≡ t ++ s → Stop y
+  stop_bad : {y t : List ℕ} (s : List ℕ) (k : Kind) (l : ℕ) → IsTitle t (kind_header k (Some l)) → IsBad k l s
+      → y ≡ t ++ s → Stop y
 
 -- where no string goes on, the same without a kind
 pub halt_of : (y : List ℕ) → Stop y → (k : Kind)
@@ -185,31 +178,24 @@ halt_of y (stop_cut c) k same = halt_cut c
 halt_of y (stop_refused r) k same = halt_refused r
 halt_of y (stop_bad {t} s j l p b e) k same =
     let jk = same t s j l p e in
-    halt_bad s l (subst (λ (z : Kind). IsTitle t (kind_header z (Some l))) jk p)
-    (subst (λ (z : Kind). IsBad z l s) jk b) e
+    halt_bad s l (rw jk at p) (rw jk at b) e
 
 -- two titles of strings in front of the same bytes are of one kind
 pub same_kind : (k : Kind) (t u y : List ℕ) (o : Option ℕ) → IsTitle t (kind_header k o) → y ≡ t ++ u
-    → (t' s : List ℕ) (j : Kind) (l : ℕ)
-    → IsTitle t' (kind_header j (Some l)) → y ≡ t' ++ s → j ≡ k
+    → (t' s : List ℕ) (j : Kind) (l : ℕ) → IsTitle t' (kind_header j (Some l)) → y ≡ t' ++ s → j ≡ k
 same_kind k t u y o p e t' s j l q e' = (string_fronts j k t' t s u (Some l) o q p (sym e' ∙ e)).0
 
--- a title where no element begins is of a bad body
-title_stops : (t v y : List ℕ) (x : Header) → Stop y → IsTitle t x → y ≡ t ++ v
-    → (k : Kind) × (l : ℕ) × (x ≡ kind_header k (Some l)) × IsBad k l v
-title_stops t v y x (stop_cut c) p e = absurd (title_not_cut t v x p (rw e at c))
-title_stops t v y x (stop_refused r) p e = absurd (title_refused t v x p (rw e at r))
-title_stops t v y x (stop_bad {t = t'} s k l q b z) p e =
-    let o = one_title t' t s v _ x q p (sym z ∙ e) in
-    (k, l, sym o.1, rw o.2 at b)
+-- nor are a string and the title of another kind
+string_kind : (k : Kind) (w v y : List ℕ) (bs : List (List ℕ)) → IsString k w bs → y ≡ w ++ v → (t s : List ℕ)
+    (j : Kind) (l : ℕ) → IsTitle t (kind_header j (Some l)) → y ≡ t ++ s → j ≡ k
+string_kind k w v y bs p e t s j l q e' = grind (arith, string_fronts, append_assoc)
 
 -- no element comes where one is due and there is none
 pub element_stops : (w : List ℕ) (ms : List Mark) → IsElement w ms → (v y : List ℕ) → Stop y → y ≡ w ++ v → ⊥
-element_stops w ms (plain x p q) v y f e = grind (arith, title_stops w v y x f p e, not_plain)
-element_stops w ms (string k (definite {title = t} {body = b} p) s) v y f e =
-    grind (arith, title_stops t (b ++ v) y _ f p (simp append_assoc at e), same_string, good_body)
-element_stops w ms (string k (indefinite {title = t} p q) s) v y f e =
-    grind (arith, title_stops t _ y _ f p (simp append_assoc at e), same_string)
+element_stops w ms (string k p s) v y f e = string_halts k w _ p s v y (halt_of y f k (string_kind k w v y _ p e)) e
+element_stops w ms (plain x p q) v y (stop_cut c) e = title_not_cut w v x p (rw e at c)
+element_stops w ms (plain x p q) v y (stop_refused r) e = title_refused w v x p (rw e at r)
+element_stops w ms (plain x p q) v y (stop_bad s k l r b z) e = grind (arith, one_title, not_plain)
 
 -- no element begins with opens that halt
 pub element_inside : (w : List ℕ) (ms : List Mark) → IsElement w ms

@@ -7,7 +7,7 @@ use Rattle.ciborium_ll_grammar.specs.TitleRows.{IsTitleKind}
 use Rattle.ciborium_ll_grammar.proofs.hdr.open_header.Goals as goal
 
 -- kinds with no indefinite form
-never_open : (kind : TitleKind) (major : ℕ) 
+never_open : (kind : TitleKind) (major : ℕ)
     → (kind ≡ k.Positive) ⊎ ((kind ≡ k.Negative) ⊎ ((kind ≡ k.Tag) ⊎ (kind ≡ k.Refused))) → IsTitleKind kind major 31
     → IsNeverOpen major
 never_open kind major of is = grind arith
