@@ -38,31 +38,25 @@ pub record Follows (run : List ℕ) (all : List Mark) (x : List ℕ) : Type 0 wh
   pub spelled : run ≡ spelling all → AllByRecursion IsMeant all
       → (word ≡ spelling marks) × AllByRecursion IsMeant marks
 
+follow : {run : List ℕ} {all : List Mark} {x : List ℕ} (word : List ℕ) (marks : List Mark) → IsElement word marks
+    → (rest : List ℕ) → x ≡ word ++ rest → (run ≡ spelling all → AllByRecursion IsMeant all
+    → (word ≡ spelling marks) × AllByRecursion IsMeant marks) → Follows run all x
+follow word marks ok rest is spelled =
+    record { word = word; marks = marks; ok = ok; rest = rest; is = is; spelled = spelled }
+
 -- of two runs in front of one list the longer goes on with an element
 pub follows : (i : ℕ) (u : List ℕ) (ms : List Mark) → IsRun i u ms → (n : ℕ) (w : List ℕ) (ns : List Mark)
     → IsRun n w ns → i < n → (x v : List ℕ) → u ++ x ≡ w ++ v → Follows w ns x
 follows i u ms done n w ns done l x v e = absurd (omega arith)
 follows i u ms (next p r) n w ns done l x v e = absurd (omega arith)
 follows i u ms done n w ns (next {first = a} {rest = b} {marks = os} {others = ps} p r) l x v e =
-    record {
-      word = a;
-      marks = os;
-      ok = p;
-      rest = b ++ v;
-      is = simp append_assoc at e;
-      spelled = λ same meant. ((next_same a b os ps _ p r same).0, meant_left os ps meant);
-    }
+    follow a os p (b ++ v) (simp append_assoc at e)
+    (λ same meant. ((next_same a b os ps _ p r same).0, meant_left os ps meant))
 follows i u ms (next {rest = b} p r) n w ns (next {first = a'} {rest = b'} {marks = os'} {others = ps'} p' r') l x v e =
     let o = one_element _ a' (b ++ x) (b' ++ v) _ os' p p' (simp append_assoc at e) in
     let z = follows _ b _ r _ b' ps' r' (omega arith) x v o.2 in
-    record {
-      word = z.word;
-      marks = z.marks;
-      ok = z.ok;
-      rest = z.rest;
-      is = z.is;
-      spelled = λ same meant. z.spelled (next_same a' b' os' ps' _ p' r' same).1 (meant_right os' ps' meant);
-    }
+    follow z.word z.marks z.ok z.rest z.is
+    (λ same meant. z.spelled (next_same a' b' os' ps' _ p' r' same).1 (meant_right os' ps' meant))
 
 -- what is due can't come
 pub data Stuck : Point → List ℕ → Type 0 where
@@ -106,29 +100,13 @@ pub lenient_misplaced : (k : Kind) (x : Header) → IsRefusedIn false k x → Is
 lenient_misplaced k x (inl f) = f
 lenient_misplaced k x (inr further) = absurd (let on = further.0 in cc)
 
-refused_other : (strict : Bool) (k : Kind) (s t r : List ℕ) (x : Header) → IsTitle t x → IsRefusedIn strict k x
-    → s ≡ t ++ r → Stuck (In k) s ⊎ Refuses strict (In k) s
-refused_other strict k s t r x p (inl f) e = inl (halt k (halt_misplaced r x p f e))
-refused_other strict k s t r x p (inr further) e =
-    inr (nested r further.0 (subst (IsTitle t) further.1 p) e)
+-- why what is due can't come, or is refused
+ruleset reasons = (stop, halt, bad_body, long, nested, stop_cut, stop_refused, halt_cut, halt_refused, halt_misplaced)
 
 -- at a fault what is due can't come, or is refused
 pub stuck_or_refused : (strict : Bool) (u : List ℕ) (ms : List Mark) (at : Point) (s : List ℕ) (a : Answer)
     (out : List ℕ) (c : ℕ) → FirstFault strict u ms at s a out c → Stuck at s ⊎ Refuses strict at s
-stuck_or_refused strict u ms at s a out c f = grind (
-  arith,
-  stop,
-  halt,
-  bad_body,
-  long,
-  nested,
-  stop_cut,
-  stop_refused,
-  halt_cut,
-  halt_refused,
-  halt_misplaced,
-  too_short,
-)
+stuck_or_refused strict u ms at s a out c f = grind (arith, reasons, too_short)
 
 pub stuck : (u : List ℕ) (ms : List Mark) (at : Point) (s : List ℕ) (a : Answer) (out : List ℕ) (c : ℕ)
     → FirstFault false u ms at s a out c → Stuck at s
