@@ -17,6 +17,7 @@ use Rattle.ciborium_ll_grammar.specs.Values.{in_pieces, segments, HasFewestSegme
 use Rattle.ciborium_ll_text.proofs.Lists.{same_front}
 use Rattle.ciborium_ll_grammar.proofs.TitleLaws.{IsTitle-shortest}
 use Rattle.ciborium_ll_grammar.proofs.ElementLaws.{open_spelled, bytes_writable}
+use Rattle.ciborium_ll_grammar.proofs.AloneLaws.{open_in_range}
 use Rattle.ciborium_ll_text.proofs.CutLaws.{fewest, one_full}
 use Rattle.ciborium_ll_text.proofs.FullCutLaws.{full_cut}
 
@@ -24,10 +25,8 @@ use Rattle.ciborium_ll_text.proofs.FullCutLaws.{full_cut}
 
 -- a piece as long as the limit, in front of pieces
 pub full_piece_first : (limit : ℕ) (piece : List ℕ) (members : List (List ℕ)) → length piece ≡ limit
-    → AreFullPieces limit members
-    → AreFullPieces limit (piece ∷ members)
-full_piece_first limit piece [] l c = absurd c
-full_piece_first limit piece (following ∷ others) l c = (l, c)
+    → AreFullPieces limit members → AreFullPieces limit (piece ∷ members)
+full_piece_first limit piece members l c = grind arith
 
 -- bytes have pieces, by their length
 full_pieces_of : (fuel limit : ℕ) (value : List ℕ) → length value < fuel → 0 < length value → 0 < limit
@@ -36,15 +35,11 @@ full_pieces_of zero limit value l some one = absurd (omega arith)
 full_pieces_of (suc fuel) limit value l some one =
     elim (cases_lt limit (length value)) [
       | inl longer ↦
-          (let rest = drop limit value in
-          let c = full_pieces_of fuel limit rest (omega (arith, length-drop limit value))
-          (omega (arith, length-drop limit value)) one in
-          let all = c.1 in (
+          (let c = full_pieces_of fuel limit (drop limit value) (omega (arith, length-drop limit value))
+          (omega (arith, length-drop limit value)) one in (
             take limit value ∷ c.0,
-            (
-              sym (take-append-drop limit value) ∙ ap (λ (z : List ℕ). take limit value ++ z) all.0,
-              full_piece_first limit (take limit value) c.0 (length-take-le limit value (omega arith)) all.1,
-            ),
+            (sym (take-append-drop limit value) ∙ ap (λ (z : List ℕ). take limit value ++ z) c.1.0,
+            full_piece_first limit _ c.0 (length-take-le limit value (omega arith)) c.1.1),
           ))
       | inr fits ↦ (value ∷ [], (sym (append-nil value), (some, fits)))
     ]
@@ -59,35 +54,28 @@ byte_pieces value limit some one = full_pieces_of (suc (length value)) limit val
 -- pieces joined aren't empty
 full_piece_some : (limit : ℕ) (piece : List ℕ) (members : List (List ℕ)) → AreFullPieces limit (piece ∷ members)
     → 0 < length (joined (piece ∷ members))
-full_piece_some limit piece [] c = let l = c.0 in omega (arith, length-append piece [])
-full_piece_some limit piece (x ∷ xs) c = let l = full_piece_some limit x xs c.1 in
-    omega (arith, length-append piece (joined (x ∷ xs)))
+full_piece_some limit piece [] c = omega (arith, c.0, length-append piece [])
+full_piece_some limit piece (x ∷ xs) c =
+    omega (arith, full_piece_some limit x xs c.1, length-append piece (joined (x ∷ xs)))
 
 -- bytes have one list of pieces
 same_full_pieces : (limit : ℕ) (cs ds : List (List ℕ)) → AreFullPieces limit cs → AreFullPieces limit ds
     → joined cs ≡ joined ds → cs ≡ ds
 same_full_pieces limit [] ds a b e = absurd a
 same_full_pieces limit (c ∷ []) [] a b e = absurd b
-same_full_pieces limit (c ∷ []) (d ∷ []) a b e =
-    let same : c ≡ d = sym (append-nil c) ∙ (e ∙ append-nil d) in
-    ap (λ (z : List ℕ). z ∷ []) same
-same_full_pieces limit (c ∷ []) (d ∷ x ∷ ds) a b e =
-    let some = full_piece_some limit x ds b.1 in
-    absurd (omega (arith, a, b.0, some, ap length e, length-append c [], length-append d (x ++ joined ds)))
+same_full_pieces limit (c ∷ []) (d ∷ []) a b e = cc (append-nil c, append-nil d)
+same_full_pieces limit (c ∷ []) (d ∷ x ∷ ds) a b e = absurd (grind
+    (arith, full_piece_some limit x ds b.1, ap length e, length-append {A = ℕ}))
 same_full_pieces limit (c ∷ y ∷ cs) [] a b e = absurd b
-same_full_pieces limit (c ∷ y ∷ cs) (d ∷ []) a b e =
-    let some = full_piece_some limit y cs a.1 in
-    absurd (omega (arith, b, a.0, some, ap length e, length-append d [], length-append c (y ++ joined cs)))
+same_full_pieces limit (c ∷ y ∷ cs) (d ∷ []) a b e = absurd (grind
+    (arith, full_piece_some limit y cs a.1, ap length e, length-append {A = ℕ}))
 same_full_pieces limit (c ∷ y ∷ cs) (d ∷ x ∷ ds) a b e =
-    let f = same_front c d (y ++ joined cs) (x ++ joined ds) (a.0 ∙ sym b.0) e in
-    let heads : c ≡ d = f.0 in
-    let tails : y ∷ cs ≡ x ∷ ds = same_full_pieces limit (y ∷ cs) (x ∷ ds) a.1 b.1 f.1 in
-    cc (heads, tails)
+    let f = same_front c d _ _ (a.0 ∙ sym b.0) e in
+    cc (f.0, same_full_pieces limit (y ∷ cs) (x ∷ ds) a.1 b.1 f.1)
 
 -- a value has one list of pieces
 same_pieces : (k : Kind) (limit : ℕ) (value : List ℕ) (cs ds : List (List ℕ)) → ArePieces k limit value cs
-    → ArePieces k limit value ds
-    → cs ≡ ds
+    → ArePieces k limit value ds → cs ≡ ds
 same_pieces Bytes limit value cs ds p q = same_full_pieces limit cs ds p.1 q.1 (sym p.0 ∙ q.0)
 same_pieces Text limit value cs ds p q = one_full value limit cs ds p q
 
@@ -95,8 +83,7 @@ same_pieces Text limit value cs ds p q = one_full value limit cs ds p q
 
 -- a value is written in one way
 pub one_writing : (k : Kind) (limit : ℕ) (value : List ℕ) (ms ns : List Mark) → IsWritten k limit value ms
-    → IsWritten k limit value ns
-    → ms ≡ ns
+    → IsWritten k limit value ns → ms ≡ ns
 one_writing k limit value ms ns (in_one l) (in_one m) = refl
 one_writing k limit value ms ns (in_one l) (in_pieces ds m q) = absurd (omega arith)
 one_writing k limit value ms ns (in_pieces cs l p) (in_one m) = absurd (omega arith)
@@ -105,8 +92,7 @@ one_writing k limit value ms ns (in_pieces cs l p) (in_pieces ds m q) =
 
 -- a value longer than the limit has pieces
 pub pieces_exist : (k : Kind) (limit : ℕ) (value : List ℕ) → least_limit k ≤ limit → IsWritable k value
-    → limit < length value
-    → (members : List (List ℕ)) × ArePieces k limit value members
+    → limit < length value → (members : List (List ℕ)) × ArePieces k limit value members
 pieces_exist Bytes limit value l s m = byte_pieces value limit (omega arith) l
 pieces_exist Text limit value l s m = full_cut value limit s l
 
@@ -122,15 +108,9 @@ some_writing k limit value l s =
 -- ---- it is an element
 
 -- the shortest title of a string of a length is a title
-title_of_length : (k : Kind) (n : ℕ) → n < 2 ^ 64 → IsTitle (shortest_title (kind_header k (Some n)))
-    (kind_header k (Some n))
-title_of_length Bytes n p = IsTitle-shortest (h.Bytes (Some n)) p
-title_of_length Text n p = IsTitle-shortest (h.Text (Some n)) p
-
--- the open of a kind is a title
-open_title : (k : Kind) → IsTitle (shortest_title (kind_header k None)) (kind_header k None)
-open_title Bytes = IsTitle-shortest (h.Bytes None) tt
-open_title Text = IsTitle-shortest (h.Text None) tt
+title_of_length : (k : Kind) (n : ℕ) → n < 2 ^ 64
+    → IsTitle (shortest_title (kind_header k (Some n))) (kind_header k (Some n))
+title_of_length k n p = IsTitle-shortest (kind_header k (Some n)) (grind arith)
 
 -- the spelling of pieces are strings with these bodies
 piece_strings : (k : Kind) (members : List (List ℕ)) → length (joined members) < 2 ^ 64
@@ -154,17 +134,14 @@ sound_pieces Text limit value members p = (p.cut.whole, text_members limit membe
 
 -- what is written is one element
 pub written_element : (k : Kind) (limit : ℕ) (value : List ℕ) (ms : List Mark) → IsWritten k limit value ms
-    → IsWritable k value
-    → length value < 2 ^ 64 → IsElement (spelling ms) ms
+    → IsWritable k value → length value < 2 ^ 64 → IsElement (spelling ms) ms
 written_element k limit value ms (in_one l) s n =
-    let x = shortest_title (kind_header k (Some (length value))) in
-    subst (λ (z : List ℕ). IsElement z (Whole k value ∷ [])) (sym (append-nil (x ++ value)))
-    (string k (definite (title_of_length k (length value) n)) (s, tt))
+    rw append-nil (string k (definite (title_of_length k (length value) n)) (s, tt))
 written_element k limit value ms (in_pieces members l p) s n =
     let q = sound_pieces k limit value members p in
     let len = ap length q.0 in
-    subst (λ (z : List ℕ). IsElement z (open_marks k members)) (sym (open_spelled k members))
-    (string k (indefinite (open_title k) (piece_strings k members (omega arith))) q.1)
+    let open_title = IsTitle-shortest (kind_header k None) (open_in_range k) in
+    rw open_spelled (string k (indefinite open_title (piece_strings k members (omega arith))) q.1)
 
 -- ---- fewest segments
 
@@ -180,8 +157,7 @@ some_members text (x ∷ xs) some e = omega arith
 
 -- the segments of a text are texts, and no cut has fewer members
 pub fewest_segments : (limit : ℕ) (text : List ℕ) (ms : List Mark) → IsWritten Text limit text ms
-    → IsCharacters text → 0 < length text
-    → HasFewestSegments limit text ms
+    → IsCharacters text → 0 < length text → HasFewestSegments limit text ms
 fewest_segments limit text ms (in_one l) u some =
     record {
       cut = record { whole = sym (append-nil text); each = ((u, l), tt) };
@@ -193,6 +169,5 @@ fewest_segments limit text ms (in_pieces members l p) u some =
     record {
       cut = subst (IsCut text limit) same p.cut;
       nonempty = subst (AllByRecursion IsNonempty) same p.nonempty;
-      fewest = λ others c. subst (λ (z : List (List ℕ)). length z ≤ length others) same
-          (fewest text limit members others p c);
+      fewest = λ others c. rw segments_of_pieces (fewest text limit members others p c);
     }
