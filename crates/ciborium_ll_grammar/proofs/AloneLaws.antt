@@ -1,12 +1,11 @@
 -- Titles of one byte: what minor 31 means.
 use Rattle.std.specs.Prelude.{is_none}
-use Rattle.std.proofs.Common.{◌≡◌, ℕ, ◌<◌, Bool, true, false, List, length, None, refl, ap, inl, inr, arith}
+use Rattle.std.proofs.Common.{◌≡◌, ℕ, ◌<◌, Bool, true, false, List, length, None, arith}
 use Rattle.ciborium_ll_grammar.specs.declared.hdr.Header.{Header}
 use Rattle.ciborium_ll_grammar.specs.declared.hdr.Header.TheVariants as h
-use Rattle.ciborium_ll_grammar.specs.Title.{Major, Unsigned, Negative, ByteString, TextString, Array, Map, Tag, Other}
-use Rattle.ciborium_ll_grammar.specs.Title.{Size, Small, One, Two, Four, Eight, IsTitle, numbered, alone}
-use Rattle.ciborium_ll_grammar.specs.Title.{numbered_header, shortest_title, IsInRange}
-use Rattle.ciborium_ll_grammar.specs.Strings.{Kind, Bytes, Text, kind_header}
+use Rattle.ciborium_ll_grammar.specs.Title.{Major, Size, IsTitle, numbered, alone, numbered_header, shortest_title}
+use Rattle.ciborium_ll_grammar.specs.Title.{IsInRange}
+use Rattle.ciborium_ll_grammar.specs.Strings.{Kind, kind_header}
 use Rattle.ciborium_ll_grammar.proofs.TitleLaws.{shortest_or_longer, shortest_some}
 use Rattle.ciborium_ll_grammar.proofs.AffixLaws.{announced}
 

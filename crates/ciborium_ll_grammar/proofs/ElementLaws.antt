@@ -1,16 +1,16 @@
 -- Elements begin no other one; their spelling is an element again, and no longer.
-use Rattle.std.proofs.Common.{◌≡◌, ℕ, suc, ◌≤◌, List, [], ◌∷◌, ◌++◌, length, Option, Some, None, refl, sym, ap, subst}
-use Rattle.std.proofs.Common.{◌∙◌, append_assoc, inl, inr, arith}
+use Rattle.std.proofs.Common.{◌≡◌, ℕ, ◌≤◌, List, [], ◌∷◌, ◌++◌, length, Option, None, refl, sym, ap, ◌∙◌, append_assoc}
+use Rattle.std.proofs.Common.{inl, inr, arith}
 use Rattle.std.proofs.lemmas.List.{append-nil, length-append}
 use Rattle.ciborium_ll_grammar.specs.declared.hdr.Header.{Header}
 use Rattle.ciborium_ll_grammar.specs.Title.{IsTitle, shortest_title}
-use Rattle.ciborium_ll_grammar.specs.Strings.{Kind, Bytes, Text, kind_header, IsString, AreStrings, none, more}
+use Rattle.ciborium_ll_grammar.specs.Strings.{Kind, Bytes, kind_header, IsString, AreStrings, none, more}
 use Rattle.ciborium_ll_grammar.specs.Strings.IsString.{definite, indefinite}
-use Rattle.ciborium_ll_grammar.specs.Elements.{AreWritable, Mark, Plain, Whole, Open, Piece, Close, IsPlain}
-use Rattle.ciborium_ll_grammar.specs.Elements.{mark_spelling, spelling, pieces, IsElement, plain, string, IsRun, done}
-use Rattle.ciborium_ll_grammar.specs.Elements.{next}
+use Rattle.ciborium_ll_grammar.specs.Elements.{AreWritable, Mark, Open, Piece, Close, IsPlain, mark_spelling, spelling}
+use Rattle.ciborium_ll_grammar.specs.Elements.{pieces, IsElement, plain, string, IsRun, done, next}
 use Rattle.ciborium_ll_text.proofs.Lists.{same_front}
-use Rattle.ciborium_ll_grammar.proofs.TitleLaws.{one_title, title_in_range, IsTitle-shortest, shortest_or_longer, LeastOr}
+use Rattle.ciborium_ll_grammar.proofs.TitleLaws.{one_title, title_in_range, IsTitle-shortest, shortest_or_longer}
+use Rattle.ciborium_ll_grammar.proofs.TitleLaws.{LeastOr}
 use Rattle.ciborium_ll_grammar.proofs.StringLaws.{one_strings_then}
 pub use Rattle.ciborium_ll_grammar.proofs.StringLaws.{string_fronts}
 

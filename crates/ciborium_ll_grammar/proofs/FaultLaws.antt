@@ -1,17 +1,15 @@
 -- At a fault what is due can't come, or is refused where only the shortest spelling is taken.
-use Rattle.std.proofs.Common.{◌≡◌, ℕ, ◌<◌, ◌⊎◌, Bool, true, false, List, ◌++◌, length, None, refl, sym, subst, ◌∙◌, []}
-use Rattle.std.proofs.Common.{◌∷◌, ap, append_assoc, length-append, arith, inl, inr}
+use Rattle.std.proofs.Common.{◌≡◌, ℕ, ◌<◌, ◌⊎◌, Bool, true, false, List, ◌++◌, length, None, refl, sym, ◌∙◌, [], ◌∷◌}
+use Rattle.std.proofs.Common.{append_assoc, length-append, arith, inl, inr}
 use Rattle.ciborium_ll_grammar.specs.declared.hdr.Header.{Header}
 use Rattle.ciborium_ll_grammar.specs.Title.{IsTitle}
 use Rattle.ciborium_ll_grammar.specs.Strings.{Kind, Bytes, Text, kind_header, IsMisplaced}
 use Rattle.std.specs.List.{AllByRecursion}
 use Rattle.ciborium_ll_grammar.specs.Elements.{Mark, spelling, IsElement, IsRun, done, next, IsMeant}
 use Rattle.ciborium_ll_grammar.specs.Faults.{Point, Due, In, BodyDue, Reaches, due, inside, body, body_inside, Answer}
-use Rattle.ciborium_ll_grammar.specs.Faults.{IsAtTitle, IsRefusedIn, FirstFault, CutTitle, NoTitle, LongTitle}
-use Rattle.ciborium_ll_grammar.specs.Faults.{OtherTitle, DamagedText, CutBody, CutDamagedText}
+use Rattle.ciborium_ll_grammar.specs.Faults.{IsAtTitle, IsRefusedIn, FirstFault}
 use Rattle.ciborium_ll_grammar.specs.Items.{IsTakenTitle}
 use Rattle.ciborium_ll_grammar.proofs.ElementLaws.{one_element, least_element, least_run, spelling-append}
-use Rattle.ciborium_ll_text.proofs.Lists.{same_front}
 use Rattle.ciborium_ll_grammar.proofs.HaltLaws.{IsBad, Halt, halt_cut, halt_refused, halt_misplaced, halt_bad, opens_of}
 use Rattle.ciborium_ll_grammar.proofs.HaltLaws.{Stop, stop_cut, stop_refused, stop_bad, element_stops, element_inside}
 
@@ -35,8 +33,7 @@ pub record Follows (run : List ℕ) (all : List Mark) (x : List ℕ) : Type 0 wh
   pub ok : IsElement word marks
   pub rest : List ℕ
   pub is : x ≡ word ++ rest
-  pub spelled : run ≡ spelling all → AllByRecursion IsMeant all
-      → (word ≡ spelling marks) × AllByRecursion IsMeant marks
+  pub spelled : run ≡ spelling all → AllByRecursion IsMeant all → (word ≡ spelling marks) × AllByRecursion IsMeant marks
 
 follow : {run : List ℕ} {all : List Mark} {x : List ℕ} (word : List ℕ) (marks : List Mark) → IsElement word marks
     → (rest : List ℕ) → x ≡ word ++ rest → (run ≡ spelling all → AllByRecursion IsMeant all

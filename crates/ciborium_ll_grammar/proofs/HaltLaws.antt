@@ -1,6 +1,6 @@
 -- Places where no string and no element goes on.
-use Rattle.std.proofs.Common.{◌≡◌, ℕ, ◌<◌, ◌⊎◌, List, [], ◌∷◌, ◌++◌, length, take, Option, Some, None, refl, sym, ap}
-use Rattle.std.proofs.Common.{subst, ◌∙◌, append_assoc, arith, inl, inr}
+use Rattle.std.proofs.Common.{◌≡◌, ℕ, ◌<◌, ◌⊎◌, List, [], ◌∷◌, ◌++◌, length, take, Option, Some, None, refl, sym, ◌∙◌}
+use Rattle.std.proofs.Common.{append_assoc, arith}
 use Rattle.std.proofs.lemmas.List.{length-append, take_at}
 use Rattle.ciborium_ll_grammar.specs.declared.hdr.Header.{Header}
 use Rattle.ciborium_ll_grammar.specs.declared.hdr.Header.TheVariants as h
@@ -9,7 +9,7 @@ use Rattle.ciborium_ll_grammar.specs.Strings.{Kind, Bytes, Text, kind_header, Is
 use Rattle.ciborium_ll_grammar.specs.Strings.{IsMisplaced, IsWritable}
 use Rattle.ciborium_ll_grammar.specs.Strings.IsString.{definite, indefinite}
 use Rattle.ciborium_ll_text.specs.Text.{IsCharacters}
-use Rattle.ciborium_ll_grammar.specs.Elements.{AreWritable, Mark, IsElement, plain, string, IsPlain}
+use Rattle.ciborium_ll_grammar.specs.Elements.{AreWritable, Mark, IsElement, plain, string}
 use Rattle.ciborium_ll_grammar.specs.Faults.{IsInside, opened, deeper}
 use Rattle.ciborium_ll_grammar.proofs.TitleLaws.{one_title, title_refused}
 use Rattle.ciborium_ll_grammar.proofs.AffixLaws.{title_not_cut}
@@ -75,8 +75,7 @@ pub data Opens (k : Kind) : List ℕ → List (List ℕ) → Type 0 where
 
 -- opens behind opens
 opens-append : (k : Kind) (u : List ℕ) (bs : List (List ℕ)) → Opens k u bs → (v : List ℕ) (cs : List (List ℕ))
-    → Opens k v cs
-    → Opens k (u ++ v) (bs ++ cs)
+    → Opens k v cs → Opens k (u ++ v) (bs ++ cs)
 opens-append k u bs (last p s) v cs c = link p s c
 opens-append k u bs (link {t} {w} {u = x} {bs = ds} {cs = es} p s d) v cs c =
     rw (append_assoc (t ++ w) x v, append_assoc ds es cs) (link p s (opens-append k x es d v cs c))

@@ -1,5 +1,5 @@
 -- What is its own shortest spelling: how it goes on.
-use Rattle.std.proofs.Common.{◌≡◌, ℕ, List, [], ◌∷◌, ◌++◌, refl, sym, ap, ◌∙◌, append-nil}
+use Rattle.std.proofs.Common.{◌≡◌, ℕ, List, [], ◌∷◌, ◌++◌, refl, ◌∙◌, append-nil}
 use Rattle.std.specs.List.{AllByRecursion}
 use Rattle.ciborium_ll_grammar.specs.Strings.{Kind}
 use Rattle.ciborium_ll_grammar.specs.Elements.{Mark, Close, pieces, open_marks, spelling, IsMeant, IsStrictSpelling}
@@ -29,15 +29,11 @@ pub spelled_then : (bytes : List ℕ) (marks : List Mark) (more : List ℕ) (oth
     → IsStrictSpelling bytes marks [] → more ≡ spelling others → AllByRecursion IsMeant others
     → IsStrictSpelling (bytes ++ more) (marks ++ others) []
 spelled_then bytes marks more others s e meant = record {
-  same = ap (λ (z : List ℕ). z ++ more) (spelled_alone bytes marks s) ∙ ap (λ (z : List ℕ). spelling marks ++ z) e
-      ∙ sym (spelling-append marks others) ∙ sym (append-nil (spelling (marks ++ others)));
+  same = simp (append-nil, spelling-append) (cc (spelled_alone bytes marks s));
   meant = meant_append marks others s.meant meant;
 }
 
 -- a title of a body more
 pub spelled_title : (bytes : List ℕ) (marks : List Mark) (title more : List ℕ) → IsStrictSpelling bytes marks []
     → title ≡ more → IsStrictSpelling (bytes ++ title) marks more
-spelled_title bytes marks title more s e = record {
-  same = ap (λ (z : List ℕ). z ++ title) (spelled_alone bytes marks s) ∙ ap (λ (z : List ℕ). spelling marks ++ z) e;
-  meant = s.meant;
-}
+spelled_title bytes marks title more s e = record { same = cc (spelled_alone bytes marks s); meant = s.meant }

@@ -1,5 +1,5 @@
 -- The steps of a loop over titles.
-use Rattle.std.proofs.Common.{ℕ, zero, suc, List, [], ◌∷◌, ◌++◌, None, subst, append_assoc}
+use Rattle.std.proofs.Common.{ℕ, zero, suc, List, [], ◌∷◌, ◌++◌, None, append_assoc}
 use Rattle.std.proofs.lemmas.List.{append-nil}
 use Rattle.ciborium_ll_grammar.specs.Title.{IsTitle}
 use Rattle.ciborium_ll_grammar.specs.Strings.{Kind, kind_header, IsString, indefinite, AreStrings, none, more}
@@ -12,10 +12,7 @@ use Rattle.ciborium_ll_grammar.proofs.ElementLaws.{AreStrings-append}
 -- a string behind strings
 AreStrings-add : (k : Kind) (w v : List ℕ) (bs cs : List (List ℕ)) → AreStrings k w bs → IsString k v cs
     → AreStrings k (w ++ v) (bs ++ cs)
-AreStrings-add k w v bs cs s p =
-    subst (λ (z : List (List ℕ)). AreStrings k (w ++ v) (bs ++ z)) (append-nil cs)
-    (subst (λ (z : List ℕ). AreStrings k (w ++ z) (bs ++ (cs ++ []))) (append-nil v)
-    (AreStrings-append k w bs s (v ++ []) (cs ++ []) (more p none)))
+AreStrings-add k w v bs cs s p = simp append-nil at (AreStrings-append k w bs s (v ++ []) (cs ++ []) (more p none))
 
 -- counted opens that aren't closed are opens that aren't closed
 pub counted : (k : Kind) (j : ℕ) (u : List ℕ) (bs : List (List ℕ)) → IsInsideAt k j u bs → IsInside k u bs
@@ -33,11 +30,8 @@ add_string k j u w bs cs (more_open {outer = y} {title = t} {strings = x} {bodie
 
 -- an open within a string
 pub add_open : (k : Kind) (j : ℕ) (u t : List ℕ) (bs : List (List ℕ)) → IsInsideAt k j u bs
-    → IsTitle t (kind_header k None)
-    → IsInsideAt k (suc j) (u ++ t) bs
-add_open k j u t bs i p =
-    subst (λ (z : List (List ℕ)). IsInsideAt k (suc j) (u ++ t) z) (append-nil bs)
-    (subst (λ (z : List ℕ). IsInsideAt k (suc j) (u ++ z) (bs ++ [])) (append-nil t) (more_open i p none))
+    → IsTitle t (kind_header k None) → IsInsideAt k (suc j) (u ++ t) bs
+add_open k j u t bs i p = simp append-nil at (more_open i p none)
 
 -- some open is not closed
 pub never : (k : Kind) (u : List ℕ) (bs : List (List ℕ)) → IsInsideAt k zero u bs → ⊥
@@ -60,8 +54,6 @@ close_last k u bs (more_open {outer = y} {bodies = ds} i p s) ok = absurd (never
 -- an element behind a run
 pub add_element : (n : ℕ) (u : List ℕ) (ms : List Mark) → IsRun n u ms → (w : List ℕ) (ns : List Mark) → IsElement w ns
     → IsRun (suc n) (u ++ w) (ms ++ ns)
-add_element n u ms done w ns e =
-    subst (λ (z : List Mark). IsRun (suc zero) w z) (append-nil ns)
-    (subst (λ (z : List ℕ). IsRun (suc zero) z (ns ++ [])) (append-nil w) (next e done))
-add_element n u ms (next {count = m} {first = a} {rest = b} {marks = os} {others = ps} p r) w ns e =
-    rw (append_assoc a b w, append_assoc os ps ns) (next p (add_element m b ps r w ns e))
+add_element n u ms done w ns e = simp append-nil at (next e done)
+add_element n u ms (next {first = a} {rest = b} {marks = os} {others = ps} p r) w ns e =
+    rw (append_assoc a b w, append_assoc os ps ns) (next p (add_element _ b ps r w ns e))

@@ -1,22 +1,22 @@
 -- A fault and a run of enough elements exclude each other.
 use Rattle.std.proofs.Common.{◌≡◌, ℕ, ◌+◌, ◌≤◌, Bool, true, false, List, [], ◌∷◌, ◌++◌, length, Option, Some, None}
-use Rattle.std.proofs.Common.{refl, sym, ap, subst, inl, inr, ◌∙◌, arith, append_assoc, append-nil, length-append}
+use Rattle.std.proofs.Common.{refl, sym, ap, inl, inr, ◌∙◌, arith, append_assoc, append-nil, length-append}
 use Rattle.std.specs.List.{AllByRecursion}
 use Rattle.ciborium_ll_grammar.specs.declared.hdr.Header.{Header}
 use Rattle.ciborium_ll_grammar.specs.declared.hdr.Header.TheVariants as h
 use Rattle.ciborium_ll_grammar.specs.Title.{IsTitle, IsSmallSimple, IsStrictTitle, shortest_title, title_len}
-use Rattle.ciborium_ll_grammar.specs.Strings.{Kind, Bytes, Text, kind_header, IsString, AreStrings, none, more}
+use Rattle.ciborium_ll_grammar.specs.Strings.{Kind, kind_header, IsString, AreStrings, none, more}
 use Rattle.ciborium_ll_grammar.specs.Strings.IsString.{definite, indefinite}
-use Rattle.ciborium_ll_grammar.specs.Elements.{Mark, Whole, Open, pieces, spelling, IsElement, plain, string, IsPlain, IsRun}
+use Rattle.ciborium_ll_grammar.specs.Elements.{Mark, Whole, Open, pieces, spelling, IsElement, plain, string, IsRun}
 use Rattle.ciborium_ll_grammar.specs.Elements.{IsMeant, IsStrictSpelling, IsStrictRun}
 use Rattle.ciborium_ll_grammar.specs.Faults.{Point, Due, In, BodyDue, IsAtTitle, IsInside, opened, deeper, Reaches, due}
 use Rattle.ciborium_ll_grammar.specs.Faults.{inside, body, body_inside, due_title, RunInFront, HasFault}
 use Rattle.ciborium_ll_text.proofs.Lists.{same_front}
 use Rattle.ciborium_ll_grammar.proofs.TitleLaws.{one_title, shortest_no_longer, IsTitle-shortest}
 use Rattle.ciborium_ll_grammar.proofs.StringLaws.{same_string, not_break, break_title}
-use Rattle.ciborium_ll_grammar.proofs.ElementLaws.{not_plain, string_fronts, AreStrings-append, pieces-append}
-use Rattle.ciborium_ll_grammar.proofs.ElementLaws.{spelling-append, pieces_spelled, respell_one, respell_all, open_spelled, least_run}
-use Rattle.ciborium_ll_grammar.proofs.AloneLaws.{alone_bytes, open_alone, open_length, open_in_range, title_some}
+use Rattle.ciborium_ll_grammar.proofs.ElementLaws.{not_plain, string_fronts, AreStrings-append, spelling-append}
+use Rattle.ciborium_ll_grammar.proofs.ElementLaws.{pieces_spelled, respell_one, respell_all, open_spelled, least_run}
+use Rattle.ciborium_ll_grammar.proofs.AloneLaws.{alone_bytes, open_alone, open_in_range}
 use Rattle.ciborium_ll_grammar.proofs.SpelledLaws.{spelled_alone}
 use Rattle.ciborium_ll_grammar.proofs.TightLaws.{tight_title}
 use Rattle.ciborium_ll_grammar.proofs.HaltLaws.{goes_on}
@@ -69,9 +69,10 @@ IsInner k t x = IsStrictTitle t x × (x ≡ kind_header k None → ⊥)
 inner_string : (k : Kind) (a : List ℕ) (cs : List (List ℕ)) → IsString k a cs → IsTight k a cs → (t r q : List ℕ)
     (x : Header) → IsTitle t x → t ++ r ≡ a ++ q → IsInner k t x
 inner_string k a cs (definite {title = y} {body = b} p) l t r q x c e =
-    let o = one_title t y r (b ++ q) x _ c p (simp append_assoc at e) in
-    (record { shortest = o.0 ∙ string_first k y b p l ∙ ap shortest_title (sym o.1); meant = rw o.1 (kind_meant k _) },
-    λ same. grind (arith, same_string))
+    let o = one_title t y r (b ++ q) x _ c p (simp append_assoc at e) in (
+      record { shortest = o.0 ∙ string_first k y b p l ∙ ap shortest_title (sym o.1); meant = rw o.1 (kind_meant k _) },
+      λ same. grind (arith, same_string),
+    )
 inner_string k a cs (indefinite {strings = z} p s) l t r q x c e =
     let n = (respell_all k z cs s).shorter in
     absurd (omega (arith, ap length l, length-append {A = ℕ}))
@@ -115,13 +116,17 @@ element_goes w ms (string j (indefinite {title = z} {strings = a} {bodies = cs} 
     inner_title k z.strings z.bodies z.ok z.holds t r q x c z.is
 
 -- what is inside a string behind elements is its spelling, where all of it is
-inside_same : (i : ℕ) (k : Kind) (a b : List ℕ) (os : List Mark) (bs : List (List ℕ)) → IsRun i a os
-    → IsInside k b bs → a ++ b ≡ spelling (os ++ Open k ∷ pieces k bs)
-    → b ≡ shortest_title (kind_header k None) ++ spelling (pieces k bs)
+inside_same : (i : ℕ) (k : Kind) (a b : List ℕ) (os : List Mark) (bs : List (List ℕ)) → IsRun i a os → IsInside k b bs
+    → a ++ b ≡ spelling (os ++ Open k ∷ pieces k bs) → b ≡ shortest_title (kind_header k None) ++ spelling (pieces k bs)
 inside_same i k a b os bs r n e =
     let s = e ∙ spelling-append os (Open k ∷ pieces k bs) in
-    (same_front a (spelling os) b _ (grind (arith, least_run i a os r, inside_shorter k b bs n, ap length s,
-    length-append {A = ℕ})) s).1
+    (same_front a (spelling os) b _ (grind (
+      arith,
+      least_run i a os r,
+      inside_shorter k b bs n,
+      ap length s,
+      length-append {A = ℕ},
+    )) s).1
 
 -- ---- a beginning of a strict run, and a title behind it
 

@@ -1,9 +1,8 @@
 -- No string begins another one.
-use Rattle.std.proofs.Common.{◌≡◌, ℕ, List, [], ◌∷◌, ◌++◌, length, Option, Some, None, refl, sym, ◌∙◌, append_assoc, arith}
+use Rattle.std.proofs.Common.{◌≡◌, ℕ, List, [], ◌∷◌, ◌++◌, Option, Some, None, refl, append_assoc, arith}
 use Rattle.ciborium_ll_grammar.specs.declared.hdr.Header.TheVariants as h
 use Rattle.ciborium_ll_grammar.specs.Title.{IsTitle, Other, alone}
-use Rattle.ciborium_ll_grammar.specs.Strings.{Kind, Bytes, Text, kind_header, IsString, definite, indefinite}
-use Rattle.ciborium_ll_grammar.specs.Strings.{AreStrings, none, more}
+use Rattle.ciborium_ll_grammar.specs.Strings.{Kind, kind_header, IsString, definite, indefinite, AreStrings, none, more}
 use Rattle.ciborium_ll_text.proofs.Lists.{same_front}
 use Rattle.ciborium_ll_grammar.proofs.TitleLaws.{one_title}
 
@@ -72,12 +71,10 @@ mutual
 
 -- no string begins another one, and each has one list of bodies
 pub one_string : (k : Kind) (w w' v v' : List ℕ) (bs bs' : List (List ℕ)) → IsString k w bs → IsString k w' bs'
-    → w ++ v ≡ w' ++ v'
-    → SameString w w' bs bs' v v'
+    → w ++ v ≡ w' ++ v' → SameString w w' bs bs' v v'
 one_string k w w' v v' bs bs' p p' e = one_str k w bs p w' bs' p' v v' e
 
 -- strings in front of a break are the only ones, with one list of bodies
 pub one_strings_then : (k : Kind) (w w' v v' : List ℕ) (bs bs' : List (List ℕ)) → AreStrings k w bs
-    → AreStrings k w' bs'
-    → w ++ 0xff ∷ v ≡ w' ++ 0xff ∷ v' → SameString w w' bs bs' v v'
+    → AreStrings k w' bs' → w ++ 0xff ∷ v ≡ w' ++ 0xff ∷ v' → SameString w w' bs bs' v v'
 one_strings_then k w w' v v' bs bs' p p' e = one_strs k w bs p w' bs' p' v v' e

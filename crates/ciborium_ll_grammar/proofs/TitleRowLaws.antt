@@ -1,16 +1,13 @@
 -- The table says of each first byte what the definition of titles says.
-use Rattle.std.proofs.Common.{◌≡◌, ℕ, ◌/◌, ◌%◌, ◌<◌, Bool, true, not, ◌&&◌, ◌||◌, eqb, ltb, leb, get_or, refl, inl, inr}
-use Rattle.std.proofs.Common.{eqb-true, ltb-true, leb-true, eq-eqb}
-use Rattle.std.proofs.lemmas.Bool.{agree_below_at, and_parts, or_cases, or_right, le-leb, not-true, both_ways}
+use Rattle.std.proofs.Common.{◌≡◌, ℕ, ◌/◌, ◌%◌, ◌<◌, Bool, true, not, ◌&&◌, ◌||◌, eqb, ltb, leb, get_or, refl, arith}
+use Rattle.std.proofs.lemmas.Bool.{agree_below_at, and_parts}
 use Rattle.ciborium_ll_grammar.specs.declared.hdr.table.Row.{Row}
 use Rattle.ciborium_ll_grammar.specs.declared.hdr.table.TitleKind.{TitleKind}
 use Rattle.ciborium_ll_grammar.specs.declared.hdr.table.TitleKind.TheVariants as k
 use Rattle.ciborium_ll_grammar.specs.declared.hdr.table.Affix.{Affix}
 use Rattle.ciborium_ll_grammar.specs.declared.hdr.table.Affix.TheVariants as a
 use Rattle.ciborium_ll_grammar.specs.declared.hdr.table.TheConstants.{ROWS, POSITIVE}
-use Rattle.ciborium_ll_grammar.specs.Title.{IsReserved, IsNeverOpen, NamesNoTitle}
-use Rattle.ciborium_ll_grammar.specs.TitleRows.{IsAffix, IsTitleKind, IsRow, NamesTitle}
-use Rattle.std.proofs.Common.{arith}
+use Rattle.ciborium_ll_grammar.specs.TitleRows.{IsAffix, IsTitleKind, IsRow}
 use Rattle.std.proofs.lemmas.Bool.Decides.{nat_tests}
 
 -- the definitions as tests

@@ -4,7 +4,6 @@ use Rattle.std.proofs.Common.{refl, sym, ap, ◌∙◌, subst, inl, inr, arith}
 use Rattle.std.proofs.lemmas.Bool.{cases_lt}
 use Rattle.std.proofs.lemmas.List.{append-nil, length-append, take-append-drop, length-take-le, length-drop}
 use Rattle.std.specs.List.{AllByRecursion}
-use Rattle.ciborium_ll_grammar.specs.declared.hdr.Header.TheVariants as h
 use Rattle.ciborium_ll_grammar.specs.Title.{IsTitle, shortest_title}
 use Rattle.ciborium_ll_grammar.specs.Strings.{Kind, Bytes, Text, kind_header, AreStrings, none, more, IsWritable}
 use Rattle.ciborium_ll_grammar.specs.Strings.IsString.{definite, indefinite}
@@ -38,8 +37,10 @@ full_pieces_of (suc fuel) limit value l some one =
           (let c = full_pieces_of fuel limit (drop limit value) (omega (arith, length-drop limit value))
           (omega (arith, length-drop limit value)) one in (
             take limit value ∷ c.0,
-            (sym (take-append-drop limit value) ∙ ap (λ (z : List ℕ). take limit value ++ z) c.1.0,
-            full_piece_first limit _ c.0 (length-take-le limit value (omega arith)) c.1.1),
+            (
+              sym (take-append-drop limit value) ∙ ap (λ (z : List ℕ). take limit value ++ z) c.1.0,
+              full_piece_first limit _ c.0 (length-take-le limit value (omega arith)) c.1.1,
+            ),
           ))
       | inr fits ↦ (value ∷ [], (sym (append-nil value), (some, fits)))
     ]

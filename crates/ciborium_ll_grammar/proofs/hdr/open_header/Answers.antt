@@ -1,4 +1,4 @@
-use Rattle.std.proofs.Common.{◌≡◌, ℕ, ◌⊎◌, refl, None, inl, inr, arith}
+use Rattle.std.proofs.Common.{◌≡◌, ℕ, ◌⊎◌, refl, None, arith}
 use Rattle.ciborium_ll_grammar.specs.declared.hdr.Header.TheVariants as h
 use Rattle.ciborium_ll_grammar.specs.declared.hdr.table.TitleKind.{TitleKind}
 use Rattle.ciborium_ll_grammar.specs.declared.hdr.table.TitleKind.TheVariants as k

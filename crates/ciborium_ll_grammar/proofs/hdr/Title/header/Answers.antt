@@ -1,12 +1,11 @@
-use Rattle.std.proofs.Common.{◌≡◌, ℕ, ◌+◌, ◌*◌, ◌<◌, [], ◌∷◌, Option, Some, None, refl, sym, ◌∙◌, inl, inr, arith}
+use Rattle.std.proofs.Common.{◌≡◌, ℕ, ◌+◌, ◌*◌, [], ◌∷◌, Option, Some, None, refl, sym, ◌∙◌, arith}
 use Rattle.std.specs.Prelude.{IfSome, IfNone}
 use Rattle.ciborium_ll_grammar.specs.declared.hdr.Header.{Header}
-use Rattle.ciborium_ll_grammar.specs.declared.hdr.Header.TheVariants as h
 use Rattle.ciborium_ll_grammar.specs.declared.hdr.Minor.{Minor}
 use Rattle.ciborium_ll_grammar.specs.declared.hdr.Minor.TheVariants as m
 use Rattle.ciborium_ll_grammar.specs.declared.hdr.table.TitleKind.{TitleKind}
-use Rattle.ciborium_ll_grammar.specs.Title.{IsTitle, IsReserved, IsNeverOpen, NamesNoTitle, Unsigned, Negative}
-use Rattle.ciborium_ll_grammar.specs.Title.{Major, major_code, Size, numbered_header, ByteString, TextString, Array, Map, Tag}
+use Rattle.ciborium_ll_grammar.specs.Title.{IsTitle, IsNeverOpen, NamesNoTitle, Unsigned, Negative, Major, major_code}
+use Rattle.ciborium_ll_grammar.specs.Title.{Size, numbered_header, ByteString, TextString, Array, Map, Tag}
 use Rattle.ciborium_ll_grammar.specs.Parts.{IsMinor, minor_code, minor_number, parts_bytes}
 use Rattle.ciborium_ll_grammar.specs.TitleRows.{IsTitleKind, NamesTitle}
 use Rattle.ciborium_ll_grammar.proofs.PartsLaws.{numbered_parts}
