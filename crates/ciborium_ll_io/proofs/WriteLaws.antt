@@ -1,6 +1,6 @@
 -- A write behind a write, and what is told of one.
-use Rattle.std.proofs.Common.{◌≡◌, ℕ, ◌+◌, ◌≤◌, ◌<◌, List, ◌++◌, length, take, Option, Some, None, Result, Ok, Err}
-use Rattle.std.proofs.Common.{IfSome, IsErr, OnOk, OnErr, arith, refl, sym, ap, subst, ◌∙◌, length-append}
+use Rattle.std.proofs.Common.{◌≡◌, ℕ, ◌+◌, ◌≤◌, ◌<◌, List, ◌++◌, length, Option, Some, Result, Ok, Err, IfSome, IsErr}
+use Rattle.std.proofs.Common.{OnOk, OnErr, arith, length-append}
 use Rattle.std.proofs.Math.Seq.{take-append-add}
 use Rattle.std.proofs.lemmas.List.{take-append-le}
 use Rattle.std.proofs.KnownBytes.{Appends-trans}
@@ -10,89 +10,66 @@ use Rattle.ciborium_ll_io.specs.Transfer.{Shrinks, AppendsFront}
 use Rattle.ciborium_ll_io.specs.Writes.{WritesAll, WritesFront, WritesBytes}
 
 pub Shrinks-zero : (room : Option ℕ) → Shrinks room room 0
-Shrinks-zero None = tt
-Shrinks-zero (Some n) = omega arith
+Shrinks-zero room = grind arith
 
 pub Shrinks-trans : (a b c : Option ℕ) (m n : ℕ) → Shrinks a b m → Shrinks b c n → Shrinks a c (m + n)
-Shrinks-trans None b c m n p q = tt
-Shrinks-trans (Some x) None c m n p q = absurd p
-Shrinks-trans (Some x) (Some y) None m n p q = absurd q
-Shrinks-trans (Some x) (Some y) (Some z) m n p q = omega arith
+Shrinks-trans a b c m n p q = grind arith
 
 -- a beginning of xs is one of xs and ys
 pub AppendsFront-longer : (w w' : Option (List ℕ)) (r r' : Option ℕ) (xs ys : List ℕ) → AppendsFront w w' r r' xs
     → AppendsFront w w' r r' (xs ++ ys)
 AppendsFront-longer w w' r r' xs ys f =
-    let count = f.0 in
-    let added = f.1 in
-    let within : count ≤ length xs = added.2 in
-    let same : take count (xs ++ ys) ≡ take count xs = take-append-le count xs ys within in
-    (count, (subst (Appends w w') (sym same) added.0, added.1, omega (arith, length-append xs ys)))
+    let within : f.0 ≤ length xs = f.1.2 in
+    (f.0, (rw take-append-le f.1.0, f.1.1, omega (arith, length-append xs ys)))
 
 -- all of xs, and then a beginning of ys
 pub AppendsFront-after : (w w' w'' : Option (List ℕ)) (r r' r'' : Option ℕ) (xs ys : List ℕ) → Appends w w' xs
-    → Shrinks r r' (length xs)
-    → AppendsFront w' w'' r' r'' ys → AppendsFront w w'' r r'' (xs ++ ys)
-AppendsFront-after w w' w'' r r' r'' xs ys p s f =
-    let count = f.0 in
-    let added = f.1 in
-    let within : count ≤ length ys = added.2 in (
-      length xs + count,
-      (
-        subst (Appends w w'') (sym (take-append-add xs ys count)) (Appends-trans w w' w'' xs (take count ys) p added.0),
-        Shrinks-trans r r' r'' (length xs) count s added.1,
-        omega (arith, length-append xs ys),
-      ),
-    )
+    → Shrinks r r' (length xs) → AppendsFront w' w'' r' r'' ys → AppendsFront w w'' r r'' (xs ++ ys)
+AppendsFront-after w w' w'' r r' r'' xs ys p s f = (
+  length xs + f.0,
+  (
+    rw take-append-add (Appends-trans w w' w'' xs _ p f.1.0),
+    Shrinks-trans r r' r'' (length xs) f.0 s f.1.1,
+    omega (arith, f.1.2, length-append xs ys),
+  ),
+)
 
 -- a room too small for xs is too small for xs and ys
 full_longer : (room : Option ℕ) (xs ys : List ℕ) → IfSome room (λ n. n < length xs)
     → IfSome room (λ n. n < length (xs ++ ys))
-full_longer None xs ys full = tt
-full_longer (Some n) xs ys full = omega (arith, length-append xs ys)
+full_longer room xs ys full = grind (arith, length-append xs ys)
 
 -- a room that is too small for ys behind xs was too small for both
 full_after : (room room' : Option ℕ) (xs ys : List ℕ) → Shrinks room room' (length xs)
-    → IfSome room' (λ n. n < length ys)
-    → IfSome room (λ n. n < length (xs ++ ys))
-full_after None room' xs ys shrunk full = tt
-full_after (Some n) None xs ys shrunk full = absurd shrunk
-full_after (Some n) (Some m) xs ys shrunk full = omega (arith, length-append xs ys)
+    → IfSome room' (λ n. n < length ys) → IfSome room (λ n. n < length (xs ++ ys))
+full_after room room' xs ys shrunk full = grind (arith, length-append xs ys)
 
 -- ---- where bytes and room are told
 
 pub appends_told : (known known' : Option (List ℕ)) (written bytes : List ℕ) → known ≡ Some written
     → Appends known known' bytes → known' ≡ Some (written ++ bytes)
-appends_told None known' written bytes e a = absurd cc
-appends_told (Some x) None written bytes e a = absurd a
-appends_told (Some x) (Some y) written bytes e a = let same : x ≡ written = cc in
-    ap Some (a ∙ ap (λ z. z ++ bytes) same)
+appends_told known known' written bytes e a = grind arith
 
 pub shrinks_told : (room room' : Option ℕ) (n count : ℕ) → room ≡ Some n → Shrinks room room' count → (m : ℕ)
     × (room' ≡ Some m) × (n ≡ m + count)
-shrinks_told None room' n count e s = absurd cc
-shrinks_told (Some x) None n count e s = absurd s
-shrinks_told (Some x) (Some y) n count e s = let same : x ≡ n = cc in (y, refl, omega arith)
+shrinks_told room room' n count e s = grind arith
 
 -- ---- writes
 
 module _ {W F : Type 0} (sink : Ghosts W F) where
   -- a first write that failed
   pub WritesBytes-stopped : {T : Type 0} (old new : W) (result : Result T F) (xs ys : List ℕ) → IsErr result
-      → WritesFront sink old xs new
-      → WritesBytes sink old result (xs ++ ys) new
+      → WritesFront sink old xs new → WritesBytes sink old result (xs ++ ys) new
   WritesBytes-stopped old new (Ok done) xs ys e f = absurd cc
   WritesBytes-stopped old new (Err fault) xs ys e f = record
       { front = AppendsFront-longer _ _ _ _ xs ys f.front; full = full_longer _ xs ys f.full; failures = f.failures }
 
   -- a write that went through, and then another one
   pub WritesBytes-then : {T : Type 0} (old mid new : W) (result : Result T F) (xs ys : List ℕ)
-      → WritesAll sink old xs mid → WritesBytes sink mid result ys new
-      → WritesBytes sink old result (xs ++ ys) new
+      → WritesAll sink old xs mid → WritesBytes sink mid result ys new → WritesBytes sink old result (xs ++ ys) new
   WritesBytes-then old mid new (Ok done) xs ys all next = record {
     appended = Appends-trans _ _ _ xs ys all.appended next.appended;
-    room = subst (Shrinks (sink.room old) (sink.room new)) (sym (length-append xs ys))
-        (Shrinks-trans _ _ _ (length xs) (length ys) all.room next.room);
+    room = rw length-append (Shrinks-trans _ _ _ (length xs) (length ys) all.room next.room);
     failures = cc (all.failures, next.failures);
   }
   WritesBytes-then old mid new (Err fault) xs ys all next = record {
@@ -108,8 +85,7 @@ module _ {W F : Type 0} (sink : Ghosts W F) where
       → OnOk result (sink.failures new ≡ sink.failures old)
       → OnErr result (AppendsFront (sink.written old) (sink.written new) (sink.room old) (sink.room new) xs)
       → OnErr result (IfSome (sink.room old) (λ n. n < length xs))
-      → OnErr result (sink.failures new ≡ sink.failures old + 1)
-      → WritesBytes sink old result xs new
+      → OnErr result (sink.failures new ≡ sink.failures old + 1) → WritesBytes sink old result xs new
   WritesBytes-of old new (Ok done) xs bytes fills ok front full err =
       record { appended = bytes; room = fills; failures = ok }
   WritesBytes-of old new (Err fault) xs bytes fills ok front full err =

@@ -1,7 +1,7 @@
 -- Lemmas on the part of a slice that is held, and on what is told of it.
-use Rattle.std.proofs.Common.{◌≡◌, ℕ, ◌+◌, ◌-◌, ◌≤◌, ◌<◌, List, [], ◌++◌, None, Some, Result, Ok, Err, OnErr, length}
-use Rattle.std.proofs.Common.{length-take-le, length-append, take, drop, slice_range, refl, sym, ap, subst, ◌∙◌}
-use Rattle.std.proofs.Common.{append-nil, append_assoc, arith, take-append-drop}
+use Rattle.std.proofs.Common.{◌≡◌, ℕ, ◌+◌, ◌-◌, ◌≤◌, ◌<◌, List, [], ◌++◌, Result, OnErr, length, length-take-le}
+use Rattle.std.proofs.Common.{length-append, take, drop, slice_range, refl, sym, ap, subst, ◌∙◌, append-nil}
+use Rattle.std.proofs.Common.{append_assoc, arith, take-append-drop}
 use Rattle.std.proofs.KnownBytes.{Consumes-kept}
 use Rattle.std.proofs.lemmas.List.{drop-take, drop-append-le, take-take, take_all}
 use Rattle.std.proofs.lemmas.Slice.{take-put_mid, take-put_mid_below}
@@ -15,41 +15,31 @@ use borrow.Rule.Slice.PartMut.{put_mid}
 pub part_grown : (xs ys : List ℕ) (start end : ℕ) → start ≤ end → end ≤ length xs
     → slice_range (put_mid end (end + length ys - end) xs ys) start (end + length ys) ≡ slice_range xs start end ++ ys
 part_grown xs ys start end ordered within =
-    let grown = put_mid end (end + length ys - end) xs ys in
-    let more = end + length ys - start in
-    let whole : start + more ≡ end + length ys = omega arith in
+    let more = drop-append-le start (take end xs) ys (omega (arith, length-take-le end xs within)) in
     let old : start + (end - start) ≡ end = omega arith in
-    sym (drop-take start more grown)
-    ∙ ap (λ k. drop start (take k grown)) whole
-    ∙ ap (drop start) (take-put_mid end (end + length ys - end) xs ys (end + length ys) refl within)
-    ∙ drop-append-le start (take end xs) ys (omega (arith, length-take-le end xs within))
-    ∙ ap (λ l. l ++ ys) (ap (λ k. drop start (take k xs)) (sym old) ∙ drop-take start (end - start) xs)
+    let whole : start + (end + length ys - start) ≡ end + length ys = omega arith in
+    let grown = put_mid end (end + length ys - end) xs ys in
+    let front = take-put_mid end (end + length ys - end) xs ys (end + length ys) refl within in
+    cc (drop-take start (end + length ys - start) grown, drop-take start (end - start) xs)
 
 -- the front of what is held is consumed
 pub prepend_known-taken : (known : Option (List ℕ)) (old new front : List ℕ) → old ≡ front ++ new
     → Consumes (prepend_known old known) (prepend_known new known) front
-prepend_known-taken None old new front e = tt
-prepend_known-taken (Some xs) old new front e = ap (λ l. l ++ xs) e ∙ append_assoc front new xs
+prepend_known-taken known old new front e = grind (arith, append_assoc)
 
 -- with nothing held, what the reader within gave is held, and all together stays as it was
 pub prepend_known-filled : (a b : Option (List ℕ)) (old new : List ℕ) → old ≡ [] → Consumes a b new
     → Keeps (prepend_known old a) (prepend_known new b)
-prepend_known-filled None b old new none p = tt
-prepend_known-filled (Some xs) None old new none p = absurd p
-prepend_known-filled (Some xs) (Some ys) old new none p = sym p ∙ ap (λ l. l ++ xs) (sym none)
+prepend_known-filled a b old new none p = grind arith
 
 -- with nothing held before and behind a read that failed, all stays as it was
 pub prepend_known-kept : (a b : Option (List ℕ)) (old new : List ℕ) → old ≡ [] → new ≡ [] → Keeps a b
     → Keeps (prepend_known old a) (prepend_known new b)
-prepend_known-kept None b old new none none' p = tt
-prepend_known-kept (Some xs) None old new none none' p = absurd p
-prepend_known-kept (Some xs) (Some ys) old new none none' p =
-    ap (λ l. l ++ ys) none' ∙ p ∙ ap (λ l. l ++ xs) (sym none)
+prepend_known-kept a b old new none none' p = grind arith
 
 -- with nothing held at the end of the reader within, none is left
 pub prepend_known-none : (a : Option (List ℕ)) (held : List ℕ) → held ≡ [] → IsAtEnd a → IsAtEnd (prepend_known held a)
-prepend_known-none None held none end = tt
-prepend_known-none (Some xs) held none end = ap (λ l. l ++ xs) none ∙ end
+prepend_known-none a held none end = grind arith
 
 -- a list of no bytes
 pub no_bytes : (xs : List ℕ) → length xs ≡ 0 → xs ≡ []
@@ -57,17 +47,12 @@ no_bytes xs none = sym (take_all 0 xs (omega arith))
 
 -- a reader that kept its bytes, and then gave some
 pub kept_Consumes : (a b c : Option (List ℕ)) (bs : List ℕ) → Keeps a b → Consumes b c bs → Consumes a c bs
-kept_Consumes None b c bs p q = tt
-kept_Consumes (Some x) None c bs p q = absurd p
-kept_Consumes (Some x) (Some y) None bs p q = absurd q
-kept_Consumes (Some x) (Some y) (Some z) bs p q = sym p ∙ q
+kept_Consumes a b c bs p q = grind arith
 
 -- a reader that gave no byte kept its bytes
 pub Keeps-none_read : (a b : Option (List ℕ)) (bs : List ℕ) (count : ℕ) → count ≡ 0 → Consumes a b (take count bs)
     → Keeps a b
-Keeps-none_read None b bs count none p = tt
-Keeps-none_read (Some x) None bs count none p = absurd p
-Keeps-none_read (Some x) (Some y) bs count none p = sym (p ∙ ap (λ n. take n bs ++ y) none)
+Keeps-none_read a b bs count none p = grind arith
 
 -- what was read is all that there is room for
 pub Consumes-filled : (a b : Option (List ℕ)) (n : ℕ) (bs : List ℕ) → length bs ≤ n → Consumes a b (take n bs)
@@ -79,36 +64,24 @@ pub filled_part : (a b c : Option (List ℕ)) (n k : ℕ) (xs ys : List ℕ) →
     → length ys ≡ length (take k (drop n xs)) → Consumes a b (take n xs) → Keeps b c
     → ConsumesPart a c (put_mid n k xs ys)
 filled_part a b c n k xs ys within size done kept =
-    let rest = drop n xs in
-    let whole = put_mid n k xs ys in
-    let front : take n whole ≡ take n xs = take-put_mid_below n k xs ys n (omega arith) (omega arith) in
-    let same : length whole ≡ length xs = omega (
-      arith,
-      length-append (take n xs) (ys ++ drop k rest),
-      length-append ys (drop k rest),
-      length-append (take k rest) (drop k rest),
-      ap length (take-append-drop k rest),
-      length-append (take n xs) rest,
-      ap length (take-append-drop n xs),
-    ) in
-    (n, subst (Consumes a c) (sym front) (Consumes-kept a b c (take n xs) done kept), omega arith)
+    let front : take n (put_mid n k xs ys) ≡ take n xs = take-put_mid_below n k xs ys n (omega arith) (omega arith) in
+    let same : length (put_mid n k xs ys) ≡ length xs =
+    grind (arith, length-append {A = ℕ}, take-append-drop k (drop n xs), take-append-drop n xs) in
+    (n, rw front (Consumes-kept a b c (take n xs) done kept), omega arith)
 
 -- what was filled so far, and then the bytes of one more read
 pub filled_more : (a k n : ℕ) (xs ys : List ℕ) → a ≤ length xs → n ≤ length ys → take a xs ++ take n ys
     ≡ take (a + n) (put_mid a k xs ys)
-filled_more a k n xs ys within fits =
-    let whole : take (a + length ys) (put_mid a k xs ys) ≡ take a xs ++ ys =
-    take-put_mid a k xs ys (a + length ys) refl within in
-    sym (take-append-add (take a xs) ys n)
-    ∙ ap (λ m. take (m + n) (take a xs ++ ys)) (length-take-le a xs within)
-    ∙ ap (take (a + n)) (sym whole)
-    ∙ take-take (a + n) (a + length ys) (put_mid a k xs ys) (omega arith)
+filled_more a k n xs ys within fits = cc (
+  take-put_mid a k xs ys (a + length ys) refl within,
+  take-append-add (take a xs) ys n,
+  length-take-le a xs within,
+  take-take (a + n) (a + length ys) (put_mid a k xs ys) (omega arith),
+)
 
 -- what is left behind the whole is nothing
 pub rest_none : (xs rest : List ℕ) (n : ℕ) → xs ≡ take n xs ++ rest → n ≡ length xs → rest ≡ []
-rest_none xs rest n split all =
-    let lengths = ap length split in
-    no_bytes rest (omega (arith, lengths, length-append (take n xs) rest, length-take-le n xs (omega arith)))
+rest_none xs rest n split all = grind (arith, length-append {A = ℕ}, length-take-le {A = ℕ}, no_bytes)
 
 -- where nothing is left, all is in front of it
 pub all_gone : (xs rest : List ℕ) → rest ≡ [] → (front : List ℕ) × (xs ≡ front ++ rest)
@@ -117,19 +90,12 @@ all_gone xs rest none = (xs, sym (ap (λ l. xs ++ l) none ∙ append-nil xs))
 -- with nothing held, the writer within takes bytes
 pub append_known-sent : (a b : Option (List ℕ)) (held bs : List ℕ) → held ≡ [] → Appends a b bs
     → Appends (append_known a held) (append_known b held) bs
-append_known-sent None b held bs none p = tt
-append_known-sent (Some xs) None held bs none p = absurd p
-append_known-sent (Some xs) (Some ys) held bs none p =
-    ap (λ l. ys ++ l) none ∙ append-nil ys ∙ p ∙ ap (λ l. l ++ bs) (sym (ap (λ l. xs ++ l) none ∙ append-nil xs))
+append_known-sent a b held bs none p = grind (arith, append-nil)
 
 -- a writer that kept its bytes, and then took some
 pub kept_Appends : (a b c : Option (List ℕ)) (bs : List ℕ) → Keeps a b → Appends b c bs → Appends a c bs
-kept_Appends None b c bs p q = tt
-kept_Appends (Some x) None c bs p q = absurd p
-kept_Appends (Some x) (Some y) None bs p q = absurd q
-kept_Appends (Some x) (Some y) (Some z) bs p q = q ∙ ap (λ l. l ++ bs) p
+kept_Appends a b c bs p q = grind arith
 
 -- what holds anyway holds behind an error
 pub on_err : {X E P : Type 0} (r : Result X E) → P → OnErr r P
-on_err (Ok x) p = tt
-on_err (Err e) p = p
+on_err r p = grind arith

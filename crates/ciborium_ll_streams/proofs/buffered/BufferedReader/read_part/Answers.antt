@@ -3,9 +3,8 @@ use Rattle.std.proofs.KnownBytes.{Keeps-refl}
 use Rattle.std.proofs.lemmas.List.{take_at}
 use Rattle.std.specs.Io.KnownBytes.{Consumes, Keeps}
 use Rattle.ciborium_ll_streams.specs.Buffers.{buffered_ahead, held}
-use Rattle.ciborium_ll_streams.proofs.BufferLaws.{kept_Consumes, no_bytes}
-use Rattle.ciborium_ll_streams.proofs.BufferLaws.{prepend_known-filled, prepend_known-kept, prepend_known-none}
-use Rattle.ciborium_ll_streams.proofs.BufferLaws.{prepend_known-taken}
+use Rattle.ciborium_ll_streams.proofs.BufferLaws.{kept_Consumes, no_bytes, prepend_known-filled, prepend_known-kept}
+use Rattle.ciborium_ll_streams.proofs.BufferLaws.{prepend_known-none, prepend_known-taken}
 use Rattle.ciborium_ll_streams.proofs.buffered.BufferedReader.read_part.Goals.{else-len-eq0}
 use Rattle.ciborium_ll_streams.proofs.buffered.BufferedReader.read_part.Goals.{then-len-eq0+else-capacity-data+in-Ok}
 use Rattle.ciborium_ll_streams.proofs.buffered.BufferedReader.read_part.Goals as goal
