@@ -33,8 +33,11 @@ pub record InFront (w : List ℕ) : Type 0 where
 
 -- behind its first byte a title has as many bytes as that announces
 pub announced : (w : List ℕ) (x : Header) → IsTitle w x → InFront w
-announced w x (numbered m s n p) = record { byte = _; affix = _; is = refl; long = affix_length s n p ∙ ap affix_len (minor_back m _ (omega (arith, minor_below s n p))) }
-announced w x (alone m y o) = record { byte = _; affix = []; is = refl; long = ap affix_len (minor_back m 31 (omega arith)) }
+announced w x (numbered m s n p) =
+    let long = affix_length s n p ∙ ap affix_len (minor_back m _ (omega (arith, minor_below s n p))) in
+    record { byte = _; affix = _; is = refl; long = long }
+announced w x (alone m y o) =
+    record { byte = _; affix = []; is = refl; long = ap affix_len (minor_back m 31 (omega arith)) }
 
 -- ---- titles that are cut
 
@@ -67,7 +70,8 @@ byte_at (b ∷ bytes) f zero = f.0
 byte_at (b ∷ bytes) f (suc i) = byte_at bytes f.1 i
 
 -- one byte is a number
-one_byte : (bytes : List ℕ) → length bytes ≡ 1 → slice_index bytes 0 < 256 → to_be_bytes w8 (slice_index bytes 0) ≡ bytes
+one_byte : (bytes : List ℕ) → length bytes ≡ 1 → slice_index bytes 0 < 256
+    → to_be_bytes w8 (slice_index bytes 0) ≡ bytes
 one_byte [] l p = absurd (omega arith)
 one_byte (b ∷ []) l p = let e : b % 256 ≡ b = omega arith in cc
 one_byte (b ∷ c ∷ bytes) l p = absurd (omega arith)
@@ -157,13 +161,8 @@ pub record Begun (s : List ℕ) : Type 0 where
 
 -- bytes that are a cut title go on to a title
 pub cut_begins : (s : List ℕ) → AreBytes s → IsCutTitle s → Begun s
-cut_begins [] f c = record {
-  byte = 0;
-  more = [];
-  header = h.Positive 0;
-  title =
-      numbered Unsigned Small 0 (omega arith);
-}
+cut_begins [] f c =
+    record { byte = 0; more = []; header = h.Positive 0; title = numbered Unsigned Small 0 (omega arith) }
 cut_begins (b ∷ s) f c =
     let k = affix_len (b % 32) - length s - 1 in
     let whole = s ++ replicate (suc k) 0 in

@@ -83,9 +83,7 @@ IsTitle-shortest_of w x t = IsTitle-shortest x (title_in_range w x t)
 -- marks joined are spelled one behind the other
 pub spelling-append : (ms ns : List Mark) → spelling (ms ++ ns) ≡ spelling ms ++ spelling ns
 spelling-append [] ns = refl
-spelling-append (m ∷ ms) ns =
-    ap (λ y. mark_spelling m ++ y) (spelling-append ms ns) ∙ sym
-    (append_assoc (mark_spelling m) (spelling ms) (spelling ns))
+spelling-append (m ∷ ms) ns = rw append_assoc (ap (λ y. mark_spelling m ++ y) (spelling-append ms ns))
 
 -- bodies joined give their pieces joined
 pub pieces-append : (k : Kind) (bs cs : List (List ℕ)) → pieces k (bs ++ cs) ≡ pieces k bs ++ pieces k cs

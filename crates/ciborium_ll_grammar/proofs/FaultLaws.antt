@@ -107,5 +107,4 @@ stuck_or_refused strict u ms at s a out c f = grind (arith, reasons, too_short)
 
 pub stuck : (u : List ℕ) (ms : List Mark) (at : Point) (s : List ℕ) (a : Answer) (out : List ℕ) (c : ℕ)
     → FirstFault false u ms at s a out c → Stuck at s
-stuck u ms at s a out c f = elim (stuck_or_refused false u ms at s a out c f)
-    [ inl halts ↦ halts | inr refuses ↦ absurd (none_refused at s refuses) ]
+stuck u ms at s a out c f = grind (arith, stuck_or_refused false u ms at s a out c f, none_refused)

@@ -22,11 +22,10 @@ counted k j u bs (more_open {outer = x} {bodies = ds} q p s) = deeper (counted k
 -- a string within a string
 pub add_string : (k : Kind) (j : ℕ) (u w : List ℕ) (bs cs : List (List ℕ)) → IsInsideAt k j u bs → IsString k w cs
     → IsInsideAt k j (u ++ w) (bs ++ cs)
-add_string k j u w bs cs (one_open {title = t} {strings = x} p s) q =
-    rw (append_assoc t x w) (one_open p (AreStrings-add k x w bs cs s q))
-add_string k j u w bs cs (more_open {outer = y} {title = t} {strings = x} {bodies = ds} {others = es} i p s) q =
-    rw (append_assoc y (t ++ x) w, append_assoc t x w, append_assoc ds es cs)
-    (more_open i p (AreStrings-add k x w es cs s q))
+add_string k j u w bs cs (one_open {strings = x} p s) q =
+    simp append_assoc (one_open p (AreStrings-add k x w bs cs s q))
+add_string k j u w bs cs (more_open {strings = x} {others = es} i p s) q =
+    simp append_assoc (more_open i p (AreStrings-add k x w es cs s q))
 
 -- an open within a string
 pub add_open : (k : Kind) (j : ℕ) (u t : List ℕ) (bs : List (List ℕ)) → IsInsideAt k j u bs
@@ -40,9 +39,8 @@ never k u bs i = elim i [ ]
 -- a break within further opens
 pub close_inner : (k : Kind) (j : ℕ) (u : List ℕ) (bs : List (List ℕ)) → IsInsideAt k (suc (suc j)) u bs
     → IsInsideAt k (suc j) (u ++ 0xff ∷ []) bs
-close_inner k j u bs (more_open {outer = y} {title = t} {strings = x} {bodies = ds} {others = es} i p s) =
-    rw (append_assoc y (t ++ x) (0xff ∷ []), append_assoc t x (0xff ∷ []))
-    (add_string k (suc j) y (t ++ (x ++ 0xff ∷ [])) ds es i (indefinite p s))
+close_inner k j u bs (more_open {others = es} i p s) =
+    simp append_assoc (add_string k (suc j) _ _ _ es i (indefinite p s))
 
 -- the last break makes an element
 pub close_last : (k : Kind) (u : List ℕ) (bs : List (List ℕ)) → IsInsideAt k (suc zero) u bs → AreWritable k bs

@@ -53,10 +53,10 @@ mutual
   one_str : (k : Kind) (w : List ℕ) (bs : List (List ℕ)) → IsString k w bs → (w' : List ℕ) (bs' : List (List ℕ))
       → IsString k w' bs' → (v v' : List ℕ) → w ++ v ≡ w' ++ v' → SameString w w' bs bs' v v'
   one_str k w bs (definite p) w' bs' (definite p') v v' e = grind (arith, fronts, append_assoc, same_front)
-  one_str k w bs (definite p) w' bs' (indefinite p' q') v v' e = absurd (grind (arith, fronts, append_assoc))
-  one_str k w bs (indefinite p q) w' bs' (definite p') v v' e = absurd (grind (arith, fronts, append_assoc))
   one_str k w bs (indefinite p q) w' bs' (indefinite p' q') v v' e =
       grind (arith, fronts, append_assoc, one_strs k _ bs q _ bs' q' v v')
+  one_str k w bs (definite p) w' bs' (indefinite p' q') v v' e = absurd (grind (arith, fronts, append_assoc))
+  one_str k w bs (indefinite p q) w' bs' (definite p') v v' e = absurd (grind (arith, fronts, append_assoc))
 
   -- of strings in front of a break none begin others
   one_strs : (k : Kind) (w : List ℕ) (bs : List (List ℕ)) → AreStrings k w bs → (w' : List ℕ) (bs' : List (List ℕ))
