@@ -131,24 +131,21 @@ behind k t w x bs p s t' w' v bs' p' s' ok e =
     let o = fronts k t t' (w ++ x) (w' ++ 0xff ∷ v) None None p p' (simp append_assoc at e) in
     goes_on k (λ z bs. AreWritable k bs) (λ a y cs ds q qs ok. AreWritable-right k cs ds ok) w bs s w' x v bs' s' ok o.2
 
--- no sound string comes behind opens that halt
-pub opens_string : (k : Kind) (u : List ℕ) {os : List (List ℕ)} → Opens k u os → (y : List ℕ)
-    → ((t w v : List ℕ) (bs : List (List ℕ)) → IsTitle t (kind_header k None) → AreStrings k w bs → AreWritable k bs
-    → u ++ y ≡ t ++ (w ++ 0xff ∷ v) → ⊥)
-    → (a : List ℕ) (bs : List (List ℕ)) → IsString k a bs → AreWritable k bs → (v : List ℕ) → u ++ y ≡ a ++ v → ⊥
-opens_string k u c y rec a bs (definite p) ok v e = grind (arith, opens_title k u c, fronts, append_assoc)
-opens_string k u c y rec a bs (indefinite {title = t} {strings = x} p q) ok v e =
-    rec t x v bs p q ok (simp append_assoc at e)
+module _ (k : Kind) (u : List ℕ) {os : List (List ℕ)} (c : Opens k u os) (y : List ℕ)
+    (rec : (t w v : List ℕ) (bs : List (List ℕ)) → IsTitle t (kind_header k None) → AreStrings k w bs
+    → AreWritable k bs → u ++ y ≡ t ++ (w ++ 0xff ∷ v) → ⊥) where
+  -- no sound string comes behind opens that halt
+  pub opens_string : (a : List ℕ) (bs : List (List ℕ)) → IsString k a bs → AreWritable k bs → (v : List ℕ)
+      → u ++ y ≡ a ++ v → ⊥
+  opens_string a bs (definite p) ok v e = grind (arith, opens_title k u c, fronts, append_assoc)
+  opens_string a bs (indefinite {title = t} {strings = x} p q) ok v e = rec t x v bs p q ok (simp append_assoc at e)
 
--- no sound strings and a break come behind opens that halt
-opens_strings : (k : Kind) (u : List ℕ) {os : List (List ℕ)} → Opens k u os → (y : List ℕ)
-    → ((t w v : List ℕ) (bs : List (List ℕ)) → IsTitle t (kind_header k None) → AreStrings k w bs → AreWritable k bs
-    → u ++ y ≡ t ++ (w ++ 0xff ∷ v) → ⊥)
-    → (w : List ℕ) (bs : List (List ℕ)) → AreStrings k w bs → AreWritable k bs → (v : List ℕ)
-    → u ++ y ≡ w ++ 0xff ∷ v → ⊥
-opens_strings k u c y rec w bs none ok v e = grind (arith, opens_title k u c, title_not_break, append_assoc)
-opens_strings k u c y rec w bs (more {rest = b} {bodies = cs} p q) ok v e =
-    opens_string k u c y rec _ cs p (AreWritable-left k cs _ ok) (b ++ 0xff ∷ v) (simp append_assoc at e)
+  -- no sound strings and a break come behind opens that halt
+  opens_strings : (w : List ℕ) (bs : List (List ℕ)) → AreStrings k w bs → AreWritable k bs → (v : List ℕ)
+      → u ++ y ≡ w ++ 0xff ∷ v → ⊥
+  opens_strings w bs none ok v e = grind (arith, opens_title k u c, title_not_break, append_assoc)
+  opens_strings w bs (more {rest = b} {bodies = cs} p q) ok v e =
+      opens_string _ cs p (AreWritable-left k cs _ ok) (b ++ 0xff ∷ v) (simp append_assoc at e)
 
 -- no sound string of indefinite length begins with opens that halt
 pub opens_halt : (k : Kind) (u : List ℕ) {os : List (List ℕ)} → Opens k u os → (y : List ℕ) → Halt k y

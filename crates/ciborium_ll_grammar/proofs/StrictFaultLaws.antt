@@ -163,10 +163,9 @@ strictly_stuck : (n : ℕ) (u : List ℕ) (ms : List Mark) (at : Point) → Reac
     → (w v : List ℕ) (ns : List Mark) → IsStrictRun n w ns → u ++ s ≡ w ++ v → ⊥
 strictly_stuck n u ms at reach spelled s (long {t} x r d p untaken g) w v ns run e =
     untaken (title_strictly n u ms at reach d (at_title_spelled at u ms d spelled) t r x p w v ns run
-    (ap (λ (z : List ℕ). u ++ z) (sym g) ∙ e)).0
+    (rw g at e)).0
 strictly_stuck n u ms at reach spelled s (nested {k} {t} r on p g) w v ns run e =
-    (title_strictly n u ms (In k) reach tt (spelled_alone u ms spelled) t r (kind_header k None) p w v
-    ns run (ap (λ (z : List ℕ). u ++ z) (sym g) ∙ e)).1 refl
+    (title_strictly n u ms (In k) reach tt (spelled_alone u ms spelled) t r _ p w v ns run (rw g at e)).1 refl
 
 refused_none : (strict : Bool) (n : ℕ) (x : List ℕ) (r : RunInFront strict n x) (f : HasFault strict n x)
     → Refuses strict f.point f.ahead → ⊥
@@ -179,8 +178,5 @@ refused_none true n x r f refuses =
 -- where a run of n elements stands in front, there is no fault
 pub no_fault : (strict : Bool) (n : ℕ) (x : List ℕ) → RunInFront strict n x → HasFault strict n x → ⊥
 no_fault strict n x r f =
-    elim (stuck_or_refused strict f.before f.marks f.point f.ahead f.answer f.written f.consumed f.fault) [
-      | inl halts ↦ reach_stuck n f.before f.marks f.point f.reach f.ahead halts r.elements r.rest r.marks r.run
-          (sym f.is ∙ r.is)
-      | inr refuses ↦ refused_none strict n x r f refuses
-    ]
+    let from : f.before ++ f.ahead ≡ r.elements ++ r.rest = sym f.is ∙ r.is in
+    grind (arith, stuck_or_refused, reach_stuck, refused_none strict n x r f)

@@ -63,11 +63,10 @@ full_piece_some limit piece (x ∷ xs) c =
 same_full_pieces : (limit : ℕ) (cs ds : List (List ℕ)) → AreFullPieces limit cs → AreFullPieces limit ds
     → joined cs ≡ joined ds → cs ≡ ds
 same_full_pieces limit [] ds a b e = absurd a
-same_full_pieces limit (c ∷ []) [] a b e = absurd b
+same_full_pieces limit cs [] a b e = absurd b
 same_full_pieces limit (c ∷ []) (d ∷ []) a b e = cc (append-nil c, append-nil d)
 same_full_pieces limit (c ∷ []) (d ∷ x ∷ ds) a b e = absurd (grind
     (arith, full_piece_some limit x ds b.1, ap length e, length-append {A = ℕ}))
-same_full_pieces limit (c ∷ y ∷ cs) [] a b e = absurd b
 same_full_pieces limit (c ∷ y ∷ cs) (d ∷ []) a b e = absurd (grind
     (arith, full_piece_some limit y cs a.1, ap length e, length-append {A = ℕ}))
 same_full_pieces limit (c ∷ y ∷ cs) (d ∷ x ∷ ds) a b e =
@@ -85,11 +84,7 @@ same_pieces Text limit value cs ds p q = one_full value limit cs ds p q
 -- a value is written in one way
 pub one_writing : (k : Kind) (limit : ℕ) (value : List ℕ) (ms ns : List Mark) → IsWritten k limit value ms
     → IsWritten k limit value ns → ms ≡ ns
-one_writing k limit value ms ns (in_one l) (in_one m) = refl
-one_writing k limit value ms ns (in_one l) (in_pieces ds m q) = absurd (omega arith)
-one_writing k limit value ms ns (in_pieces cs l p) (in_one m) = absurd (omega arith)
-one_writing k limit value ms ns (in_pieces cs l p) (in_pieces ds m q) =
-    ap (open_marks k) (same_pieces k limit value cs ds p q)
+one_writing k limit value ms ns p q = grind (arith, same_pieces)
 
 -- a value longer than the limit has pieces
 pub pieces_exist : (k : Kind) (limit : ℕ) (value : List ℕ) → least_limit k ≤ limit → IsWritable k value
@@ -166,9 +161,8 @@ fewest_segments limit text ms (in_one l) u some =
       fewest = λ members c. some_members text members some c.whole;
     }
 fewest_segments limit text ms (in_pieces members l p) u some =
-    let same = sym (segments_of_pieces Text members) in
     record {
-      cut = subst (IsCut text limit) same p.cut;
-      nonempty = subst (AllByRecursion IsNonempty) same p.nonempty;
+      cut = rw segments_of_pieces p.cut;
+      nonempty = rw segments_of_pieces p.nonempty;
       fewest = λ others c. rw segments_of_pieces (fewest text limit members others p c);
     }
