@@ -99,8 +99,7 @@ pieces_spelled k bs cs = ap spelling (pieces-append k bs cs) ∙ spelling-append
 pub AreStrings-append : (k : Kind) (w : List ℕ) (bs : List (List ℕ)) → AreStrings k w bs
     → (v : List ℕ) (cs : List (List ℕ)) → AreStrings k v cs → AreStrings k (w ++ v) (bs ++ cs)
 AreStrings-append k w bs none v cs r = r
-AreStrings-append k w bs (more {first = x} {rest = y} {bodies = ds} {others = es} s ss) v cs r =
-    rw (append_assoc x y v, append_assoc ds es cs) (more s (AreStrings-append k y es ss v cs r))
+AreStrings-append k w bs (more {rest = y} s ss) v cs r = simp append_assoc (more s (AreStrings-append k y _ ss v cs r))
 
 -- two lists of bytes that are each the shortest, or longer, are so joined
 least_append : (a b a' b' : List ℕ) → LeastOr a a' → LeastOr b b' → LeastOr (a ++ b) (a' ++ b')

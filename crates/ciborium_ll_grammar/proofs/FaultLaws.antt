@@ -1,5 +1,5 @@
 -- At a fault what is due can't come, or is refused where only the shortest spelling is taken.
-use Rattle.std.proofs.Common.{◌≡◌, ℕ, ◌<◌, ◌⊎◌, Bool, true, false, List, ◌++◌, length, None, refl, sym, ◌∙◌, [], ◌∷◌}
+use Rattle.std.proofs.Common.{◌≡◌, ℕ, ◌<◌, ◌⊎◌, Bool, true, false, List, ◌++◌, length, None, refl, [], ◌∷◌}
 use Rattle.std.proofs.Common.{append_assoc, length-append, arith, inl, inr}
 use Rattle.ciborium_ll_grammar.specs.declared.hdr.Header.{Header}
 use Rattle.ciborium_ll_grammar.specs.Title.{IsTitle}
@@ -64,17 +64,16 @@ pub data Stuck : Point → List ℕ → Type 0 where
 -- no run of n elements stands in front where what is due cannot come
 pub reach_stuck : (n : ℕ) (u : List ℕ) (ms : List Mark) (at : Point) → Reaches n u ms at → (s : List ℕ) → Stuck at s
     → (w v : List ℕ) (ns : List Mark) → IsRun n w ns → u ++ s ≡ w ++ v → ⊥
-reach_stuck n u ms at (due {before = i} l r) s (stop f) w v ns r' e =
-    let z = follows i u ms r n w ns r' l s v e in
+reach_stuck n u ms at (due l r) s (stop f) w v ns r' e =
+    let z = follows _ u ms r n w ns r' l s v e in
     element_stops z.word z.marks z.ok z.rest s f z.is
-reach_stuck n u ms at (inside {before = i} {bytes = a} {opens = b} {marks = os} {bodies = bs} {kind = k} l r q ok) s
-    (halt k' f) w v ns r' e =
-    let z = follows i a os r n w ns r' l (b ++ s) v (sym (append_assoc a b s) ∙ e) in
-    element_inside z.word z.marks z.ok k b s z.rest (opens_of k b bs q) f z.is
-reach_stuck n u ms at (body {bytes = a} {title = t} {len = l} k r p) s (bad_body f) w v ns r' e =
-    reach_stuck n a ms Due r (t ++ s) (stop (stop_bad s k l p f refl)) w v ns r' (sym (append_assoc a t s) ∙ e)
-reach_stuck n u ms at (body_inside {bytes = a} {title = t} {len = l} {kind = k} r p) s (bad_body f) w v ns r' e =
-    reach_stuck n a ms (In k) r (t ++ s) (halt k (halt_bad s l p f refl)) w v ns r' (sym (append_assoc a t s) ∙ e)
+reach_stuck n u ms at (inside {bytes = a} {opens = b} l r q ok) s (halt k f) w v ns r' e =
+    let z = follows _ a _ r n w ns r' l (b ++ s) v (simp append_assoc at e) in
+    element_inside z.word z.marks z.ok k b s z.rest (opens_of k b _ q) f z.is
+reach_stuck n u ms at (body {bytes = a} {title = t} k r p) s (bad_body f) w v ns r' e =
+    reach_stuck n a ms Due r (t ++ s) (stop (stop_bad s k _ p f refl)) w v ns r' (simp append_assoc at e)
+reach_stuck n u ms at (body_inside {bytes = a} {title = t} {kind = k} r p) s (bad_body f) w v ns r' e =
+    reach_stuck n a ms (In k) r (t ++ s) (halt k (halt_bad s _ p f refl)) w v ns r' (simp append_assoc at e)
 
 -- a body that is too short is bad
 pub too_short : (k : Kind) (l : ℕ) (s : List ℕ) → length s < l → IsBad k l s

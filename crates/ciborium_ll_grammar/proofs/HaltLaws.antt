@@ -77,14 +77,13 @@ pub data Opens (k : Kind) : List ℕ → List (List ℕ) → Type 0 where
 opens-append : (k : Kind) (u : List ℕ) (bs : List (List ℕ)) → Opens k u bs → (v : List ℕ) (cs : List (List ℕ))
     → Opens k v cs → Opens k (u ++ v) (bs ++ cs)
 opens-append k u bs (last p s) v cs c = link p s c
-opens-append k u bs (link {t} {w} {u = x} {bs = ds} {cs = es} p s d) v cs c =
-    rw (append_assoc (t ++ w) x v, append_assoc ds es cs) (link p s (opens-append k x es d v cs c))
+opens-append k u bs (link {u = x} p s d) v cs c =
+    simp append_assoc (simp append_assoc at (link p s (opens-append k x _ d v cs c)))
 
 -- what is inside a string is opens
 pub opens_of : (k : Kind) (u : List ℕ) (bs : List (List ℕ)) → IsInside k u bs → Opens k u bs
 opens_of k u bs (opened p s) = last p s
-opens_of k u bs (deeper {outer = x} {inner = y} {bodies = cs} {others = ds} p q) =
-    opens-append k x cs (opens_of k x cs p) y ds (opens_of k y ds q)
+opens_of k u bs (deeper {outer = x} {inner = y} p q) = opens-append k x _ (opens_of k x _ p) y _ (opens_of k y _ q)
 
 -- strings that end with a break go on behind any strings in front, and what holds of each remainder holds of them
 pub record Goes (k : Kind) (P : List ℕ → List (List ℕ) → Type 0) (x v : List ℕ) : Type 0 where

@@ -53,5 +53,4 @@ close_last k u bs (more_open {outer = y} {bodies = ds} i p s) ok = absurd (never
 pub add_element : (n : ℕ) (u : List ℕ) (ms : List Mark) → IsRun n u ms → (w : List ℕ) (ns : List Mark) → IsElement w ns
     → IsRun (suc n) (u ++ w) (ms ++ ns)
 add_element n u ms done w ns e = simp append-nil at (next e done)
-add_element n u ms (next {first = a} {rest = b} {marks = os} {others = ps} p r) w ns e =
-    rw (append_assoc a b w, append_assoc os ps ns) (next p (add_element _ b ps r w ns e))
+add_element n u ms (next {rest = b} p r) w ns e = simp append_assoc (next p (add_element _ b _ r w ns e))

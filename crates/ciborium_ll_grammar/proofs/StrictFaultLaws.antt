@@ -1,6 +1,6 @@
 -- A fault and a run of enough elements exclude each other.
 use Rattle.std.proofs.Common.{◌≡◌, ℕ, ◌+◌, ◌≤◌, Bool, true, false, List, [], ◌∷◌, ◌++◌, length, Option, Some, None}
-use Rattle.std.proofs.Common.{refl, sym, ap, inl, inr, ◌∙◌, arith, append_assoc, append-nil, length-append}
+use Rattle.std.proofs.Common.{refl, sym, ap, ◌∙◌, arith, append_assoc, append-nil, length-append}
 use Rattle.std.specs.List.{AllByRecursion}
 use Rattle.ciborium_ll_grammar.specs.declared.hdr.Header.{Header}
 use Rattle.ciborium_ll_grammar.specs.declared.hdr.Header.TheVariants as h
@@ -139,14 +139,13 @@ IsNoOpen (BodyDue k len start) x = Unit {0}
 title_strictly : (n : ℕ) (u : List ℕ) (ms : List Mark) (at : Point) → Reaches n u ms at → IsAtTitle at → u
     ≡ spelling ms → (t r : List ℕ) (x : Header) → IsTitle t x
     → (w v : List ℕ) (ns : List Mark) → IsStrictRun n w ns → u ++ (t ++ r) ≡ w ++ v → IsStrictTitle t x × IsNoOpen at x
-title_strictly n u ms at (due {before = i} l q) d s t r x c w v ns run e =
-    let z = follows i u ms q n w ns run.run l (t ++ r) v e in
+title_strictly n u ms at (due l q) d s t r x c w v ns run e =
+    let z = follows _ u ms q n w ns run.run l (t ++ r) v e in
     let spelled = z.spelled run.same run.meant in
     (element_begins z.word z.marks z.ok spelled.0 spelled.1 t r z.rest x c z.is, tt)
-title_strictly n u ms at (inside {before = i} {bytes = a} {opens = b} {marks = os} {bodies = bs} {kind = k} l q f
-    ok) d s t r x c w v ns run e =
-    let z = follows i a os q n w ns run.run l (b ++ (t ++ r)) v (sym (append_assoc a b (t ++ r)) ∙ e) in
-    let same = inside_same i k a b os bs q f s in
+title_strictly n u ms at (inside {bytes = a} {opens = b} {bodies = bs} {kind = k} l q f ok) d s t r x c w v ns run e =
+    let z = follows _ a _ q n w ns run.run l (b ++ (t ++ r)) v (sym (append_assoc a b (t ++ r)) ∙ e) in
+    let same = inside_same _ k a b _ bs q f s in
     element_goes z.word z.marks z.ok (z.spelled run.same run.meant).0 k _ (spelling (pieces k bs)) bs
     (IsTitle-shortest (kind_header k None) (open_in_range k)) (inside_strings k b bs f) t r z.rest x c
     (ap (λ (y : List ℕ). y ++ (t ++ r)) (sym same) ∙ z.is)

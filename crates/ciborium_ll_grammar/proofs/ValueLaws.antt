@@ -1,6 +1,6 @@
 -- Each value has pieces under a limit, and what is written of it is one element.
 use Rattle.std.proofs.Common.{◌≡◌, ℕ, zero, suc, ◌^◌, ◌<◌, ◌≤◌, List, [], ◌∷◌, ◌++◌, length, take, drop, Some, None}
-use Rattle.std.proofs.Common.{refl, sym, ap, ◌∙◌, subst, inl, inr, arith}
+use Rattle.std.proofs.Common.{refl, sym, ap, ◌∙◌, inl, inr, arith}
 use Rattle.std.proofs.lemmas.Bool.{cases_lt}
 use Rattle.std.proofs.lemmas.List.{append-nil, length-append, take-append-drop, length-take-le, length-drop}
 use Rattle.std.specs.List.{AllByRecursion}
@@ -10,7 +10,7 @@ use Rattle.ciborium_ll_grammar.specs.Strings.IsString.{definite, indefinite}
 use Rattle.ciborium_ll_text.specs.Text.{joined, IsCharacters}
 use Rattle.ciborium_ll_grammar.specs.Elements.{AreWritable, Mark, Whole, Close, spelling, pieces, open_marks, IsElement}
 use Rattle.ciborium_ll_grammar.specs.Elements.{string}
-use Rattle.ciborium_ll_text.specs.Cuts.{IsMember, IsNonempty, IsCut}
+use Rattle.ciborium_ll_text.specs.Cuts.{IsMember}
 use Rattle.ciborium_ll_grammar.specs.Values.{least_limit, AreFullPieces, AreBytePieces, ArePieces, IsWritten, in_one}
 use Rattle.ciborium_ll_grammar.specs.Values.{in_pieces, segments, HasFewestSegments}
 use Rattle.ciborium_ll_text.proofs.Lists.{same_front}
