@@ -8,6 +8,7 @@ use Rattle.ciborium_ll_grammar.specs.Title.{IsTitle, numbered, alone, Major, Byt
 use Rattle.ciborium_ll_grammar.specs.Title.{Other, major_code, Size, Small, One, Two, Four, Eight, numbered_header}
 use Rattle.ciborium_ll_grammar.specs.Title.{open_header, minor_of, affix_of, least_size, shortest_title}
 use Rattle.ciborium_ll_grammar.specs.Parts.{IsMinor, minor_number, minor_code, minor_affix, parts_bytes}
+use Rattle.ciborium_ll_grammar.specs.TitleRows.{NamesTitle}
 use Rattle.ciborium_ll_grammar.proofs.TitleLaws.{minor_below, one_title}
 use Rattle.ciborium_ll_grammar.proofs.AffixLaws.{major_with}
 
@@ -46,11 +47,11 @@ pub means_back : (k : Major) (minor : Minor) (x : Header) → IsMinor minor → 
     → means k minor ≡ Some x
 means_back k minor x p t = grind (arith, one_meaning, opened)
 
--- the minor of a number under a major type that reads every number alike
-pub numbered_parts : (major : Major) (minor : Minor) (n : ℕ) (header : Header) → IsMinor minor
-    → minor_number minor ≡ Some n → ((size : Size) → numbered_header major size n ≡ header)
-    → IsTitle (parts_bytes (major_code major) minor) header
-numbered_parts major minor n header p e f = means_title major minor header p (grind arith)
+-- the minor of a number under the major type that a row names, which reads every number alike
+pub numbered_parts : (code : Major) (major : ℕ) (minor : Minor) (n : ℕ) (header : Header) → IsMinor minor
+    → minor_number minor ≡ Some n → NamesTitle (major_code code) major (minor_code minor)
+    → ((size : Size) → numbered_header code size n ≡ header) → IsTitle (parts_bytes major minor) header
+numbered_parts code major minor n header p e named f = rw named.0 (means_title code minor header p (grind arith))
 
 -- the least size shortens a title, under a major type that reads every number alike
 shortens_alike : (major : Major) (minor least : Minor) (n : ℕ) (header : Header) → major_code major < 7

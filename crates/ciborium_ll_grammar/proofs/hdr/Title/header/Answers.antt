@@ -35,12 +35,6 @@ none_open (Some header) kind major minor e is none = tt
 none_open None kind major minor e is none =
     rw (open_minor minor e) (refl, none major (rw (open_minor minor e) at is))
 
--- a number under the major type that the kind names
-named_title : (code : Major) (major : ℕ) (minor : Minor) (n : ℕ) (header : Header) → IsMinor minor
-    → minor_number minor ≡ Some n → NamesTitle (major_code code) major (minor_code minor)
-    → ((size : Size) → numbered_header code size n ≡ header) → IsTitle (parts_bytes major minor) header
-named_title code major minor n header p e named f = rw named.0 (numbered_parts code minor n header p e f)
-
 pub returns-in_default-clause-some : goal.returns-in_default-clause-some
 returns-in_default-clause-some c =
     some_open c.open_header.result c.args.kind c.args.self.major c.args.self.minor
@@ -52,31 +46,31 @@ returns-in_default-clause-none c =
     (sym c.number.ensures ∙ c.in_default.is) c.requires.kind c.open_header.ensures.none
 
 pub returns-in-Positive-clause-some : goal.returns-in-Positive-clause-some
-returns-in-Positive-clause-some c = named_title Unsigned _ _ _ _ c.requires.parts.minor
+returns-in-Positive-clause-some c = numbered_parts Unsigned _ _ _ _ c.requires.parts.minor
     (sym c.number.ensures ∙ c.in-Some.is) (rw c.in-Positive.is at c.requires.kind) (λ s. refl)
 
 pub returns-in-Negative-clause-some : goal.returns-in-Negative-clause-some
-returns-in-Negative-clause-some c = named_title Negative _ _ _ _ c.requires.parts.minor
+returns-in-Negative-clause-some c = numbered_parts Negative _ _ _ _ c.requires.parts.minor
     (sym c.number.ensures ∙ c.in-Some.is) (rw c.in-Negative.is at c.requires.kind) (λ s. refl)
 
 pub returns-in-Bytes-clause-some : goal.returns-in-Bytes-clause-some
-returns-in-Bytes-clause-some c = named_title ByteString _ _ _ _ c.requires.parts.minor
+returns-in-Bytes-clause-some c = numbered_parts ByteString _ _ _ _ c.requires.parts.minor
     (sym c.number.ensures ∙ c.in-Some.is) (rw c.in-Bytes.is at c.requires.kind) (λ s. refl)
 
 pub returns-in-Text-clause-some : goal.returns-in-Text-clause-some
-returns-in-Text-clause-some c = named_title TextString _ _ _ _ c.requires.parts.minor
+returns-in-Text-clause-some c = numbered_parts TextString _ _ _ _ c.requires.parts.minor
     (sym c.number.ensures ∙ c.in-Some.is) (rw c.in-Text.is at c.requires.kind) (λ s. refl)
 
 pub returns-in-Array-clause-some : goal.returns-in-Array-clause-some
-returns-in-Array-clause-some c = named_title Array _ _ _ _ c.requires.parts.minor
+returns-in-Array-clause-some c = numbered_parts Array _ _ _ _ c.requires.parts.minor
     (sym c.number.ensures ∙ c.in-Some.is) (rw c.in-Array.is at c.requires.kind) (λ s. refl)
 
 pub returns-in-Map-clause-some : goal.returns-in-Map-clause-some
-returns-in-Map-clause-some c = named_title Map _ _ _ _ c.requires.parts.minor
+returns-in-Map-clause-some c = numbered_parts Map _ _ _ _ c.requires.parts.minor
     (sym c.number.ensures ∙ c.in-Some.is) (rw c.in-Map.is at c.requires.kind) (λ s. refl)
 
 pub returns-in-Tag-clause-some : goal.returns-in-Tag-clause-some
-returns-in-Tag-clause-some c = named_title Tag _ _ _ _ c.requires.parts.minor
+returns-in-Tag-clause-some c = numbered_parts Tag _ _ _ _ c.requires.parts.minor
     (sym c.number.ensures ∙ c.in-Some.is) (rw c.in-Tag.is at c.requires.kind) (λ s. refl)
 
 pub returns-in-Other-clause-some : goal.returns-in-Other-clause-some
