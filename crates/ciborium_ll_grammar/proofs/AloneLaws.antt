@@ -3,24 +3,19 @@ use Rattle.std.specs.Prelude.{is_none}
 use Rattle.std.proofs.Common.{◌≡◌, ℕ, ◌<◌, Bool, true, false, List, length, None, arith}
 use Rattle.ciborium_ll_grammar.specs.declared.hdr.Header.{Header}
 use Rattle.ciborium_ll_grammar.specs.declared.hdr.Header.TheVariants as h
-use Rattle.ciborium_ll_grammar.specs.Title.{Major, Size, IsTitle, numbered, alone, numbered_header, shortest_title}
-use Rattle.ciborium_ll_grammar.specs.Title.{IsInRange}
+use Rattle.ciborium_ll_grammar.specs.Title.{Major, Size, IsTitle, numbered_header, shortest_title, IsInRange}
 use Rattle.ciborium_ll_grammar.specs.Strings.{Kind, kind_header}
 use Rattle.ciborium_ll_grammar.proofs.TitleLaws.{shortest_or_longer, shortest_some}
 use Rattle.ciborium_ll_grammar.proofs.AffixLaws.{announced}
 
 -- a header that minor 31 means
 abbrev pub is_alone : Header → Bool
-is_alone (h.Positive n) = false
-is_alone (h.Negative n) = false
-is_alone (h.Float float) = false
-is_alone (h.Simple n) = false
-is_alone (h.Tag n) = false
 is_alone h.Break = true
 is_alone (h.Bytes len) = is_none len
 is_alone (h.Text len) = is_none len
 is_alone (h.Array len) = is_none len
 is_alone (h.Map len) = is_none len
+is_alone header = false
 
 not_alone : (m : Major) (s : Size) (n : ℕ) → is_alone (numbered_header m s n) ≡ false
 not_alone m s n = grind arith
@@ -31,8 +26,7 @@ title_some w x t = grind (arith, announced w x t)
 
 -- a header that minor 31 means has one title
 pub alone_bytes : (w : List ℕ) (x : Header) → IsTitle w x → is_alone x ≡ true → w ≡ shortest_title x
-alone_bytes w x (numbered m s n p) e = absurd (cc (not_alone m s n))
-alone_bytes w x (alone m y o) e = grind (arith, shortest_or_longer x w (alone m y o), shortest_some x)
+alone_bytes w x t e = grind (arith, not_alone, shortest_or_longer x w t, shortest_some x)
 
 pub open_alone : (k : Kind) → is_alone (kind_header k None) ≡ true
 open_alone k = grind arith

@@ -49,32 +49,22 @@ abbrev pub SameString : List ℕ → List ℕ → List (List ℕ) → List (List
 SameString w w' bs bs' v v' = (w ≡ w') × (bs ≡ bs') × (v ≡ v')
 
 mutual
-  -- no string begins another one
-  one_str : (k : Kind) (w : List ℕ) (bs : List (List ℕ)) → IsString k w bs → (w' : List ℕ) (bs' : List (List ℕ))
-      → IsString k w' bs' → (v v' : List ℕ) → w ++ v ≡ w' ++ v' → SameString w w' bs bs' v v'
-  one_str k w bs (definite p) w' bs' (definite p') v v' e = grind (arith, fronts, append_assoc, same_front)
-  one_str k w bs (indefinite p q) w' bs' (indefinite p' q') v v' e =
-      grind (arith, fronts, append_assoc, one_strs k _ bs q _ bs' q' v v')
-  one_str k w bs (definite p) w' bs' (indefinite p' q') v v' e = absurd (grind (arith, fronts, append_assoc))
-  one_str k w bs (indefinite p q) w' bs' (definite p') v v' e = absurd (grind (arith, fronts, append_assoc))
+  -- no string begins another one, and each has one list of bodies
+  pub one_string : (k : Kind) (w w' v v' : List ℕ) (bs bs' : List (List ℕ)) → IsString k w bs → IsString k w' bs'
+      → w ++ v ≡ w' ++ v' → SameString w w' bs bs' v v'
+  one_string k w w' v v' bs bs' (definite p) (definite p') e = grind (arith, fronts, append_assoc, same_front)
+  one_string k w w' v v' bs bs' (indefinite p q) (indefinite p' q') e =
+      grind (arith, fronts, append_assoc, one_strings_then k _ _ v v' bs bs' q q')
+  one_string k w w' v v' bs bs' (definite p) (indefinite p' q') e = absurd (grind (arith, fronts, append_assoc))
+  one_string k w w' v v' bs bs' (indefinite p q) (definite p') e = absurd (grind (arith, fronts, append_assoc))
 
-  -- of strings in front of a break none begin others
-  one_strs : (k : Kind) (w : List ℕ) (bs : List (List ℕ)) → AreStrings k w bs → (w' : List ℕ) (bs' : List (List ℕ))
-      → AreStrings k w' bs' → (v v' : List ℕ) → w ++ 0xff ∷ v ≡ w' ++ 0xff ∷ v' → SameString w w' bs bs' v v'
-  one_strs k w bs none w' bs' none v v' e = (refl, refl, cc)
-  one_strs k w bs none w' bs' (more s' ss') v v' e = absurd (grind (arith, string_not_break, append_assoc))
-  one_strs k w bs (more s ss) w' bs' none v v' e = absurd (grind (arith, string_not_break, append_assoc))
-  one_strs k w bs (more {rest = y} s ss) w' bs' (more {rest = y'} s' ss') v v' e =
-      let a = one_str k _ _ s _ _ s' (y ++ 0xff ∷ v) (y' ++ 0xff ∷ v') (simp append_assoc at e) in
-      let b = one_strs k y _ ss y' _ ss' v v' a.2 in
+  -- strings in front of a break are the only ones, with one list of bodies
+  pub one_strings_then : (k : Kind) (w w' v v' : List ℕ) (bs bs' : List (List ℕ)) → AreStrings k w bs
+      → AreStrings k w' bs' → w ++ 0xff ∷ v ≡ w' ++ 0xff ∷ v' → SameString w w' bs bs' v v'
+  one_strings_then k w w' v v' bs bs' none none e = (refl, refl, cc)
+  one_strings_then k w w' v v' bs bs' none (more s' ss') e = absurd (grind (arith, string_not_break, append_assoc))
+  one_strings_then k w w' v v' bs bs' (more s ss) none e = absurd (grind (arith, string_not_break, append_assoc))
+  one_strings_then k w w' v v' bs bs' (more {rest = y} s ss) (more {rest = y'} s' ss') e =
+      let a = one_string k _ _ (y ++ 0xff ∷ v) (y' ++ 0xff ∷ v') _ _ s s' (simp append_assoc at e) in
+      let b = one_strings_then k y y' v v' _ _ ss ss' a.2 in
       grind arith
-
--- no string begins another one, and each has one list of bodies
-pub one_string : (k : Kind) (w w' v v' : List ℕ) (bs bs' : List (List ℕ)) → IsString k w bs → IsString k w' bs'
-    → w ++ v ≡ w' ++ v' → SameString w w' bs bs' v v'
-one_string k w w' v v' bs bs' p p' e = one_str k w bs p w' bs' p' v v' e
-
--- strings in front of a break are the only ones, with one list of bodies
-pub one_strings_then : (k : Kind) (w w' v v' : List ℕ) (bs bs' : List (List ℕ)) → AreStrings k w bs
-    → AreStrings k w' bs' → w ++ 0xff ∷ v ≡ w' ++ 0xff ∷ v' → SameString w w' bs bs' v v'
-one_strings_then k w w' v v' bs bs' p p' e = one_strs k w bs p w' bs' p' v v' e

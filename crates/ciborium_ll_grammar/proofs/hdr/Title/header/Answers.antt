@@ -4,10 +4,10 @@ use Rattle.ciborium_ll_grammar.specs.declared.hdr.Header.{Header}
 use Rattle.ciborium_ll_grammar.specs.declared.hdr.Minor.{Minor}
 use Rattle.ciborium_ll_grammar.specs.declared.hdr.Minor.TheVariants as m
 use Rattle.ciborium_ll_grammar.specs.declared.hdr.table.TitleKind.{TitleKind}
-use Rattle.ciborium_ll_grammar.specs.Title.{IsTitle, IsNeverOpen, NamesNoTitle, Unsigned, Negative, Major, major_code}
-use Rattle.ciborium_ll_grammar.specs.Title.{Size, numbered_header, ByteString, TextString, Array, Map, Tag}
+use Rattle.ciborium_ll_grammar.specs.Title.{IsTitle, IsNeverOpen, NamesNoTitle, Unsigned, Negative, ByteString}
+use Rattle.ciborium_ll_grammar.specs.Title.{TextString, Array, Map, Tag}
 use Rattle.ciborium_ll_grammar.specs.Parts.{IsMinor, minor_code, minor_number, parts_bytes}
-use Rattle.ciborium_ll_grammar.specs.TitleRows.{IsTitleKind, NamesTitle}
+use Rattle.ciborium_ll_grammar.specs.TitleRows.{IsTitleKind}
 use Rattle.ciborium_ll_grammar.proofs.PartsLaws.{numbered_parts}
 use Rattle.ciborium_ll_grammar.proofs.hdr.Title.header.Goals as goal
 

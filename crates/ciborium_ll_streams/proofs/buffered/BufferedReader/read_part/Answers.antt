@@ -2,7 +2,7 @@ use Rattle.std.proofs.Common.{◌≡◌, arith, length, length-take-le, subst, s
 use Rattle.std.proofs.KnownBytes.{Keeps-refl}
 use Rattle.std.proofs.lemmas.List.{take_at}
 use Rattle.std.specs.Io.KnownBytes.{Consumes, Keeps}
-use Rattle.ciborium_ll_streams.specs.Buffers.{buffered_ahead, held}
+use Rattle.ciborium_ll_streams.specs.Buffers.{buffered_ahead}
 use Rattle.ciborium_ll_streams.proofs.BufferLaws.{kept_Consumes, no_bytes, prepend_known-filled, prepend_known-kept}
 use Rattle.ciborium_ll_streams.proofs.BufferLaws.{prepend_known-none, prepend_known-taken}
 use Rattle.ciborium_ll_streams.proofs.buffered.BufferedReader.read_part.Goals.{else-len-eq0}
@@ -10,28 +10,24 @@ use Rattle.ciborium_ll_streams.proofs.buffered.BufferedReader.read_part.Goals.{t
 use Rattle.ciborium_ll_streams.proofs.buffered.BufferedReader.read_part.Goals as goal
 
 pub returns-in-Ok-eq0-clause-keeps : goal.returns-in-Ok-eq0-clause-keeps
-returns-in-Ok-eq0-clause-keeps g c =
-    let none = no_bytes (held c.args.self.now.window) (sym c.len.ensures ∙ c.if-len-eq0.true) in
-    rw c.failed.ensures.ahead (prepend_known-filled _ _ _ _ none c.in-Ok-eq0.ensures.bytes)
+returns-in-Ok-eq0-clause-keeps g c = rw c.failed.ensures.ahead (prepend_known-filled _ _ _ _
+    (no_bytes _ (sym c.len.ensures ∙ c.if-len-eq0.true)) c.in-Ok-eq0.ensures.bytes)
 
 pub returns-in-Ok-eq0-clause-end : goal.returns-in-Ok-eq0-clause-end
-returns-in-Ok-eq0-clause-end g c =
-    let none = no_bytes (held c.fill.new.self) (sym c.in-Ok-eq0.ensures.count ∙ c.in-Ok-eq0.field-0-test) in
-    λ _. rw c.failed.ensures.ahead (prepend_known-none _ _ none
+returns-in-Ok-eq0-clause-end g c = λ _. rw c.failed.ensures.ahead (prepend_known-none _ _
+    (no_bytes _ (sym c.in-Ok-eq0.ensures.count ∙ c.in-Ok-eq0.field-0-test))
     (c.in-Ok-eq0.ensures.end c.in-Ok-eq0.field-0-test))
 
 pub returns-in-Err-clause-keeps : goal.returns-in-Err-clause-keeps
-returns-in-Err-clause-keeps g c =
-    let none = no_bytes (held c.args.self.now.window) (sym c.len.ensures ∙ c.if-len-eq0.true) in
-    rw c.failed-in-Err.ensures.ahead (prepend_known-kept _ _ _ _ none c.in-Err.ensures.err
-    c.in-Err.ensures.keeps)
+returns-in-Err-clause-keeps g c = rw c.failed-in-Err.ensures.ahead (prepend_known-kept _ _ _ _
+    (no_bytes _ (sym c.len.ensures ∙ c.if-len-eq0.true)) c.in-Err.ensures.err c.in-Err.ensures.keeps)
 
 pub returns-clause-bytes : goal.returns-clause-bytes
 returns-clause-bytes g c =
     let kept : Keeps (buffered_ahead g.T.Read.remaining c.args.self.now) (buffered_ahead g.T.Read.remaining
     c.if-len-eq0.self) = elim c.if-len-eq0.branch [
       | then-len-eq0+else-capacity-data+in-Ok w ↦ rw w.self-is (prepend_known-filled _ _ _ _
-          (no_bytes (held c.args.self.now.window) (sym c.len.ensures ∙ w.if-len-eq0.true)) w.in-Ok.ensures.bytes)
+          (no_bytes _ (sym c.len.ensures ∙ w.if-len-eq0.true)) w.in-Ok.ensures.bytes)
       | else-len-eq0 w ↦ rw w.self-is (Keeps-refl _)
     ] in
     let size : length c.take.new.«data» ≡ c.min-count.result = c.take.auto.«data» ∙ length-take-le _ _ (omega arith) in

@@ -5,18 +5,15 @@ use Rattle.ciborium_ll_streams.proofs.BufferLaws.{rest_none}
 use Rattle.ciborium_ll_streams.proofs.buffered.BufferedWriter.send.Goals as goal
 
 pub restart-requires : goal.restart-requires
-restart-requires g c =
-    let waiting = held c.args.self.now.window in
-    let sent = c.write_calls-count.result.0 in
-    let all = rw c.in-Ok.is at c.write_calls-count.ensures.ok in
-    rest_none waiting _ sent c.skip.ensures.held (all ∙ ap length c.held.ensures)
+restart-requires g c = rest_none _ _ _ c.skip.ensures.held
+    ((rw c.in-Ok.is at c.write_calls-count.ensures.ok) ∙ ap length c.held.ensures)
 
 pub returns-in-Ok-clause-bytes : goal.returns-in-Ok-clause-bytes
 returns-in-Ok-clause-bytes g c =
     let waiting = held c.args.self.now.window in
     let sent = c.write_calls-count.result.0 in
-    let all = rw c.in-Ok.is at c.write_calls-count.ensures.ok in
-    let none = rest_none waiting _ sent c.skip.ensures.held (all ∙ ap length c.held.ensures) in
+    let none = rest_none waiting _ sent c.skip.ensures.held
+    ((rw c.in-Ok.is at c.write_calls-count.ensures.ok) ∙ ap length c.held.ensures) in
     append_known-moved _ _ (take sent waiting) _ waiting (rw c.held.ensures at c.write_calls-count.ensures.bytes)
     (c.skip.ensures.held ∙ ap (λ l. take sent waiting ++ l) (none ∙ sym c.restart.ensures.held))
 
