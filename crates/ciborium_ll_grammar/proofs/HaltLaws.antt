@@ -180,7 +180,7 @@ pub same_kind : (k : Kind) (t u y : List ℕ) (o : Option ℕ) → IsTitle t (ki
     → (t' s : List ℕ) (j : Kind) (l : ℕ) → IsTitle t' (kind_header j (Some l)) → y ≡ t' ++ s → j ≡ k
 same_kind k t u y o p e t' s j l q e' = (string_fronts j k t' t s u (Some l) o q p (sym e' ∙ e)).0
 
--- nor are a string and the title of another kind
+-- the title of a string in front of the same bytes as a string is of its kind
 string_kind : (k : Kind) (w v y : List ℕ) (bs : List (List ℕ)) → IsString k w bs → y ≡ w ++ v → (t s : List ℕ)
     (j : Kind) (l : ℕ) → IsTitle t (kind_header j (Some l)) → y ≡ t ++ s → j ≡ k
 string_kind k w v y bs p e t s j l q e' = grind (arith, string_fronts, append_assoc)
