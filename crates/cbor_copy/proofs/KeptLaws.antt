@@ -1,76 +1,138 @@
--- What a whole title or body leaves as it was.
-use Rattle.std.proofs.Common.{◌≡◌, ℕ, zero, suc, ◌+◌, ◌-◌, Bool, true, false, [], Some, None, refl, ap, ◌∙◌}
+-- What a whole title or body leaves as it was, and how long what a byte puts out and what is held back behind it are.
+use Rattle.std.proofs.Common.{◌≡◌, ℕ, zero, suc, ◌+◌, ◌-◌, ◌≤◌, Bool, true, false, List, [], ◌∷◌, ◌++◌, ◌⊎◌, length}
+use Rattle.std.proofs.Common.{take, Some, None, refl, ap, arith, inl, inr, length-append, length-take-le}
 use Rattle.ciborium_ll_grammar.specs.declared.hdr.Header.{Header}
 use Rattle.ciborium_ll_grammar.specs.declared.hdr.Header.TheVariants as h
+use Rattle.ciborium_ll_grammar.specs.Title.{IsTitle, shortest_title}
+use Rattle.ciborium_ll_grammar.proofs.TitleLaws.{shortest_no_longer}
 use Rattle.ciborium_ll_text.specs.declared.state.State.{State}
 use Rattle.ciborium_ll_text.specs.declared.state.State.TheVariants as s
-use Rattle.ciborium_ll_text.specs.States.{after_byte, may_end}
+use Rattle.ciborium_ll_text.specs.States.{after_byte}
 use Rattle.cbor_copy.specs.declared.phase.Phase.{Phase}
 use Rattle.cbor_copy.specs.declared.phase.Phase.TheVariants as p
 use Rattle.cbor_copy.specs.declared.phase.StringKind.{StringKind}
 use Rattle.cbor_copy.specs.declared.phase.StringKind.TheVariants as k
 use Rattle.cbor_copy.specs.declared.phase.Within.{Within}
 use Rattle.cbor_copy.specs.declared.phase.Within.TheVariants as w
-use Rattle.cbor_copy.specs.Spots.{Spot, elements_due, string_done, body_due, entered}
-use Rattle.cbor_copy.specs.Steps.{with_byte, with_char, char_put, byte_put, text_left, TitleStep, cut, early, whole}
-use Rattle.cbor_copy.specs.Steps.{none}
-use Rattle.cbor_copy.specs.Steps.{StepIn}
+use Rattle.cbor_copy.specs.Spots.{Spot, elements_due, string_done, body_due, entered, refused}
+use Rattle.cbor_copy.specs.Steps.{Faults, with_byte, with_char, char_put, byte_put, text_left, StepIn, TitleStep, cut}
+use Rattle.cbor_copy.specs.Steps.{early, whole, none}
+use Rattle.cbor_copy.proofs.Reached.{Misplaced}
 
--- what is held back, and how many bytes came
+-- what is held back, how many bytes came and what was put out stay, and it is no fault
 abbrev pub Kept : Spot → Spot → Type 0
-Kept new old = (new.front ≡ old.front) × (new.offset ≡ old.offset)
+Kept new old = (new.front ≡ old.front) × (new.offset ≡ old.offset) × (new.put ≡ old.put) × (Faults new → ⊥)
 
-due_kept : (left : ℕ) (spot : Spot) → Kept (elements_due left spot) spot
-due_kept zero spot = (refl, refl)
-due_kept (suc left) spot = (refl, refl)
+pub due_kept : (left : ℕ) (spot : Spot) → Kept (elements_due left spot) spot
+due_kept zero spot = (refl, refl, refl, λ f. cc f.1)
+due_kept (suc left) spot = (refl, refl, refl, λ f. cc f.1)
 
 done_kept : (i : Within) (spot : Spot) → Kept (string_done i spot) spot
 done_kept w.Nothing spot = due_kept (spot.left - 1) spot
-done_kept (w.Open kind more) spot = (refl, refl)
+done_kept (w.Open kind more) spot = (refl, refl, refl, λ f. cc f.1)
 
 pub body_kept : (kind : StringKind) (len : ℕ) (spot : Spot) → Kept (body_due kind len spot) spot
 body_kept kind zero spot = done_kept spot.within spot
-body_kept kind (suc len) spot = (refl, refl)
+body_kept k.Bytes (suc len) spot = (refl, refl, refl, λ f. cc f.1)
+body_kept k.Text (suc len) spot = (refl, refl, refl, λ f. cc f.1)
 
-pub entered_kept : (i : Within) (header : Header) (spot : Spot) → Kept (entered i header spot) spot
-entered_kept w.Nothing (h.Bytes (Some len)) spot = body_kept k.Bytes len _
-entered_kept w.Nothing (h.Text (Some len)) spot = body_kept k.Text len _
-entered_kept w.Nothing (h.Bytes None) spot = (refl, refl)
-entered_kept w.Nothing (h.Text None) spot = (refl, refl)
-entered_kept w.Nothing header spot = due_kept (spot.left - 1) _
-entered_kept (w.Open k.Bytes more) (h.Bytes (Some len)) spot = body_kept k.Bytes len _
-entered_kept (w.Open k.Text more) (h.Text (Some len)) spot = body_kept k.Text len _
-entered_kept (w.Open k.Bytes more) (h.Bytes None) spot = (refl, refl)
-entered_kept (w.Open k.Text more) (h.Text None) spot = (refl, refl)
-entered_kept (w.Open k.Bytes zero) h.Break spot = due_kept (spot.left - 1) _
-entered_kept (w.Open k.Text zero) h.Break spot = due_kept (spot.left - 1) _
-entered_kept (w.Open k.Bytes (suc more)) h.Break spot = (refl, refl)
-entered_kept (w.Open k.Text (suc more)) h.Break spot = (refl, refl)
-entered_kept (w.Open k.Bytes more) header spot = (refl, refl)
-entered_kept (w.Open k.Text more) header spot = (refl, refl)
+-- ---- a whole title
 
--- ---- each byte is counted
+-- it puts out its shortest one or nothing, and where it may not stand, and only there, it is a fault
+pub record Entered (i : Within) (header : Header) (spot new : Spot) : Type 0 where
+  pub front : new.front ≡ spot.front
+  pub offset : new.offset ≡ spot.offset
+  pub put : (new.put ≡ shortest_title header) ⊎ (new.put ≡ spot.put)
+  pub faults : Faults new → Misplaced i header
+  pub misplaced : Misplaced i header → Faults new
 
-title_counts : (spot new : Spot) → TitleStep spot new → new.offset ≡ spot.offset
-title_counts spot new (cut c may) = refl
-title_counts spot new (early c all) = refl
-title_counts spot new (whole header q) = (entered_kept spot.within header (record spot { front = [] })).1
-title_counts spot new (none r) = refl
+module _ {i : Within} {header : Header} {spot : Spot} where
+  by_kept : {new : Spot} {put : List ℕ} → (new.front ≡ spot.front) × (new.offset ≡ spot.offset) × (new.put ≡ put)
+      × (Faults new → ⊥) → (put ≡ shortest_title header) ⊎ (put ≡ spot.put) → (Misplaced i header → ⊥)
+      → Entered i header spot new
+  by_kept kept out sound = record {
+    front = kept.0;
+    offset = kept.1;
+    put = rw kept.2 out;
+    faults = λ f. absurd (kept.3 f);
+    misplaced = λ bad. absurd (sound bad);
+  }
 
-text_counts : (may : Bool) (left : ℕ) (state : State) (spot : Spot)
-    → (text_left may left state spot).offset ≡ spot.offset
-text_counts false left state spot = refl
-text_counts true left s.Between spot = (body_kept k.Text left (char_put spot)).1
-text_counts true left state spot = refl
+  by_fault : Misplaced i header → Entered i header spot (refused spot)
+  by_fault bad = record {
+    front = refl;
+    offset = refl;
+    put = inr refl;
+    faults = λ f. bad;
+    misplaced = λ bad. (spot.place, refl);
+  }
 
-pub step_counts : (phase : Phase) (spot new : Spot) (b : ℕ) → StepIn phase spot b new → new.offset ≡ spot.offset + 1
-step_counts p.Title spot new b step = title_counts (with_byte b spot) new step
-step_counts (p.Bytes zero) spot new b step = absurd step
-step_counts (p.Bytes (suc left)) spot new b step =
-    ap (λ (z : Spot). z.offset) step ∙ (body_kept k.Bytes left (byte_put b spot)).1
-step_counts (p.Text zero state) spot new b step = absurd step
-step_counts (p.Text (suc left) state) spot new b step =
-    ap (λ (z : Spot). z.offset) step
-    ∙ text_counts (may_end (after_byte state b) left) left (after_byte state b) (with_char b spot)
-step_counts p.Ended spot new b step = absurd step
-step_counts (p.Faulted place) spot new b step = absurd step
+pub enters : (i : Within) (header : Header) (spot : Spot) → Entered i header spot (entered i header spot)
+enters w.Nothing (h.Bytes (Some len)) spot = by_kept (body_kept k.Bytes len _) (inl refl) (λ bad. bad)
+enters w.Nothing (h.Text (Some len)) spot = by_kept (body_kept k.Text len _) (inl refl) (λ bad. bad)
+enters w.Nothing (h.Bytes None) spot = by_kept (refl, refl, refl, λ f. cc f.1) (inl refl) (λ bad. bad)
+enters w.Nothing (h.Text None) spot = by_kept (refl, refl, refl, λ f. cc f.1) (inl refl) (λ bad. bad)
+enters w.Nothing header spot = by_kept (due_kept (spot.left - 1) _) (inl refl) (λ bad. bad)
+enters (w.Open k.Bytes more) (h.Bytes (Some len)) spot = by_kept (body_kept k.Bytes len _) (inl refl) (λ bad. bad)
+enters (w.Open k.Text more) (h.Text (Some len)) spot = by_kept (body_kept k.Text len _) (inl refl) (λ bad. bad)
+enters (w.Open k.Bytes more) (h.Bytes None) spot = by_kept (refl, refl, refl, λ f. cc f.1) (inr refl) (λ bad. bad)
+enters (w.Open k.Text more) (h.Text None) spot = by_kept (refl, refl, refl, λ f. cc f.1) (inr refl) (λ bad. bad)
+enters (w.Open k.Bytes zero) h.Break spot = by_kept (due_kept (spot.left - 1) _) (inl refl) (λ bad. bad)
+enters (w.Open k.Text zero) h.Break spot = by_kept (due_kept (spot.left - 1) _) (inl refl) (λ bad. bad)
+enters (w.Open k.Bytes (suc more)) h.Break spot = by_kept (refl, refl, refl, λ f. cc f.1) (inr refl) (λ bad. bad)
+enters (w.Open k.Text (suc more)) h.Break spot = by_kept (refl, refl, refl, λ f. cc f.1) (inr refl) (λ bad. bad)
+enters (w.Open k.Bytes more) header spot = by_fault tt
+enters (w.Open k.Text more) header spot = by_fault tt
+
+-- what was put out is no longer than the title
+pub entered_put : (i : Within) (header : Header) (spot : Spot) (title : List ℕ) → IsTitle title header → spot.put ≡ []
+    → length (entered i header spot).put ≤ length title
+entered_put i header spot title q clear =
+    elim (enters i header spot).put [
+      | inl e ↦ rw e (shortest_no_longer title header q)
+      | inr e ↦ rw (e, clear) (omega arith)
+    ]
+
+-- ---- a byte
+
+-- it is counted, and what it puts out and what is held back are no longer than it and what was held back
+abbrev pub Stepped : Spot → Spot → Type 0
+Stepped old new = (new.offset ≡ old.offset + 1) × (length new.put + length new.front ≤ length old.front + 1)
+
+title_steps : (b : ℕ) (spot new : Spot) → TitleStep (with_byte b spot) new → Stepped spot new
+title_steps b spot new (cut c may) = (refl, omega (arith, length-append spot.front (b ∷ [])))
+title_steps b spot new (early c all) = (refl, omega (arith, length-append spot.front (b ∷ [])))
+title_steps b spot new (none r) = (refl, omega arith)
+title_steps b spot new (whole header q) =
+    let old = record (with_byte b spot) { front = [] } in
+    let o = enters spot.within header old in
+    (o.offset, rw o.front (omega (arith, entered_put spot.within header old _ q refl, length-append spot.front (b ∷ []))))
+
+text_steps : (may : Bool) (left b : ℕ) (state : State) (spot : Spot)
+    → Stepped spot (text_left may left state (with_char b spot))
+text_steps false left b state spot = (refl, omega arith)
+text_steps true left b s.Between spot =
+    let o = body_kept k.Text left (char_put (with_char b spot)) in
+    (o.1, rw (o.0, o.2) (omega (arith, length-append spot.front (b ∷ []))))
+text_steps true left b state spot = (refl, omega (arith, length-append spot.front (b ∷ [])))
+
+pub steps : (phase : Phase) (spot new : Spot) (b : ℕ) → StepIn phase spot b new → Stepped spot new
+steps p.Title spot new b step = title_steps b spot new step
+steps (p.Bytes (suc left)) spot new b step =
+    let o = body_kept k.Bytes left (byte_put b spot) in rw step (o.1, rw (o.0, o.2) (omega arith))
+steps (p.Text (suc left) state) spot new b step = rw step (text_steps _ left b (after_byte state b) spot)
+steps phase spot new b step = absurd step
+
+-- what was given of what was put out, what is pending of it and what is held back
+pub given_grows : (new : Spot) (at end most : ℕ) (out out' rest : List ℕ) → length new.put + length new.front ≤ most
+    → at ≤ length out → end ≤ length out' → take end out' ++ rest ≡ take at out ++ new.put
+    → end + length rest + length new.front ≤ at + most
+given_grows new at end most out out' rest grows before behind given =
+    omega (
+      arith,
+      ap length given,
+      length-take-le at out before,
+      length-take-le end out' behind,
+      length-append (take end out') rest,
+      length-append (take at out) new.put,
+    )

@@ -1,10 +1,10 @@
 -- What the bytes of a copy have led to, in terms of elements, and what was put out till there.
-use Rattle.std.proofs.Common.{◌≡◌, ℕ, suc, ◌+◌, ◌-◌, ◌<◌, true, false, List, [], ◌∷◌, ◌++◌, length, Some, ◌⊎◌}
+use Rattle.std.proofs.Common.{◌≡◌, ℕ, suc, ◌+◌, ◌-◌, ◌<◌, ◌≤◌, true, false, List, [], ◌∷◌, ◌++◌, length, Some, ◌⊎◌}
 use Rattle.ciborium_ll_grammar.specs.declared.hdr.Header.{Header}
 use Rattle.ciborium_ll_grammar.specs.Title.{IsTitle, title_len, IsCutTitle, AreBytes}
 use Rattle.ciborium_ll_grammar.specs.Strings.{Kind, Bytes, Text, kind_header, IsMisplaced, IsWritable}
 use Rattle.ciborium_ll_grammar.specs.Elements.{AreWritable, Mark, Open, pieces, spelling, IsRun}
-use Rattle.ciborium_ll_grammar.specs.Faults.{Point, Due, In, Reaches, Answer, Syntax, with_front, FirstFault}
+use Rattle.ciborium_ll_grammar.specs.Faults.{Point, Due, In, Reaches, Syntax, with_front, FirstFault}
 use Rattle.ciborium_ll_grammar.proofs.OpenStrings.{IsInsideAt}
 use Rattle.ciborium_ll_text.specs.declared.state.State.TheVariants as s
 use Rattle.ciborium_ll_text.specs.States.{after, may_end}
@@ -14,7 +14,7 @@ use Rattle.cbor_copy.specs.declared.phase.StringKind.{StringKind}
 use Rattle.cbor_copy.specs.declared.phase.StringKind.TheVariants as k
 use Rattle.cbor_copy.specs.declared.phase.Within.{Within}
 use Rattle.cbor_copy.specs.declared.phase.Within.TheVariants as w
-use Rattle.cbor_copy.specs.Spots.{Spot}
+use Rattle.cbor_copy.specs.Spots.{Spot, putting}
 
 abbrev pub kind_of : StringKind → Kind
 kind_of k.Bytes = Bytes
@@ -38,11 +38,6 @@ pub record InOpen (kind : Kind) (more count left : ℕ) (bytes : List ℕ) (mark
   pub is : bytes ≡ elements ++ opens
   pub marks_are : marks ≡ element_marks ++ Open kind ∷ pieces kind bodies
 
--- a title is due
-abbrev pub At : Within → ℕ → ℕ → List ℕ → List Mark → Type 0
-At w.Nothing count left bytes marks = RunLeft count left bytes marks
-At (w.Open kind more) count left bytes marks = InOpen (kind_of kind) more count left bytes marks
-
 -- a header that may not stand there
 abbrev pub Misplaced : Within → Header → Type 0
 Misplaced w.Nothing header = ⊥
@@ -65,17 +60,30 @@ body_place (w.Open kind more) before title header = length before
 -- no title came, or a part of one that may stand there
 abbrev pub FrontAt : Within → ℕ → ℕ → List ℕ → Type 0
 FrontAt i at place front = (front ≡ []) ⊎ (AreBytes front × IsCutTitle front
-    × ((more : List ℕ) (header : Header) → IsTitle (front ++ more) header → Misplaced i header → ⊥) × (place ≡ at))
+    × ((more : List ℕ) (header : Header) → IsTitle (front ++ more) header → Misplaced i header → ⊥) × (place ≡ at) × (0 < length front))
+
+-- a title is due: an element is the next, or strings are open
+pub data Here (count left : ℕ) (bytes : List ℕ) (marks : List Mark) : Within → Type 0 where
+  between : RunLeft count left bytes marks → 0 < left → Here count left bytes marks w.Nothing
+  in_open : {kind : StringKind} {more : ℕ} → InOpen (kind_of kind) more count left bytes marks → 0 < left
+      → Here count left bytes marks (w.Open kind more)
 
 -- where a title is due
 pub record Titling (count : ℕ) (bytes : List ℕ) (spot : Spot) (output : List ℕ) : Type 0 where
   pub before : List ℕ
   pub marks : List Mark
-  pub at : At spot.within count spot.left before marks
-  pub due : 0 < spot.left
+  pub here : Here count spot.left before marks spot.within
   pub is : bytes ≡ before ++ spot.front
   pub out : output ≡ spelling marks
   pub front : FrontAt spot.within (length before) spot.place spot.front
+
+-- behind its title a body of so many bytes is due, and this is the place that its fault names
+pub record Begun (kind : StringKind) (count left place len : ℕ) (before title : List ℕ) (marks : List Mark) (i : Within)
+    : Type 0 where
+  pub here : Here count left before marks i
+  pub of_kind : OfKind i kind
+  pub is_title : IsTitle title (kind_header (kind_of kind) (Some len))
+  pub named : place ≡ body_place i before title (kind_header (kind_of kind) (Some len))
 
 -- where so many bytes of a body are due
 pub record Bodying (kind : StringKind) (left count : ℕ) (bytes : List ℕ) (spot : Spot) (output : List ℕ) : Type 0 where
@@ -84,15 +92,11 @@ pub record Bodying (kind : StringKind) (left count : ℕ) (bytes : List ℕ) (sp
   pub part : List ℕ
   pub marks : List Mark
   pub len : ℕ
-  pub at : At spot.within count spot.left before marks
-  pub due : 0 < spot.left
-  pub of_kind : OfKind spot.within kind
-  pub is_title : IsTitle title (kind_header (kind_of kind) (Some len))
+  pub begun : Begun kind count spot.left spot.place len before title marks spot.within
   pub is : bytes ≡ (before ++ title) ++ (part ++ spot.front)
   pub long : length (part ++ spot.front) + left ≡ len
   pub out : output ≡ with_front marks (kind_of kind) len part
   pub sound : IsWritable (kind_of kind) part
-  pub place : spot.place ≡ body_place spot.within before title (kind_header (kind_of kind) (Some len))
 
 -- so many elements have come
 pub record Whole (count : ℕ) (bytes output : List ℕ) : Type 0 where
@@ -100,14 +104,7 @@ pub record Whole (count : ℕ) (bytes output : List ℕ) : Type 0 where
   pub run : IsRun count bytes marks
   pub out : output ≡ spelling marks
 
--- a fault, of whatever answer
-pub record SomeFault (before : List ℕ) (marks : List Mark) (at : Point) (ahead : List ℕ) : Type 0 where
-  pub answer : Answer
-  pub written : List ℕ
-  pub consumed : ℕ
-  pub fault : FirstFault false before marks at ahead answer written consumed
-
--- whatever follows, there is a fault, and something follows with which it is the one at this place
+-- Whatever follows, there is a fault: the one at this place, once so many bytes follow
 pub record Broken (place count : ℕ) (bytes output : List ℕ) : Type 0 where
   pub before : List ℕ
   pub marks : List Mark
@@ -115,11 +112,9 @@ pub record Broken (place count : ℕ) (bytes output : List ℕ) : Type 0 where
   pub ahead : List ℕ
   pub reach : Reaches count before marks at
   pub is : bytes ≡ before ++ ahead
-  pub each : (more : List ℕ) → AreBytes more → SomeFault before marks at (ahead ++ more)
-  pub more : List ℕ
-  pub more_bytes : AreBytes more
-  pub consumed : ℕ
-  pub fault : FirstFault false before marks at (ahead ++ more) (Syntax place) output consumed
+  pub need : ℕ
+  pub each : (more : List ℕ) → AreBytes more → need ≤ length more
+      → (consumed : ℕ) × FirstFault false before marks at (ahead ++ more) (Syntax place) output consumed
 
 abbrev pub HoldsIn : Phase → ℕ → List ℕ → Spot → List ℕ → Type 0
 HoldsIn p.Title count bytes spot output = Titling count bytes spot output
@@ -131,8 +126,9 @@ HoldsIn (p.Text left state) count bytes spot output =
 HoldsIn p.Ended count bytes spot output = Whole count bytes output
 HoldsIn (p.Faulted place) count bytes spot output = Broken place count bytes output
 
+-- what the last byte put out does not count
 abbrev pub Holds : ℕ → List ℕ → Spot → List ℕ → Type 0
-Holds count bytes spot output = HoldsIn spot.phase count bytes spot output
+Holds count bytes spot output = HoldsIn spot.phase count bytes (putting [] spot) output
 
 -- a spot that holds no bytes back
 abbrev pub clear : Phase → Within → ℕ → ℕ → ℕ → List ℕ → Spot

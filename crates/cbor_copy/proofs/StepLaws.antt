@@ -1,109 +1,74 @@
--- What one byte more leads to, in terms of the elements so far.
-use Rattle.std.proofs.Common.{◌≡◌, ℕ, zero, suc, ◌+◌, ◌-◌, ◌%◌, ◌<◌, ◌≤◌, false, List, [], ◌∷◌, ◌++◌}
-use Rattle.std.proofs.Common.{length, take, drop, Some, None, ◌⊎◌, refl, sym, ap, subst, ◌∙◌, arith, inl, inr}
-use Rattle.std.proofs.Common.{append_assoc, append-nil, length-append, replicate, length-take-le, take-append-drop}
-use Rattle.std.proofs.lemmas.Bool.{cases_lt}
-use Rattle.std.proofs.lemmas.List.{length-replicate}
+-- What one byte more leads to, in terms of the elements so far, and so what all bytes so far have led to.
+use Rattle.std.proofs.Common.{◌≡◌, ℕ, zero, suc, ◌+◌, ◌-◌, ◌%◌, ◌<◌, ◌≤◌, Bool, true, false, List, [], ◌∷◌, ◌++◌}
+use Rattle.std.proofs.Common.{length, take, drop, refl, sym, ap, subst, ◌∙◌, arith, inl, inr, append_assoc, append-nil}
+use Rattle.std.proofs.Common.{length-append, length-take-le, take-append-drop}
+use Rattle.std.proofs.Math.Seq.{take-append-add}
 use Rattle.ciborium_ll_grammar.specs.declared.hdr.Header.{Header}
-use Rattle.ciborium_ll_grammar.specs.declared.hdr.Header.TheVariants as h
 use Rattle.ciborium_ll_grammar.specs.Title.{IsTitle, IsCutTitle, BeginsRefused, AreBytes, affix_len}
-use Rattle.ciborium_ll_grammar.specs.Strings.{IsMisplaced}
-use Rattle.ciborium_ll_grammar.specs.Elements.{Mark, spelling}
-use Rattle.ciborium_ll_grammar.specs.Faults.{In, Reaches, IsAtTitle, Short}
-use Rattle.ciborium_ll_grammar.specs.Faults.{Syntax, FirstFault, NoTitle, OtherTitle, CutTitle}
-use Rattle.ciborium_ll_grammar.proofs.AffixLaws.{title_or_refused, AreBytes-zeros, AreBytes-append, AreBytes-take}
-use Rattle.ciborium_ll_grammar.proofs.AffixLaws.{refused_affix, cut_begins}
+use Rattle.ciborium_ll_grammar.specs.Strings.{Text, IsWritable}
+use Rattle.ciborium_ll_grammar.specs.Elements.{Mark, spelling, done}
+use Rattle.ciborium_ll_grammar.specs.Faults.{BodyDue, Reaches, body, body_inside, IsAtTitle, Syntax, with_front}
+use Rattle.ciborium_ll_grammar.specs.Faults.{FirstFault, NoTitle, DamagedText}
+use Rattle.ciborium_ll_grammar.proofs.AffixLaws.{title_or_refused, AreBytes-append, AreBytes-take, refused_affix}
+use Rattle.ciborium_ll_text.specs.declared.state.State.{State}
+use Rattle.ciborium_ll_text.specs.declared.state.State.TheVariants as s
+use Rattle.ciborium_ll_text.specs.States.{after, after_byte, may_end}
+use Rattle.ciborium_ll_text.specs.Text.{IsCharacters}
+use Rattle.ciborium_ll_text.proofs.EndLaws.{none_left, text_may_end}
+use Rattle.ciborium_ll_text.proofs.StateLaws.{after-append, text_ends, text_from}
+use Rattle.ciborium_ll_text.proofs.TextLaws.{IsCharacters-append}
+use Rattle.ciborium_ll_titles.proofs.TitleKinds.{affix_most}
 use Rattle.cbor_copy.specs.declared.phase.Phase.{Phase}
 use Rattle.cbor_copy.specs.declared.phase.Phase.TheVariants as p
 use Rattle.cbor_copy.specs.declared.phase.StringKind.{StringKind}
 use Rattle.cbor_copy.specs.declared.phase.StringKind.TheVariants as k
 use Rattle.cbor_copy.specs.declared.phase.Within.{Within}
 use Rattle.cbor_copy.specs.declared.phase.Within.TheVariants as w
-use Rattle.cbor_copy.specs.Spots.{Spot, entered}
-use Rattle.cbor_copy.specs.Steps.{title_place, with_byte, titled, Faults, TitleStep, cut, early, whole, none}
-use Rattle.ciborium_ll_titles.proofs.TitleKinds.{affix_most}
-use Rattle.cbor_copy.proofs.BlockedLaws.{due_sound, body_sound}
-use Rattle.cbor_copy.proofs.EnterLaws.{reaches, title_leads}
-use Rattle.cbor_copy.proofs.Reached.{kind_of, At, Misplaced, place_of, FrontAt, Titling, Broken, HoldsIn, Holds}
-
--- ---- what is misplaced is a fault, and nothing else
-
-misplaced_faults : (i : Within) (header : Header) (spot : Spot) → Misplaced i header → Faults (entered i header spot)
-misplaced_faults w.Nothing header spot bad = absurd bad
-misplaced_faults (w.Open k.Bytes more) (h.Bytes len) spot bad = absurd bad
-misplaced_faults (w.Open k.Bytes more) h.Break spot bad = absurd bad
-misplaced_faults (w.Open k.Text more) (h.Text len) spot bad = absurd bad
-misplaced_faults (w.Open k.Text more) h.Break spot bad = absurd bad
-misplaced_faults (w.Open k.Bytes more) header spot bad = (spot.place, refl)
-misplaced_faults (w.Open k.Text more) header spot bad = (spot.place, refl)
-
-open_sound : (kind : StringKind) (more : ℕ) (spot : Spot) → Faults (record spot {
-  phase = p.Title;
-  within = w.Open
-      kind more;
-})
-    → ⊥
-open_sound kind more spot f = let is = f.1 in cc
-
-pub faults_misplaced : (i : Within) (header : Header) (spot : Spot) → Faults (entered i header spot)
-    → Misplaced i header
-faults_misplaced w.Nothing (h.Bytes (Some len)) spot f = body_sound k.Bytes len _ f
-faults_misplaced w.Nothing (h.Text (Some len)) spot f = body_sound k.Text len _ f
-faults_misplaced w.Nothing (h.Bytes None) spot f = let is = f.1 in cc
-faults_misplaced w.Nothing (h.Text None) spot f = let is = f.1 in cc
-faults_misplaced w.Nothing header spot f = due_sound _ _ f
-faults_misplaced (w.Open k.Bytes more) (h.Bytes (Some len)) spot f = body_sound k.Bytes len _ f
-faults_misplaced (w.Open k.Bytes more) (h.Bytes None) spot f = let is = f.1 in cc
-faults_misplaced (w.Open k.Bytes zero) h.Break spot f = due_sound _ _ f
-faults_misplaced (w.Open k.Bytes (suc more)) h.Break spot f = let is = f.1 in cc
-faults_misplaced (w.Open k.Text more) (h.Text (Some len)) spot f = body_sound k.Text len _ f
-faults_misplaced (w.Open k.Text more) (h.Text None) spot f = let is = f.1 in cc
-faults_misplaced (w.Open k.Text zero) h.Break spot f = due_sound _ _ f
-faults_misplaced (w.Open k.Text (suc more)) h.Break spot f = let is = f.1 in cc
-faults_misplaced (w.Open k.Bytes more) header spot f = tt
-faults_misplaced (w.Open k.Text more) header spot f = tt
+use Rattle.cbor_copy.specs.Spots.{Spot, putting, body_due}
+use Rattle.cbor_copy.specs.Steps.{title_place, with_byte, TitleStep, cut, early, whole, none, start, with_char}
+use Rattle.cbor_copy.specs.Steps.{char_put, text_left, byte_put, StepIn, IsFed, fresh, more}
+use Rattle.cbor_copy.proofs.EnterLaws.{reaches, some_due, misplaced_fault, title_leads, body_leads, due_leads}
+use Rattle.cbor_copy.proofs.KeptLaws.{body_kept, enters, steps}
+use Rattle.cbor_copy.proofs.Reached.{kind_of, Misplaced, place_of, FrontAt, Titling, Begun, Bodying, Broken, HoldsIn}
+use Rattle.cbor_copy.proofs.Reached.{Holds}
 
 -- ---- a title that was begun
 
--- a title in front of bytes, with the bytes that began it
+-- bytes behind a part of a title, which end it
 pub record Continued (front bytes : List ℕ) : Type 0 where
   pub more : List ℕ
   pub more_bytes : AreBytes more
   pub rest : List ℕ
   pub header : Header
   pub is_title : IsTitle (front ++ more) header
-  pub is : bytes ≡ (front ++ more) ++ rest
+  pub is : bytes ≡ more ++ rest
 
--- the bytes behind a part of a title end within it, or it goes on to its end
-pub continued : (first : ℕ) (front y : List ℕ) → AreBytes (first ∷ front) → AreBytes y → IsCutTitle (first ∷ front)
-    → IsCutTitle (first ∷ (front ++ y)) ⊎ Continued (first ∷ front) (first ∷ (front ++ y))
-continued first front y bytes more is_cut =
+-- eight of them do
+pub continued : (front bytes : List ℕ) → 0 < length front → AreBytes front → AreBytes bytes → IsCutTitle front
+    → 8 ≤ length bytes → Continued front bytes
+continued [] bytes some are are' is_cut long = absurd (omega (arith, some))
+continued (first ∷ front) bytes some are are' is_cut long =
     let lacks = affix_len (first % 32) - length front in
-    elim (cases_lt (length (front ++ y)) (affix_len (first % 32))) [
-      | inl short ↦ inl short
-      | inr long ↦ (
-          let fits : lacks ≤ length y = omega (arith, long, length-append front y) in
-          let affix = front ++ take lacks y in
-          let exact : length affix ≡ affix_len (first % 32) =
-          omega (arith, is_cut, length-append front (take lacks y), length-take-le lacks y fits) in
-          let affix_bytes = AreBytes-append front (take lacks y) bytes.1 (AreBytes-take lacks y more) in
-          let parts : first ∷ (front ++ y) ≡ first ∷ (affix ++ drop lacks y) =
-          ap (λ (z : List ℕ). first ∷ z)
-          (ap (λ (z : List ℕ). front ++ z) (sym (take-append-drop lacks y))
-          ∙ sym (append_assoc front (take lacks y) (drop lacks y))) in
-          elim (title_or_refused first affix bytes.0 affix_bytes exact) [
-            | inl r ↦ absurd (let e = refused_affix first r in omega (arith, e, is_cut))
-            | inr o ↦ inr (record {
-              more = take lacks y;
-              more_bytes = AreBytes-take lacks y more;
-              rest = drop lacks y;
-              header = o.0;
-              is_title = o.1;
-              is = parts;
-            })
-          ]
-          )
+    let behind = take lacks bytes in
+    let fits = length-take-le lacks bytes (omega (arith, long, affix_most (first % 32))) in
+    elim (title_or_refused first (front ++ behind) are.0
+    (AreBytes-append front behind are.1 (AreBytes-take lacks bytes are'))
+    (omega (arith, is_cut, fits, length-append front behind))) [
+      | inl r ↦ absurd (omega (arith, refused_affix first r, is_cut))
+      | inr o ↦ record {
+        more = behind;
+        more_bytes = AreBytes-take lacks bytes are';
+        rest = drop lacks bytes;
+        header = o.0;
+        is_title = o.1;
+        is = sym (take-append-drop lacks bytes);
+      }
     ]
+
+continued_fault : {before front bytes : List ℕ} {marks : List Mark} (i : Within) (o : Continued front bytes)
+    → Misplaced i o.header → FirstFault false before marks (place_of i) (front ++ bytes) (Syntax (length before))
+    (spelling marks) (length (front ++ o.more))
+continued_fault i o bad = misplaced_fault i o.header o.rest o.is_title bad (simp (o.is, append_assoc))
 
 refused_on : (a y : List ℕ) → BeginsRefused a → BeginsRefused (a ++ y)
 refused_on [] y r = absurd r
@@ -111,183 +76,216 @@ refused_on (b ∷ a) y r = r
 
 pub at_title : (i : Within) → IsAtTitle (place_of i)
 at_title w.Nothing = tt
-at_title (w.Open kind more) = tt
-
--- none that begins so may stand there
-module _ (count left place : ℕ) (i : Within) (before bytes output : List ℕ) (marks : List Mark)
-    (at : At i count left before marks) (some : 0 < left) (named : place ≡ length before)
-    (out : output ≡ spelling marks) where
-  begun_early : (kind : StringKind) (more first : ℕ) (front : List ℕ) → i ≡ w.Open kind more → AreBytes (first ∷ front)
-      → IsCutTitle (first ∷ front)
-      → ((behind : List ℕ) (header : Header) → IsTitle ((first ∷ front) ++ behind) header
-      → IsMisplaced (kind_of kind) header)
-      → bytes ≡ before ++ first ∷ front → Broken place count bytes output
-  begun_early kind more first front e sound is_cut all whole_is =
-      let K = kind_of kind in
-      let titles : (y : List ℕ) (o : Continued (first ∷ front) (first ∷ (front ++ y)))
-      → FirstFault false before marks (In K) (first ∷ (front ++ y)) (Syntax (length before)) (spelling marks)
-      (length ((first ∷ front) ++ o.more)) =
-      λ y o. OtherTitle o.header o.rest o.is_title (inl (all o.more o.header o.is_title)) o.is in
-      let zeros : List ℕ = replicate 8 0 in
-      let end = continued first front zeros sound (AreBytes-zeros 8) is_cut in
-      let enough : IsCutTitle (first ∷ (front ++ zeros)) → ⊥ =
-      λ short. omega (arith, short, affix_most (first % 32), length-append front zeros, length-replicate {A = ℕ} 8 0) in
-      let last : Continued (first ∷ front) (first ∷ (front ++ zeros)) =
-      elim end [ inl short ↦ absurd (enough short) | inr o ↦ o ] in
-      record {
-        before = before;
-        marks = marks;
-        at = In K;
-        ahead = first ∷ front;
-        reach = subst (λ (z : Within). Reaches count before marks (place_of z)) e
-            (reaches i count left before marks at some);
-        is = whole_is;
-        each = λ y bytes. elim (continued first front y sound bytes is_cut) [
-          | inl short ↦ record {
-            answer = Short;
-            written = spelling marks;
-            consumed = _;
-            fault = CutTitle {point = In K} tt short;
-          }
-          | inr o ↦ record {
-            answer = Syntax (length before);
-            written = spelling marks;
-            consumed = _;
-            fault = titles y o;
-          }
-        ];
-        more = zeros;
-        more_bytes = AreBytes-zeros 8;
-        consumed = length ((first ∷ front) ++ last.more);
-        fault = rw (named, out) (titles zeros last);
-      }
-
-  -- no title begins so
-  begun_refused : (front : List ℕ) → BeginsRefused front → bytes ≡ before ++ front → Broken place count bytes output
-  begun_refused front r whole_is = record {
-    before = before;
-    marks = marks;
-    at = place_of i;
-    ahead = front;
-    reach = reaches i count left before marks at some;
-    is = whole_is;
-    each = λ y bytes. record {
-      answer = Syntax (length before);
-      written = spelling marks;
-      consumed = 1;
-      fault = NoTitle {point = place_of i} (at_title i) (refused_on front y r);
-    };
-    more = [];
-    more_bytes = tt;
-    consumed = 1;
-    fault = rw (named, out) (NoTitle {point = place_of i} (at_title i) (refused_on front [] r));
-  }
+at_title (w.Open kind others) = tt
 
 -- ---- a byte of a title
 
-front_place : (at : ℕ) (i : Within) (front bytes before : List ℕ) (spot : Spot) → spot.offset ≡ length bytes
+front_place : (i : Within) (front bytes before : List ℕ) (spot : Spot) → spot.offset ≡ length bytes
     → bytes ≡ before ++ front → FrontAt i (length before) spot.place front → title_place front spot ≡ length before
-front_place at i [] bytes before spot counted is f =
-    counted ∙ ap length (is ∙ append-nil before)
-front_place at i (byte ∷ front) bytes before spot counted is (inl e) = absurd cc
-front_place at i (byte ∷ front) bytes before spot counted is (inr o) = o.3
+front_place i [] bytes before spot counted is f = counted ∙ simp (is, append-nil)
+front_place i (byte ∷ front) bytes before spot counted is (inl e) = absurd cc
+front_place i (byte ∷ front) bytes before spot counted is (inr o) = o.3
 
 pub front_bytes : (i : Within) (at place b : ℕ) (front : List ℕ) → b < 256 → FrontAt i at place front
     → AreBytes (front ++ b ∷ [])
 front_bytes i at place b front byte (inl e) = rw e (byte, tt)
 front_bytes i at place b front byte (inr o) = AreBytes-append front (b ∷ []) o.0 (byte, tt)
 
-some_front : (front : List ℕ) (b : ℕ) → (first : ℕ) × (others : List ℕ) × (front ++ b ∷ [] ≡ first ∷ others)
-some_front [] b = (b, [], refl)
-some_front (x ∷ front) b = (x, front ++ b ∷ [], refl)
-
-open_or_none : (i : Within) → (i ≡ w.Nothing) ⊎ ((kind : StringKind) × (more : ℕ) × (i ≡ w.Open kind more))
-open_or_none w.Nothing = inl refl
-open_or_none (w.Open kind more) = inr (kind, more, refl)
-
-module _ (count b : ℕ) (byte : b < 256) (bytes output : List ℕ) (spot : Spot) (due : Titling count bytes spot output)
+module _ (count b : ℕ) (byte : b < 256) (bytes output : List ℕ) (spot : Spot) (due : Titling count bytes (putting [] spot) output)
     (counted : spot.offset ≡ length bytes) where
   whole_is : bytes ++ b ∷ [] ≡ due.before ++ (spot.front ++ b ∷ [])
-  whole_is = ap (λ (z : List ℕ). z ++ b ∷ []) due.is ∙ append_assoc due.before spot.front (b ∷ [])
+  whole_is = simp (due.is, append_assoc)
 
-  named : (with_byte b spot).place ≡ length due.before
-  named = front_place 0 spot.within spot.front bytes due.before spot counted due.is due.front
-
-  quiet : output ++ [] ≡ spelling due.marks
-  quiet = append-nil output ∙ due.out
+  named : title_place spot.front spot ≡ length due.before
+  named = front_place spot.within spot.front bytes due.before spot counted due.is due.front
 
   sound : AreBytes (spot.front ++ b ∷ [])
   sound = front_bytes spot.within (length due.before) spot.place b spot.front byte due.front
 
-  cut_leads : IsCutTitle (spot.front ++ b ∷ [])
-      → ((behind : List ℕ) (header : Header) → IsTitle ((spot.front ++ b ∷ []) ++ behind) header
-      → Faults (titled header (with_byte b spot)) → ⊥)
-      → Titling count (bytes ++ b ∷ []) (with_byte b spot) (output ++ [])
-  cut_leads c may = record {
+  broken_title : (need : ℕ) → ((y : List ℕ) → AreBytes y → need ≤ length y → (consumed : ℕ)
+      × FirstFault false due.before due.marks (place_of spot.within) ((spot.front ++ b ∷ []) ++ y)
+      (Syntax (length due.before)) (spelling due.marks) consumed)
+      → Broken (with_byte b spot).place count (bytes ++ b ∷ []) (output ++ [])
+  broken_title need each = record {
     before = due.before;
     marks = due.marks;
-    at = due.at;
-    due = due.due;
+    at = place_of spot.within;
+    ahead = spot.front ++ b ∷ [];
+    reach = reaches due.here;
     is = whole_is;
-    out = quiet;
-    front = inr (
-      sound,
-      c,
-      λ behind header q bad. may behind header q (misplaced_faults spot.within header _ bad),
-      named,
+    need = need;
+    each = rw (named, append-nil output, due.out) each;
+  }
+
+  title_step : (new : Spot) → TitleStep (with_byte b spot) new → spot.phase ≡ p.Title
+      → Holds count (bytes ++ b ∷ []) new (output ++ new.put)
+  title_step new (cut c may) e =
+      subst (λ (z : Phase). HoldsIn z count (bytes ++ b ∷ []) (with_byte b spot) (output ++ [])) (sym e) (record {
+        before = due.before;
+        marks = due.marks;
+        here = due.here;
+        is = whole_is;
+        out = append-nil output ∙ due.out;
+        front = inr (
+          sound,
+          c,
+          (λ y header q bad. may y header q ((enters spot.within header _).misplaced bad)),
+          named,
+          omega (arith, length-append spot.front (b ∷ [])),
+        );
+      })
+  title_step new (early c all) e =
+      broken_title 8 (λ y are long.
+      let o = continued (spot.front ++ b ∷ []) y (omega (arith, length-append spot.front (b ∷ []))) sound are c long in
+      (_, continued_fault spot.within o ((enters spot.within o.header _).faults (all o.more o.header o.is_title))))
+  title_step new (whole header q) e =
+      rw (whole_is, due.out) (title_leads count due.before (spot.front ++ b ∷ []) due.marks spot.phase spot.left
+      (title_place spot.front spot) (spot.offset + 1) (some_due due.here) named
+      (omega (arith, counted, ap length whole_is, length-append bytes (b ∷ []))) spot.within header due.here q)
+  title_step new (none r) e =
+      broken_title 0 (λ y are long. (1, NoTitle (at_title spot.within) (refused_on (spot.front ++ b ∷ []) y r)))
+
+-- ---- a byte of a body
+
+pub body_reached : {kind : StringKind} {count left place len : ℕ} {before title : List ℕ} {marks : List Mark}
+    (i : Within) → Begun kind count left place len before title marks i
+    → Reaches count (before ++ title) marks (BodyDue (kind_of kind) len place)
+body_reached {kind} w.Nothing b = rw b.named (body (kind_of kind) (reaches b.here) b.is_title)
+body_reached (w.Open outer others) b = rw b.named (body_inside (rw b.of_kind at (reaches b.here)) b.is_title)
+
+module _ (kind : StringKind) (count left b : ℕ) (bytes output : List ℕ) (spot : Spot)
+    (due : Bodying kind (suc left) count bytes spot output) where
+  body_is : bytes ++ b ∷ [] ≡ (due.before ++ due.title) ++ (due.part ++ (spot.front ++ b ∷ []))
+  body_is = simp (due.is, append_assoc)
+
+  body_long : length (due.part ++ (spot.front ++ b ∷ [])) + left ≡ due.len
+  body_long =
+      omega (
+        arith,
+        due.long,
+        length-append due.part spot.front,
+        length-append due.part (spot.front ++ b ∷ []),
+        length-append spot.front (b ∷ []),
+      )
+
+  -- it is put out, with those that were held back
+  put_leads : (new : Spot)
+      → Begun kind count new.left new.place due.len due.before due.title due.marks new.within → new.front ≡ []
+      → new.put ≡ spot.front ++ b ∷ [] → IsWritable (kind_of kind) (due.part ++ (spot.front ++ b ∷ []))
+      → Holds count (bytes ++ b ∷ []) (body_due kind left new) (output ++ (body_due kind left new).put)
+  put_leads new begun bare out sound =
+      let all : output ++ (body_due kind left new).put
+      ≡ with_front due.marks (kind_of kind) due.len (due.part ++ (spot.front ++ b ∷ [])) =
+      simp ((body_kept kind left new).2, out, due.out, append_assoc) in
+      rw (body_is, all) (body_leads kind left new _ begun sound body_long bare)
+
+-- ---- a byte of a text
+
+some_left : (state : State) (left : ℕ) → may_end state left ≡ true → (state ≡ s.Between → ⊥) → 0 < left
+some_left state zero may inner = absurd (inner (none_left state may))
+some_left state (suc left) may inner = omega arith
+
+module _ (count left b : ℕ) (bytes output : List ℕ) (spot : Spot) (state : State)
+    (due : Bodying k.Text (suc left) count bytes spot output) (state_is : state ≡ after s.Between spot.front) where
+  -- the bytes of the body
+  abbrev ahead : List ℕ
+  ahead = due.part ++ (spot.front ++ b ∷ [])
+
+  behind_char : after_byte state b ≡ after s.Between (spot.front ++ b ∷ [])
+  behind_char = simp (state_is, after-append)
+
+  behind_body : after_byte state b ≡ after s.Between ahead
+  behind_body = rw (after-append s.Between due.part, text_ends due.part due.sound) behind_char
+
+  ahead_long : length ahead + left ≡ due.len
+  ahead_long = body_long k.Text count left b bytes output spot due
+
+  front_is : (y : List ℕ) → take due.len (ahead ++ y) ≡ ahead ++ take left y
+  front_is y = rw (← ahead_long) (take-append-add ahead y left)
+
+  -- no text goes on so
+  no_text : may_end (after_byte state b) left ≡ false → (y : List ℕ) → left ≤ length y
+      → IsCharacters (take due.len (ahead ++ y)) → ⊥
+  no_text never y fits text =
+      let ends : after (after_byte state b) (take left y) ≡ s.Between =
+      rw (behind_body, ← after-append s.Between ahead) (text_ends (ahead ++ take left y) (rw (front_is y) at text)) in
+      let may = rw (length-take-le left y fits) at (text_may_end (after_byte state b) (take left y) ends) in cc
+
+  broken_text : may_end (after_byte state b) left ≡ false → Broken spot.place count (bytes ++ b ∷ []) (output ++ [])
+  broken_text never = record {
+    before = due.before ++ due.title;
+    marks = due.marks;
+    at = BodyDue Text due.len spot.place;
+    ahead = ahead;
+    reach = body_reached spot.within due.begun;
+    is = body_is k.Text count left b bytes output spot due;
+    need = left;
+    each = λ y are long. (
+      length due.part,
+      rw (append-nil output, due.out)
+          (DamagedText {len = due.len} {consumed = length due.part} {ahead = ahead ++ y} due.part ((spot.front ++ b ∷ []) ++ take left y)
+          (omega (arith, ahead_long, long, length-append ahead y)) (no_text never y long)
+          (front_is y ∙ append_assoc due.part (spot.front ++ b ∷ []) (take left y)) due.sound (omega arith)
+          (omega (arith, ahead_long, length-append due.part (spot.front ++ b ∷ [])))),
     );
   }
 
-  early_leads : IsCutTitle (spot.front ++ b ∷ [])
-      → ((behind : List ℕ) (header : Header) → IsTitle ((spot.front ++ b ∷ []) ++ behind) header
-      → Faults (titled header (with_byte b spot)))
-      → Broken (with_byte b spot).place count (bytes ++ b ∷ []) (output ++ [])
-  early_leads c all =
-      let misplaced : (behind : List ℕ) (header : Header) → IsTitle ((spot.front ++ b ∷ []) ++ behind) header
-      → Misplaced spot.within header =
-      λ behind header q. faults_misplaced spot.within header _ (all behind header q) in
-      let f = some_front spot.front b in
-      elim (open_or_none spot.within) [
-        | inl e ↦ (
-            let o = cut_begins (spot.front ++ b ∷ []) sound c in
-            absurd (subst (λ (z : Within). Misplaced z o.header) e (misplaced (o.byte ∷ o.more) o.header o.title))
-            )
-        | inr o ↦ (
-            let wrong : (behind : List ℕ) (header : Header) → IsTitle ((f.0 ∷ f.1) ++ behind) header
-            → IsMisplaced (kind_of o.0) header =
-            λ behind header q. subst (λ (z : Within). Misplaced z header) o.2
-            (misplaced behind header (subst (λ (z : List ℕ). IsTitle (z ++ behind) header) (sym f.2) q)) in
-            begun_early count spot.left (with_byte b spot).place spot.within due.before (bytes ++ b ∷ []) (output ++ [])
-            due.marks due.at due.due named quiet o.0 o.1 f.0 f.1 o.2 (subst AreBytes f.2 sound) (subst IsCutTitle f.2 c)
-            wrong (whole_is ∙ ap (λ (z : List ℕ). due.before ++ z) f.2)
-            )
-      ]
+  text_step : (may : Bool) (next : State) → next ≡ after_byte state b → may_end (after_byte state b) left ≡ may
+      → Holds count (bytes ++ b ∷ []) (text_left may left next (with_char b spot))
+      (output ++ (text_left may left next (with_char b spot)).put)
+  text_step false next e never = broken_text never
+  text_step true s.Between e may =
+      put_leads k.Text count left b bytes output spot due (char_put (with_char b spot)) due.begun refl refl
+      (IsCharacters-append due.part (spot.front ++ b ∷ []) due.sound
+      (text_from (spot.front ++ b ∷ []) (sym behind_char ∙ sym e)))
+  text_step true next e may = (
+    record {
+      before = due.before;
+      title = due.title;
+      part = due.part;
+      marks = due.marks;
+      len = due.len;
+      begun = due.begun;
+      is = body_is k.Text count left b bytes output spot due;
+      long = ahead_long;
+      out = append-nil output ∙ due.out;
+      sound = due.sound;
+    },
+    e ∙ behind_char,
+    rw (← e) at may,
+    some_left next left (rw (← e) at may) (λ between. cc),
+  )
 
-  whole_leads : (header : Header) → IsTitle (spot.front ++ b ∷ []) header
-      → Holds count (bytes ++ b ∷ []) (titled header (with_byte b spot))
-      (output ++ (titled header (with_byte b spot)).put)
-  whole_leads header q =
-      let new = titled header (with_byte b spot) in
-      let title = spot.front ++ b ∷ [] in
-      let offset : spot.offset + 1 ≡ length (due.before ++ title) =
-      omega (arith, counted, ap length whole_is, length-append bytes (b ∷ [])) in
-      let led = title_leads spot.phase count spot.left (with_byte b spot).place (spot.offset + 1) due.before title
-      due.marks
-      due.due named offset spot.within header due.at q in
-      subst (λ (z : List ℕ). Holds count (bytes ++ b ∷ []) new (z ++ new.put)) (sym due.out)
-      (subst (λ (z : List ℕ). Holds count z new (spelling due.marks ++ new.put)) (sym whole_is) led)
+-- ---- one byte more
 
-  none_leads : BeginsRefused (spot.front ++ b ∷ [])
-      → Broken (with_byte b spot).place count (bytes ++ b ∷ []) (output ++ [])
-  none_leads r =
-      begun_refused count spot.left (with_byte b spot).place spot.within due.before (bytes ++ b ∷ []) (output ++ [])
-      due.marks due.at due.due named quiet (spot.front ++ b ∷ []) r whole_is
+step_holds : (phase : Phase) (count b : ℕ) (bytes output : List ℕ) (spot new : Spot) → phase ≡ spot.phase → b < 256
+    → spot.offset ≡ length bytes → HoldsIn phase count bytes (putting [] spot) output → StepIn phase spot b new
+    → Holds count (bytes ++ b ∷ []) new (output ++ new.put)
+step_holds p.Title count b bytes output spot new at byte counted o step =
+    title_step count b byte bytes output spot o counted new step (sym at)
+step_holds (p.Bytes (suc left)) count b bytes output spot new at byte counted o step =
+    rw step (put_leads k.Bytes count left b bytes output (putting [] spot) o.0 (byte_put b spot) o.0.begun o.1
+    (rw o.1) tt)
+step_holds (p.Text (suc left) state) count b bytes output spot new at byte counted o step =
+    rw step (text_step count left b bytes output (putting [] spot) state o.0 o.1 _ (after_byte state b) refl refl)
+step_holds phase count b bytes output spot new at byte counted o step = absurd step
 
-  pub title_step : (new : Spot) → TitleStep (with_byte b spot) new → spot.phase ≡ p.Title
-      → Holds count (bytes ++ b ∷ []) new (output ++ new.put)
-  title_step new (cut c may) e =
-      subst (λ (z : Phase). HoldsIn z count (bytes ++ b ∷ []) (with_byte b spot) (output ++ [])) (sym e)
-      (cut_leads c may)
-  title_step new (early c all) e = early_leads c all
-  title_step new (whole header q) e = whole_leads header q
-  title_step new (none r) e = none_leads r
+-- ---- all
+
+start_counts : (count : ℕ) → (start count).offset ≡ 0
+start_counts zero = refl
+start_counts (suc count) = refl
+
+pub fed_counts : (count : ℕ) (bytes output : List ℕ) (spot : Spot) → IsFed count bytes spot output
+    → spot.offset ≡ length bytes
+fed_counts count bytes output spot fresh = start_counts count
+fed_counts count bytes output spot (more {bytes = a} {output = before} {spot = old} b new byte is step) =
+    omega (arith, fed_counts count a before old is, (steps old.phase old new b step).0, length-append a (b ∷ []))
+
+pub fed_holds : (count : ℕ) (bytes output : List ℕ) (spot : Spot) → IsFed count bytes spot output
+    → Holds count bytes spot output
+fed_holds count bytes output spot fresh =
+    due_leads count _ (record { before = 0; run = done; counted = omega arith }) refl
+fed_holds count bytes output spot (more {bytes = a} {output = before} {spot = old} b new byte is step) =
+    step_holds old.phase count b a before old new refl byte (fed_counts count a before old is)
+    (fed_holds count a before old is) step

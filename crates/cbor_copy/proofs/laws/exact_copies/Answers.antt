@@ -1,4 +1,4 @@
-use Rattle.cbor_copy.proofs.ExactLaws.{ended_exact, fault_exact}
+use Rattle.cbor_copy.proofs.TellLaws.{ended_exact, fault_exact}
 use Rattle.cbor_copy.proofs.laws.exact_copies.Goals as goal
 
 pub returns : goal.returns

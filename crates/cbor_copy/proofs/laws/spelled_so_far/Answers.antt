@@ -1,4 +1,4 @@
-use Rattle.cbor_copy.proofs.SpelledLaws.{spelled_on}
+use Rattle.cbor_copy.proofs.TellLaws.{spelled_on}
 use Rattle.cbor_copy.proofs.laws.spelled_so_far.Goals as goal
 
 pub returns : goal.returns

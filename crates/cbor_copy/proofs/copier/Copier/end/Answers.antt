@@ -1,6 +1,6 @@
 use Rattle.std.proofs.Common.{rules}
 use Rattle.cbor_copy.specs.declared.progress.End.TheVariants as e
-use Rattle.cbor_copy.proofs.EndLaws.{copier_ends, copier_exact}
+use Rattle.cbor_copy.proofs.TellLaws.{copier_ends, copier_exact}
 use Rattle.cbor_copy.proofs.copier.Copier.end.Goals as goal
 
 pub returns-then-not-is_empty-clause-tells : goal.returns-then-not-is_empty-clause-tells

@@ -1,10 +1,11 @@
-use Rattle.std.proofs.Common.{◌≡◌, ◌∙◌, ℕ, List, [], ◌++◌, append-nil, append_assoc, take, length, sym, ap, subst, rules, arith}
+use Rattle.std.proofs.Common.{◌≡◌, ◌∙◌, ℕ, List, [], ◌++◌, append-nil, append_assoc, take, length, sym, ap, subst}
+use Rattle.std.proofs.Common.{rules, arith}
 use Rattle.ciborium_ll_text.proofs.Lists.{rest_long}
 use Rattle.cbor_copy.specs.Copying.{spot_of}
 use Rattle.cbor_copy.specs.Spots.{Spot, putting}
 use Rattle.cbor_copy.specs.Steps.{IsFed}
-use Rattle.cbor_copy.specs.Telling.{Tells, is_due}
-use Rattle.cbor_copy.proofs.FedLaws.{is_answer, fed_behind, drop_later, more_given, not_more}
+use Rattle.cbor_copy.specs.Telling.{is_due}
+use Rattle.cbor_copy.proofs.RunLaws.{is_answer, fed_behind, drop_later, more_given, not_more}
 use Rattle.cbor_copy.proofs.TellLaws.{tells, too_long}
 use Rattle.cbor_copy.proofs.copier.Copier.feed.Goals as goal
 
@@ -37,8 +38,9 @@ pieces-preserved c =
 pub returns-in_default-clause-tells : goal.returns-in_default-clause-tells
 returns-in_default-clause-tells c = λ count fed given is.
     let copier = c.pieces.self in
-    tells copier.pending count (fed ++ take c.pieces.at c.args.bytes.now) (given ++ take c.pieces.written c.pieces.out)
-    (putting [] (spot_of copier)) c.progress.result c.progress.ensures (c.pieces.invariant.copied count fed given is)
+    rw c.progress.ensures (tells copier.pending count (fed ++ take c.pieces.at c.args.bytes.now)
+    (given ++ take c.pieces.written c.pieces.out) (putting [] (spot_of copier))
+    (c.pieces.invariant.copied count fed given is))
 
 pub returns-then-self-clause-tells : goal.returns-then-self-clause-tells
 returns-then-self-clause-tells c = λ count fed given is.
@@ -53,10 +55,8 @@ returns-clause-tells c = λ count fed given is.
     let copier = c.pieces.self in
     let bytes = c.args.bytes.now in
     let all : c.pieces.at ≡ length bytes = search rules in
-    subst (λ (n : ℕ). Tells count (fed ++ take n bytes) (given ++ take c.pieces.written c.pieces.out)
-    c.progress-2.result) all
-    (tells copier.pending count (fed ++ take c.pieces.at bytes) (given ++ take c.pieces.written c.pieces.out)
-    (putting [] (spot_of copier)) c.progress-2.result c.progress-2.ensures
+    rw (c.progress-2.ensures, ← all) (tells copier.pending count (fed ++ take c.pieces.at bytes)
+    (given ++ take c.pieces.written c.pieces.out) (putting [] (spot_of copier))
     (c.pieces.invariant.copied count fed given is))
 
 pub returns-in_default-clause-answers : goal.returns-in_default-clause-answers

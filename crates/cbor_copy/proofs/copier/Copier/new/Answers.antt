@@ -1,6 +1,6 @@
 use Rattle.std.proofs.Common.{rules}
 use Rattle.cbor_copy.specs.Copying.{spot_of}
-use Rattle.cbor_copy.proofs.FedLaws.{fed_fresh}
+use Rattle.cbor_copy.proofs.RunLaws.{fed_fresh}
 use Rattle.cbor_copy.proofs.copier.Copier.new.Goals as goal
 
 pub returns : goal.returns

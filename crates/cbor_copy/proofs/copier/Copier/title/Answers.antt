@@ -1,6 +1,6 @@
 use Rattle.std.proofs.Common.{ℕ, ◌+◌, sym, ap, ◌∙◌}
 use Rattle.ciborium_ll_text.proofs.Lists.{length_zero}
-use Rattle.cbor_copy.proofs.TitleRuns.{front_whole}
+use Rattle.cbor_copy.proofs.RunLaws.{front_whole}
 use Rattle.cbor_copy.proofs.copier.Copier.title.Goals as goal
 
 pub header_of-requires : goal.header_of-requires

@@ -1,7 +1,6 @@
-use Rattle.std.proofs.Common.{◌∙◌, sym}
+use Rattle.std.proofs.Common.{◌∙◌, sym, eq-eqb}
 use Rattle.cbor_copy.proofs.PendingLaws.{some_left}
 use Rattle.std.proofs.lemmas.Bool.{false≢true}
-use Rattle.std.proofs.Common.{eq-eqb}
 use Rattle.cbor_copy.proofs.pending.Pending.is_empty.Goals as goal
 
 pub returns-clause-no : goal.returns-clause-no
