@@ -115,7 +115,8 @@ string_behind {marks = marks} kind title body (in_open {kind = outer} {more = mo
     record {
       marks = marks ++ Piece K body ∷ [];
       behind = in_open (rw append_assoc (grown o more (title ++ body) (body ∷ [])
-          (add_string K (suc more) o.opens (title ++ body) o.bodies (body ∷ []) o.inside (definite (rw (← of_kind) at q)))
+          (add_string K (suc more) o.opens (title ++ body) o.bodies (body ∷ []) o.inside
+          (definite (rw (← of_kind) at q)))
           (rw (← of_kind) at sound, tt))) some;
       out = rw (← of_kind) (simp (spelling-append, append-nil));
     }
@@ -135,7 +136,8 @@ title_due {bytes = bytes} {marks = marks} here bare = record {
 }
 
 -- all elements have come
-pub run_all : {count : ℕ} {bytes : List ℕ} {marks : List Mark} → RunLeft count zero bytes marks → IsRun count bytes marks
+pub run_all : {count : ℕ} {bytes : List ℕ} {marks : List Mark} → RunLeft count zero bytes marks
+    → IsRun count bytes marks
 run_all r = let e : r.before ≡ _ = omega (arith, r.counted) in rw e at r.run
 
 pub due_leads : {count : ℕ} {bytes : List ℕ} {marks : List Mark} (left : ℕ) (spot : Spot)
@@ -167,8 +169,8 @@ module _ {kind : StringKind} {count len : ℕ} {before title : List ℕ} {marks 
     sound = sound;
   }
 
-pub body_leads : {count len : ℕ} {before title : List ℕ} {marks : List Mark} (kind : StringKind) (more : ℕ) (spot : Spot)
-    (part : List ℕ) → Begun kind count spot.left spot.place len before title marks spot.within
+pub body_leads : {count len : ℕ} {before title : List ℕ} {marks : List Mark} (kind : StringKind) (more : ℕ)
+    (spot : Spot) (part : List ℕ) → Begun kind count spot.left spot.place len before title marks spot.within
     → IsWritable (kind_of kind) part → length part + more ≡ len → spot.front ≡ []
     → Holds count ((before ++ title) ++ part) (body_due kind more spot) (with_front marks (kind_of kind) len part)
 body_leads {len = len} {title = title} kind zero spot part b sound long bare =
@@ -227,7 +229,8 @@ module _ (count : ℕ) (before title : List ℕ) (marks : List Mark) where
 
     -- within an open string
     inner_titled : (kind : StringKind) (more : ℕ) (o : InOpen (kind_of kind) more count left before marks)
-        → IsTitle title (kind_header (kind_of kind) None) → Leads (string_open kind (suc more) (old (w.Open kind more) []))
+        → IsTitle title (kind_header (kind_of kind) None)
+        → Leads (string_open kind (suc more) (old (w.Open kind more) []))
     inner_titled kind more o q =
         due_titled _ marks (in_open (grown_by o (suc more) title
         (add_open (kind_of kind) (suc more) o.opens title o.bodies o.inside q)) some) refl (simp append-nil)
@@ -243,7 +246,8 @@ module _ (count : ℕ) (before title : List ℕ) (marks : List Mark) where
       reach = reaches (in_open {kind = kind} {more = more} o some);
       is = refl;
       need = 0;
-      each = λ y bytes long. (length title, rw (named, append-nil) (misplaced_fault (w.Open kind more) header y q bad refl));
+      each = λ y are long.
+          (length title, rw (named, append-nil) (misplaced_fault (w.Open kind more) header y q bad refl));
     }
 
     break_titled : (kind : StringKind) (more : ℕ) → InOpen (kind_of kind) more count left before marks
@@ -261,7 +265,8 @@ module _ (count : ℕ) (before title : List ℕ) (marks : List Mark) where
         element_titled (old w.Nothing (shortest_title header)) (Plain header)
         (one_more r (omega (arith, some)) (plain header q is_plain)) refl refl
 
-    open_titled : (kind : StringKind) → RunLeft count left before marks → IsTitle title (kind_header (kind_of kind) None)
+    open_titled : (kind : StringKind) → RunLeft count left before marks
+        → IsTitle title (kind_header (kind_of kind) None)
         → Leads (string_open kind zero (old w.Nothing (shortest_title (kind_header (kind_of kind) None))))
     open_titled kind r q = due_titled _ (marks ++ Open (kind_of kind) ∷ []) (in_open (record {
       elements = before;
@@ -284,8 +289,10 @@ module _ (count : ℕ) (before title : List ℕ) (marks : List Mark) where
     title_leads w.Nothing (h.Bytes None) (between r some) q = open_titled k.Bytes r q
     title_leads w.Nothing (h.Text None) (between r some) q = open_titled k.Text r q
     title_leads w.Nothing header (between r some) q = plain_titled header r tt q
-    title_leads (w.Open k.Bytes more) (h.Bytes (Some len)) here q = string_titled k.Bytes len _ here refl q refl named refl
-    title_leads (w.Open k.Text more) (h.Text (Some len)) here q = string_titled k.Text len _ here refl q refl named refl
+    title_leads (w.Open k.Bytes more) (h.Bytes (Some len)) here q =
+        string_titled k.Bytes len _ here refl q refl named refl
+    title_leads (w.Open k.Text more) (h.Text (Some len)) here q =
+        string_titled k.Text len _ here refl q refl named refl
     title_leads (w.Open k.Bytes more) (h.Bytes None) (in_open o some) q = inner_titled k.Bytes more o q
     title_leads (w.Open k.Text more) (h.Text None) (in_open o some) q = inner_titled k.Text more o q
     title_leads (w.Open kind more) h.Break (in_open o some) q = break_titled kind more o q

@@ -106,7 +106,8 @@ title_steps b spot new (none r) = (refl, omega arith)
 title_steps b spot new (whole header q) =
     let old = record (with_byte b spot) { front = [] } in
     let o = enters spot.within header old in
-    (o.offset, rw o.front (omega (arith, entered_put spot.within header old _ q refl, length-append spot.front (b ∷ []))))
+    let put = entered_put spot.within header old _ q refl in
+    (o.offset, rw o.front (omega (arith, put, length-append spot.front (b ∷ []))))
 
 text_steps : (may : Bool) (left b : ℕ) (state : State) (spot : Spot)
     → Stepped spot (text_left may left state (with_char b spot))

@@ -60,7 +60,8 @@ body_place (w.Open kind more) before title header = length before
 -- no title came, or a part of one that may stand there
 abbrev pub FrontAt : Within → ℕ → ℕ → List ℕ → Type 0
 FrontAt i at place front = (front ≡ []) ⊎ (AreBytes front × IsCutTitle front
-    × ((more : List ℕ) (header : Header) → IsTitle (front ++ more) header → Misplaced i header → ⊥) × (place ≡ at) × (0 < length front))
+    × ((more : List ℕ) (header : Header) → IsTitle (front ++ more) header → Misplaced i header → ⊥)
+    × (place ≡ at) × (0 < length front))
 
 -- a title is due: an element is the next, or strings are open
 pub data Here (count left : ℕ) (bytes : List ℕ) (marks : List Mark) : Within → Type 0 where

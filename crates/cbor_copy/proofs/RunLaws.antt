@@ -158,8 +158,8 @@ byte_goes k.Text state count left l x offset front fed out xs spot byte all ends
     (more x (text_left true (suc l) (after_byte state x) old) byte is (rw may))
 
 -- the last byte of them
-last_goes : {count : ℕ} {fed : List ℕ} (out : List ℕ) (kind : StringKind) (left offset : ℕ) (phase : Phase) (char : List ℕ)
-    (spot : Spot)
+last_goes : {count : ℕ} {fed : List ℕ} (out : List ℕ) (kind : StringKind) (left offset : ℕ) (phase : Phase)
+    (char : List ℕ) (spot : Spot)
     → (let new = body_due kind left (at_phase phase (putting char (record spot { front = []; offset = offset }))) in
     IsFed count fed (putting [] new) (out ++ new.put))
     → IsFed count fed (putting [] (body_due kind left (record spot { front = []; offset = offset }))) (out ++ char)
@@ -219,8 +219,8 @@ body_given kind count left (x ∷ xs) spot new fed given front end below at bare
     let behind : record spot { front = []; offset = spot.offset + len } ≡ counted_by len spot =
     ap (λ (z : List ℕ). record spot { front = z; offset = spot.offset + len }) (sym bare) in
     given_on given front spot.put end new.put (x ∷ xs) none (rw (put, append-nil) all) (λ out fed_is.
-    rw (e, ← behind) (come xs kind s.Between count (left - len) n x spot.offset (spot.offset + len) [] fed out spot below
-    (omega arith) refl (ends_by kind (x ∷ xs) text) (rw begin at fed_is))) is
+    rw (e, ← behind) (come xs kind s.Between count (left - len) n x spot.offset (spot.offset + len) [] fed out spot
+    below (omega arith) refl (ends_by kind (x ∷ xs) text) (rw begin at fed_is))) is
 
 -- ---- a title
 
@@ -257,14 +257,14 @@ pub title_given : (count n : ℕ) (title : List ℕ) (header : Header) (spot new
     → new ≡ entered spot.within header (record spot { place = spot.offset; offset = spot.offset + n })
     → front' ++ pending' ≡ front ++ new.put → IsFed count fed (putting [] spot) ((given ++ front) ++ spot.put)
     → IsFed count (fed ++ title) (putting [] new) ((given ++ front') ++ pending')
-title_given count n [] header spot new fed given front front' pending' below some long q at inside bare none e gives is =
+title_given count n [] header spot new fed given front front' pending' below some long q at inside bare none e f is =
     absurd (omega (arith, some, long))
-title_given count n (x ∷ xs) header spot new fed given front front' pending' below some long q at inside bare none e gives
+title_given count n (x ∷ xs) header spot new fed given front front' pending' below some long q at inside bare none e f
     is =
     let begin : putting [] spot ≡ clear p.Title w.Nothing spot.left spot.place spot.offset [] = rw (at, inside, bare) in
     let there : new ≡ entered w.Nothing header (clear p.Title w.Nothing spot.left spot.offset (spot.offset + n) []) =
     e ∙ rw (at, inside, bare) in
-    given_on given front spot.put front' pending' new.put none gives (λ out fed_is.
+    given_on given front spot.put front' pending' new.put none f (λ out fed_is.
     rw there (title_comes xs [] count x spot.left spot.place spot.offset spot.offset (spot.offset + n) (x ∷ xs) header
     fed out below q refl (rw (← long)) refl (rw begin at fed_is))) is
 

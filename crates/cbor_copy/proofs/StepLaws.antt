@@ -91,8 +91,8 @@ pub front_bytes : (i : Within) (at place b : ℕ) (front : List ℕ) → b < 256
 front_bytes i at place b front byte (inl e) = rw e (byte, tt)
 front_bytes i at place b front byte (inr o) = AreBytes-append front (b ∷ []) o.0 (byte, tt)
 
-module _ (count b : ℕ) (byte : b < 256) (bytes output : List ℕ) (spot : Spot) (due : Titling count bytes (putting [] spot) output)
-    (counted : spot.offset ≡ length bytes) where
+module _ (count b : ℕ) (byte : b < 256) (bytes output : List ℕ) (spot : Spot)
+    (due : Titling count bytes (putting [] spot) output) (counted : spot.offset ≡ length bytes) where
   whole_is : bytes ++ b ∷ [] ≡ due.before ++ (spot.front ++ b ∷ [])
   whole_is = simp (due.is, append_assoc)
 
@@ -223,7 +223,8 @@ module _ (count left b : ℕ) (bytes output : List ℕ) (spot : Spot) (state : S
     each = λ y are long. (
       length due.part,
       rw (append-nil output, due.out)
-          (DamagedText {len = due.len} {consumed = length due.part} {ahead = ahead ++ y} due.part ((spot.front ++ b ∷ []) ++ take left y)
+          (DamagedText {len = due.len} {consumed = length due.part} {ahead = ahead ++ y} due.part
+          ((spot.front ++ b ∷ []) ++ take left y)
           (omega (arith, ahead_long, long, length-append ahead y)) (no_text never y long)
           (front_is y ∙ append_assoc due.part (spot.front ++ b ∷ []) (take left y)) due.sound (omega arith)
           (omega (arith, ahead_long, length-append due.part (spot.front ++ b ∷ [])))),

@@ -93,7 +93,8 @@ longer more o = record {
 }
 
 module _ {place count : ℕ} {bytes output : List ℕ} (o : Broken place count bytes output) where
-  fault_with : (more : List ℕ) → AreBytes more → o.need ≤ length more → ComesTo count (bytes ++ more) (Syntax place) output
+  fault_with : (more : List ℕ) → AreBytes more → o.need ≤ length more
+      → ComesTo count (bytes ++ more) (Syntax place) output
   fault_with more are long = comes_at o.reach (simp (o.is, append_assoc)) (o.each more are long).1 refl
 
   broken_tells : NoneGoOn count bytes × FaultsAt place count bytes output

@@ -46,7 +46,8 @@ returns-in-Some-title-clause-grown c =
     let front = ap length ((enters spot.within c.in-Some-title.header counted).front ∙ bare) in
     let long = length-take-le n bytes (search rules) in
     let grown = given_grows new c.args.at c.give.result n c.args.out.now c.give.new.out c.give.new.self
-    (subst (λ (z : Spot). length z.put + length z.front ≤ n) (sym c.title_put.ensures) (omega (arith, put, front, long)))
+    (subst (λ (z : Spot). length z.put + length z.front ≤ n) (sym c.title_put.ensures)
+    (omega (arith, put, front, long)))
     c.requires.room (search rules) c.give.ensures.given in
     omega (arith, grown)
 

@@ -7,7 +7,8 @@ use Rattle.cbor_copy.proofs.copier.Copier.title_step.Goals as goal
 pub returns-then-is_blocked : goal.returns-then-is_blocked
 returns-then-is_blocked c =
     let spot = with_byte c.args.byte (spot_of c.args.self.now) in
-    step_early spot _ c.row_of-row.result.kind (search rules) (search rules) (search rules) (search rules) (search rules)
+    step_early spot _ c.row_of-row.result.kind (search rules) (search rules) (search rules) (search rules)
+    (search rules)
 
 pub returns-else-is_blocked : goal.returns-else-is_blocked
 returns-else-is_blocked c =
