@@ -29,8 +29,8 @@ use Rattle.cbor_copy.specs.Blocked.{is_blocked}
 use Rattle.cbor_copy.specs.Copying.{IsCopied, spot_of}
 use Rattle.cbor_copy.specs.Spots.{Spot, putting, refused}
 use Rattle.cbor_copy.specs.Steps.{IsFed, StepIn, TitleStep, whole, none, titled, with_byte, more as more_fed}
-use Rattle.cbor_copy.specs.Telling.{progress_in, progress_of, ComesTo, NoneGoOn, FaultsAt, is_due, end_of, AreSpelled}
-use Rattle.cbor_copy.specs.Telling.{TellsWhole, Tells, TellsEnd, EndedIn, HasEnded, FaultIn, IsAtFault}
+use Rattle.cbor_copy.specs.Telling.{progress_in, progress_of, ComesTo, SomeGoOn, NoneGoOn, FaultsAt, is_due, end_of}
+use Rattle.cbor_copy.specs.Telling.{AreSpelled, TellsWhole, Tells, TellsEnd, EndedIn, HasEnded, FaultIn, IsAtFault}
 use Rattle.cbor_copy.proofs.BlockedLaws.{step_early, step_cut}
 use Rattle.cbor_copy.proofs.EnterLaws.{reaches}
 use Rattle.cbor_copy.proofs.LiveLaws.{holds_goes}
@@ -175,7 +175,7 @@ whole_in_front count bytes more marks run = record {
   spelled = λ on. absurd cc;
 }
 
-in_front : {count : ℕ} {bytes : List ℕ} {marks : List Mark} → IsRun count bytes marks → RunInFront false count bytes
+pub in_front : {count : ℕ} {bytes : List ℕ} {marks : List Mark} → IsRun count bytes marks → RunInFront false count bytes
 in_front {count} {bytes} {marks} run = rw (append-nil bytes) at (whole_in_front count bytes [] marks run)
 
 -- so many elements are an end, and where none go on there is a fault
@@ -273,20 +273,31 @@ ended_by p.Ended count bytes output marks says has run =
     ap spelling (sym (one_run count bytes says.marks says.run bytes [] [] marks run refl).1) ∙ sym says.spelled
 ended_by phase count bytes output marks says has run = absurd has
 
+-- bytes with which so many elements begin are fed
+pub fed_to : (more : List ℕ) (count : ℕ) (bytes output : List ℕ) (spot : Spot) → IsFed count bytes spot output
+    → AreBytes more → SomeGoOn count (bytes ++ more)
+    → (rest : List ℕ) × (new : Spot) × IsFed count (bytes ++ more) new (output ++ rest)
+fed_to [] count bytes output spot is are goes = ([], spot, rw (append-nil bytes, append-nil output) is)
+fed_to (b ∷ more) count bytes output spot is are goes =
+    let run = rw (append_assoc bytes (b ∷ more)) at goes.run in
+    let sound : AreBytes (b ∷ (more ++ goes.more)) =
+    (are.0, AreBytes-append more goes.more are.1 goes.more_bytes) in
+    let due = due_by spot.phase count b bytes output (more ++ goes.more) goes.marks (told is) sound run in
+    let next = next_in spot.phase count bytes output spot b (fed_holds count bytes output spot is) due are.0 in
+    let on = fed_to more count (bytes ++ b ∷ []) (output ++ next.0.put) (putting [] next.0)
+    (more_fed b next.0 are.0 is next.1) are.1 (rw (← append_assoc bytes (b ∷ []) more) at goes) in
+    (next.0.put ++ on.0, on.1, rw (append_assoc bytes (b ∷ []) more, append_assoc output) at on.2)
+
 -- it begins what the whole puts out
 pub spelled_on : (more : List ℕ) (count : ℕ) (bytes output : List ℕ) (spot : Spot) (marks : List Mark)
     → IsFed count bytes spot output → AreBytes more → IsRun count (bytes ++ more) marks
     → (rest : List ℕ) × (spelling marks ≡ output ++ rest)
-spelled_on [] count bytes output spot marks is are run =
-    let whole = rw (append-nil bytes) at run in
-    let ended = (ended_exact count bytes output spot is).1 (marks, whole) in
-    ([], ended_by spot.phase count bytes output marks (told is) ended whole ∙ sym (append-nil output))
-spelled_on (b ∷ more) count bytes output spot marks is are run =
-    let due = due_by spot.phase count b bytes output more marks (told is) are run in
-    let next = next_in spot.phase count bytes output spot b (fed_holds count bytes output spot is) due are.0 in
-    let on = spelled_on more count (bytes ++ b ∷ []) (output ++ next.0.put) (putting [] next.0) marks
-    (more_fed b next.0 are.0 is next.1) are.1 (rw (← append_assoc bytes (b ∷ []) more) at run) in
-    (next.0.put ++ on.0, on.1 ∙ append_assoc output next.0.put on.0)
+spelled_on more count bytes output spot marks is are run =
+    let goes : SomeGoOn count (bytes ++ more) =
+    record { more = []; more_bytes = tt; marks = marks; run = rw (append-nil (bytes ++ more)) run } in
+    let on = fed_to more count bytes output spot is are goes in
+    let ended = (ended_exact count (bytes ++ more) (output ++ on.0) on.1 on.2).1 (marks, run) in
+    (on.0, ended_by on.1.phase count (bytes ++ more) (output ++ on.0) marks (told on.2) ended run)
 
 -- ---- no more bytes come
 

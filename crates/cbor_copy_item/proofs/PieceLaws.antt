@@ -1,10 +1,9 @@
 -- Bytes of a piece, and the room behind what was written.
-use Rattle.std.proofs.Common.{◌≡◌, ℕ, ◌+◌, ◌-◌, ◌≤◌, Bool, List, ◌++◌, length, take, drop}
-use Rattle.std.proofs.Common.{sym, ap, subst, ◌∙◌, arith, append_assoc, append-nil}
+use Rattle.std.proofs.Common.{◌≡◌, ℕ, ◌+◌, ◌-◌, ◌≤◌, Bool, List, ◌++◌, length, take, drop, sym, ap, subst, ◌∙◌, arith}
+use Rattle.std.proofs.Common.{append_assoc, append-nil}
 use Rattle.std.specs.List.{between}
-use Rattle.std.proofs.lemmas.List.{drop_at, drop_all, drop-drop, length-drop, length-take-le, take-take}
+use Rattle.std.proofs.lemmas.List.{drop_at, drop_all, drop-drop, length-drop, length-take-le, take-take, take-append-le}
 use Rattle.std.proofs.lemmas.List.Edits.{length-between}
-use Rattle.std.proofs.lemmas.List.{take-append-le}
 use Rattle.std.proofs.Math.Seq.{take-add, take-append-add}
 use borrow.Rule.Slice.PartMut.{put_mid}
 use Rattle.cbor_copy.specs.Spots.{Spot as Elements}

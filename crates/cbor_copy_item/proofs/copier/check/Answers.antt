@@ -1,5 +1,5 @@
 use Rattle.cbor_feed.specs.Checking.{spot_of}
-use Rattle.cbor_copy_item.proofs.TakenLaws.{none_taken}
+use Rattle.cbor_copy_item.proofs.StepLaws.{none_taken}
 use Rattle.cbor_copy_item.proofs.copier.check.Goals as goal
 
 pub returns-clause-none : goal.returns-clause-none

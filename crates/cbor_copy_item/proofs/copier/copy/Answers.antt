@@ -1,6 +1,6 @@
 use Rattle.std.proofs.Common.{length, take}
 use Rattle.cbor_copy_item.specs.Copying.{most}
-use Rattle.cbor_copy_item.proofs.TakenLaws.{piece_copied}
+use Rattle.cbor_copy_item.proofs.StepLaws.{piece_copied}
 use Rattle.cbor_copy_item.proofs.copier.copy.Goals as goal
 
 pub returns-clause-copied : goal.returns-clause-copied

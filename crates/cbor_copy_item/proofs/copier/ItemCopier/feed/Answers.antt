@@ -1,12 +1,11 @@
 use Rattle.std.proofs.Common.{◌≡◌, ◌∙◌, ◌++◌, ℕ, List, false, length, take, sym, ap, subst, rules}
 use Rattle.cbor_feed.specs.Telling.{is_due}
-use Rattle.cbor_copy.proofs.FedLaws.{drop_later}
+use Rattle.cbor_copy.proofs.RunLaws.{drop_later}
 use Rattle.cbor_copy_item.specs.declared.copier.ItemCopier.{ItemCopier}
 use Rattle.cbor_copy_item.specs.Copying.{item_spot, elements_spot, pending}
 use Rattle.cbor_copy_item.specs.Telling.{Tells}
 use Rattle.cbor_copy_item.specs.declared.progress.Progress.TheVariants as r
-use Rattle.cbor_copy_item.proofs.AnswerLaws.{not_more}
-use Rattle.cbor_copy_item.proofs.TellLaws.{tells_long}
+use Rattle.cbor_copy_item.proofs.TellLaws.{not_more, tells_long}
 use Rattle.cbor_copy_item.proofs.copier.ItemCopier.feed.Goals as goal
 
 pub pieces-preserved : goal.pieces-preserved

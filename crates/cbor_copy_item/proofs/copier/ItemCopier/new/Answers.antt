@@ -1,5 +1,5 @@
 use Rattle.std.proofs.Common.{false, rules}
-use Rattle.cbor_copy_item.proofs.TakenLaws.{fresh_fed}
+use Rattle.cbor_copy_item.proofs.StateLaws.{fresh_fed}
 use Rattle.cbor_copy_item.proofs.copier.ItemCopier.new.Goals as goal
 
 pub returns : goal.returns

@@ -1,7 +1,7 @@
 use Rattle.std.proofs.Common.{take, refl, rules}
 use Rattle.cbor_feed.specs.Checking.{spot_of}
 use Rattle.cbor_copy_item.specs.Copying.{item_spot}
-use Rattle.cbor_copy_item.proofs.TakenLaws.{same_fed}
+use Rattle.cbor_copy_item.proofs.StateLaws.{same_fed}
 use Rattle.cbor_copy_item.proofs.StepLaws.{step_goes, step_bytes, step_counted, step_fed}
 use Rattle.cbor_copy_item.proofs.copier.ItemCopier.step.Goals as goal
 

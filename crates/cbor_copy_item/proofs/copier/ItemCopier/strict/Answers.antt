@@ -1,5 +1,5 @@
 use Rattle.std.proofs.Common.{true, rules}
-use Rattle.cbor_copy_item.proofs.TakenLaws.{fresh_fed}
+use Rattle.cbor_copy_item.proofs.StateLaws.{fresh_fed}
 use Rattle.cbor_copy_item.proofs.copier.ItemCopier.strict.Goals as goal
 
 pub returns : goal.returns
