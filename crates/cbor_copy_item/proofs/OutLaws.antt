@@ -138,17 +138,22 @@ whole_in {bytes = bytes} n marks run c =
           let front = run_front n o.number o.elements o.element_marks o.run enough in
           let rest = o.behind ++ f.ahead in
           let parts : bytes ++ [] ≡ front.elements ++ (front.rest ++ rest) =
-          append-nil bytes ∙ f.is ∙ ap (λ (z : List ℕ). z ++ f.ahead) (o.is ∙ ap (λ (z : List ℕ). z ++ o.behind) front.is)
-          ∙ simp append_assoc in
+          append-nil bytes ∙ f.is ∙ ap (λ (z : List ℕ). z ++ f.ahead)
+          (o.is ∙ ap (λ (z : List ℕ). z ++ o.behind) front.is) ∙ simp append_assoc in
           let same = one_run n bytes marks run front.elements [] (front.rest ++ rest) front.marks front.run parts in
           let none = ap length same.2 in
-          let whole : bytes ≡ o.elements =
-          same.0 ∙ sym (append-nil front.elements) ∙ ap (λ (z : List ℕ). front.elements ++ z) (sym (length_zero front.rest
-          (omega (arith, none, length-append front.rest rest)))) ∙ sym front.is in
+          let bare = length_zero front.rest (omega (arith, none, length-append front.rest rest)) in
+          let whole : bytes ≡ o.elements = same.0 ∙ sym (rw (bare, append-nil) at front.is) in
           elim o.all [
             | inl both ↦ sym c.written ∙ short_written f.fault both.1 c.answered ∙ ap spelling (both.0
                 ∙ sym (same_runs n bytes marks run o.number o.elements o.element_marks o.run whole).1)
-            | inr some ↦ absurd (omega (arith, some, none, length-append front.rest rest, length-append o.behind f.ahead))
+            | inr some ↦ absurd (omega (
+              arith,
+              some,
+              none,
+              length-append front.rest rest,
+              length-append o.behind f.ahead,
+            ))
           ]
           )
     ]

@@ -130,7 +130,8 @@ run_goes_on : (count n : ℕ) (bytes more : List ℕ) (ms : List Mark) → AreBy
 run_goes_on count n bytes more ms are run never =
     elim (cases_lt n count) [
       | inl fewer ↦ (
-          let o = run_goes {count = count} (count - n) (record { before = n; run = run; counted = omega (arith, fewer) }) in
+          let o = run_goes {count = count} (count - n)
+          (record { before = n; run = run; counted = omega (arith, fewer) }) in
           never (more ++ o.more) (AreBytes-append more o.more are o.more_bytes)
           (rw (append_assoc bytes more o.more) at (in_front o.run))
           )

@@ -1,6 +1,6 @@
 -- Laws of what a copier of items has come to.
-use Rattle.std.proofs.Common.{◌≡◌, ℕ, suc, ◌+◌, ◌-◌, ◌≤◌, Bool, true, List, [], ◌∷◌, ◌++◌, length, refl, sym, ap, subst}
-use Rattle.std.proofs.Common.{◌∙◌, arith, append-nil, length-append}
+use Rattle.std.proofs.Common.{◌≡◌, ℕ, suc, ◌+◌, ◌-◌, ◌<◌, ◌≤◌, Bool, true, List, [], ◌∷◌, ◌++◌, length, refl, sym, ap}
+use Rattle.std.proofs.Common.{subst, ◌∙◌, arith, append-nil, length-append}
 use Rattle.ciborium_ll_grammar.specs.Title.{AreBytes}
 use Rattle.ciborium_ll_grammar.specs.Elements.{Mark, IsRun, spelling}
 use Rattle.ciborium_ll_grammar.specs.Items.{IsItem}
@@ -119,10 +119,11 @@ module _ (s : Bool) (d : ℕ) (fed output : List ℕ) (item : Spot) (elements : 
   pub item_so_far : (behind : List ℕ) (count : ℕ) (marks : List Mark) → AreBytes behind → IsItem s d (fed ++ behind)
       → IsRun count (fed ++ behind) marks → count ≤ most → (rest : List ℕ) × (spelling marks ≡ output ++ rest)
   item_so_far behind count marks bytes i run few =
+      let all = are.bytes ++ behind in
+      let fewer : length all < length all + 1 = omega arith in
       let whole = rw (item_taken behind i) at run in
       let goes = run_goes (most - count) (record { before = count; run = whole; counted = omega (arith, few) }) in
-      let o = fed_to behind most are.bytes output elements are.copied bytes goes in (
-        o.0,
-        sym (whole_in count marks whole (cut_in o.1.phase most (suc (length (are.bytes ++ behind))) (are.bytes ++ behind) (output ++ o.0) (told o.2)
-            (λ never. never goes.more goes.more_bytes (in_front goes.run)) (omega arith))),
-      )
+      let o = fed_to behind most are.bytes output elements are.copied bytes goes in
+      let short = cut_in o.1.phase most (length all + 1) all (output ++ o.0) (told o.2)
+      (λ never. never goes.more goes.more_bytes (in_front goes.run)) fewer in
+      (o.0, sym (whole_in count marks whole short))

@@ -49,7 +49,8 @@ too_many progress s d fed spot on answer never says =
     absurd (never (subst IsMore (sym answer) (due_more spot.phase spot on)))
 
 pub none_taken : (s : Bool) (d : ℕ) (fed bytes : List ℕ) (taken : ℕ) (old new : Spot) (progress : Progress)
-    → 0 < length bytes → taken ≡ 0 → is_due old.phase ≡ true → IsFed s d fed old → IsFed s d (fed ++ take taken bytes) new
+    → 0 < length bytes → taken ≡ 0 → is_due old.phase ≡ true → IsFed s d fed old
+    → IsFed s d (fed ++ take taken bytes) new
     → Tells s d (fed ++ take taken bytes) progress → IsAnswer progress new → (IsMore progress → taken ≡ length bytes)
     → IsFed s d fed new × (2 ^ 64 ≤ length fed + 1)
 none_taken s d fed bytes taken old new progress some none due was is says answer all =
@@ -106,7 +107,7 @@ module _ (fed given bytes out : List ℕ) (taken room : ℕ) (progress : Copied)
       let rest = drop taken bytes in
       let sound = back_bytes front rest (rw take-append-drop are) in
       goes (λ behind are_behind run. never (rest ++ behind) (AreBytes-append rest behind sound are_behind)
-      (rw (append_assoc fed front, ← append_assoc front rest behind, take-append-drop taken bytes, ← append_assoc fed bytes)
+      (rw (append_assoc fed front, ← append_assoc front rest, take-append-drop taken bytes, ← append_assoc fed bytes)
       run))
 
   lacks_none : taken < length bytes → told.IsRoom progress → ⊥
@@ -125,8 +126,8 @@ module _ (fed given bytes out : List ℕ) (taken room : ℕ) (progress : Copied)
   piece_copied =
       elim (cases_lt taken (length bytes)) [
         | inl short ↦ absurd (takes_more (fed ++ take taken bytes) (given ++ out) progress some_go
-            (omega (arith, short, counted, length-take-le taken bytes within, length-append fed (take taken bytes))) says
-            (lacks_none short) (λ on. omega (arith, all on, short)))
+            (omega (arith, short, counted, length-take-le taken bytes within, length-append fed (take taken bytes)))
+            says (lacks_none short) (λ on. omega (arith, all on, short)))
         | inr whole ↦ rw (take_all taken bytes whole) at is
       ]
 
@@ -175,7 +176,8 @@ module _ (s : Bool) (d : ℕ) (fed bytes : List ℕ) (taken kept : ℕ) (old new
   pub step_fed : AreKept new taken kept → (given out : List ℕ) (copier copier' : Copier)
       → (IsCopied most fed given copier → IsCopied most (fed ++ take kept bytes) (given ++ out) copier')
       → AreFed s d fed old (putting [] (copy.spot_of copier)) (given ++ pending_of copier)
-      → AreFed s d (fed ++ take taken bytes) new (putting [] (copy.spot_of copier')) ((given ++ out) ++ pending_of copier')
+      → AreFed s d (fed ++ take taken bytes) new (putting [] (copy.spot_of copier'))
+      ((given ++ out) ++ pending_of copier')
   step_fed are given out copier copier' goes was = record {
     checked = checked;
     bytes = fed ++ take kept bytes;

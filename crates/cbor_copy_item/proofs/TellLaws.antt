@@ -24,14 +24,14 @@ use Rattle.cbor_copy_item.proofs.StateLaws.{all_taken, due_sound, cut, spelled}
 
 -- ---- what an answer is
 
-more_in : (phase : Phase) (spot : Spot) (due : ℕ) → is_due phase ≡ false → of_checker (progress_in phase spot) ≡ r.More due
-    → ⊥
+more_in : (phase : Phase) (spot : Spot) (due : ℕ) → is_due phase ≡ false
+    → of_checker (progress_in phase spot) ≡ r.More due → ⊥
 more_in p.Ended spot due off e = cc
 more_in phase spot due off e = cc
 
 -- behind an end or a fault no more bytes are due
-pub not_more : (bytes : List ℕ) (spot : Spot) (due : ℕ) → is_due spot.phase ≡ false → progress_of bytes spot ≡ r.More due
-    → ⊥
+pub not_more : (bytes : List ℕ) (spot : Spot) (due : ℕ) → is_due spot.phase ≡ false
+    → progress_of bytes spot ≡ r.More due → ⊥
 not_more [] spot due off e = more_in spot.phase spot due off e
 not_more (b ∷ bytes) spot due off e = cc
 
@@ -102,7 +102,8 @@ none_taken (p.Faulted fault) bytes taken =
     absurd (omega (arith, ap length taken.1, length-append bytes (taken.0 ∷ [])))
 none_taken phase bytes taken = sym taken
 
-none_out : (fed output : List ℕ) (elements : Elements) → AreElementsFed most fed elements output → fed ≡ [] → output ≡ []
+none_out : (fed output : List ℕ) (elements : Elements) → AreElementsFed most fed elements output → fed ≡ []
+    → output ≡ []
 none_out fed output elements start e = refl
 none_out fed output elements (go {bytes = a} b new byte is step) e =
     absurd (omega (arith, ap length e, length-append a (b ∷ [])))

@@ -37,6 +37,7 @@ returns c = record {
       (c.copy.ensures.copied fed given
       (step_goes strict depth fed bytes taken kept (item_spot old) new c.requires.due within checked.0 are)
       (step_bytes strict depth fed bytes taken kept (item_spot old) new c.requires.due within checked.0 are)
-      (step_counted strict depth fed bytes taken kept (item_spot old) new c.requires.due within checked.0 are checked.1))
+      (step_counted strict depth fed bytes taken kept (item_spot old) new c.requires.due within checked.0 are
+      checked.1))
       was;
 }
