@@ -77,10 +77,8 @@ enters (w.Open k.Bytes more) (h.Bytes (Some len)) spot = by_kept (body_kept k.By
 enters (w.Open k.Text more) (h.Text (Some len)) spot = by_kept (body_kept k.Text len _) (inl refl) (λ bad. bad)
 enters (w.Open k.Bytes more) (h.Bytes None) spot = by_kept (refl, refl, refl, λ f. cc f.1) (inr refl) (λ bad. bad)
 enters (w.Open k.Text more) (h.Text None) spot = by_kept (refl, refl, refl, λ f. cc f.1) (inr refl) (λ bad. bad)
-enters (w.Open k.Bytes zero) h.Break spot = by_kept (due_kept (spot.left - 1) _) (inl refl) (λ bad. bad)
-enters (w.Open k.Text zero) h.Break spot = by_kept (due_kept (spot.left - 1) _) (inl refl) (λ bad. bad)
-enters (w.Open k.Bytes (suc more)) h.Break spot = by_kept (refl, refl, refl, λ f. cc f.1) (inr refl) (λ bad. bad)
-enters (w.Open k.Text (suc more)) h.Break spot = by_kept (refl, refl, refl, λ f. cc f.1) (inr refl) (λ bad. bad)
+enters (w.Open kind zero) h.Break spot = by_kept (due_kept (spot.left - 1) _) (inl refl) (λ bad. bad)
+enters (w.Open kind (suc more)) h.Break spot = by_kept (refl, refl, refl, λ f. cc f.1) (inr refl) (λ bad. bad)
 enters (w.Open k.Bytes more) header spot = by_fault tt
 enters (w.Open k.Text more) header spot = by_fault tt
 

@@ -23,6 +23,7 @@ use Rattle.cbor_copy.specs.declared.phase.StringKind.{StringKind}
 use Rattle.cbor_copy.specs.declared.phase.Within.{Within}
 use Rattle.cbor_copy.specs.declared.progress.End.{End}
 use Rattle.cbor_copy.specs.declared.progress.End.TheVariants as e
+use Rattle.cbor_copy.specs.declared.progress.Progress.{Progress}
 use Rattle.cbor_copy.specs.declared.progress.Progress.TheVariants as r
 use Rattle.cbor_copy.specs.declared.copier.Copier.{Copier}
 use Rattle.cbor_copy.specs.Blocked.{is_blocked}
@@ -142,8 +143,8 @@ no_room p.Ended count bytes output says = says
 no_room phase count bytes output says = says
 
 -- what the answer says, by what is pending
-pub tells : (pending : List ℕ) (count : ℕ) (bytes given : List ℕ) (spot : Spot)
-    → IsFed count bytes spot (given ++ pending) → Tells count bytes given (progress_of pending spot.phase)
+tells : (pending : List ℕ) (count : ℕ) (bytes given : List ℕ) (spot : Spot) → IsFed count bytes spot (given ++ pending)
+    → Tells count bytes given (progress_of pending spot.phase)
 tells [] count bytes given spot is =
     rw (append-nil given) at (no_room spot.phase count bytes (given ++ []) (told is))
 tells (byte ∷ pending) count bytes given spot is = record {
@@ -153,13 +154,17 @@ tells (byte ∷ pending) count bytes given spot is = record {
   told = told is;
 }
 
+pub copier_tells : (copier : Copier) (progress : Progress) → progress ≡ progress_of copier.pending copier.phase
+    → (count : ℕ) (fed given : List ℕ) → IsCopied count fed given copier → Tells count fed given progress
+copier_tells copier progress e count fed given is =
+    rw e (tells copier.pending count fed given (putting [] (spot_of copier)) is)
+
 -- too many came to be counted
-pub too_long : (pending : List ℕ) (count : ℕ) (bytes given : List ℕ) (spot : Spot)
-    → r.More ≡ progress_of pending spot.phase → IsFed count bytes spot (given ++ pending) → 2 ^ 64 ≤ spot.offset + 1
-    → Tells count bytes given r.TooLong
-too_long pending count bytes given spot e is far =
-    let says = rw (← e) at (tells pending count bytes given spot is) in
-    (says.0, says.1, rw (fed_counts count bytes (given ++ pending) spot is) at far)
+pub too_long : (copier : Copier) → r.More ≡ progress_of copier.pending copier.phase → 2 ^ 64 ≤ copier.offset + 1
+    → (count : ℕ) (fed given : List ℕ) → IsCopied count fed given copier → Tells count fed given r.TooLong
+too_long copier e far count fed given is =
+    let says = copier_tells copier r.More e count fed given is in
+    (says.0, says.1, rw (fed_counts count fed (given ++ copier.pending) _ is) at far)
 
 -- ---- in terms of the bytes
 
@@ -315,8 +320,7 @@ ended_in phase has = absurd has
 pub copier_ends : (copier : Copier) (end : End) → end ≡ end_of copier.pending copier.phase
     → (count : ℕ) (fed given : List ℕ) → IsCopied count fed given copier → TellsEnd count fed given end
 copier_ends copier end is_end count fed given is =
-    rw is_end (end_by copier.pending copier.phase count fed given
-    (tells copier.pending count fed given (putting [] (spot_of copier)) is))
+    rw is_end (end_by copier.pending copier.phase count fed given (copier_tells copier _ refl count fed given is))
 
 -- it is one exactly where the bytes are so many elements, and their spelling is written
 pub copier_exact : (copier : Copier) (end : End) → end ≡ end_of copier.pending copier.phase

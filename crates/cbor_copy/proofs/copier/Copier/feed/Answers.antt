@@ -1,12 +1,10 @@
-use Rattle.std.proofs.Common.{◌≡◌, ◌∙◌, ℕ, List, [], ◌++◌, append-nil, append_assoc, take, length, sym, ap, subst}
-use Rattle.std.proofs.Common.{rules, arith}
+use Rattle.std.proofs.Common.{◌≡◌, ◌∙◌, [], ◌++◌, append-nil, append_assoc, take, length, sym, ap, rules, arith}
 use Rattle.ciborium_ll_text.proofs.Lists.{rest_long}
 use Rattle.cbor_copy.specs.Copying.{spot_of}
 use Rattle.cbor_copy.specs.Spots.{Spot, putting}
-use Rattle.cbor_copy.specs.Steps.{IsFed}
 use Rattle.cbor_copy.specs.Telling.{is_due}
 use Rattle.cbor_copy.proofs.RunLaws.{is_answer, fed_behind, drop_later, more_given, not_more}
-use Rattle.cbor_copy.proofs.TellLaws.{tells, too_long}
+use Rattle.cbor_copy.proofs.TellLaws.{copier_tells, too_long}
 use Rattle.cbor_copy.proofs.copier.Copier.feed.Goals as goal
 
 pub pieces-preserved : goal.pieces-preserved
@@ -26,9 +24,7 @@ pieces-preserved c =
           fed_behind count fed _ bytes c.pieces.at c.advance-len.result.0 (putting [] (spot_of c.advance-len.new.self))
           (went.copied count (fed ++ take c.pieces.at bytes) given (c.pieces.invariant.copied count fed given is));
       full = search rules;
-      grown = λ given.
-          let so_far = c.pieces.invariant.grown given in let grows = went.grown in let clear = ap length none in
-          omega (arith, so_far, grows, clear);
+      grown = λ given. omega (arith, c.pieces.invariant.grown given, went.grown, ap length none);
       stays = λ off given.
           let same = c.pieces.invariant.stays off given in
           let phase = ap (λ (spot : Spot). is_due spot.phase) same.2 in
@@ -37,26 +33,20 @@ pieces-preserved c =
 
 pub returns-in_default-clause-tells : goal.returns-in_default-clause-tells
 returns-in_default-clause-tells c = λ count fed given is.
-    let copier = c.pieces.self in
-    rw c.progress.ensures (tells copier.pending count (fed ++ take c.pieces.at c.args.bytes.now)
-    (given ++ take c.pieces.written c.pieces.out) (putting [] (spot_of copier))
-    (c.pieces.invariant.copied count fed given is))
+    copier_tells c.pieces.self c.progress.result c.progress.ensures count (fed ++ take c.pieces.at c.args.bytes.now)
+    (given ++ take c.pieces.written c.pieces.out) (c.pieces.invariant.copied count fed given is)
 
 pub returns-then-self-clause-tells : goal.returns-then-self-clause-tells
 returns-then-self-clause-tells c = λ count fed given is.
-    let copier = c.pieces.self in
-    too_long copier.pending count (fed ++ take c.pieces.at c.args.bytes.now)
-    (given ++ take c.pieces.written c.pieces.out) (putting [] (spot_of copier))
-    (sym c.in-More.is ∙ c.progress.ensures)
-    (c.pieces.invariant.copied count fed given is) (omega (arith, c.if-self.true))
+    too_long c.pieces.self (sym c.in-More.is ∙ c.progress.ensures) (omega (arith, c.if-self.true)) count
+    (fed ++ take c.pieces.at c.args.bytes.now) (given ++ take c.pieces.written c.pieces.out)
+    (c.pieces.invariant.copied count fed given is)
 
 pub returns-clause-tells : goal.returns-clause-tells
 returns-clause-tells c = λ count fed given is.
-    let copier = c.pieces.self in
-    let bytes = c.args.bytes.now in
-    let all : c.pieces.at ≡ length bytes = search rules in
-    rw (c.progress-2.ensures, ← all) (tells copier.pending count (fed ++ take c.pieces.at bytes)
-    (given ++ take c.pieces.written c.pieces.out) (putting [] (spot_of copier))
+    let all : c.pieces.at ≡ length c.args.bytes.now = search rules in
+    rw (← all) (copier_tells c.pieces.self c.progress-2.result c.progress-2.ensures count
+    (fed ++ take c.pieces.at c.args.bytes.now) (given ++ take c.pieces.written c.pieces.out)
     (c.pieces.invariant.copied count fed given is))
 
 pub returns-in_default-clause-answers : goal.returns-in_default-clause-answers
@@ -75,13 +65,7 @@ pieces-init c =
       written = search rules;
       long = search rules;
       kept = gave.rest;
-      copied = λ count fed given is.
-          let spot : Spot = putting [] (spot_of c.args.self.now) in
-          let front = take c.give-written.result c.give-written.new.out in
-          let rest = c.give-written.new.self in
-          let all = append_assoc given front rest ∙ ap (λ (z : List ℕ). given ++ z) gave.given in
-          subst (λ (z : List ℕ). IsFed count z spot ((given ++ front) ++ rest)) (sym (append-nil fed))
-          (subst (λ (z : List ℕ). IsFed count fed spot z) (sym all) is);
+      copied = λ count fed given is. rw (append-nil fed, append_assoc given, gave.given) is;
       full = search rules;
       grown = search rules;
       stays = search rules;
