@@ -1,14 +1,14 @@
 -- Where a whole title, a whole body or a whole element leads.
-use Rattle.std.proofs.Common.{◌≡◌, ℕ, zero, suc, ◌+◌, ◌-◌, ◌<◌, false, List, [], ◌∷◌, ◌++◌, length, Some, None, refl}
-use Rattle.std.proofs.Common.{arith, inl, append_assoc, append-nil, le-leb}
+use Rattle.std.proofs.Common.{◌≡◌, ℕ, zero, suc, ◌+◌, ◌-◌, ◌<◌, ◌≤◌, false, List, [], ◌∷◌, ◌++◌, length, Some, None}
+use Rattle.std.proofs.Common.{refl, sym, ap, arith, inl, append_assoc, append-nil, le-leb}
 use Rattle.ciborium_ll_grammar.specs.declared.hdr.Header.{Header}
 use Rattle.ciborium_ll_grammar.specs.declared.hdr.Header.TheVariants as h
-use Rattle.ciborium_ll_grammar.specs.Title.{IsTitle, numbered, alone, Other, Small, shortest_title}
+use Rattle.ciborium_ll_grammar.specs.Title.{AreBytes, IsTitle, numbered, alone, Other, Small, shortest_title}
 use Rattle.ciborium_ll_grammar.specs.Strings.{Kind, Bytes, Text, kind_header, IsMisplaced, IsWritable, none}
 use Rattle.ciborium_ll_grammar.specs.Strings.IsString.{definite}
 use Rattle.ciborium_ll_grammar.specs.Elements.{AreWritable, Mark, Plain, Whole as WholeMark, Open, Piece, Close, pieces}
 use Rattle.ciborium_ll_grammar.specs.Elements.{spelling, mark_spelling, IsElement, plain, string, IsRun, IsPlain}
-use Rattle.ciborium_ll_grammar.specs.Faults.{In, Reaches, due, inside, with_front, OtherTitle, FirstFault, Syntax}
+use Rattle.ciborium_ll_grammar.specs.Faults.{Point, Reaches, due, inside, with_front, OtherTitle, FirstFault, Syntax}
 use Rattle.ciborium_ll_grammar.proofs.StepLaws.{add_string, add_open, close_inner, close_last, add_element, counted}
 use Rattle.ciborium_ll_grammar.proofs.OpenStrings.{IsInsideAt, one_open}
 use Rattle.ciborium_ll_grammar.proofs.ElementLaws.{spelling-append, pieces-append, AreWritable-append}
@@ -22,7 +22,7 @@ use Rattle.cbor_copy.specs.Spots.{Spot, putting, elements_due, element_done, str
 use Rattle.cbor_copy.specs.Spots.{string_open, string_closed}
 use Rattle.cbor_copy.proofs.KeptLaws.{due_kept, body_kept}
 use Rattle.cbor_copy.proofs.Reached.{kind_of, RunLeft, InOpen, Here, between, in_open, OfKind, place_of, body_place}
-use Rattle.cbor_copy.proofs.Reached.{Misplaced, Titling, Begun, Bodying, Holds, clear}
+use Rattle.cbor_copy.proofs.Reached.{Misplaced, Titling, Begun, Bodying, Broken, Holds, clear}
 
 -- ---- what is due is a part of the elements
 
@@ -45,6 +45,14 @@ pub misplaced_fault : {before title ahead : List ℕ} {marks : List Mark} (i : W
 misplaced_fault w.Nothing header rest q bad is = absurd bad
 misplaced_fault (w.Open kind more) header rest q bad is = OtherTitle header rest q (inl bad) is
 
+-- where there is such a fault whatever follows, once so many bytes do
+pub breaks : {place count : ℕ} {bytes output before : List ℕ} {marks : List Mark} {at : Point} (ahead : List ℕ)
+    → Reaches count before marks at → bytes ≡ before ++ ahead → (need : ℕ)
+    → ((more : List ℕ) → AreBytes more → need ≤ length more → (consumed : ℕ)
+    × FirstFault false before marks at (ahead ++ more) (Syntax place) output consumed) → Broken place count bytes output
+breaks {before = before} {marks = marks} {at = at} ahead reach is need each =
+    record { before = before; marks = marks; at = at; ahead = ahead; reach = reach; is = is; need = need; each = each }
+
 -- ---- more behind what came
 
 module _ {count left : ℕ} {bytes : List ℕ} {marks : List Mark} where
@@ -61,17 +69,11 @@ module _ {count left : ℕ} {bytes : List ℕ} {marks : List Mark} where
     -- bytes within open strings, with these bodies
     grown : (n : ℕ) (x : List ℕ) (bodies : List (List ℕ)) → IsInsideAt kind (suc n) (o.opens ++ x) (o.bodies ++ bodies)
         → AreWritable kind bodies → InOpen kind n count left (bytes ++ x) (marks ++ pieces kind bodies)
-    grown n x bodies at sound = record {
-      elements = o.elements;
-      element_marks = o.element_marks;
-      opens = o.opens ++ x;
-      bodies = o.bodies ++ bodies;
-      run = o.run;
-      inside = at;
-      sound = AreWritable-append kind o.bodies bodies o.sound sound;
-      is = simp (o.is, append_assoc);
-      marks_are = simp (o.marks_are, pieces-append, append_assoc);
-    }
+    grown n x bodies at sound =
+        let is : bytes ++ x ≡ o.elements ++ (o.opens ++ x) = simp (o.is, append_assoc) in
+        let marks_are : marks ++ pieces kind bodies ≡ o.element_marks ++ Open kind ∷ pieces kind (o.bodies ++ bodies) =
+        simp (o.marks_are, pieces-append, append_assoc) in
+        search (AreWritable-append kind o.bodies bodies o.sound sound)
 
     -- or with none
     grown_by : (n : ℕ) (x : List ℕ) → IsInsideAt kind (suc n) (o.opens ++ x) o.bodies
@@ -126,14 +128,8 @@ string_behind {marks = marks} kind title body (in_open {kind = outer} {more = mo
 -- a title is due at the spot
 pub title_due : {count : ℕ} {bytes : List ℕ} {marks : List Mark} {spot : Spot}
     → Here count spot.left bytes marks spot.within → spot.front ≡ [] → Titling count bytes spot (spelling marks)
-title_due {bytes = bytes} {marks = marks} here bare = record {
-  before = bytes;
-  marks = marks;
-  here = here;
-  is = simp (bare, append-nil);
-  out = refl;
-  front = inl bare;
-}
+title_due {bytes = bytes} {spot = spot} here bare =
+    let is : bytes ≡ bytes ++ spot.front = simp (bare, append-nil) in search inl
 
 -- all elements have come
 pub run_all : {count : ℕ} {bytes : List ℕ} {marks : List Mark} → RunLeft count zero bytes marks
@@ -156,18 +152,10 @@ module _ {kind : StringKind} {count len : ℕ} {before title : List ℕ} {marks 
       → Begun kind count spot.left spot.place len before title marks spot.within → IsWritable (kind_of kind) part
       → length part + more ≡ len → spot.front ≡ []
       → Bodying kind more count ((before ++ title) ++ part) spot (with_front marks (kind_of kind) len part)
-  body_rest part b sound long bare = record {
-    before = before;
-    title = title;
-    part = part;
-    marks = marks;
-    len = len;
-    begun = b;
-    is = simp (bare, append-nil);
-    long = simp (bare, append-nil) long;
-    out = refl;
-    sound = sound;
-  }
+  body_rest {more} {spot} part b sound long bare =
+      let all : part ++ spot.front ≡ part = simp (bare, append-nil) in
+      let counts : length (part ++ spot.front) + more ≡ len = rw all long in
+      search (b, counts, ap (λ (z : List ℕ). (before ++ title) ++ z) (sym all))
 
 pub body_leads : {count len : ℕ} {before title : List ℕ} {marks : List Mark} (kind : StringKind) (more : ℕ)
     (spot : Spot) (part : List ℕ) → Begun kind count spot.left spot.place len before title marks spot.within
@@ -238,17 +226,9 @@ module _ (count : ℕ) (before title : List ℕ) (marks : List Mark) where
     misplaced_titled : (kind : StringKind) (more : ℕ) (o : InOpen (kind_of kind) more count left before marks)
         (header : Header) → IsMisplaced (kind_of kind) header → IsTitle title header
         → Leads (refused (old (w.Open kind more) []))
-    misplaced_titled kind more o header bad q = record {
-      before = before;
-      marks = marks;
-      at = In (kind_of kind);
-      ahead = title;
-      reach = reaches (in_open {kind = kind} {more = more} o some);
-      is = refl;
-      need = 0;
-      each = λ y are long.
-          (length title, rw (named, append-nil) (misplaced_fault (w.Open kind more) header y q bad refl));
-    }
+    misplaced_titled kind more o header bad q =
+        breaks title (reaches (in_open {kind = kind} {more = more} o some)) refl 0 (λ y are long.
+        (length title, rw (named, append-nil) (misplaced_fault (w.Open kind more) header y q bad refl)))
 
     break_titled : (kind : StringKind) (more : ℕ) → InOpen (kind_of kind) more count left before marks
         → IsTitle title h.Break → Leads (string_closed kind more (old (w.Open kind more) []))
@@ -268,17 +248,10 @@ module _ (count : ℕ) (before title : List ℕ) (marks : List Mark) where
     open_titled : (kind : StringKind) → RunLeft count left before marks
         → IsTitle title (kind_header (kind_of kind) None)
         → Leads (string_open kind zero (old w.Nothing (shortest_title (kind_header (kind_of kind) None))))
-    open_titled kind r q = due_titled _ (marks ++ Open (kind_of kind) ∷ []) (in_open (record {
-      elements = before;
-      element_marks = marks;
-      opens = title;
-      bodies = [];
-      run = r;
-      inside = rw (append-nil title) at (one_open q none);
-      sound = tt;
-      is = refl;
-      marks_are = refl;
-    }) some) refl (simp (spelling-append, append-nil))
+    open_titled kind r q =
+        let inside : IsInsideAt (kind_of kind) 1 title [] = rw (append-nil title) at (one_open q none) in
+        due_titled _ (marks ++ Open (kind_of kind) ∷ []) (in_open (search) some) refl
+        (simp (spelling-append, append-nil))
 
     pub title_leads : (i : Within) (header : Header) → Here count left before marks i → IsTitle title header
         → Leads (entered i header (old i []))

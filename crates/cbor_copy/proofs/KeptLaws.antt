@@ -50,22 +50,14 @@ module _ {i : Within} {header : Header} {spot : Spot} where
   by_kept : {new : Spot} {put : List ℕ} → (new.front ≡ spot.front) × (new.offset ≡ spot.offset) × (new.put ≡ put)
       × (Faults new → ⊥) → (put ≡ shortest_title header) ⊎ (put ≡ spot.put) → (Misplaced i header → ⊥)
       → Entered i header spot new
-  by_kept kept out sound = record {
-    front = kept.0;
-    offset = kept.1;
-    put = rw kept.2 out;
-    faults = λ f. absurd (kept.3 f);
-    misplaced = λ bad. absurd (sound bad);
-  }
+  by_kept {new} kept out sound =
+      let put = rw (← kept.2) at out in
+      let faults : Faults new → Misplaced i header = λ f. absurd (kept.3 f) in
+      let misplaced : Misplaced i header → Faults new = λ bad. absurd (sound bad) in
+      search
 
   by_fault : Misplaced i header → Entered i header spot (refused spot)
-  by_fault bad = record {
-    front = refl;
-    offset = refl;
-    put = inr refl;
-    faults = λ f. bad;
-    misplaced = λ bad. (spot.place, refl);
-  }
+  by_fault bad = let misplaced : Misplaced i header → Faults (refused spot) = λ b. (spot.place, refl) in search inr
 
 pub enters : (i : Within) (header : Header) (spot : Spot) → Entered i header spot (entered i header spot)
 enters w.Nothing (h.Bytes (Some len)) spot = by_kept (body_kept k.Bytes len _) (inl refl) (λ bad. bad)

@@ -31,12 +31,8 @@ use Rattle.cbor_copy.proofs.StepLaws.{continued}
 -- bytes behind which some do
 before_those : {count : ℕ} {bytes : List ℕ} (more : List ℕ) → AreBytes more → SomeGoOn count (bytes ++ more)
     → SomeGoOn count bytes
-before_those {bytes = bytes} more are o = record {
-  more = more ++ o.more;
-  more_bytes = AreBytes-append more o.more are o.more_bytes;
-  marks = o.marks;
-  run = rw (append_assoc bytes more) at o.run;
-}
+before_those {bytes = bytes} more are o =
+    search (AreBytes-append more o.more are o.more_bytes, rw (append_assoc bytes more) at o.run)
 
 zero_element : IsElement (0 ∷ []) (Plain (h.Positive 0) ∷ [])
 zero_element = plain (h.Positive 0) (numbered Unsigned Small 0 (omega arith)) tt

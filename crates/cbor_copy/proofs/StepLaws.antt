@@ -27,7 +27,7 @@ use Rattle.cbor_copy.specs.declared.phase.Within.TheVariants as w
 use Rattle.cbor_copy.specs.Spots.{Spot, putting, body_due}
 use Rattle.cbor_copy.specs.Steps.{title_place, with_byte, TitleStep, cut, early, whole, none, start, with_char}
 use Rattle.cbor_copy.specs.Steps.{char_put, text_left, byte_put, StepIn, IsFed, fresh, more}
-use Rattle.cbor_copy.proofs.EnterLaws.{reaches, some_due, misplaced_fault, title_leads, body_leads, due_leads}
+use Rattle.cbor_copy.proofs.EnterLaws.{reaches, breaks, some_due, misplaced_fault, title_leads, body_leads, due_leads}
 use Rattle.cbor_copy.proofs.KeptLaws.{body_kept, enters, steps}
 use Rattle.cbor_copy.proofs.Reached.{kind_of, Misplaced, place_of, FrontAt, Titling, Begun, Bodying, Broken, HoldsIn}
 use Rattle.cbor_copy.proofs.Reached.{Holds}
@@ -106,34 +106,22 @@ module _ (count b : ℕ) (byte : b < 256) (bytes output : List ℕ) (spot : Spot
       × FirstFault false due.before due.marks (place_of spot.within) ((spot.front ++ b ∷ []) ++ y)
       (Syntax (length due.before)) (spelling due.marks) consumed)
       → Broken (with_byte b spot).place count (bytes ++ b ∷ []) (output ++ [])
-  broken_title need each = record {
-    before = due.before;
-    marks = due.marks;
-    at = place_of spot.within;
-    ahead = spot.front ++ b ∷ [];
-    reach = reaches due.here;
-    is = whole_is;
-    need = need;
-    each = rw (named, append-nil output, due.out) each;
-  }
+  broken_title need each =
+      breaks (spot.front ++ b ∷ []) (reaches due.here) whole_is need (rw (named, append-nil output, due.out) each)
 
   title_step : (new : Spot) → TitleStep (with_byte b spot) new → spot.phase ≡ p.Title
       → Holds count (bytes ++ b ∷ []) new (output ++ new.put)
   title_step new (cut c may) e =
-      subst (λ (z : Phase). HoldsIn z count (bytes ++ b ∷ []) (with_byte b spot) (output ++ [])) (sym e) (record {
-        before = due.before;
-        marks = due.marks;
-        here = due.here;
-        is = whole_is;
-        out = append-nil output ∙ due.out;
-        front = inr (
-          sound,
-          c,
-          (λ y header q bad. may y header q ((enters spot.within header _).misplaced bad)),
-          named,
-          omega (arith, length-append spot.front (b ∷ [])),
-        );
-      })
+      let front : FrontAt spot.within (length due.before) (title_place spot.front spot) (spot.front ++ b ∷ []) =
+      inr (
+        sound,
+        c,
+        λ y header q bad. may y header q ((enters spot.within header _).misplaced bad),
+        named,
+        omega (arith, length-append spot.front (b ∷ [])),
+      ) in
+      subst (λ (z : Phase). HoldsIn z count (bytes ++ b ∷ []) (with_byte b spot) (output ++ [])) (sym e)
+      (search (whole_is, append-nil output ∙ due.out))
   title_step new (early c all) e =
       broken_title 8 (λ y are long.
       let o = continued (spot.front ++ b ∷ []) y (omega (arith, length-append spot.front (b ∷ []))) sound are c long in
@@ -212,24 +200,16 @@ module _ (count left b : ℕ) (bytes output : List ℕ) (spot : Spot) (state : S
       let may = rw (length-take-le left y fits) at (text_may_end (after_byte state b) (take left y) ends) in cc
 
   broken_text : may_end (after_byte state b) left ≡ false → Broken spot.place count (bytes ++ b ∷ []) (output ++ [])
-  broken_text never = record {
-    before = due.before ++ due.title;
-    marks = due.marks;
-    at = BodyDue Text due.len spot.place;
-    ahead = ahead;
-    reach = body_reached spot.within due.begun;
-    is = body_is k.Text count left b bytes output spot due;
-    need = left;
-    each = λ y are long. (
-      length due.part,
-      rw (append-nil output, due.out)
-          (DamagedText {len = due.len} {consumed = length due.part} {ahead = ahead ++ y} due.part
-          ((spot.front ++ b ∷ []) ++ take left y)
-          (omega (arith, ahead_long, long, length-append ahead y)) (no_text never y long)
-          (front_is y ∙ append_assoc due.part (spot.front ++ b ∷ []) (take left y)) due.sound (omega arith)
-          (omega (arith, ahead_long, length-append due.part (spot.front ++ b ∷ [])))),
-    );
-  }
+  broken_text never =
+      breaks ahead (body_reached spot.within due.begun) (body_is k.Text count left b bytes output spot due) left
+      (λ y are long. (
+        length due.part,
+        rw (append-nil output, due.out)
+            (DamagedText {len = due.len} {consumed = length due.part} {ahead = ahead ++ y} due.part
+            ((spot.front ++ b ∷ []) ++ take left y) (omega (arith, ahead_long, long, length-append ahead y))
+            (no_text never y long) (front_is y ∙ append_assoc due.part (spot.front ++ b ∷ []) (take left y)) due.sound
+            (omega arith) (omega (arith, ahead_long, length-append due.part (spot.front ++ b ∷ [])))),
+      ))
 
   text_step : (may : Bool) (next : State) → next ≡ after_byte state b → may_end (after_byte state b) left ≡ may
       → Holds count (bytes ++ b ∷ []) (text_left may left next (with_char b spot))
@@ -240,18 +220,7 @@ module _ (count left b : ℕ) (bytes output : List ℕ) (spot : Spot) (state : S
       (IsCharacters-append due.part (spot.front ++ b ∷ []) due.sound
       (text_from (spot.front ++ b ∷ []) (sym behind_char ∙ sym e)))
   text_step true next e may = (
-    record {
-      before = due.before;
-      title = due.title;
-      part = due.part;
-      marks = due.marks;
-      len = due.len;
-      begun = due.begun;
-      is = body_is k.Text count left b bytes output spot due;
-      long = ahead_long;
-      out = append-nil output ∙ due.out;
-      sound = due.sound;
-    },
+    search (body_is k.Text count left b bytes output spot due, ahead_long, append-nil output ∙ due.out),
     e ∙ behind_char,
     rw (← e) at may,
     some_left next left (rw (← e) at may) (λ between. cc),

@@ -7,9 +7,9 @@ use Rattle.std.proofs.lemmas.Bool.{cases_lt}
 use Rattle.std.proofs.lemmas.List.{length-replicate}
 use Rattle.ciborium_ll_grammar.specs.Title.{IsCutTitle, AreBytes, affix_len}
 use Rattle.ciborium_ll_grammar.specs.Strings.{IsWritable}
-use Rattle.ciborium_ll_grammar.specs.Elements.{Mark, IsRun, spelling}
-use Rattle.ciborium_ll_grammar.specs.Faults.{Answer, FirstFault, Point, Reaches, RunInFront, Short, Syntax, CutTitle}
-use Rattle.ciborium_ll_grammar.specs.Faults.{CutBody, with_front}
+use Rattle.ciborium_ll_grammar.specs.Elements.{Mark, IsRun, IsStrictSpelling, spelling}
+use Rattle.ciborium_ll_grammar.specs.Faults.{Answer, FirstFault, HasFault, Point, Reaches, RunInFront, Short, Syntax}
+use Rattle.ciborium_ll_grammar.specs.Faults.{CutTitle, CutBody, with_front}
 use Rattle.ciborium_ll_grammar.specs.TitleRows.{IsTitleKind}
 use Rattle.ciborium_ll_grammar.proofs.AffixLaws.{title_or_refused, major_with, refused_affix, AreBytes-zeros}
 use Rattle.ciborium_ll_grammar.proofs.AffixLaws.{AreBytes-append}
@@ -40,27 +40,16 @@ use Rattle.cbor_copy.proofs.StepLaws.{at_title, body_reached, fed_counts, fed_ho
 
 -- ---- the bytes end too early
 
+-- of what is not strict nothing more is asked
+pub lenient : {bytes more : List ℕ} {marks : List Mark} → false ≡ true → IsStrictSpelling bytes marks more
+lenient strict = absurd cc
+
 comes_at : {count consumed : ℕ} {bytes before ahead output written : List ℕ} {marks : List Mark} {at : Point}
     {answer : Answer} → Reaches count before marks at → bytes ≡ before ++ ahead
     → FirstFault false before marks at ahead answer written consumed → output ≡ written
     → ComesTo count bytes answer output
-comes_at {consumed = consumed} {before = before} {ahead = ahead} {written = written} reach is fault out = record {
-  fault = record {
-    before = before;
-    marks = _;
-    point = _;
-    ahead = ahead;
-    answer = _;
-    written = written;
-    consumed = consumed;
-    reach = reach;
-    is = is;
-    spelled = λ on. absurd cc;
-    fault = fault;
-  };
-  answered = refl;
-  written = sym out;
-}
+comes_at {count} {bytes = bytes} reach is fault out =
+    let f : HasFault false count bytes = search lenient in record { fault = f; answered = refl; written = sym out }
 
 pub front_cut : (i : Within) (at place : ℕ) (front : List ℕ) → FrontAt i at place front → IsCutTitle front
 front_cut i at place front (inl bare) = rw bare tt
@@ -84,14 +73,8 @@ body_short {kind} {i = i} part front begun is short sound out =
 
 longer : {count : ℕ} {bytes : List ℕ} (more : List ℕ) → RunInFront false count bytes
     → RunInFront false count (bytes ++ more)
-longer more o = record {
-  elements = o.elements;
-  marks = o.marks;
-  rest = o.rest ++ more;
-  run = o.run;
-  is = simp (o.is, append_assoc);
-  spelled = λ on. absurd cc;
-}
+longer {bytes = bytes} more o =
+    let is : bytes ++ more ≡ o.elements ++ (o.rest ++ more) = simp (o.is, append_assoc) in search is
 
 module _ {place count : ℕ} {bytes output : List ℕ} (o : Broken place count bytes output) where
   fault_with : (more : List ℕ) → AreBytes more → o.need ≤ length more
@@ -171,14 +154,7 @@ too_long copier e far count fed given is =
 -- so many elements stand in front of themselves
 pub whole_in_front : (count : ℕ) (bytes more : List ℕ) (marks : List Mark) → IsRun count bytes marks
     → RunInFront false count (bytes ++ more)
-whole_in_front count bytes more marks run = record {
-  elements = bytes;
-  marks = marks;
-  rest = more;
-  run = run;
-  is = refl;
-  spelled = λ on. absurd cc;
-}
+whole_in_front count bytes more marks run = search (lenient, refl {A = List ℕ} {a = bytes ++ more})
 
 pub in_front : {count : ℕ} {bytes : List ℕ} {marks : List Mark} → IsRun count bytes marks → RunInFront false count bytes
 in_front {count} {bytes} {marks} run = rw (append-nil bytes) at (whole_in_front count bytes [] marks run)
