@@ -1,9 +1,7 @@
-pub mod BlockedLaws
 pub mod EnterLaws
 pub mod FrontLaws
 pub mod KeptLaws
 pub mod LiveLaws
-pub mod OneSpot
 pub mod PendingLaws
 pub mod Reached
 pub mod RunLaws

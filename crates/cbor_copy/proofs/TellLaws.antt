@@ -32,7 +32,7 @@ use Rattle.cbor_copy.specs.Spots.{Spot, putting, refused}
 use Rattle.cbor_copy.specs.Steps.{IsFed, StepIn, TitleStep, whole, none, titled, with_byte, more as more_fed}
 use Rattle.cbor_copy.specs.Telling.{progress_in, progress_of, ComesTo, SomeGoOn, NoneGoOn, FaultsAt, is_due, end_of}
 use Rattle.cbor_copy.specs.Telling.{AreSpelled, TellsWhole, Tells, TellsEnd, EndedIn, HasEnded, FaultIn, IsAtFault}
-use Rattle.cbor_copy.proofs.BlockedLaws.{step_early, step_cut}
+use Rattle.cbor_copy.proofs.KeptLaws.{step_early, step_cut}
 use Rattle.cbor_copy.proofs.EnterLaws.{reaches}
 use Rattle.cbor_copy.proofs.LiveLaws.{holds_goes}
 use Rattle.cbor_copy.proofs.Reached.{kind_of, place_of, FrontAt, Here, Begun, Broken, HoldsIn}

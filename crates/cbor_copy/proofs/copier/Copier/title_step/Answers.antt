@@ -1,7 +1,7 @@
 use Rattle.std.proofs.Common.{rules}
 use Rattle.cbor_copy.specs.Copying.{spot_of}
 use Rattle.cbor_copy.specs.Steps.{with_byte}
-use Rattle.cbor_copy.proofs.BlockedLaws.{step_early, step_cut, step_whole, step_none}
+use Rattle.cbor_copy.proofs.KeptLaws.{step_early, step_cut, step_whole, step_none}
 use Rattle.cbor_copy.proofs.copier.Copier.title_step.Goals as goal
 
 pub returns-then-is_blocked : goal.returns-then-is_blocked
