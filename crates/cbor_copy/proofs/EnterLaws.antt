@@ -1,6 +1,7 @@
 -- Where a whole title, a whole body or a whole element leads.
 use Rattle.std.proofs.Common.{◌≡◌, ℕ, zero, suc, ◌+◌, ◌-◌, ◌<◌, ◌≤◌, false, List, [], ◌∷◌, ◌++◌, length, Some, None}
-use Rattle.std.proofs.Common.{refl, sym, ap, arith, inl, append_assoc, append-nil, le-leb}
+use Rattle.std.proofs.Common.{refl, sym, ap, arith, inl, append_assoc, append-nil, le-leb, replicate, length-append}
+use Rattle.std.proofs.Common.{true}
 use Rattle.ciborium_ll_grammar.specs.declared.hdr.Header.{Header}
 use Rattle.ciborium_ll_grammar.specs.declared.hdr.Header.TheVariants as h
 use Rattle.ciborium_ll_grammar.specs.Title.{AreBytes, IsTitle, numbered, alone, Other, Small, shortest_title}
@@ -8,7 +9,9 @@ use Rattle.ciborium_ll_grammar.specs.Strings.{Kind, Bytes, Text, kind_header, Is
 use Rattle.ciborium_ll_grammar.specs.Strings.IsString.{definite}
 use Rattle.ciborium_ll_grammar.specs.Elements.{AreWritable, Mark, Plain, Whole as WholeMark, Open, Piece, Close, pieces}
 use Rattle.ciborium_ll_grammar.specs.Elements.{spelling, mark_spelling, IsElement, plain, string, IsRun, IsPlain}
+use Rattle.ciborium_ll_grammar.specs.Elements.{IsStrictSpelling}
 use Rattle.ciborium_ll_grammar.specs.Faults.{Point, Reaches, due, inside, with_front, OtherTitle, FirstFault, Syntax}
+use Rattle.ciborium_ll_grammar.specs.Faults.{Answer, HasFault, RunInFront}
 use Rattle.ciborium_ll_grammar.proofs.StepLaws.{add_string, add_open, close_inner, close_last, add_element, counted}
 use Rattle.ciborium_ll_grammar.proofs.OpenStrings.{IsInsideAt, one_open}
 use Rattle.ciborium_ll_grammar.proofs.ElementLaws.{spelling-append, pieces-append, AreWritable-append}
@@ -20,6 +23,10 @@ use Rattle.cbor_copy.specs.declared.phase.Within.{Within}
 use Rattle.cbor_copy.specs.declared.phase.Within.TheVariants as w
 use Rattle.cbor_copy.specs.Spots.{Spot, putting, elements_due, element_done, string_done, body_due, entered, refused}
 use Rattle.cbor_copy.specs.Spots.{string_open, string_closed}
+use Rattle.cbor_copy.specs.Telling.{ComesTo}
+use Rattle.std.proofs.lemmas.List.{length-replicate}
+use Rattle.ciborium_ll_grammar.proofs.AffixLaws.{AreBytes-zeros, AreBytes-append}
+use Rattle.ciborium_ll_grammar.proofs.StrictFaultLaws.{no_fault}
 use Rattle.cbor_copy.proofs.KeptLaws.{due_kept, body_kept}
 use Rattle.cbor_copy.proofs.Reached.{kind_of, RunLeft, InOpen, Here, between, in_open, OfKind, place_of, body_place}
 use Rattle.cbor_copy.proofs.Reached.{Misplaced, Titling, Begun, Bodying, Broken, Holds, clear}
@@ -45,13 +52,39 @@ pub misplaced_fault : {before title ahead : List ℕ} {marks : List Mark} (i : W
 misplaced_fault w.Nothing header rest q bad is = absurd bad
 misplaced_fault (w.Open kind more) header rest q bad is = OtherTitle header rest q (inl bad) is
 
--- where there is such a fault whatever follows, once so many bytes do
+-- of what is not strict nothing more is asked
+pub lenient : {bytes more : List ℕ} {marks : List Mark} → false ≡ true → IsStrictSpelling bytes marks more
+lenient strict = absurd cc
+
+pub comes_at : {count consumed : ℕ} {bytes before ahead output written : List ℕ} {marks : List Mark} {at : Point}
+    {answer : Answer} → Reaches count before marks at → bytes ≡ before ++ ahead
+    → FirstFault false before marks at ahead answer written consumed → output ≡ written
+    → ComesTo count bytes answer output
+comes_at {count} {bytes = bytes} reach is fault out =
+    let f : HasFault false count bytes = search lenient in record { fault = f; answered = refl; written = sym out }
+
+longer : {count : ℕ} {bytes : List ℕ} (more : List ℕ) → RunInFront false count bytes
+    → RunInFront false count (bytes ++ more)
+longer {bytes = bytes} more o =
+    let is : bytes ++ more ≡ o.elements ++ (o.rest ++ more) = simp (o.is, append_assoc) in search is
+
+-- where there is a fault at this place whatever follows, once so many bytes do
 pub breaks : {place count : ℕ} {bytes output before : List ℕ} {marks : List Mark} {at : Point} (ahead : List ℕ)
     → Reaches count before marks at → bytes ≡ before ++ ahead → (need : ℕ)
     → ((more : List ℕ) → AreBytes more → need ≤ length more → (consumed : ℕ)
     × FirstFault false before marks at (ahead ++ more) (Syntax place) output consumed) → Broken place count bytes output
-breaks {before = before} {marks = marks} {at = at} ahead reach is need each =
-    record { before = before; marks = marks; at = at; ahead = ahead; reach = reach; is = is; need = need; each = each }
+breaks {place} {count} {bytes} {output} ahead reach is need each =
+    let zeros : List ℕ = replicate need 0 in
+    let sound = AreBytes-zeros need in
+    let long = length-replicate {A = ℕ} need 0 in
+    let fault : (more : List ℕ) → AreBytes more → need ≤ length more
+    → ComesTo count (bytes ++ more) (Syntax place) output =
+    λ more are enough. comes_at reach (simp (is, append_assoc)) (each more are enough).1 refl in (
+      λ more are run. no_fault false count _ (rw (append_assoc bytes more) at (longer zeros run))
+          (fault (more ++ zeros) (AreBytes-append more zeros are sound)
+          (omega (arith, long, length-append more zeros))).fault,
+      record { more = zeros; more_bytes = sound; comes_to = fault zeros sound (omega (arith, long)) },
+    )
 
 -- ---- more behind what came
 
@@ -138,7 +171,7 @@ run_all r = let e : r.before ≡ _ = omega (arith, r.counted) in rw e at r.run
 
 pub due_leads : {count : ℕ} {bytes : List ℕ} {marks : List Mark} (left : ℕ) (spot : Spot)
     → RunLeft count left bytes marks → spot.front ≡ [] → Holds count bytes (elements_due left spot) (spelling marks)
-due_leads {marks = marks} zero spot r bare = record { marks = marks; run = run_all r; out = refl }
+due_leads {marks = marks} zero spot r bare = record { marks = marks; run = run_all r; spelled = refl }
 due_leads (suc left) spot r bare = title_due (between r (omega arith)) bare
 
 done_leads : (count : ℕ) (bytes : List ℕ) (marks : List Mark) (i : Within) (spot : Spot) → i ≡ spot.within

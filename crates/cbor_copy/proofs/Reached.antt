@@ -1,10 +1,10 @@
 -- What the bytes of a copy have led to, in terms of elements, and what was put out till there.
-use Rattle.std.proofs.Common.{◌≡◌, ℕ, suc, ◌+◌, ◌-◌, ◌<◌, ◌≤◌, true, false, List, [], ◌∷◌, ◌++◌, length, Some, ◌⊎◌}
+use Rattle.std.proofs.Common.{◌≡◌, ℕ, suc, ◌+◌, ◌-◌, ◌<◌, true, List, [], ◌∷◌, ◌++◌, length, Some, ◌⊎◌}
 use Rattle.ciborium_ll_grammar.specs.declared.hdr.Header.{Header}
 use Rattle.ciborium_ll_grammar.specs.Title.{IsTitle, title_len, IsCutTitle, AreBytes}
 use Rattle.ciborium_ll_grammar.specs.Strings.{Kind, Bytes, Text, kind_header, IsMisplaced, IsWritable}
 use Rattle.ciborium_ll_grammar.specs.Elements.{AreWritable, Mark, Open, pieces, spelling, IsRun}
-use Rattle.ciborium_ll_grammar.specs.Faults.{Point, Due, In, Reaches, Syntax, with_front, FirstFault}
+use Rattle.ciborium_ll_grammar.specs.Faults.{Point, Due, In, with_front}
 use Rattle.ciborium_ll_grammar.proofs.OpenStrings.{IsInsideAt}
 use Rattle.ciborium_ll_text.specs.declared.state.State.TheVariants as s
 use Rattle.ciborium_ll_text.specs.States.{after, may_end}
@@ -15,6 +15,7 @@ use Rattle.cbor_copy.specs.declared.phase.StringKind.TheVariants as k
 use Rattle.cbor_copy.specs.declared.phase.Within.{Within}
 use Rattle.cbor_copy.specs.declared.phase.Within.TheVariants as w
 use Rattle.cbor_copy.specs.Spots.{Spot, putting}
+use Rattle.cbor_copy.specs.Telling.{AreSpelled, NoneGoOn, FaultsAt}
 
 abbrev pub kind_of : StringKind → Kind
 kind_of k.Bytes = Bytes
@@ -99,23 +100,9 @@ pub record Bodying (kind : StringKind) (left count : ℕ) (bytes : List ℕ) (sp
   pub out : output ≡ with_front marks (kind_of kind) len part
   pub sound : IsWritable (kind_of kind) part
 
--- so many elements have come
-pub record Whole (count : ℕ) (bytes output : List ℕ) : Type 0 where
-  pub marks : List Mark
-  pub run : IsRun count bytes marks
-  pub out : output ≡ spelling marks
-
--- Whatever follows, there is a fault: the one at this place, once so many bytes follow
-pub record Broken (place count : ℕ) (bytes output : List ℕ) : Type 0 where
-  pub before : List ℕ
-  pub marks : List Mark
-  pub at : Point
-  pub ahead : List ℕ
-  pub reach : Reaches count before marks at
-  pub is : bytes ≡ before ++ ahead
-  pub need : ℕ
-  pub each : (more : List ℕ) → AreBytes more → need ≤ length more
-      → (consumed : ℕ) × FirstFault false before marks at (ahead ++ more) (Syntax place) output consumed
+-- there is a fault at this place
+abbrev pub Broken : ℕ → ℕ → List ℕ → List ℕ → Type 0
+Broken place count bytes output = NoneGoOn count bytes × FaultsAt place count bytes output
 
 abbrev pub HoldsIn : Phase → ℕ → List ℕ → Spot → List ℕ → Type 0
 HoldsIn p.Title count bytes spot output = Titling count bytes spot output
@@ -124,7 +111,7 @@ HoldsIn (p.Bytes left) count bytes spot output =
 HoldsIn (p.Text left state) count bytes spot output =
     Bodying k.Text left count bytes spot output × (state ≡ after s.Between spot.front) × (may_end state left ≡ true)
     × (0 < left)
-HoldsIn p.Ended count bytes spot output = Whole count bytes output
+HoldsIn p.Ended count bytes spot output = AreSpelled count bytes output
 HoldsIn (p.Faulted place) count bytes spot output = Broken place count bytes output
 
 -- what the last byte put out does not count

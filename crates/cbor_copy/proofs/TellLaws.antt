@@ -2,17 +2,14 @@
 -- of the bytes alone.
 use Rattle.std.proofs.Common.{◌≡◌, ℕ, zero, suc, true, false, ◌+◌, ◌/◌, ◌%◌, ◌<◌, ◌≤◌, ◌^◌, ◌↔◌, List, [], ◌∷◌, ◌++◌}
 use Rattle.std.proofs.Common.{length, refl, sym, ap, ◌∙◌, arith, inl, inr, append_assoc, append-nil, length-append}
-use Rattle.std.proofs.Common.{replicate, slice_index, drop, length-drop}
+use Rattle.std.proofs.Common.{slice_index, drop, length-drop}
 use Rattle.std.proofs.lemmas.Bool.{cases_lt}
-use Rattle.std.proofs.lemmas.List.{length-replicate}
 use Rattle.ciborium_ll_grammar.specs.Title.{IsCutTitle, AreBytes, affix_len}
 use Rattle.ciborium_ll_grammar.specs.Strings.{IsWritable}
-use Rattle.ciborium_ll_grammar.specs.Elements.{Mark, IsRun, IsStrictSpelling, spelling}
-use Rattle.ciborium_ll_grammar.specs.Faults.{Answer, FirstFault, HasFault, Point, Reaches, RunInFront, Short, Syntax}
-use Rattle.ciborium_ll_grammar.specs.Faults.{CutTitle, CutBody, with_front}
+use Rattle.ciborium_ll_grammar.specs.Elements.{Mark, IsRun, spelling}
+use Rattle.ciborium_ll_grammar.specs.Faults.{RunInFront, Short, CutTitle, CutBody, with_front}
 use Rattle.ciborium_ll_grammar.specs.TitleRows.{IsTitleKind}
-use Rattle.ciborium_ll_grammar.proofs.AffixLaws.{title_or_refused, major_with, refused_affix, AreBytes-zeros}
-use Rattle.ciborium_ll_grammar.proofs.AffixLaws.{AreBytes-append}
+use Rattle.ciborium_ll_grammar.proofs.AffixLaws.{title_or_refused, major_with, refused_affix, AreBytes-append}
 use Rattle.ciborium_ll_grammar.proofs.ElementLaws.{one_run}
 use Rattle.ciborium_ll_grammar.proofs.StrictFaultLaws.{no_fault}
 use Rattle.ciborium_ll_text.proofs.Lists.{length_zero}
@@ -30,26 +27,15 @@ use Rattle.cbor_copy.specs.Blocked.{is_blocked}
 use Rattle.cbor_copy.specs.Copying.{IsCopied, spot_of}
 use Rattle.cbor_copy.specs.Spots.{Spot, putting, refused}
 use Rattle.cbor_copy.specs.Steps.{IsFed, StepIn, TitleStep, whole, none, titled, with_byte, more as more_fed}
-use Rattle.cbor_copy.specs.Telling.{progress_in, progress_of, ComesTo, SomeGoOn, NoneGoOn, FaultsAt, is_due, end_of}
-use Rattle.cbor_copy.specs.Telling.{AreSpelled, TellsWhole, Tells, TellsEnd, EndedIn, HasEnded, FaultIn, IsAtFault}
+use Rattle.cbor_copy.specs.Telling.{progress_in, progress_of, ComesTo, SomeGoOn, NoneGoOn, is_due, end_of, AreSpelled}
+use Rattle.cbor_copy.specs.Telling.{TellsWhole, Tells, TellsEnd, EndedIn, HasEnded, FaultIn, IsAtFault}
 use Rattle.cbor_copy.proofs.KeptLaws.{step_early, step_cut}
-use Rattle.cbor_copy.proofs.EnterLaws.{reaches}
+use Rattle.cbor_copy.proofs.EnterLaws.{reaches, comes_at, lenient}
 use Rattle.cbor_copy.proofs.LiveLaws.{holds_goes}
-use Rattle.cbor_copy.proofs.Reached.{kind_of, place_of, FrontAt, Here, Begun, Broken, HoldsIn}
+use Rattle.cbor_copy.proofs.Reached.{kind_of, place_of, FrontAt, Here, Begun, HoldsIn}
 use Rattle.cbor_copy.proofs.StepLaws.{at_title, body_reached, fed_counts, fed_holds, front_bytes}
 
 -- ---- the bytes end too early
-
--- of what is not strict nothing more is asked
-pub lenient : {bytes more : List ℕ} {marks : List Mark} → false ≡ true → IsStrictSpelling bytes marks more
-lenient strict = absurd cc
-
-comes_at : {count consumed : ℕ} {bytes before ahead output written : List ℕ} {marks : List Mark} {at : Point}
-    {answer : Answer} → Reaches count before marks at → bytes ≡ before ++ ahead
-    → FirstFault false before marks at ahead answer written consumed → output ≡ written
-    → ComesTo count bytes answer output
-comes_at {count} {bytes = bytes} reach is fault out =
-    let f : HasFault false count bytes = search lenient in record { fault = f; answered = refl; written = sym out }
 
 pub front_cut : (i : Within) (at place : ℕ) (front : List ℕ) → FrontAt i at place front → IsCutTitle front
 front_cut i at place front (inl bare) = rw bare tt
@@ -69,33 +55,6 @@ body_short {kind} {i = i} part front begun is short sound out =
     comes_at (body_reached i begun) is (CutBody {kind = kind_of kind} {consumed = length part} part front short refl
     sound (omega arith) (omega arith) (omega (arith, length-append part front))) out
 
--- ---- a fault
-
-longer : {count : ℕ} {bytes : List ℕ} (more : List ℕ) → RunInFront false count bytes
-    → RunInFront false count (bytes ++ more)
-longer {bytes = bytes} more o =
-    let is : bytes ++ more ≡ o.elements ++ (o.rest ++ more) = simp (o.is, append_assoc) in search is
-
-module _ {place count : ℕ} {bytes output : List ℕ} (o : Broken place count bytes output) where
-  fault_with : (more : List ℕ) → AreBytes more → o.need ≤ length more
-      → ComesTo count (bytes ++ more) (Syntax place) output
-  fault_with more are long = comes_at o.reach (simp (o.is, append_assoc)) (o.each more are long).1 refl
-
-  broken_tells : NoneGoOn count bytes × FaultsAt place count bytes output
-  broken_tells =
-      let zeros = replicate o.need 0 in
-      let long = length-replicate {A = ℕ} o.need 0 in (
-        λ more are run.
-            let all = AreBytes-append more zeros are (AreBytes-zeros o.need) in
-            no_fault false count _ (rw (append_assoc bytes more) at (longer zeros run))
-            (fault_with (more ++ zeros) all (omega (arith, long, length-append more zeros))).fault,
-        record {
-          more = zeros;
-          more_bytes = AreBytes-zeros o.need;
-          comes_to = fault_with zeros (AreBytes-zeros o.need) (omega (arith, long));
-        },
-      )
-
 -- ---- what is due
 
 told_in : (phase : Phase) (count : ℕ) (bytes output : List ℕ) (spot : Spot) → HoldsIn phase count bytes spot output
@@ -112,8 +71,8 @@ told_in (p.Text left state) count bytes output spot o = (
   body_short o.0.part spot.front o.0.begun o.0.is (omega (arith, o.0.long, o.3)) o.0.sound o.0.out,
   holds_goes (p.Text left state) count bytes output spot o (λ f. cc f.1),
 )
-told_in p.Ended count bytes output spot o = record { marks = o.marks; run = o.run; spelled = o.out }
-told_in (p.Faulted place) count bytes output spot o = broken_tells o
+told_in p.Ended count bytes output spot o = o
+told_in (p.Faulted place) count bytes output spot o = o
 
 pub told : {count : ℕ} {bytes output : List ℕ} {spot : Spot} → IsFed count bytes spot output
     → TellsWhole count bytes output (progress_in spot.phase)
