@@ -35,64 +35,33 @@ inside_some kind u bodies (opened {title = t} {strings = x} q are) = title_some 
 inside_some kind u bodies (deeper {outer = x} {inner = y} a b) =
     omega (arith, inside_some kind x _ a, length-append x y)
 
--- behind a title
-further : {before : List ℕ} {marks : List Mark} {point at : Point} (o : Standing before marks point) (title : List ℕ)
-    → 0 < length (title ++ []) → ((count : ℕ) → o.number < count → Reaches count (before ++ title) marks at)
-    → Standing (before ++ title) marks at
-further o title some again = record {
-  number = o.number;
-  elements = o.elements;
-  element_marks = o.element_marks;
-  run = o.run;
-  behind = o.behind ++ title;
-  is = simp (o.is, append_assoc);
-  again = again;
-  all = inr (omega (arith, some, length-append o.behind title, length-append title []));
-}
+stands : {before elements : List ℕ} {marks element_marks : List Mark} {point : Point} {number : ℕ} (behind : List ℕ)
+    → IsRun number elements element_marks → before ≡ elements ++ behind
+    → ((count : ℕ) → number < count → Reaches count before marks point)
+    → ((marks ≡ element_marks) × (point ≡ Due)) ⊎ (0 < length behind) → Standing before marks point
+stands behind run is again all = search
 
 standing : {count : ℕ} {before : List ℕ} {marks : List Mark} {point : Point} → Reaches count before marks point
     → Standing before marks point
-standing (due {before = n} {bytes = a} {marks = ms} less run) = record {
-  number = n;
-  elements = a;
-  element_marks = ms;
-  run = run;
-  behind = [];
-  is = sym (append-nil a);
-  again = λ m fewer. due fewer run;
-  all = inl (refl, refl);
-}
-standing (inside {before = n} {bytes = a} {opens = u} {marks = ms} {bodies = bs} {kind = k} less run i sound) = record {
-  number = n;
-  elements = a;
-  element_marks = ms;
-  run = run;
-  behind = u;
-  is = refl;
-  again = λ m fewer. inside fewer run i sound;
-  all = inr (inside_some k u bs i);
-}
+standing (due {bytes = a} less run) =
+    stands [] run (sym (append-nil a)) (λ m fewer. due fewer run) (inl (refl, refl))
+standing (inside {bytes = a} {opens = u} {bodies = bs} {kind = k} less run i sound) =
+    stands {elements = a} u run refl (λ m fewer. inside fewer run i sound) (inr (inside_some k u bs i))
 standing (body {title = t} kind reach q) =
-    let o = standing reach in further o t (title_some t [] _ q) (λ m fewer. body kind (o.again m fewer) q)
+    let o = standing reach in
+    stands (o.behind ++ t) o.run (ap (λ (z : List ℕ). z ++ t) o.is ∙ append_assoc o.elements o.behind t)
+    (λ m fewer. body kind (o.again m fewer) q)
+    (inr (omega (arith, title_some t [] _ q, length-append o.behind t, length-append t [])))
 standing (body_inside {title = t} reach q) =
-    let o = standing reach in further o t (title_some t [] _ q) (λ m fewer. body_inside (o.again m fewer) q)
+    let o = standing reach in
+    stands (o.behind ++ t) o.run (ap (λ (z : List ℕ). z ++ t) o.is ∙ append_assoc o.elements o.behind t)
+    (λ m fewer. body_inside (o.again m fewer) q)
+    (inr (omega (arith, title_some t [] _ q, length-append o.behind t, length-append t [])))
 
 -- a fault is one of each larger number of elements
 recount : {count : ℕ} {bytes : List ℕ} (f : HasFault false count bytes) (m : ℕ) → (standing f.reach).number < m
     → HasFault false m bytes
-recount f m fewer = record {
-  before = f.before;
-  marks = f.marks;
-  point = f.point;
-  ahead = f.ahead;
-  answer = f.answer;
-  written = f.written;
-  consumed = f.consumed;
-  reach = (standing f.reach).again m fewer;
-  is = f.is;
-  spelled = f.spelled;
-  fault = f.fault;
-}
+recount f m fewer = search ((standing f.reach).again m fewer)
 
 module _ {count : ℕ} {bytes output : List ℕ} (c : ComesTo count bytes Short output) where
   long : length bytes ≡ length (standing c.fault.reach).elements + length (standing c.fault.reach).behind

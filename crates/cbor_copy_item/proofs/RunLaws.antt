@@ -15,7 +15,8 @@ use Rattle.ciborium_ll_grammar.proofs.ElementLaws.{bytes_writable, one_element}
 use Rattle.ciborium_ll_grammar.proofs.StepLaws.{add_element}
 use Rattle.ciborium_ll_grammar.proofs.StringLaws.{break_title}
 use Rattle.cbor_copy.specs.Telling.{NoneGoOn}
-use Rattle.cbor_copy.proofs.TellLaws.{in_front}
+use Rattle.cbor_copy.proofs.TellLaws.{in_front, whole_in_front}
+use Rattle.cbor_copy.proofs.EnterLaws.{lenient}
 use Rattle.cbor_copy.proofs.LiveLaws.{run_goes}
 use Rattle.cbor_copy_item.proofs.ByteLaws.{as_bytes, are_bytes, same_bytes, as_append, run_as}
 
@@ -102,27 +103,18 @@ same_runs n w ms (next {count = i} {first = x} {rest = y} {marks = os} {others =
     let s = same_runs i y ps rest j y' ps' rest' o.2 in
     (ap suc s.0, cc (o.1, s.1))
 
+in_none : (w : List ℕ) → RunInFront false zero w
+in_none w = whole_in_front zero [] w [] done
+
 -- fewer elements are in front
 pub run_front : (m n : ℕ) (w : List ℕ) (ms : List Mark) → IsRun n w ms → m ≤ n → RunInFront false m w
-run_front zero n w ms run fewer = record {
-  elements = [];
-  marks = [];
-  rest = w;
-  run = done;
-  is = refl;
-  spelled = λ on. absurd cc;
-}
+run_front zero n w ms run fewer = in_none w
 run_front (suc m) n w ms done fewer = absurd (omega (arith, fewer))
 run_front (suc m) n w ms (next {count = j} {first = x} {rest = y} {marks = ns} {others = os} element rest) fewer =
     let o = run_front m j y os rest (omega (arith, fewer)) in
-    record {
-      elements = x ++ o.elements;
-      marks = ns ++ o.marks;
-      rest = o.rest;
-      run = next element o.run;
-      is = ap (λ (z : List ℕ). x ++ z) o.is ∙ sym (append_assoc x o.elements o.rest);
-      spelled = λ on. absurd cc;
-    }
+    let is : x ++ y ≡ (x ++ o.elements) ++ o.rest =
+    ap (λ (z : List ℕ). x ++ z) o.is ∙ sym (append_assoc x o.elements o.rest) in
+    search (next element o.run, lenient)
 
 -- where any number of elements goes on so, each number does: it is filled up, or is in front
 run_goes_on : (count n : ℕ) (bytes more : List ℕ) (ms : List Mark) → AreBytes more → IsRun n (bytes ++ more) ms

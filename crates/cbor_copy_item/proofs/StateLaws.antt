@@ -9,7 +9,7 @@ use Rattle.cbor_copy.specs.Spots.{Spot as Elements}
 use Rattle.cbor_copy.specs.Steps.{IsFed as AreElementsFed}
 use Rattle.cbor_copy.specs.Telling.{NoneGoOn}
 use Rattle.cbor_copy.proofs.LiveLaws.{run_goes}
-use Rattle.cbor_copy.proofs.OneSpot as one_copy
+use Rattle.cbor_copy.proofs.StepLaws as one_copy
 use Rattle.cbor_copy.proofs.TellLaws.{told, fed_to, in_front}
 use Rattle.cbor_feed.specs.declared.phase.Phase.{Phase}
 use Rattle.cbor_feed.specs.declared.phase.Phase.TheVariants as p
@@ -51,12 +51,8 @@ one_fed s d fed output others item other a b f g =
 -- nothing came
 pub fresh_fed : (s : Bool) (d : ℕ) (new : Spot) (elements : Elements) (output : List ℕ) → IsFed s d [] new
     → AreElementsFed most [] elements output → AreFed s d [] new elements output
-fresh_fed s d new elements output checked copied = record {
-  checked = checked;
-  bytes = [];
-  taken = subst (λ (z : Spot). AreTaken z.phase [] []) (one_spot s d [] (start s d) new fresh checked) refl;
-  copied = copied;
-}
+fresh_fed s d new elements output checked copied =
+    search (subst (λ (z : Spot). AreTaken z.phase [] []) (one_spot s d [] (start s d) new fresh checked) refl)
 
 -- a checker that has taken nothing
 pub same_fed : (s : Bool) (d : ℕ) (fed output : List ℕ) (old new : Spot) (elements : Elements) → IsFed s d fed new

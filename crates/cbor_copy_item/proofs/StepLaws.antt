@@ -17,7 +17,7 @@ use Rattle.cbor_copy.specs.Copying.{IsCopied}
 use Rattle.cbor_copy.specs.Spots.{putting}
 use Rattle.cbor_copy.specs.Telling as told
 use Rattle.cbor_copy.specs.Telling.{NoneGoOn}
-use Rattle.cbor_copy.proofs.OneSpot as one_copy
+use Rattle.cbor_copy.proofs.StepLaws as one_copy
 use Rattle.cbor_feed.specs.declared.phase.Phase.{Phase}
 use Rattle.cbor_feed.specs.declared.phase.Phase.TheVariants as p
 use Rattle.cbor_feed.specs.declared.progress.Progress.{Progress}
@@ -157,33 +157,32 @@ module _ (s : Bool) (d : ℕ) (fed bytes : List ℕ) (taken kept : ℕ) (old new
   less_last one = rw (← one, take_more bytes kept 0 (omega (arith, one, within)), append_assoc)
 
   -- some elements go on so
-  pub step_goes : AreKept new taken kept → NoneGoOn most (fed ++ take kept bytes) → ⊥
+  step_goes : AreKept new taken kept → NoneGoOn most (fed ++ take kept bytes) → ⊥
   step_goes (inl fault) never =
       before_goes s d (fed ++ take taken bytes) new checked (fed ++ take kept bytes) (get_or bytes kept 0)
       (less_last fault.1) never
   step_goes (inr sound) never = sound_goes s d (fed ++ take taken bytes) new checked sound.0 (rw sound.1 at never)
 
-  pub step_bytes : AreKept new taken kept → AreBytes (take kept bytes)
-  step_bytes are =
-      let all = back_bytes fed (take taken bytes) (fed_bytes s d (fed ++ take taken bytes) new checked) in
-      rw (take-take kept taken bytes (kept_within new taken kept are)) at (AreBytes-take kept (take taken bytes) all)
-
-  pub step_counted : AreKept new taken kept → length fed + taken ≤ most → length fed + length (take kept bytes) ≤ most
-  step_counted are counted =
-      let few = kept_within new taken kept are in
-      omega (arith, few, length-take-le kept bytes (omega (arith, few, within)), counted)
-
-  pub step_fed : AreKept new taken kept → (given out : List ℕ) (copier copier' : Copier)
-      → (IsCopied most fed given copier → IsCopied most (fed ++ take kept bytes) (given ++ out) copier')
+  -- by what a copier of elements does to them
+  pub step_fed : AreKept new taken kept → length fed + taken ≤ most → (given out : List ℕ) (copier copier' : Copier)
+      → ((NoneGoOn most (fed ++ take kept bytes) → ⊥) → AreBytes (take kept bytes)
+      → length fed + length (take kept bytes) ≤ most → IsCopied most fed given copier
+      → IsCopied most (fed ++ take kept bytes) (given ++ out) copier')
       → AreFed s d fed old (putting [] (copy.spot_of copier)) (given ++ pending_of copier)
       → AreFed s d (fed ++ take taken bytes) new (putting [] (copy.spot_of copier'))
       ((given ++ out) ++ pending_of copier')
-  step_fed are given out copier copier' goes was = record {
-    checked = checked;
-    bytes = fed ++ take kept bytes;
-    taken = elim are [
-      | inl fault ↦ but_one new.phase _ _ fault.0 (get_or bytes kept 0, less_last fault.1)
-      | inr sound ↦ rw sound.1 (but_none new.phase (fed ++ take taken bytes) sound.0)
-    ];
-    copied = goes (rw (← all_taken old.phase fed was.bytes (due_sound old.phase due) was.taken) at was.copied);
-  }
+  step_fed are counted given out copier copier' goes was =
+      let few = kept_within new taken kept are in
+      let all = back_bytes fed (take taken bytes) (fed_bytes s d (fed ++ take taken bytes) new checked) in
+      record {
+        checked = checked;
+        bytes = fed ++ take kept bytes;
+        taken = elim are [
+          | inl fault ↦ but_one new.phase _ _ fault.0 (get_or bytes kept 0, less_last fault.1)
+          | inr sound ↦ rw sound.1 (but_none new.phase (fed ++ take taken bytes) sound.0)
+        ];
+        copied = goes (step_goes are)
+            (rw (take-take kept taken bytes few) at (AreBytes-take kept (take taken bytes) all))
+            (omega (arith, few, length-take-le kept bytes (omega (arith, few, within)), counted))
+            (rw (← all_taken old.phase fed was.bytes (due_sound old.phase due) was.taken) at was.copied);
+      }

@@ -2,7 +2,7 @@ use Rattle.std.proofs.Common.{take, refl, rules}
 use Rattle.cbor_feed.specs.Checking.{spot_of}
 use Rattle.cbor_copy_item.specs.Copying.{item_spot}
 use Rattle.cbor_copy_item.proofs.StateLaws.{same_fed}
-use Rattle.cbor_copy_item.proofs.StepLaws.{step_goes, step_bytes, step_counted, step_fed}
+use Rattle.cbor_copy_item.proofs.StepLaws.{step_fed}
 use Rattle.cbor_copy_item.proofs.copier.ItemCopier.step.Goals as goal
 
 pub returns-then-taken-eq0 : goal.returns-then-taken-eq0
@@ -29,15 +29,8 @@ returns c = record {
       let taken = c.check-taken.result in
       let kept = c.copied_len-copied.result in
       let new = spot_of c.check-taken.new.checker in
-      let within = c.check-taken.ensures.within in
       let checked = c.check-taken.ensures.taken strict depth fed was.checked in
-      let are = c.copied_len-copied.ensures in
-      step_fed strict depth fed bytes taken kept (item_spot old) new c.requires.due within checked.0 are given
-      (take c.copy.result c.copy.new.out) old.copier c.copy.new.copier
-      (c.copy.ensures.copied fed given
-      (step_goes strict depth fed bytes taken kept (item_spot old) new c.requires.due within checked.0 are)
-      (step_bytes strict depth fed bytes taken kept (item_spot old) new c.requires.due within checked.0 are)
-      (step_counted strict depth fed bytes taken kept (item_spot old) new c.requires.due within checked.0 are
-      checked.1))
-      was;
+      step_fed strict depth fed bytes taken kept (item_spot old) new c.requires.due c.check-taken.ensures.within checked.0
+      c.copied_len-copied.ensures checked.1 given (take c.copy.result c.copy.new.out) old.copier c.copy.new.copier
+      (c.copy.ensures.copied fed given) was;
 }

@@ -1,8 +1,7 @@
 use Rattle.std.proofs.Common.{◌≡◌, ◌≤◌, ◌+◌, ◌-◌, ◌++◌, length, take, drop, refl, inl, inr, rules, arith}
 use Rattle.std.proofs.lemmas.List.{take_all, length-drop}
 use Rattle.std.proofs.lemmas.List.Edits.{length-between}
-use Rattle.cbor_copy_item.specs.Copying.{item_spot, elements_spot, pending}
-use Rattle.cbor_copy_item.proofs.PieceLaws.{out_kept, given_front, fed_front, both_fronts}
+use Rattle.cbor_copy_item.proofs.PieceLaws.{out_kept, given_front, fed_front}
 use Rattle.cbor_copy_item.proofs.copier.ItemCopier.step_at.Goals as goal
 
 pub returns : goal.returns
@@ -38,8 +37,10 @@ returns c =
         | inr all ↦ inr (omega (arith, all, room_len, c.requires.room))
       ];
       copied = λ strict depth fed given was.
-          both_fronts strict depth (item_spot new) (elements_spot new) _ _ _ _ (pending new)
-          (fed_front fed bytes at len taken all within)
-          (given_front before more k out c.step.new.out c.requires.room refl long (omega (arith, few, room_len)) given)
+          rw (
+            ← fed_front fed bytes at len taken all within,
+            ← given_front before more k out c.step.new.out c.requires.room refl long (omega (arith, few, room_len))
+                given,
+          )
           (wrote.copied strict depth (fed ++ take at bytes) (given ++ take before out) was);
     }
