@@ -5,7 +5,7 @@ use Rattle.std.proofs.Common.{true}
 use Rattle.ciborium_ll_grammar.specs.declared.hdr.Header.{Header}
 use Rattle.ciborium_ll_grammar.specs.declared.hdr.Header.TheVariants as h
 use Rattle.ciborium_ll_grammar.specs.Title.{AreBytes, IsTitle, numbered, alone, Other, Small, shortest_title}
-use Rattle.ciborium_ll_grammar.specs.Strings.{Kind, Bytes, Text, kind_header, IsMisplaced, IsWritable, none}
+use Rattle.ciborium_ll_grammar.specs.Strings.{Kind, kind_header, IsMisplaced, IsWritable, none}
 use Rattle.ciborium_ll_grammar.specs.Strings.IsString.{definite}
 use Rattle.ciborium_ll_grammar.specs.Elements.{AreWritable, Mark, Plain, Whole as WholeMark, Open, Piece, Close, pieces}
 use Rattle.ciborium_ll_grammar.specs.Elements.{spelling, mark_spelling, IsElement, plain, string, IsRun, IsPlain}

@@ -6,7 +6,7 @@ use Rattle.std.proofs.Common.{length-append, length-take-le, take-append-drop}
 use Rattle.std.proofs.Math.Seq.{take-append-add}
 use Rattle.ciborium_ll_grammar.specs.declared.hdr.Header.{Header}
 use Rattle.ciborium_ll_grammar.specs.Title.{IsTitle, IsCutTitle, BeginsRefused, AreBytes, affix_len}
-use Rattle.ciborium_ll_grammar.specs.Strings.{Text, IsWritable}
+use Rattle.ciborium_ll_grammar.specs.Strings.{IsWritable}
 use Rattle.ciborium_ll_grammar.specs.Elements.{Mark, spelling, done}
 use Rattle.ciborium_ll_grammar.specs.Faults.{BodyDue, Reaches, body, body_inside, IsAtTitle, Syntax, with_front}
 use Rattle.ciborium_ll_grammar.specs.Faults.{FirstFault, NoTitle, DamagedText}

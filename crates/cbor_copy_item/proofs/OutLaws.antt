@@ -11,7 +11,6 @@ use Rattle.ciborium_ll_grammar.proofs.StrictFaultLaws.{no_fault}
 use Rattle.ciborium_ll_text.proofs.Lists.{length_zero}
 use Rattle.cbor_copy.specs.declared.phase.Phase.{Phase}
 use Rattle.cbor_copy.specs.declared.phase.Phase.TheVariants as p
-use Rattle.cbor_copy.specs.declared.phase.Within.TheVariants as w
 use Rattle.cbor_copy.specs.Telling.{ComesTo, NoneGoOn, TellsWhole, progress_in}
 use Rattle.cbor_copy.proofs.Reached.{between}
 use Rattle.cbor_copy.proofs.TellLaws.{title_short, in_front}

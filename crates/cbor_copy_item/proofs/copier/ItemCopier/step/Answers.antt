@@ -30,7 +30,7 @@ returns c = record {
       let kept = c.copied_len-copied.result in
       let new = spot_of c.check-taken.new.checker in
       let checked = c.check-taken.ensures.taken strict depth fed was.checked in
-      step_fed strict depth fed bytes taken kept (item_spot old) new c.requires.due c.check-taken.ensures.within checked.0
-      c.copied_len-copied.ensures checked.1 given (take c.copy.result c.copy.new.out) old.copier c.copy.new.copier
-      (c.copy.ensures.copied fed given) was;
+      step_fed strict depth fed bytes taken kept (item_spot old) new c.requires.due c.check-taken.ensures.within
+      checked.0 c.copied_len-copied.ensures checked.1 given (take c.copy.result c.copy.new.out) old.copier
+      c.copy.new.copier (c.copy.ensures.copied fed given) was;
 }
