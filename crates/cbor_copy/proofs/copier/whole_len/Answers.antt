@@ -1,8 +1,5 @@
-use Rattle.std.proofs.Common.{◌≡◌, length, length-append, take, drop, sym, ap, subst, ◌∙◌, arith}
+use Rattle.std.proofs.Common.{length, length-append, take, drop, ap, ◌∙◌, arith}
 use Rattle.std.proofs.Math.Seq.{take-append_seam}
-use Rattle.ciborium_ll_text.specs.Text.{IsCharacters}
-use Rattle.cbor_copy.specs.declared.phase.StringKind.{StringKind}
-use Rattle.cbor_copy.specs.Spots.{IsPutOut}
 use Rattle.cbor_copy.proofs.copier.whole_len.Goals as goal
 
 pub returns-in-Text-clause-within : goal.returns-in-Text-clause-within
@@ -13,10 +10,7 @@ returns-in-Text-clause-within c =
 
 pub returns-in-Text-clause-whole : goal.returns-in-Text-clause-whole
 returns-in-Text-clause-whole c =
-    let bytes = c.args.bytes.now in
     let front = c.text_front.result.0.now in
     let is = c.text_front.ensures.front in
-    let same : take (length front) bytes ≡ front =
-    ap (take (length front)) is.parts ∙ take-append_seam front (drop (length front) bytes) in
-    subst (λ (z : StringKind). IsPutOut z (take (length front) bytes)) (sym c.in-Text.is)
-    (subst IsCharacters (sym same) is.text)
+    let same = ap (take (length front)) is.parts ∙ take-append_seam front (drop (length front) c.args.bytes.now) in
+    rw (c.in-Text.is, same) is.text

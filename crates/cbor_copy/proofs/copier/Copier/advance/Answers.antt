@@ -2,7 +2,7 @@ use Rattle.std.proofs.Common.{◌≡◌, ◌+◌, ◌-◌, ◌≤◌, [], length
 use Rattle.std.proofs.lemmas.List.{length-take-le, take-take}
 use Rattle.ciborium_ll_text.proofs.Lists.{below_take}
 use Rattle.cbor_copy.specs.Copying.{spot_of}
-use Rattle.cbor_copy.specs.Spots.{Spot, IsPutOut}
+use Rattle.cbor_copy.specs.Spots.{Spot}
 use Rattle.cbor_copy.specs.Steps.{counted_by}
 use Rattle.cbor_copy.proofs.KeptLaws.{body_kept, enters, entered_put, steps, given_grows}
 use Rattle.cbor_copy.proofs.RunLaws.{body_given, first_on, title_given}
@@ -16,7 +16,7 @@ returns-then-len-gt0-clause-copied c = λ count fed given is.
     let fits : most ≤ length bytes = search rules in
     let within : n ≤ most = omega (arith, length-take-le most bytes fits, c.whole_len-len.ensures.within) in
     let long = length-take-le n bytes (omega (arith, within, fits)) in
-    let whole = subst (IsPutOut c.in-Some.kind) (take-take n most bytes within) c.whole_len-len.ensures.whole in
+    let whole = rw (take-take n most bytes within) at c.whole_len-len.ensures.whole in
     body_given c.in-Some.kind count c.in-Some.left (take n bytes) (spot_of c.args.self.now)
     (spot_of c.bytes_put.new.self) fed given (take c.args.at c.args.out.now) _
     (below_take n bytes (omega (arith, within, fits)) (λ i less. search rules)) (search rules) (search rules)
