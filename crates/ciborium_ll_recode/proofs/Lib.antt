@@ -12,4 +12,3 @@ pub mod ShortenedLaws
 pub mod ShortensLaws
 pub mod StrictRunLaws
 pub mod ThroughEncoder
-pub mod UnderWay

@@ -1,5 +1,5 @@
 -- A copy of elements where bytes are told and no side fails by itself: all elements are copied, or a fault stops it.
-use Rattle.std.proofs.Common.{◌≡◌, ℕ, Bool, false, ◌+◌, ◌^◌, ◌<◌, ◌≤◌, List, ◌++◌, length, drop, min, Some}
+use Rattle.std.proofs.Common.{◌≡◌, ℕ, Bool, ◌+◌, ◌^◌, ◌<◌, ◌≤◌, List, ◌++◌, length, drop, min, Some}
 use Rattle.std.proofs.Common.{Result, Ok, Err, IsOk, ◌↔◌, refl, sym, ap, ◌∙◌, inl, inr, arith, append_assoc, length-append}
 use Rattle.std.proofs.lemmas.List.{length-take}
 use Rattle.std.proofs.Math.Seq.{drop-append_seam}
@@ -10,22 +10,19 @@ use Rattle.ciborium_ll_decoder.specs.declared.copy.RecodeError.{RecodeError}
 use Rattle.ciborium_ll_decoder.specs.declared.copy.RecodeError.TheVariants as r
 use Rattle.ciborium_ll_grammar.specs.Title.{shortest_title}
 use Rattle.ciborium_ll_grammar.specs.Strings.{kind_header}
-use Rattle.ciborium_ll_grammar.specs.Elements.{Mark, spelling}
+use Rattle.ciborium_ll_grammar.specs.Elements.{spelling}
 use Rattle.ciborium_ll_grammar.specs.Faults.{BodyDue, Short, CutTitle, CutBody, RunInFront}
 use Rattle.ciborium_ll_decoder.specs.Decoding.{next_read, IsSteady}
 use Rattle.ciborium_ll_decoder.specs.BodyCopies.{Sides, sides}
 use Rattle.ciborium_ll_recode.specs.Recoding.{CopiesElements, StopsAtTitle, StopsTooDeep, StopsInBody, StopsCopy}
-use Rattle.ciborium_ll_recode.specs.Recoding.{NextWrite, StopsWriting}
+use Rattle.ciborium_ll_recode.specs.Recoding.{StopsWriting}
 use Rattle.ciborium_ll_recode.specs.RecodingTold.{IsReady, IsTold, MeetsFault, RecodesTold}
-use Rattle.ciborium_ll_grammar.proofs.ElementLaws.{run_again, one_run}
 use Rattle.ciborium_ll_grammar.proofs.StrictFaultLaws.{no_fault}
 use Rattle.ciborium_ll_decoder.proofs.BodyLaws.{view_none}
 use Rattle.ciborium_ll_decoder.proofs.ToldLaws.{consumes_told, next_read_small, first_gone}
 use Rattle.ciborium_ll_text.proofs.Lists.{first_counted}
 use Rattle.ciborium_ll_io.proofs.WriteLaws.{shrinks_told}
-use Rattle.ciborium_ll_recode.proofs.UnderWay.{spells}
-use Rattle.ciborium_ll_recode.proofs.RunLaws.{way_shorter}
-use Rattle.ciborium_ll_recode.proofs.RoomLaws.{spelled_within}
+use Rattle.ciborium_ll_recode.proofs.RoomLaws.{next_shorter, next_spelled}
 use Rattle.ciborium_ll_recode.proofs.RecodeFaultLaws.{came, all_told, no_title_told, other_title_told}
 use Rattle.ciborium_ll_recode.proofs.RecodeFaultLaws.{front_output, damaged_told, spelled_at}
 
@@ -187,59 +184,6 @@ module _ {R E W F : Type 0} {strict : Bool} (source : Reader R E) (sink : Writer
           length-append stops.bytes c.rest,
         )
 
-    -- what was to be written is no longer than what was read
-    writer_shorter : (before read whole next : List ℕ) → NextWrite count room before read whole next
-        → length whole + length next ≤ length (before ++ read)
-    writer_shorter before read whole next next_write =
-        let s = spells count room before read whole next next_write in
-        let same = ap length s.is in
-        elim s.belongs [
-          | inl all ↦ (
-              let again = run_again count before s.marks all.0 in
-              let none = ap length all.1 in
-              omega (
-                arith,
-                again.shorter,
-                none,
-                same,
-                length-append whole next,
-                length-append (spelling s.marks) s.more,
-                length-append before read,
-              )
-              )
-          | inr way ↦ omega (
-            arith,
-            way_shorter count before s.marks way.0 s.more read way.1 way.2,
-            same,
-            length-append whole next,
-          )
-        ]
-
-    -- nor than the spelling of the elements, where they stand in front
-    writer_within : (before read whole next rest : List ℕ) → NextWrite count room before read whole next
-        → (front : RunInFront false count due) → due ≡ (before ++ read) ++ rest
-        → length whole + length next ≤ length (spelling front.marks)
-    writer_within before read whole next rest next_write front is =
-        let s = spells count room before read whole next next_write in
-        let same = ap length s.is in
-        elim s.belongs [
-          | inl all ↦ (
-              let none = ap length all.1 in
-              let one = one_run count front.elements front.marks front.run before front.rest (read ++ rest) s.marks all.0
-              (sym front.is ∙ is ∙ append_assoc before read rest) in
-              let marks = ap (λ (z : List Mark). length (spelling z)) one.1 in
-              omega (arith, none, same, marks, length-append whole next, length-append (spelling s.marks) s.more)
-              )
-          | inr way ↦ omega (
-            arith,
-            same,
-            length-append whole next,
-            length-append (spelling s.marks) s.more,
-            spelled_within count before s.marks way.0 way.1 s.more read way.2 (read ++ rest) front.elements front.rest
-                front.marks front.run (sym (append_assoc before read rest) ∙ sym is ∙ front.is),
-          )
-        ]
-
     pub writer_fits : (new : Sides R W) → StopsWriting source sink count room old new → ⊥
     writer_fits new stops =
         let gone = consumes_told _ _ due (stops.bytes ++ stops.read) ready.told.due-told stops.passed.consumed in
@@ -252,7 +196,7 @@ module _ {R E W F : Type 0} {strict : Bool} (source : Reader R E) (sink : Writer
             less,
             left.2,
             fits.1,
-            writer_within stops.bytes stops.read stops.whole stops.next gone.0 stops.next_write fits.0 gone.2,
+            next_spelled gone.0 stops.next_write fits.0 gone.2,
           )
           | inr fits ↦ omega (
             arith,
@@ -260,7 +204,7 @@ module _ {R E W F : Type 0} {strict : Bool} (source : Reader R E) (sink : Writer
             left.2,
             fits,
             whole,
-            writer_shorter stops.bytes stops.read stops.whole stops.next stops.next_write,
+            next_shorter stops.next_write,
             length-append (stops.bytes ++ stops.read) gone.0,
           )
         ]

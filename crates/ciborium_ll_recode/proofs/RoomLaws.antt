@@ -1,30 +1,77 @@
--- A copy of elements writes no more than the spelling of those that stand in front.
-use Rattle.std.proofs.Common.{◌≡◌, ℕ, ◌+◌, ◌<◌, ◌≤◌, List, [], ◌∷◌, ◌++◌, length, Some, None, sym, ap, subst, ◌∙◌}
-use Rattle.std.proofs.Common.{arith, append_assoc, length-append}
-use Rattle.ciborium_ll_grammar.specs.declared.hdr.Header.TheVariants as h
+-- A copy of elements writes no more than was read, nor than the spelling of those that stand in front.
+use Rattle.std.proofs.Common.{◌≡◌, ℕ, ◌+◌, ◌≤◌, List, [], ◌∷◌, ◌++◌, length, take, drop, min, Some, None, sym, ap}
+use Rattle.std.proofs.Common.{false, subst, ◌∙◌, inl, inr, arith, append_assoc, append-nil, length-append}
+use Rattle.std.proofs.lemmas.Bool.{cases_lt}
+use Rattle.std.proofs.lemmas.List.{length-take-le, take-append-drop}
 use Rattle.ciborium_ll_grammar.specs.Title.{IsTitle, shortest_title, title_len}
-use Rattle.ciborium_ll_grammar.specs.Strings.{Kind, kind_header, AreStrings, none, more}
+use Rattle.ciborium_ll_grammar.specs.Strings.{Kind, Bytes, Text, kind_header, IsString, AreStrings, none, more, IsWritable}
 use Rattle.ciborium_ll_grammar.specs.Strings.IsString.{definite, indefinite}
-use Rattle.ciborium_ll_grammar.specs.Elements.{Mark, Open, pieces, spelling, IsElement, plain, string}
-use Rattle.ciborium_ll_grammar.specs.Elements.{IsPlain, IsRun, done, next}
-use Rattle.ciborium_ll_grammar.specs.Faults.{Point, Reaches, due, inside, body, body_inside}
-use Rattle.ciborium_ll_recode.proofs.UnderWay.{IsUnderWay}
-use Rattle.ciborium_ll_grammar.proofs.TitleLaws.{one_title}
-use Rattle.ciborium_ll_grammar.proofs.StringLaws.{some_is, mixed, fronts, not_break, break_title, string_not_break}
-use Rattle.ciborium_ll_grammar.proofs.StringLaws.{one_string}
-use Rattle.ciborium_ll_grammar.proofs.ElementLaws.{not_plain, string_fronts, one_element, pieces-append}
-use Rattle.ciborium_ll_grammar.proofs.ElementLaws.{spelling-append, open_spelled}
-use Rattle.ciborium_ll_grammar.proofs.HaltLaws.{Opens, last, link, opens_of, opens_title}
+use Rattle.ciborium_ll_grammar.specs.Elements.{Mark, Whole, mark_spelling, Open, pieces, spelling, IsElement, IsPlain, plain, string}
+use Rattle.ciborium_ll_grammar.specs.Elements.{IsRun, done, next}
+use Rattle.ciborium_ll_grammar.specs.Faults.{Point, Due, In, BodyDue, due_title, IsInside, opened, deeper}
+use Rattle.ciborium_ll_grammar.specs.Faults.{Reaches, due, inside, body, body_inside, RunInFront}
+use Rattle.ciborium_ll_grammar.proofs.TitleLaws.{one_title, shortest_no_longer}
+use Rattle.ciborium_ll_grammar.proofs.StringLaws.{mixed, fronts, title_not_break, string_not_break, one_string}
+use Rattle.ciborium_ll_grammar.proofs.ElementLaws.{not_plain, string_fronts, one_element, pieces-append, spelling-append}
+use Rattle.ciborium_ll_grammar.proofs.ElementLaws.{open_spelled, run_again, AreStrings-append, AreWritable-append}
+use Rattle.ciborium_ll_grammar.proofs.StepLaws.{add_element}
+use Rattle.ciborium_ll_grammar.proofs.HaltLaws.{IsBad, opens_of, opens_title}
+use Rattle.ciborium_ll_grammar.proofs.FaultLaws.{follows, bad_body, reach_stuck}
+use Rattle.ciborium_ll_grammar.proofs.StrictFaultLaws.{inside_shorter}
 use Rattle.ciborium_ll_decoder.proofs.NestLaws.{open_length}
+use Rattle.ciborium_ll_recode.specs.Recoding.{NextWrite, Alone, Titled, Chunk}
+
+-- how long marks are spelled, one behind the other
+spelled_long : (ms ns : List Mark) → length (spelling (ms ++ ns)) ≡ length (spelling ms) + length (spelling ns)
+spelled_long ms ns = ap length (spelling-append ms ns) ∙ length-append (spelling ms) (spelling ns)
 
 -- how long the pieces of bodies are
 abbrev size : Kind → List (List ℕ) → ℕ
 size k bs = length (spelling (pieces k bs))
 
 size-append : (k : Kind) (cs ds : List (List ℕ)) → size k (cs ++ ds) ≡ size k cs + size k ds
-size-append k cs ds =
-    let counted = ap length (ap spelling (pieces-append k cs ds) ∙ spelling-append (pieces k cs) (pieces k ds)) in
-    omega (arith, counted, length-append (spelling (pieces k cs)) (spelling (pieces k ds)))
+size-append k cs ds = rw pieces-append (spelled_long (pieces k cs) (pieces k ds))
+
+open_long : (k : Kind) (ms : List Mark) (bs : List (List ℕ))
+    → length (spelling (ms ++ Open k ∷ pieces k bs)) ≡ length (spelling ms) + 1 + size k bs
+open_long k ms bs = omega (
+  arith,
+  spelled_long ms (Open k ∷ pieces k bs),
+  open_length k,
+  length-append (shortest_title (kind_header k None)) (spelling (pieces k bs)),
+)
+
+-- ---- no more than was read
+
+reach_shorter : {count : ℕ} {bytes : List ℕ} {marks : List Mark} {point : Point} → Reaches count bytes marks point
+    → length (spelling marks) + length (due_title point) ≤ length bytes
+reach_shorter (due {before = j} {bytes = u} {marks = ms} less run) = omega (arith, (run_again j u ms run).shorter)
+reach_shorter (inside {before = j} {bytes = u} {opens = v} {marks = ms} {bodies = bs} {kind = k} less run i s) =
+    omega (
+      arith,
+      (run_again j u ms run).shorter,
+      inside_shorter k v bs i,
+      open_long k ms bs,
+      open_length k,
+      length-append u v,
+    )
+reach_shorter (body {bytes = u} {title = t} {len = l} k reach p) =
+    omega (arith, reach_shorter reach, shortest_no_longer t (kind_header k (Some l)) p, length-append u t)
+reach_shorter (body_inside {bytes = u} {title = t} {len = l} {kind = k} reach p) =
+    omega (arith, reach_shorter reach, shortest_no_longer t (kind_header k (Some l)) p, length-append u t)
+
+-- ---- what stands in front
+
+-- of two runs in front of the same bytes the shorter one is spelled within the longer one
+run_within : {i n : ℕ} {u w : List ℕ} {ms ns : List Mark} → IsRun i u ms → IsRun n w ns → i ≤ n → (x v : List ℕ)
+    → u ++ x ≡ w ++ v → length (spelling ms) ≤ length (spelling ns)
+run_within done run l x v e = omega arith
+run_within (next p r) done l x v e = absurd (omega arith)
+run_within (next {first = a} {rest = b} {marks = os} {others = ps} p r)
+    (next {first = c} {rest = d} {marks = qs} {others = rs} q s) l x v e =
+    let o = one_element a c (b ++ x) (d ++ v) os qs p q (sym (append_assoc a b x) ∙ (e ∙ append_assoc c d v)) in
+    let same = ap (λ (z : List Mark). length (spelling z)) o.1 in
+    omega (arith, run_within r s (omega arith) x v o.2, same, spelled_long os ps, spelled_long qs rs)
 
 -- strings and a break that stand there, with what is spelled before them within all
 record Rest (k : Kind) (x v : List ℕ) (before all : ℕ) : Type 0 where
@@ -34,274 +81,209 @@ record Rest (k : Kind) (x v : List ℕ) (before all : ℕ) : Type 0 where
   is : x ≡ strings ++ 0xff ∷ v
   cost : before + size k bodies ≤ all
 
-goes : (k : Kind) (w : List ℕ) (bs : List (List ℕ)) → AreStrings k w bs → (w' x v : List ℕ) (bs' : List (List ℕ))
-    → AreStrings k w' bs' → w ++ x ≡ w' ++ 0xff ∷ v
-    → Rest k x v (size k bs) (size k bs')
-goes k w bs none w' x v bs' s' e = record { strings = w'; bodies = bs'; ok = s'; is = e; cost = omega arith }
-goes k w bs (more {first = a} {rest = y} {bodies = cs} {others = ds} s ss) w' x v bs' none e =
-    absurd (string_not_break k a (y ++ x) v cs s (sym (append_assoc a y x) ∙ e))
-goes k w bs (more {first = a} {rest = y} {bodies = cs} {others = ds} s ss) w' x v bs'
-    (more {first = a'} {rest = y'} {bodies = cs'} {others = ds'} s' ss') e =
-    let o = one_string k a a' (y ++ x) (y' ++ 0xff ∷ v) cs cs' s s'
-    (sym (append_assoc a y x) ∙ (e ∙ append_assoc a' y' (0xff ∷ v))) in
-    let g = goes k y ds ss y' x v ds' ss' o.2 in
-    let same = ap (λ (z : List (List ℕ)). size k z) o.1 in
-    record {
-      strings = g.strings;
-      bodies = g.bodies;
-      ok = g.ok;
-      is = g.is;
-      cost =
-          omega (arith, g.cost, same, size-append k cs ds, size-append k cs' ds');
-    }
+module _ {k : Kind} where
+  -- with more spelled before them
+  rest_within : {x v : List ℕ} {before all before' all' : ℕ} → Rest k x v before all → before' + all ≤ all' + before
+      → Rest k x v before' all'
+  rest_within r shift = record
+      { strings = r.strings; bodies = r.bodies; ok = r.ok; is = r.is; cost = omega (arith, shift, r.cost) }
 
-strings_rest : (k : Kind) (x : List ℕ) (cs : List (List ℕ)) → Opens k x cs → (y : List ℕ)
-    → ((t w v : List ℕ) (bs : List (List ℕ)) → IsTitle t (kind_header k None) → AreStrings k w bs → x ++ y
-    ≡ t ++ (w ++ 0xff ∷ v) → (z : List ℕ) × Rest k y z (size k cs) (size k bs))
-    → (w : List ℕ) (bs : List (List ℕ)) → AreStrings k w bs → (v : List ℕ) → x ++ y ≡ w ++ 0xff ∷ v → (z : List ℕ)
-    × Rest k y z (size k cs) (size k bs)
-strings_rest k x cs c y rec w bs none v e =
-    let z = opens_title k x c in
-    absurd (not_break k None ((one_title z.0 (0xff ∷ []) (z.1 ++ y) v (kind_header k None) h.Break z.2 break_title
-    (sym (append_assoc z.0 z.1 y) ∙ (ap (λ (x : List ℕ). x ++ y) (sym z.3) ∙ e))).1))
-strings_rest k x cs c y rec w bs (more {rest = b} {bodies = fs} {others = gs}
-    (definite {title = t} {body = d} p) q) v e =
-    let z = opens_title k x c in
-    let o = fronts k z.0 t (z.1 ++ y) (d ++ (b ++ 0xff ∷ v)) None (Some (length d)) z.2 p
-    (sym (append_assoc z.0 z.1 y) ∙ (ap (λ (x : List ℕ). x ++ y) (sym z.3)
-    ∙ (e ∙ append_assoc (t ++ d) b (0xff ∷ v) ∙ append_assoc t d (b ++ 0xff ∷ v)))) in
-    absurd (mixed (length d) (sym o.1))
-strings_rest k x cs c y rec w bs (more {rest = b} {bodies = fs} {others = gs}
-    (indefinite {title = t} {strings = d} p i) q) v e =
-    let g = rec t d (b ++ 0xff ∷ v) fs p i (e ∙ append_assoc (t ++ (d ++ 0xff ∷ [])) b (0xff ∷ v)
-    ∙ append_assoc t (d ++ 0xff ∷ []) (b ++ 0xff ∷ v)
-    ∙ ap (λ (z : List ℕ). t ++ z) (append_assoc d (0xff ∷ []) (b ++ 0xff ∷ v))) in
-    let r = g.1 in (
-      g.0,
-      record {
-        strings = r.strings;
-        bodies = r.bodies;
-        ok = r.ok;
-        is = r.is;
-        cost =
-            omega (arith, r.cost, size-append k fs gs);
-      },
-    )
+  -- behind strings
+  goes : {w w' : List ℕ} {bs bs' : List (List ℕ)} → AreStrings k w bs → AreStrings k w' bs' → (x v : List ℕ)
+      → w ++ x ≡ w' ++ 0xff ∷ v → Rest k x v (size k bs) (size k bs')
+  goes {w' = w'} {bs' = bs'} none s' x v e =
+      record { strings = w'; bodies = bs'; ok = s'; is = e; cost = omega arith }
+  goes (more {first = a} {rest = y} {bodies = cs} s ss) none x v e =
+      absurd (string_not_break k a (y ++ x) v cs s (sym (append_assoc a y x) ∙ e))
+  goes (more {first = a} {rest = y} {bodies = cs} {others = ds} s ss)
+      (more {first = b} {rest = z} {bodies = es} {others = fs} s' ss') x v e =
+      let o = one_string k a b (y ++ x) (z ++ 0xff ∷ v) cs es s s'
+      (sym (append_assoc a y x) ∙ (e ∙ append_assoc b z (0xff ∷ v))) in
+      let same = ap (λ (z : List (List ℕ)). size k z) o.1 in
+      rest_within (goes ss ss' x v o.2) (omega (arith, same, size-append k cs ds, size-append k es fs))
 
-opens_rest : (k : Kind) (u : List ℕ) (os : List (List ℕ)) → Opens k u os → (y t w v : List ℕ) (bs : List (List ℕ))
-    → IsTitle t (kind_header k None) → AreStrings k w bs
-    → u ++ y ≡ t ++ (w ++ 0xff ∷ v) → (z : List ℕ) × Rest k y z (size k os) (size k bs)
-opens_rest k u os (last {t = t0} {w = w0} {bs = b0} p s) y t w v bs q r e =
-    let o = fronts k t0 t (w0 ++ y) (w ++ 0xff ∷ v) None None p q (sym (append_assoc t0 w0 y) ∙ e) in
-    (v, goes k w0 b0 s w y v bs r o.2)
-opens_rest k u os (link {t = t0} {w = w0} {u = x} {bs = b0} {cs = cs} p s c) y t w v bs q r e =
-    let o = fronts k t0 t (w0 ++ (x ++ y)) (w ++ 0xff ∷ v) None None p q
-    (sym (append_assoc t0 w0 (x ++ y)) ∙ (sym (append_assoc (t0 ++ w0) x y) ∙ e)) in
-    let g = goes k w0 b0 s w (x ++ y) v bs r o.2 in
-    let i = strings_rest k x cs c y (λ t w v bs q r e. opens_rest k x cs c y t w v bs q r e) g.strings g.bodies g.ok
-    v g.is in
-    let m = i.1 in (
-      i.0,
-      record {
-        strings = m.strings;
-        bodies = m.bodies;
-        ok = m.ok;
-        is = m.is;
-        cost =
-            omega (arith, m.cost, g.cost, size-append k b0 cs);
-      },
-    )
+  -- the open in front of what is inside
+  first_open : {u : List ℕ} {os : List (List ℕ)} → IsInside k u os → (y : List ℕ)
+      → (t : List ℕ) × (r : List ℕ) × IsTitle t (kind_header k None) × (u ++ y ≡ t ++ r)
+  first_open {u} {os} i y =
+      let z = opens_title k u (opens_of k u os i) in
+      (z.0, z.1 ++ y, z.2, ap (λ (x : List ℕ). x ++ y) z.3 ∙ append_assoc z.0 z.1 y)
 
--- an element that begins with opens that aren't closed
-element_rest : (w : List ℕ) (ms : List Mark) → IsElement w ms → (k : Kind) (u : List ℕ) (os : List (List ℕ))
-    → Opens k u os → (y q : List ℕ) → u ++ y ≡ w ++ q
-    → (z : List ℕ) × Rest k y z (1 + size k os) (length (spelling ms))
-element_rest w ms (plain x p f) k u os c y q e =
-    let z = opens_title k u c in
-    let o = one_title w z.0 q (z.1 ++ y) x (kind_header k None) p z.2
-    (sym e ∙ (ap (λ (x : List ℕ). x ++ y) z.3 ∙ append_assoc z.0 z.1 y)) in
-    absurd (not_plain k None (subst IsPlain o.1 f))
-element_rest w ms (string j (definite {title = t} {body = b} p) s) k u os c y q e =
-    let z = opens_title k u c in
-    let o = string_fronts j k t z.0 (b ++ q) (z.1 ++ y) (Some (length b)) None p z.2
-    (sym (append_assoc t b q) ∙ (sym e ∙ (ap (λ (x : List ℕ). x ++ y) z.3 ∙ append_assoc z.0 z.1 y))) in
-    absurd (mixed (length b) o.2)
-element_rest w ms (string j (indefinite {title = t} {strings = x} {bodies = bs} p i) s) k u os c y q e =
-    let z = opens_title k u c in
-    let e2 = e ∙ (append_assoc t (x ++ 0xff ∷ []) q ∙ ap (λ (r : List ℕ). t ++ r) (append_assoc x (0xff ∷ []) q)) in
-    let o = string_fronts j k t z.0 (x ++ 0xff ∷ q) (z.1 ++ y) None None p z.2
-    (sym e2 ∙ (ap (λ (r : List ℕ). r ++ y) z.3 ∙ append_assoc z.0 z.1 y)) in
-    let jk = o.0 in
-    let g = opens_rest k u os c y t x q bs (subst (λ (r : Kind). IsTitle t (kind_header r None)) jk p)
-    (subst (λ (r : Kind). AreStrings r x bs) jk i) e2 in
-    let r = g.1 in
-    let same = ap (λ (r : Kind). size r bs) jk in
-    let counted = ap length (open_spelled j bs) in (
-      g.0,
-      record {
-        strings = r.strings;
-        bodies = r.bodies;
-        ok = r.ok;
-        is = r.is;
-        cost = omega (
-          arith,
-          r.cost,
-          same,
-          counted,
-          open_length j,
-          length-append (shortest_title (kind_header j None)) (spelling (pieces j bs) ++ 0xff ∷ []),
-          length-append (spelling (pieces j bs)) (0xff ∷ []),
-        );
-      },
-    )
+  -- inside one of strings
+  strings_rest : {u : List ℕ} {os : List (List ℕ)} → IsInside k u os → (y : List ℕ)
+      → ((w : List ℕ) (bs : List (List ℕ)) → IsString k w bs → (q : List ℕ) → u ++ y ≡ w ++ q
+      → (z : List ℕ) × Rest k y z (size k os) (size k bs)) → {w : List ℕ} {bs : List (List ℕ)} → AreStrings k w bs
+      → (v : List ℕ) → u ++ y ≡ w ++ 0xff ∷ v → (z : List ℕ) × Rest k y z (size k os) (size k bs)
+  strings_rest i y rec none v e =
+      let z = first_open i y in
+      absurd (title_not_break k z.0 z.1 v None z.2 (sym z.3 ∙ e))
+  strings_rest i y rec (more {first = a} {rest = b} {bodies = cs} {others = ds} s ss) v e =
+      let m = rec a cs s (b ++ 0xff ∷ v) (e ∙ append_assoc a b (0xff ∷ v)) in
+      (m.0, rest_within m.1 (omega (arith, size-append k cs ds)))
 
--- a body's title in front of an element's
-element_body : (w : List ℕ) (ms : List Mark) → IsElement w ms → (k : Kind) (len : ℕ) (t x q : List ℕ)
-    → IsTitle t (kind_header k (Some len)) → t ++ x ≡ w ++ q
-    → title_len (kind_header k (Some len)) + len ≤ length (spelling ms)
-element_body w ms (plain y p f) k len t x q c e =
-    let o = one_title w t q x y (kind_header k (Some len)) p c (sym e) in
-    absurd (not_plain k (Some len) (subst IsPlain o.1 f))
-element_body w ms (string j (definite {title = y} {body = b} p) s) k len t x q c e =
-    let o = string_fronts k j t y x (b ++ q) (Some len) (Some (length b)) c p (e ∙ append_assoc y b q) in
-    let same = some_is len (length b) o.2 in
-    let front = shortest_title (kind_header j (Some (length b))) in
-    let titles = ap (λ (r : Kind). title_len (kind_header r (Some len))) o.0 in
-    let lens = ap (λ (n : ℕ). title_len (kind_header j (Some n))) same in
-    omega (arith, same, titles, lens, length-append (front ++ b) [], length-append front b)
-element_body w ms (string j (indefinite {title = y} {strings = z} {bodies = bs} p i) s) k len t x q c e =
-    let o = string_fronts k j t y x ((z ++ 0xff ∷ []) ++ q) (Some len) None c p
-    (e ∙ append_assoc y (z ++ 0xff ∷ []) q) in
-    absurd (mixed len o.2)
+  -- behind what is inside a string
+  inside_rest : {u : List ℕ} {os : List (List ℕ)} → IsInside k u os → (y w : List ℕ) (bs : List (List ℕ))
+      → IsString k w bs → (q : List ℕ) → u ++ y ≡ w ++ q → (z : List ℕ) × Rest k y z (size k os) (size k bs)
+  inside_rest (opened {title = t} {strings = w} p s) y x bs (definite {title = t'} {body = b} p') q e =
+      absurd (mixed (length b) (sym (fronts k t t' (w ++ y) (b ++ q) None (Some (length b)) p p'
+      (sym (append_assoc t w y) ∙ e ∙ append_assoc t' b q)).1))
+  inside_rest (opened {title = t} {strings = w} p s) y z bs (indefinite {title = t'} {strings = x} p' s') q e =
+      let o = fronts k t t' (w ++ y) ((x ++ 0xff ∷ []) ++ q) None None p p'
+      (sym (append_assoc t w y) ∙ e ∙ append_assoc t' (x ++ 0xff ∷ []) q) in
+      (q, goes s s' y q (o.2 ∙ append_assoc x (0xff ∷ []) q))
+  inside_rest (deeper {outer = a} {inner = b} {bodies = cs} {others = ds} i j) y w bs s q e =
+      let g = inside_rest i (b ++ y) w bs s q (sym (append_assoc a b y) ∙ e) in
+      let m = strings_rest j y (inside_rest j y) g.1.ok g.0 g.1.is in
+      (m.0, rest_within m.1 (omega (arith, g.1.cost, size-append k cs ds)))
 
--- a body's title in front of strings and a break
-strings_body : (k : Kind) (w : List ℕ) (bs : List (List ℕ)) → AreStrings k w bs → (len : ℕ) (t x v : List ℕ)
-    → IsTitle t (kind_header k (Some len)) → t ++ x ≡ w ++ 0xff ∷ v
-    → title_len (kind_header k (Some len)) + len ≤ size k bs
-strings_body k w bs none len t x v c e = absurd (not_break k (Some len)
-    ((one_title t (0xff ∷ []) x v (kind_header k (Some len)) h.Break c break_title e).1))
-strings_body k w bs (more {rest = b} {bodies = fs} {others = gs} (definite {title = y} {body = d} p) q) len t x
-    v c e =
-    let o = fronts k t y x (d ++ (b ++ 0xff ∷ v)) (Some len) (Some (length d)) c p
-    (e ∙ append_assoc (y ++ d) b (0xff ∷ v) ∙ append_assoc y d (b ++ 0xff ∷ v)) in
-    let same = some_is len (length d) o.1 in
-    let front = shortest_title (kind_header k (Some (length d))) in
-    let lens = ap (λ (n : ℕ). title_len (kind_header k (Some n))) same in
-    omega (arith, same, lens, size-append k (d ∷ []) gs, length-append (front ++ d) [], length-append front d)
-strings_body k w bs (more {rest = b} {bodies = fs} {others = gs} (indefinite {title = y} {strings = d} p i) q)
-    len t x v c e =
-    let o = fronts k t y x ((d ++ 0xff ∷ []) ++ (b ++ 0xff ∷ v)) (Some len) None c p
-    (e ∙ append_assoc (y ++ (d ++ 0xff ∷ [])) b (0xff ∷ v) ∙ append_assoc y (d ++ 0xff ∷ []) (b ++ 0xff ∷ v)) in
-    absurd (mixed len o.1)
-
--- the next element of a longer run, with what is spelled before it
-record Following (x : List ℕ) (before all : ℕ) : Type 0 where
-  word : List ℕ
-  marks : List Mark
-  ok : IsElement word marks
-  rest : List ℕ
-  is : x ≡ word ++ rest
-  cost : before + length (spelling marks) ≤ all
-
-following : (i : ℕ) (u : List ℕ) (ms : List Mark) → IsRun i u ms → (n : ℕ) (w : List ℕ) (ns : List Mark)
-    → IsRun n w ns → i < n → (x v : List ℕ) → u ++ x ≡ w ++ v
-    → Following x (length (spelling ms)) (length (spelling ns))
-following i u ms done n w ns done l x v e = absurd (omega arith)
-following i u ms done n w ns (next {first = a} {rest = b} {marks = os} {others = ps} p r) l x v e =
-    let counted = ap length (spelling-append os ps) in
-    record {
-      word = a;
-      marks = os;
-      ok = p;
-      rest = b ++ v;
-      is = e ∙ append_assoc a b v;
-      cost =
-          omega (arith, counted, length-append (spelling os) (spelling ps));
-    }
-following i u ms (next p r) n w ns done l x v e = absurd (omega arith)
-following i u ms (next {count = j} {first = a} {rest = b} {marks = os} {others = ps} p r) n w ns
-    (next {count = m} {first = a'} {rest = b'} {marks = os'} {others = ps'} p' r') l x v e =
-    let o = one_element a a' (b ++ x) (b' ++ v) os os' p p' (sym (append_assoc a b x) ∙ (e ∙ append_assoc a' b' v)) in
-    let f = following j b ps r m b' ps' r' (omega arith) x v o.2 in
-    let same = ap (λ (z : List Mark). length (spelling z)) o.1 in
-    let one = ap length (spelling-append os ps) in
-    let two = ap length (spelling-append os' ps') in
-    record {
-      word = f.word;
-      marks = f.marks;
-      ok = f.ok;
-      rest = f.rest;
-      is = f.is;
-      cost = omega (
+  -- what is inside an element is spelled within it
+  element_rest : {u w : List ℕ} {os : List (List ℕ)} {ms : List Mark} → IsInside k u os → IsElement w ms
+      → (y q : List ℕ) → u ++ y ≡ w ++ q → 1 + size k os ≤ length (spelling ms)
+  element_rest {w = w} i (plain x p f) y q e =
+      let z = first_open i y in
+      absurd (not_plain k None (subst IsPlain (one_title w z.0 q z.1 x (kind_header k None) p z.2 (sym e ∙ z.3)).1 f))
+  element_rest i (string j (definite {title = t} {body = b} p) s) y q e =
+      let z = first_open i y in
+      absurd (mixed (length b) (string_fronts j k t z.0 (b ++ q) z.1 (Some (length b)) None p z.2
+      (sym (append_assoc t b q) ∙ sym e ∙ z.3)).2)
+  element_rest i (string j (indefinite {title = t} {strings = x} {bodies = bs} p s) ok) y q e =
+      let z = first_open i y in
+      let same = (string_fronts j k t z.0 ((x ++ 0xff ∷ []) ++ q) z.1 None None p z.2
+      (sym (append_assoc t (x ++ 0xff ∷ []) q) ∙ sym e ∙ z.3)).0 in
+      let g = inside_rest i y _ bs (subst (λ (r : Kind). IsString r (t ++ (x ++ 0xff ∷ [])) bs) same (indefinite p s)) q e in
+      let sizes = ap (λ (r : Kind). size r bs) same in
+      let spelled = ap length (open_spelled j bs) in
+      omega (
         arith,
-        f.cost,
-        same,
-        one,
-        two,
-        length-append (spelling os) (spelling ps),
-        length-append
-            (spelling os') (spelling ps'),
-      );
-    }
+        g.1.cost,
+        sizes,
+        spelled,
+        open_length j,
+        length-append (shortest_title (kind_header j None)) (spelling (pieces j bs) ++ 0xff ∷ []),
+        length-append (spelling (pieces j bs)) (0xff ∷ []),
+      )
 
--- a part of elements is spelled within all of them
-pub spelled_within : (n : ℕ) (u : List ℕ) (ms : List Mark) (at : Point) → Reaches n u ms at → (more read : List ℕ)
-    → IsUnderWay at more read → (x w v : List ℕ) (ns : List Mark) → IsRun n w ns
-    → u ++ x ≡ w ++ v → length (spelling ms) + length more ≤ length (spelling ns)
-spelled_within n u ms at (due {before = i} l r) front read way x w v ns run e =
-    let f = following i u ms r n w ns run l x v e in
-    let nothing = ap length way.0 in
-    omega (arith, f.cost, nothing)
-spelled_within n u ms at (inside {before = i} {bytes = a} {opens = b} {marks = os} {bodies = bs} {kind = k} l r q
-    ok) front read way x w v ns run e =
-    let f = following i a os r n w ns run l (b ++ x) v (sym (append_assoc a b x) ∙ e) in
-    let g = (element_rest f.word f.marks f.ok k b bs (opens_of k b bs q) x f.rest f.is).1 in
-    let nothing = ap length way.0 in
-    let counted = ap length (spelling-append os (Open k ∷ pieces k bs)) in
+  -- a string more is inside
+  inside_add : {u w : List ℕ} {bs cs : List (List ℕ)} → IsInside k u bs → IsString k w cs
+      → IsInside k (u ++ w) (bs ++ cs)
+  inside_add {w = w} {cs = cs} (opened {title = t} {strings = x} {bodies = bs} p s) one =
+      let all = AreStrings-append k x bs s (w ++ []) (cs ++ []) (more one none) in
+      rw append_assoc (opened p (simp append-nil at all))
+  inside_add {w = w} {cs = cs} (deeper {outer = x} {inner = y} {bodies = ds} {others = es} i j) one =
+      rw (append_assoc x y w, append_assoc ds es cs) (deeper i (inside_add j one))
+
+-- ---- within the spelling of what stands in front
+
+-- a body that can't be there is bad
+bad_of : (k : Kind) (len : ℕ) (x : List ℕ) → (len ≤ length x → IsWritable k (take len x) → ⊥) → IsBad k len x
+bad_of Bytes len x fails = elim (cases_lt (length x) len) [ inl short ↦ short | inr all ↦ absurd (fails all tt) ]
+bad_of Text len x fails = elim (cases_lt (length x) len) [ inl short ↦ inl short | inr all ↦ inr (fails all) ]
+
+-- how long the body is that is due
+abbrev body_len : Point → ℕ
+body_len Due = 0
+body_len (In kind) = 0
+body_len (BodyDue kind len start) = len
+
+module _ {n : ℕ} {w : List ℕ} {ns : List Mark} (run : IsRun n w ns) (v : List ℕ) where
+  inside_within : {k : Kind} {u : List ℕ} {ms : List Mark} → Reaches n u ms (In k) → (x : List ℕ)
+      → u ++ x ≡ w ++ v → length (spelling ms) ≤ length (spelling ns)
+  inside_within {k} (inside {before = i} {bytes = a} {opens = b} {marks = os} {bodies = bs} l r q ok) x e =
+      let f = follows i a os r n w ns run l (b ++ x) v (sym (append_assoc a b x) ∙ e) in
+      let front = append_assoc a f.word f.rest ∙ ap (λ (z : List ℕ). a ++ z) (sym f.is)
+      ∙ (sym (append_assoc a b x) ∙ e) in
+      omega (
+        arith,
+        run_within (add_element i a os r f.word f.marks f.ok) run l f.rest v front,
+        element_rest q f.ok x f.rest f.is,
+        spelled_long os f.marks,
+        open_long k os bs,
+      )
+
+  -- with a body that is there
+  body_added : (b x : List ℕ) {k : Kind} {u : List ℕ} {ms : List Mark} {start : ℕ}
+      → Reaches n u ms (BodyDue k (length b) start) → IsWritable k b → u ++ (b ++ x) ≡ w ++ v
+      → length (spelling ms) + title_len (kind_header k (Some (length b))) + length b ≤ length (spelling ns)
+  body_added b x {ms = ms} (body {title = t} k (due {before = i} {bytes = a} l r) p) sound e =
+      let mark = Whole k b ∷ [] in
+      let title = shortest_title (kind_header k (Some (length b))) in
+      omega (
+        arith,
+        run_within (add_element i a ms r (t ++ b) mark (string k (definite p) (sound, tt))) run l x v
+            (append_assoc a (t ++ b) x ∙ ap (λ (z : List ℕ). a ++ z) (append_assoc t b x)
+            ∙ sym (append_assoc a t (b ++ x)) ∙ e),
+        spelled_long ms mark,
+        length-append (title ++ b) [],
+        length-append title b,
+      )
+  body_added b x (body_inside {title = t}
+      (inside {before = i} {bytes = a} {opens = c} {marks = os} {bodies = bs} {kind = k} l r q ok) p) sound e =
+      let title = shortest_title (kind_header k (Some (length b))) in
+      let all = inside l r (inside_add q (definite p)) (AreWritable-append k bs (b ∷ []) ok (sound, tt)) in
+      omega (
+        arith,
+        inside_within all x (simp append_assoc (simp append_assoc at e)),
+        open_long k os bs,
+        open_long k os (bs ++ b ∷ []),
+        size-append k bs (b ∷ []),
+        length-append (title ++ b) [],
+        length-append title b,
+      )
+
+  reach_within : {u : List ℕ} {ms : List Mark} {at : Point} → Reaches n u ms at → (x : List ℕ) → u ++ x ≡ w ++ v
+      → length (spelling ms) + length (due_title at) + body_len at ≤ length (spelling ns)
+  reach_within {at = Due} (due less before) x e = omega (arith, run_within before run (omega (arith, less)) x v e)
+  reach_within {at = In k} reach x e = omega (arith, inside_within reach x e)
+  reach_within {u} {ms} {at = BodyDue k len start} reach x e =
+      elim (cases_lt (length (spelling ns)) (length (spelling ms) + title_len (kind_header k (Some len)) + len)) [
+        | inr within ↦ within
+        | inl less ↦ absurd (reach_stuck n u ms (BodyDue k len start) reach x (bad_body (bad_of k len x (λ all sound.
+            let same = length-take-le len x all in
+            let fits = body_added (take len x) (drop len x)
+            (subst (λ (m : ℕ). Reaches n u ms (BodyDue k m start)) (sym same) reach) sound
+            (ap (λ (z : List ℕ). u ++ z) (take-append-drop len x) ∙ e) in
+            let titles = ap (λ (m : ℕ). title_len (kind_header k (Some m))) same in
+            omega (arith, less, fits, same, titles)))) w v ns run e)
+      ]
+
+-- ---- what a copy that stops in writing was to write
+
+-- is within what holds the spelling of what came, with the end of a body under way
+next_within : {count room : ℕ} {before read whole next : List ℕ} → NextWrite count room before read whole next → (all : ℕ)
+    → ((marks : List Mark) → IsRun count before marks → length (spelling marks) ≤ all)
+    → ((marks : List Mark) (point : Point) → Reaches count before marks point
+    → length (spelling marks) + length (due_title point) + min (body_len point) (length read) ≤ all)
+    → length whole + length next ≤ all
+next_within (Alone marks mark header spelled (inl run)) all runs reaches =
+    omega (arith, runs _ run, ap length spelled, spelled_long marks (mark ∷ []), length-append (mark_spelling mark) [])
+next_within (Alone marks mark header spelled (inr at)) all runs reaches =
+    omega (arith, reaches _ _ at.1, ap length spelled, spelled_long marks (mark ∷ []), length-append (mark_spelling mark) [])
+next_within (Titled marks kind len start reach) all runs reaches = omega (arith, reaches _ _ reach)
+next_within (Chunk marks kind len start front chunk kept reach sound within filled few) all runs reaches =
+    let title = shortest_title (kind_header kind (Some len)) in
     omega (
       arith,
-      f.cost,
-      g.cost,
-      nothing,
-      counted,
-      open_length k,
-      length-append (spelling os) (shortest_title (kind_header k None) ++ spelling (pieces k bs)),
-      length-append (shortest_title (kind_header k None)) (spelling (pieces k bs)),
+      reaches _ _ reach,
+      within,
+      filled,
+      length-append front (chunk ++ kept),
+      length-append chunk kept,
+      length-append (spelling marks) (title ++ front),
+      length-append title front,
     )
-spelled_within n u ms at (body {title = t} {len = len} k (due {before = i} {bytes = a} l r) p) front read way x w v
-    ns run e =
-    let f = following i a ms r n w ns run l (t ++ x) v (sym (append_assoc a t x) ∙ e) in
-    let parts = ap length way.1 in
-    let few = way.3 in
-    omega (
-      arith,
-      f.cost,
-      element_body f.word f.marks f.ok k len t x f.rest p f.is,
-      parts,
-      few,
-      length-append
-          (shortest_title (kind_header k (Some len))) way.0,
-    )
-spelled_within n u ms at (body_inside {title = t} {len = len}
-    (inside {before = i} {bytes = a} {opens = b} {marks = os} {bodies = bs} {kind = k} l r q ok) p) front read way x
-    w v ns run e =
-    let f = following i a os r n w ns run l (b ++ (t ++ x)) v
-    (sym (append_assoc a b (t ++ x)) ∙ (sym (append_assoc (a ++ b) t x) ∙ e)) in
-    let o = element_rest f.word f.marks f.ok k b bs (opens_of k b bs q) (t ++ x) f.rest f.is in
-    let g = o.1 in
-    let parts = ap length way.1 in
-    let few = way.3 in
-    let counted = ap length (spelling-append os (Open k ∷ pieces k bs)) in
-    omega (
-      arith,
-      f.cost,
-      g.cost,
-      strings_body k g.strings g.bodies g.ok len t x o.0 p g.is,
-      parts,
-      few,
-      counted,
-      open_length k,
-      length-append (shortest_title (kind_header k (Some len))) way.0,
-      length-append (spelling os) (shortest_title (kind_header k None) ++ spelling (pieces k bs)),
-      length-append (shortest_title (kind_header k None)) (spelling (pieces k bs)),
-    )
+
+pub next_shorter : {count room : ℕ} {before read whole next : List ℕ}
+    → NextWrite count room before read whole next → length whole + length next ≤ length (before ++ read)
+next_shorter {before = before} {read = read} next_write =
+    next_within next_write _ (λ ms run. omega (arith, (run_again _ _ _ run).shorter, length-append before read))
+    (λ ms at reach. omega (arith, reach_shorter reach, length-append before read))
+
+-- and within the spelling of the elements, where they stand in front
+pub next_spelled : {count room : ℕ} {before read whole next due : List ℕ} (rest : List ℕ) → NextWrite count room before read whole next
+    → (front : RunInFront false count due) → due ≡ (before ++ read) ++ rest
+    → length whole + length next ≤ length (spelling front.marks)
+next_spelled {before = before} {read = read} rest next_write front is =
+    let same : before ++ (read ++ rest) ≡ front.elements ++ front.rest = sym (append_assoc before read rest)
+    ∙ sym is ∙ front.is in
+    next_within next_write _ (λ ms run. run_within run front.run (omega arith) (read ++ rest) front.rest same)
+    (λ ms at reach. omega (arith, reach_within front.run front.rest reach (read ++ rest) same))

@@ -1,99 +1,17 @@
 -- Runs of elements: what is written of one is no longer than what was read, and whether a header waits behind it.
-use Rattle.std.proofs.Common.{◌≡◌, ℕ, ◌+◌, ◌<◌, ◌≤◌, ◌⊎◌, List, [], ◌∷◌, ◌++◌, length, Some, None, Option, IfSome}
+use Rattle.std.proofs.Common.{◌≡◌, ℕ, ◌<◌, ◌⊎◌, List, [], ◌∷◌, ◌++◌, length, Some, None, Option, IfSome}
 use Rattle.std.proofs.Common.{refl, ap, ◌∙◌, inl, inr, arith, length-append}
 use Rattle.ciborium_ll_grammar.specs.declared.hdr.Header.{Header}
 use Rattle.ciborium_ll_io.specs.declared.io.Read.{Ghosts as Reader}
 use Rattle.ciborium_ll_decoder.specs.declared.dec.Decoder.{Decoder}
-use Rattle.ciborium_ll_grammar.specs.Title.{shortest_title, title_len}
+use Rattle.ciborium_ll_grammar.specs.Title.{shortest_title}
 use Rattle.ciborium_ll_grammar.specs.Strings.{kind_header}
 use Rattle.ciborium_ll_grammar.specs.Strings.IsString.{definite, indefinite}
-use Rattle.ciborium_ll_grammar.specs.Elements.{Mark, Open, pieces, spelling, IsElement, plain, string}
+use Rattle.ciborium_ll_grammar.specs.Elements.{Mark, IsElement, plain, string}
 use Rattle.ciborium_ll_grammar.specs.Elements.{IsRun, done, next}
-use Rattle.ciborium_ll_grammar.specs.Faults.{Point, Due, In, BodyDue, Reaches, due, inside, body, body_inside}
 use Rattle.ciborium_ll_decoder.specs.Decoding.{Begins, Passes}
-use Rattle.ciborium_ll_recode.proofs.UnderWay.{IsUnderWay}
-use Rattle.ciborium_ll_grammar.proofs.TitleLaws.{shortest_no_longer, shortest_some}
-use Rattle.ciborium_ll_grammar.proofs.ElementLaws.{spelling-append, run_again}
-use Rattle.ciborium_ll_grammar.proofs.StrictFaultLaws.{inside_shorter}
+use Rattle.ciborium_ll_grammar.proofs.TitleLaws.{shortest_some}
 use Rattle.ciborium_ll_decoder.proofs.NestLaws.{title_some}
-
--- ---- what is written is no longer than what was read
-
--- the shortest title of a body that is due
-abbrev under_way : Point → ℕ
-under_way Due = 0
-under_way (In kind) = 0
-under_way (BodyDue kind len start) = title_len (kind_header kind (Some len))
-
-reach_shorter : (count : ℕ) (bytes : List ℕ) (marks : List Mark) (point : Point) → Reaches count bytes marks point
-    → length (spelling marks) + under_way point ≤ length bytes
-reach_shorter count bytes marks point (due {before = j} less run) = let again = run_again j bytes marks run in
-    omega (arith, again.shorter)
-reach_shorter count bytes marks point (inside {before = j} {bytes = u} {opens = v} {marks = ms} {bodies = bs}
-    {kind = k} less run i s) =
-    let again = run_again j u ms run in
-    let spelled = ap length (spelling-append ms (Open k ∷ pieces k bs)) in
-    omega (
-      arith,
-      again.shorter,
-      inside_shorter k v bs i,
-      spelled,
-      length-append (spelling ms) (shortest_title (kind_header k None) ++ spelling (pieces k bs)),
-      length-append (shortest_title (kind_header k None)) (spelling (pieces k bs)),
-      length-append u v,
-    )
-reach_shorter count bytes marks point (body {bytes = u} {title = t} {len = l} k reach p) =
-    omega (
-      arith,
-      reach_shorter count u marks Due reach,
-      shortest_no_longer t (kind_header k (Some l)) p,
-      length-append u t,
-    )
-reach_shorter count bytes marks point (body_inside {bytes = u} {title = t} {len = l} {kind = k} reach p) =
-    omega (
-      arith,
-      reach_shorter count u marks (In k) reach,
-      shortest_no_longer t (kind_header k (Some l)) p,
-      length-append u t,
-    )
-
--- what was to be written is no longer than what was read
-pub way_shorter : (count : ℕ) (bytes : List ℕ) (marks : List Mark) (point : Point) (more read : List ℕ)
-    → Reaches count bytes marks point → IsUnderWay point more read
-    → length (spelling marks ++ more) ≤ length (bytes ++ read)
-way_shorter count bytes marks Due more read reach way =
-    let none = ap length way.0 in
-    omega (
-      arith,
-      none,
-      reach_shorter count bytes marks Due reach,
-      length-append (spelling marks) more,
-      length-append bytes read,
-    )
-way_shorter count bytes marks (In k) more read reach way =
-    let none = ap length way.0 in
-    omega (
-      arith,
-      none,
-      reach_shorter count bytes marks (In k) reach,
-      length-append (spelling marks) more,
-      length-append bytes read,
-    )
-way_shorter count bytes marks (BodyDue k len start) more read reach way =
-    let parts = ap length way.1 in
-    let front = ap length way.2.1 in
-    omega (
-      arith,
-      parts,
-      front,
-      reach_shorter count bytes marks (BodyDue k len start) reach,
-      length-append (spelling marks) more,
-      length-append bytes read,
-      length-append (shortest_title (kind_header k (Some len))) way.0,
-      length-append way.0 way.2.0,
-    )
-
--- ---- whether a header waits
 
 -- an element has a byte
 element_some : (w : List ℕ) (ms : List Mark) → IsElement w ms → 0 < length w
