@@ -49,12 +49,7 @@ module _ {R E W F : Type 0} (source : Reader R E) (sink : Writer W F) where
   -- a header's shortest title fits before the offset behind it
   pub pulled_covers : (old new : Decoder R) (header : Header) → PullsTitle source old header new → title_len header
       ≤ new.offset
-  pulled_covers old new header pulled = omega (
-    arith,
-    pulled.offset,
-    shortest_no_longer pulled.title header
-        pulled.is_title,
-  )
+  pulled_covers old new header pulled = omega (arith, pulled.offset, shortest_no_longer pulled.title header pulled.is_title)
 
   module _ (count before : ℕ) (old now : Sides R W) where
     -- behind whole elements

@@ -135,11 +135,7 @@ fewest_is m n title p =
     let few = p.fewest refl (minor_of least n) (affix_of least n) (says_of least n
     (least_fits n (size_below z.0 n z.1))) in
     let long = ap length z.2 in
-    let tight = tight_title (numbered_title Unsigned z.0 n) (h.Positive n) (numbered Unsigned z.0 n z.1) (omega (
-      arith,
-      few,
-      long,
-    )) in
+    let tight = tight_title (numbered_title Unsigned z.0 n) (h.Positive n) (numbered Unsigned z.0 n z.1) (omega (arith, few, long)) in
     let same : (32 * 0 + p.minor) ∷ p.affix ≡ (32 * 0 + minor_of least n) ∷ affix_of least n = z.2 ∙ tight in
     let affix : p.affix ≡ affix_of least n = cc in
     let byte : 32 * 0 + p.minor ≡ 32 * 0 + minor_of least n = cc in

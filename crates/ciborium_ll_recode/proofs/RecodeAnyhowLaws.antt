@@ -56,7 +56,7 @@ module _ {R E W F : Type 0} {strict : Bool} (source : Reader R E) (sink : Writer
             consumed = length read;
             reach = reach;
             is = c.parts;
-            stops = at_title marks point c.rest (length read) title (omega (arith, few, counted, length-append read behind));
+            stops = at_title marks point c.rest (length read) title (omega (arith, few, counted, length-append {A = ℕ}));
             written = spelling marks;
           };
           output = c.output;
@@ -129,9 +129,9 @@ module _ {R E W F : Type 0} {strict : Bool} (source : Reader R E) (sink : Writer
               split,
               refl,
               part.sound,
-              omega (arith, parts, length-append part.front part.left),
-              omega (arith, parts, part.few, length-append part.front part.left),
-              omega (arith, behind, part.within, length-append part.read gone.0),
+              omega (arith, parts, length-append {A = ℕ}),
+              omega (arith, parts, part.few, length-append {A = ℕ}),
+              omega (arith, behind, part.within, length-append {A = ℕ}),
             );
             written = with_front marks k len part.front;
           };
@@ -173,7 +173,7 @@ module _ {R E W F : Type 0} {strict : Bool} (source : Reader R E) (sink : Writer
           output = appends_told _ _ (written ++ stops.whole) part between front.1.0
               ∙ ap Some (append_assoc written stops.whole part);
           left = gone.1;
-          offset = omega (arith, stops.passed.offset, length-append stops.bytes stops.read);
+          offset = omega (arith, stops.passed.offset, length-append {A = ℕ});
         }
 
     pub recode_anyhow : (new : Sides R W) (result : Result (Unit {0}) (RecodeError E F))

@@ -31,7 +31,7 @@ use Rattle.ciborium_ll_recode.proofs.RunLaws.{run_settled, run_still}
 
 -- a front of what was read
 front_read : (read front more : List ℕ) → read ≡ front ++ more → length front ≤ length read
-front_read read front more e = omega (arith, ap length e, length-append front more)
+front_read read front more e = omega (arith, ap length e, length-append {A = ℕ})
 
 -- where a title is due no body's title is under way
 pub spelled_at : (point : Point) (bytes : List ℕ) (marks : List Mark) → IsAtTitle point
@@ -226,7 +226,7 @@ module _ {R E W F : Type 0} {strict : Bool} (source : Reader R E) (sink : Writer
             reach = reach;
             is = parts;
             spelled = spelled;
-            fault = DamagedText front more (omega (arith, whole.0, counted, length-append read behind))
+            fault = DamagedText front more (omega (arith, whole.0, counted, length-append {A = ℕ}))
                 (λ u. whole.1 (subst IsCharacters taken u)) (taken ∙ e) text (front_read read front more e) within;
           },
           refl,
@@ -253,7 +253,7 @@ module _ {R E W F : Type 0} {strict : Bool} (source : Reader R E) (sink : Writer
                   (subst BeginsNoText (sym split) (no_text_behind read behind begins))
                   (split ∙ ap (λ (z : List ℕ). z ++ behind) e ∙ append_assoc front more behind) text
                   (front_read read front more e)
-                  (let counted = ap length split in omega (arith, counted, length-append read behind));
+                  (let counted = ap length split in omega (arith, counted, length-append {A = ℕ}));
             },
             refl,
             refl,
@@ -318,7 +318,6 @@ module _ {R E W F : Type 0} {strict : Bool} (source : Reader R E) (sink : Writer
             output = output-text ∙ ap (λ (z : List ℕ). Some (written ++ z)) (sym f.2);
             left = gone.1 ∙ ap Some (sym (ap (drop (length body.read)) gone.2 ∙ drop-append_seam body.read gone.0))
                 ∙ cc;
-            offset = (let before = ap length f.3 in let consumed = f.5 in omega
-                (arith, before, consumed, body.passed.offset, stops.copied.passed.offset));
+            offset = (let before = ap length f.3 in let consumed = f.5 in omega (arith, before, consumed, body.passed.offset, stops.copied.passed.offset));
           },
         )

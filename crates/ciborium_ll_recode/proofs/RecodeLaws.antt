@@ -170,7 +170,7 @@ module _ {R E W F : Type 0} (source : Reader R E) (sink : Writer W F) where
         (bytes ++ title)
         → old.decoder.offset + (length (bytes ++ title) - title_len (kind_header k (Some len))) ≡ before
     body_start before title k len t bytes e =
-        omega (arith, e, shortest_no_longer title (kind_header k (Some len)) t, length-append bytes title)
+        omega (arith, e, shortest_no_longer title (kind_header k (Some len)) t, length-append {A = ℕ})
 
     -- the copy of a definite string that goes through adds an element
     definite_added : (before : ℕ) (bytes title : List ℕ) (marks : List Mark) (k : Kind) (len : ℕ)

@@ -57,13 +57,7 @@ module _ {R E W F : Type 0} {strict : Bool} (source : Reader R E) (sink : Writer
           output = c.output;
           left = gone.1 ∙ ap Some (first_gone c.rest stops.fails.read gone.0 gone.2 ends.1
               ∙ sym (first_counted c.rest));
-          offset = (let counted = ap length ends.1 in omega (
-            arith,
-            counted,
-            length-take 1 c.rest,
-            stops.fails.offset,
-            stops.copied.passed.offset,
-          ));
+          offset = (let counted = ap length ends.1 in omega (arith, counted, length-take 1 c.rest, stops.fails.offset, stops.copied.passed.offset));
         }
 
     pub cut_body_told : (fault : E) (new : Sides R W) → StopsInBody source sink count room old (e.Io fault)
@@ -96,10 +90,10 @@ module _ {R E W F : Type 0} {strict : Bool} (source : Reader R E) (sink : Writer
             is = c.parts;
             spelled = λ on. stops.strict (told.mode ∙ on) (told.none_waits on);
             fault = CutBody part.front (part.left ++ gone.0)
-                (omega (arith, few, behind, fails.filled, part.within, length-append part.read gone.0)) split part.sound
-                (omega (arith, parts, length-append part.front part.left))
-                (omega (arith, parts, part.few, length-append part.front part.left))
-                (omega (arith, behind, length-append part.read gone.0));
+                (omega (arith, few, behind, fails.filled, part.within, length-append {A = ℕ})) split part.sound
+                (omega (arith, parts, length-append {A = ℕ}))
+                (omega (arith, parts, part.few, length-append {A = ℕ}))
+                (omega (arith, behind, length-append {A = ℕ}));
           };
           answered = refl;
           output = front_output source sink count room old due written told stops.marks stops.bytes part.front
@@ -125,18 +119,7 @@ module _ {R E W F : Type 0} {strict : Bool} (source : Reader R E) (sink : Writer
         let whole = ap length c.parts in
         let fits : old.decoder.offset + length due + 8 < 2 ^ 64 = ready.fits-title in
         let full : 2 ^ 64 ≤ new.decoder.offset + next_read read = stops.fails.full in
-        omega (
-          arith,
-          behind,
-          whole,
-          fits,
-          full,
-          next_read_small read,
-          stops.fails.offset,
-          stops.copied.passed.offset,
-          length-append read gone.0,
-          length-append stops.bytes c.rest,
-        )
+        omega (arith, behind, whole, fits, full, next_read_small read, stops.fails.offset, stops.copied.passed.offset, length-append {A = ℕ})
 
     pub opens_fit : (new : Sides R W) → StopsTooDeep source sink count old new → ⊥
     opens_fit new stops =
@@ -148,18 +131,7 @@ module _ {R E W F : Type 0} {strict : Bool} (source : Reader R E) (sink : Writer
         let whole = ap length c.parts in
         let fits : old.decoder.offset + length due + 8 < 2 ^ 64 = ready.fits-title in
         let full : 2 ^ 64 ≤ new.decoder.offset + 1 = stops.full in
-        omega (
-          arith,
-          behind,
-          whole,
-          fits,
-          full,
-          stops.pulled.offset,
-          stops.copied.passed.offset,
-          length-append title
-              gone.0,
-          length-append stops.bytes c.rest,
-        )
+        omega (arith, behind, whole, fits, full, stops.pulled.offset, stops.copied.passed.offset, length-append {A = ℕ})
 
     pub body_fits : (new : Sides R W) → StopsInBody source sink count room old e.TooLong new → ⊥
     body_fits new stops =
@@ -171,18 +143,7 @@ module _ {R E W F : Type 0} {strict : Bool} (source : Reader R E) (sink : Writer
         let whole = ap length c.parts in
         let fits : old.decoder.offset + length due + room < 2 ^ 64 = ready.fits-chunk in
         let full : 2 ^ 64 ≤ stops.stopped.ends.between.offset + stops.stopped.ends.count = stops.stopped.ends.stops.0 in
-        omega (
-          arith,
-          behind,
-          whole,
-          fits,
-          full,
-          stops.stopped.ends.filled,
-          part.passed.offset,
-          stops.copied.passed.offset,
-          length-append part.read gone.0,
-          length-append stops.bytes c.rest,
-        )
+        omega (arith, behind, whole, fits, full, stops.stopped.ends.filled, part.passed.offset, stops.copied.passed.offset, length-append {A = ℕ})
 
     pub writer_fits : (new : Sides R W) → StopsWriting source sink count room old new → ⊥
     writer_fits new stops =
@@ -191,22 +152,8 @@ module _ {R E W F : Type 0} {strict : Bool} (source : Reader R E) (sink : Writer
         let less : left.0 < length stops.next = rw left.1 at stops.fails.full in
         let whole = ap length gone.2 in
         elim ready.enough [
-          | inl fits ↦ omega (
-            arith,
-            less,
-            left.2,
-            fits.1,
-            next_spelled gone.0 stops.next_write fits.0 gone.2,
-          )
-          | inr fits ↦ omega (
-            arith,
-            less,
-            left.2,
-            fits,
-            whole,
-            next_shorter stops.next_write,
-            length-append (stops.bytes ++ stops.read) gone.0,
-          )
+          | inl fits ↦ omega (arith, less, left.2, fits.1, next_spelled gone.0 stops.next_write fits.0 gone.2)
+          | inr fits ↦ omega (arith, less, left.2, fits, whole, next_shorter stops.next_write, length-append {A = ℕ})
         ]
 
     pub recode_told : (new : Sides R W) (result : Result (Unit {0}) (RecodeError E F))

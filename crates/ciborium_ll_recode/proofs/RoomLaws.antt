@@ -34,12 +34,7 @@ size-append k cs ds = rw pieces-append (spelled_long (pieces k cs) (pieces k ds)
 
 open_long : (k : Kind) (ms : List Mark) (bs : List (List ℕ))
     → length (spelling (ms ++ Open k ∷ pieces k bs)) ≡ length (spelling ms) + 1 + size k bs
-open_long k ms bs = omega (
-  arith,
-  spelled_long ms (Open k ∷ pieces k bs),
-  open_length k,
-  length-append (shortest_title (kind_header k None)) (spelling (pieces k bs)),
-)
+open_long k ms bs = omega (arith, spelled_long ms (Open k ∷ pieces k bs), open_length k, length-append {A = ℕ})
 
 -- ---- no more than was read
 
@@ -47,18 +42,11 @@ reach_shorter : {count : ℕ} {bytes : List ℕ} {marks : List Mark} {point : Po
     → length (spelling marks) + length (due_title point) ≤ length bytes
 reach_shorter (due {before = j} {bytes = u} {marks = ms} less run) = omega (arith, (run_again j u ms run).shorter)
 reach_shorter (inside {before = j} {bytes = u} {opens = v} {marks = ms} {bodies = bs} {kind = k} less run i s) =
-    omega (
-      arith,
-      (run_again j u ms run).shorter,
-      inside_shorter k v bs i,
-      open_long k ms bs,
-      open_length k,
-      length-append u v,
-    )
+    omega (arith, (run_again j u ms run).shorter, inside_shorter k v bs i, open_long, open_length k, length-append {A = ℕ})
 reach_shorter (body {bytes = u} {title = t} {len = l} k reach p) =
-    omega (arith, reach_shorter reach, shortest_no_longer t (kind_header k (Some l)) p, length-append u t)
+    omega (arith, reach_shorter reach, shortest_no_longer t (kind_header k (Some l)) p, length-append {A = ℕ})
 reach_shorter (body_inside {bytes = u} {title = t} {len = l} {kind = k} reach p) =
-    omega (arith, reach_shorter reach, shortest_no_longer t (kind_header k (Some l)) p, length-append u t)
+    omega (arith, reach_shorter reach, shortest_no_longer t (kind_header k (Some l)) p, length-append {A = ℕ})
 
 -- ---- what stands in front
 
@@ -71,7 +59,7 @@ run_within (next {first = a} {rest = b} {marks = os} {others = ps} p r)
     (next {first = c} {rest = d} {marks = qs} {others = rs} q s) l x v e =
     let o = one_element a c (b ++ x) (d ++ v) os qs p q (sym (append_assoc a b x) ∙ (e ∙ append_assoc c d v)) in
     let same = ap (λ (z : List Mark). length (spelling z)) o.1 in
-    omega (arith, run_within r s (omega arith) x v o.2, same, spelled_long os ps, spelled_long qs rs)
+    omega (arith, run_within r s (omega arith) x v o.2, same, spelled_long)
 
 -- strings and a break that stand there, with what is spelled before them within all
 record Rest (k : Kind) (x v : List ℕ) (before all : ℕ) : Type 0 where
@@ -100,7 +88,7 @@ module _ {k : Kind} where
       let o = one_string k a b (y ++ x) (z ++ 0xff ∷ v) cs es s s'
       (sym (append_assoc a y x) ∙ (e ∙ append_assoc b z (0xff ∷ v))) in
       let same = ap (λ (z : List (List ℕ)). size k z) o.1 in
-      rest_within (goes ss ss' x v o.2) (omega (arith, same, size-append k cs ds, size-append k es fs))
+      rest_within (goes ss ss' x v o.2) (omega (arith, same, size-append))
 
   -- the open in front of what is inside
   first_open : {u : List ℕ} {os : List (List ℕ)} → IsInside k u os → (y : List ℕ)
@@ -119,7 +107,7 @@ module _ {k : Kind} where
       absurd (title_not_break k z.0 z.1 v None z.2 (sym z.3 ∙ e))
   strings_rest i y rec (more {first = a} {rest = b} {bodies = cs} {others = ds} s ss) v e =
       let m = rec a cs s (b ++ 0xff ∷ v) (e ∙ append_assoc a b (0xff ∷ v)) in
-      (m.0, rest_within m.1 (omega (arith, size-append k cs ds)))
+      (m.0, rest_within m.1 (omega (arith, size-append)))
 
   -- behind what is inside a string
   inside_rest : {u : List ℕ} {os : List (List ℕ)} → IsInside k u os → (y w : List ℕ) (bs : List (List ℕ))
@@ -134,7 +122,7 @@ module _ {k : Kind} where
   inside_rest (deeper {outer = a} {inner = b} {bodies = cs} {others = ds} i j) y w bs s q e =
       let g = inside_rest i (b ++ y) w bs s q (sym (append_assoc a b y) ∙ e) in
       let m = strings_rest j y (inside_rest j y) g.1.ok g.0 g.1.is in
-      (m.0, rest_within m.1 (omega (arith, g.1.cost, size-append k cs ds)))
+      (m.0, rest_within m.1 (omega (arith, g.1.cost, size-append)))
 
   -- what is inside an element is spelled within it
   element_rest : {u w : List ℕ} {os : List (List ℕ)} {ms : List Mark} → IsInside k u os → IsElement w ms
@@ -153,15 +141,7 @@ module _ {k : Kind} where
       let g = inside_rest i y _ bs (subst (λ (r : Kind). IsString r (t ++ (x ++ 0xff ∷ [])) bs) same (indefinite p s)) q e in
       let sizes = ap (λ (r : Kind). size r bs) same in
       let spelled = ap length (open_spelled j bs) in
-      omega (
-        arith,
-        g.1.cost,
-        sizes,
-        spelled,
-        open_length j,
-        length-append (shortest_title (kind_header j None)) (spelling (pieces j bs) ++ 0xff ∷ []),
-        length-append (spelling (pieces j bs)) (0xff ∷ []),
-      )
+      omega (arith, g.1.cost, sizes, spelled, open_length j, length-append {A = ℕ})
 
   -- a string more is inside
   inside_add : {u w : List ℕ} {bs cs : List (List ℕ)} → IsInside k u bs → IsString k w cs
@@ -192,13 +172,7 @@ module _ {n : ℕ} {w : List ℕ} {ns : List Mark} (run : IsRun n w ns) (v : Lis
       let f = follows i a os r n w ns run l (b ++ x) v (sym (append_assoc a b x) ∙ e) in
       let front = append_assoc a f.word f.rest ∙ ap (λ (z : List ℕ). a ++ z) (sym f.is)
       ∙ (sym (append_assoc a b x) ∙ e) in
-      omega (
-        arith,
-        run_within (add_element i a os r f.word f.marks f.ok) run l f.rest v front,
-        element_rest q f.ok x f.rest f.is,
-        spelled_long os f.marks,
-        open_long k os bs,
-      )
+      omega (arith, run_within (add_element i a os r f.word f.marks f.ok) run l f.rest v front, element_rest q f.ok x f.rest f.is, spelled_long os f.marks, open_long k os bs)
 
   -- with a body that is there
   body_added : (b x : List ℕ) {k : Kind} {u : List ℕ} {ms : List Mark} {start : ℕ}
@@ -207,28 +181,12 @@ module _ {n : ℕ} {w : List ℕ} {ns : List Mark} (run : IsRun n w ns) (v : Lis
   body_added b x {ms = ms} (body {title = t} k (due {before = i} {bytes = a} l r) p) sound e =
       let mark = Whole k b ∷ [] in
       let title = shortest_title (kind_header k (Some (length b))) in
-      omega (
-        arith,
-        run_within (add_element i a ms r (t ++ b) mark (string k (definite p) (sound, tt))) run l x v
-            (append_assoc a (t ++ b) x ∙ ap (λ (z : List ℕ). a ++ z) (append_assoc t b x)
-            ∙ sym (append_assoc a t (b ++ x)) ∙ e),
-        spelled_long ms mark,
-        length-append (title ++ b) [],
-        length-append title b,
-      )
+      omega (arith, run_within (add_element i a ms r (t ++ b) mark (string k (definite p) (sound, tt))) run l x v (append_assoc a (t ++ b) x ∙ ap (λ (z : List ℕ). a ++ z) (append_assoc t b x) ∙ sym (append_assoc a t (b ++ x)) ∙ e), spelled_long ms mark, length-append {A = ℕ})
   body_added b x (body_inside {title = t}
       (inside {before = i} {bytes = a} {opens = c} {marks = os} {bodies = bs} {kind = k} l r q ok) p) sound e =
       let title = shortest_title (kind_header k (Some (length b))) in
       let all = inside l r (inside_add q (definite p)) (AreWritable-append k bs (b ∷ []) ok (sound, tt)) in
-      omega (
-        arith,
-        inside_within all x (simp append_assoc (simp append_assoc at e)),
-        open_long k os bs,
-        open_long k os (bs ++ b ∷ []),
-        size-append k bs (b ∷ []),
-        length-append (title ++ b) [],
-        length-append title b,
-      )
+      omega (arith, inside_within all x (simp append_assoc (simp append_assoc at e)), open_long k os bs, open_long k os (bs ++ b ∷ []), size-append k bs (b ∷ []), length-append {A = ℕ})
 
   reach_within : {u : List ℕ} {ms : List Mark} {at : Point} → Reaches n u ms at → (x : List ℕ) → u ++ x ≡ w ++ v
       → length (spelling ms) + length (due_title at) + body_len at ≤ length (spelling ns)
@@ -255,28 +213,19 @@ next_within : {count room : ℕ} {before read whole next : List ℕ} → NextWri
     → length (spelling marks) + length (due_title point) + min (body_len point) (length read) ≤ all)
     → length whole + length next ≤ all
 next_within (Alone marks mark header spelled (inl run)) all runs reaches =
-    omega (arith, runs _ run, ap length spelled, spelled_long marks (mark ∷ []), length-append (mark_spelling mark) [])
+    omega (arith, runs _ run, ap length spelled, spelled_long marks (mark ∷ []), length-append {A = ℕ})
 next_within (Alone marks mark header spelled (inr at)) all runs reaches =
-    omega (arith, reaches _ _ at.1, ap length spelled, spelled_long marks (mark ∷ []), length-append (mark_spelling mark) [])
+    omega (arith, reaches _ _ at.1, ap length spelled, spelled_long marks (mark ∷ []), length-append {A = ℕ})
 next_within (Titled marks kind len start reach) all runs reaches = omega (arith, reaches _ _ reach)
 next_within (Chunk marks kind len start front chunk kept reach sound within filled few) all runs reaches =
     let title = shortest_title (kind_header kind (Some len)) in
-    omega (
-      arith,
-      reaches _ _ reach,
-      within,
-      filled,
-      length-append front (chunk ++ kept),
-      length-append chunk kept,
-      length-append (spelling marks) (title ++ front),
-      length-append title front,
-    )
+    omega (arith, reaches _ _ reach, within, filled, length-append {A = ℕ})
 
 pub next_shorter : {count room : ℕ} {before read whole next : List ℕ}
     → NextWrite count room before read whole next → length whole + length next ≤ length (before ++ read)
 next_shorter {before = before} {read = read} next_write =
-    next_within next_write _ (λ ms run. omega (arith, (run_again _ _ _ run).shorter, length-append before read))
-    (λ ms at reach. omega (arith, reach_shorter reach, length-append before read))
+    next_within next_write _ (λ ms run. omega (arith, (run_again _ _ _ run).shorter, length-append {A = ℕ}))
+    (λ ms at reach. omega (arith, reach_shorter reach, length-append {A = ℕ}))
 
 -- and within the spelling of the elements, where they stand in front
 pub next_spelled : {count room : ℕ} {before read whole next due : List ℕ} (rest : List ℕ) → NextWrite count room before read whole next

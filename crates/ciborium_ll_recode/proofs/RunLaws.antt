@@ -16,10 +16,9 @@ use Rattle.ciborium_ll_decoder.proofs.NestLaws.{title_some}
 -- an element has a byte
 element_some : (w : List ℕ) (ms : List Mark) → IsElement w ms → 0 < length w
 element_some w ms (plain x p q) = title_some w x p
-element_some w ms (string k (definite {title = t} {body = b} p) s) = omega
-    (arith, title_some t (kind_header k (Some (length b))) p, length-append t b)
+element_some w ms (string k (definite {title = t} {body = b} p) s) = omega (arith, title_some t (kind_header k (Some (length b))) p, length-append {A = ℕ})
 element_some w ms (string k (indefinite {title = t} {strings = y} p q) s) =
-    omega (arith, title_some t (kind_header k None) p, length-append t (y ++ 0xff ∷ []))
+    omega (arith, title_some t (kind_header k None) p, length-append {A = ℕ})
 
 -- behind some elements no header waits
 pub run_settled : {R : Type 0} (count : ℕ) (old new : Decoder R) (bytes : List ℕ) (marks : List Mark)
@@ -28,7 +27,7 @@ pub run_settled : {R : Type 0} (count : ℕ) (old new : Decoder R) (bytes : List
 run_settled count old new bytes marks run (inr none) some = none
 run_settled count old new bytes marks done (inl empty) some = absurd (omega (arith, some))
 run_settled count old new bytes marks (next {first = x} {rest = y} {marks = ms} element more) (inl empty) some =
-    absurd (let none = ap length empty.0 in omega (arith, none, element_some x ms element, length-append x y))
+    absurd (let none = ap length empty.0 in omega (arith, none, element_some x ms element, length-append {A = ℕ}))
 
 -- where no bytes were read, a header waits just where one waited
 waits_as : {R : Type 0} (old new : Decoder R) (waited : Option Header) → old.waiting ≡ waited → new.waiting ≡ None
@@ -37,13 +36,7 @@ waits_as : {R : Type 0} (old new : Decoder R) (waited : Option Header) → old.w
 waits_as old new None is none waited = none
 waits_as old new (Some header) is none (inl same) = ap (λ d. d.waiting) same ∙ is
 waits_as old new (Some header) is none (inr begins) =
-    absurd (let nothing = ap length begins.1 in omega (
-      arith,
-      nothing,
-      shortest_some header,
-      length-append
-          (shortest_title header) begins.0,
-    ))
+    absurd (let nothing = ap length begins.1 in omega (arith, nothing, shortest_some header, length-append {A = ℕ}))
 
 pub run_still : {R E : Type 0} (source : Reader R E) (count : ℕ) (old new : Decoder R) (bytes : List ℕ)
     (marks : List Mark) → IsRun count bytes marks → Passes source old bytes new

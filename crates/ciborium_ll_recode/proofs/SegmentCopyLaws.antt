@@ -144,15 +144,7 @@ module _ {R E W F : Type 0} (source : Reader R E) (sink : Writer W F) (k : Kind)
           pulled = deep.pulled;
           full = (
               let copied = copied_inside all.left all.between now.writer all.among written in
-              omega (
-                arith,
-                opens_counted k all.left _ _ all.among.within,
-                deep.most,
-                copied.passed.offset,
-                deep.pulled.offset,
-                title_some deep.pulled.title (kind_header k None) deep.pulled.is_title,
-                length-append outer.bytes (shortest_title (kind_header k None) ++ all.among.strings),
-              )
+              omega (arith, opens_counted k all.left _ _ all.among.within, deep.most, copied.passed.offset, deep.pulled.offset, title_some deep.pulled.title (kind_header k None) deep.pulled.is_title, length-append {A = ℕ})
               );
         }))
       ]

@@ -378,7 +378,7 @@ shortened_no_longer strict count due written rest s =
     let shorter = again.shorter in
     let long = ap length all.is in
     let spelled = ap length all.spelled in
-    omega (arith, shorter, long, spelled, length-append all.elements rest)
+    omega (arith, shorter, long, spelled, length-append {A = ℕ})
 
 -- what a strict decoder takes is written as it was
 pub shortened_same : (count : ℕ) (due written rest : List ℕ) → Shortens true count due written rest
