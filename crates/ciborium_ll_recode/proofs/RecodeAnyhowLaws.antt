@@ -1,155 +1,332 @@
--- A copy of elements where bytes are told, whichever side fails.
-use Rattle.std.proofs.Common.{◌≡◌, ℕ, Bool, ◌+◌, ◌^◌, ◌≤◌, List, [], ◌++◌, length, take, drop, min, max}
-use Rattle.std.proofs.Common.{Some, None, Result, Ok, Err, refl, sym, ap, ◌∙◌, inl, inr, arith, append_assoc}
-use Rattle.std.proofs.Common.{length-append}
-use Rattle.std.proofs.lemmas.List.{take-append-drop}
+-- A copy of elements where bytes are told, whichever side fails: how far it came, and what stopped it there.
+use Rattle.std.proofs.Common.{◌≡◌, ℕ, Bool, ◌+◌, ◌-◌, ◌≤◌, List, [], ◌∷◌, ◌++◌, length, take, drop, Some, refl, sym, ap, subst}
+use Rattle.std.proofs.Common.{◌^◌, min, max, None, Result, Ok, Err, ◌∙◌, inl, inr, arith, append_assoc, length-append}
+use Rattle.std.proofs.Math.Seq.{drop-append_seam}
+use Rattle.std.proofs.lemmas.Bool.{cases_lt}
 use Rattle.std.proofs.Math.Nat.{le-max_left, le-max_right}
-use Rattle.ciborium_ll_io.specs.declared.io.Read.{Ghosts as Reader}
-use Rattle.ciborium_ll_io.specs.declared.io.Write.{Ghosts as Writer}
+use Rattle.std.proofs.lemmas.List.{take-append-drop}
 use Rattle.ciborium_ll_decoder.specs.declared.dec.Decoder.{Decoder}
-use Rattle.ciborium_ll_decoder.specs.declared.dec.Error.TheVariants as e
 use Rattle.ciborium_ll_decoder.specs.declared.copy.RecodeError.{RecodeError}
 use Rattle.ciborium_ll_decoder.specs.declared.copy.RecodeError.TheVariants as r
-use Rattle.ciborium_ll_grammar.specs.Title.{shortest_title}
-use Rattle.ciborium_ll_grammar.specs.Strings.{Kind, kind_header}
-use Rattle.ciborium_ll_grammar.specs.Elements.{Mark, spelling}
-use Rattle.ciborium_ll_grammar.specs.Faults.{Point, Due, In, BodyDue, IsAtTitle, Reaches, with_front}
-use Rattle.ciborium_ll_decoder.specs.Decoding.{offset_limit, next_read}
-use Rattle.ciborium_ll_io.specs.Writes.{WritesAll}
-use Rattle.ciborium_ll_decoder.specs.Finishing.{BeginsRest}
-use Rattle.ciborium_ll_decoder.specs.BodyCopies.{Sides, sides}
-use Rattle.ciborium_ll_recode.specs.Recoding.{Copied, CopiesElements, StopsAtTitle, StopsTooDeep, StopsInBody}
-use Rattle.ciborium_ll_recode.specs.Recoding.{StopsWriting}
-use Rattle.ciborium_ll_recode.specs.RecodingTold.{IsTold, StopsAt, StopsShort, StopsUnwritten, RecodesAnyhow}
+use Rattle.ciborium_ll_decoder.proofs.NestLaws.{alone_bytes, open_alone, open_length}
+use Rattle.ciborium_ll_recode.specs.Recoding.{CopiesElements, StopsTooDeep, StopsWriting}
+use Rattle.ciborium_ll_recode.specs.RecodingTold.{StopsAt, StopsShort, StopsUnwritten, RecodesAnyhow}
+use Rattle.std.specs.Io.KnownBytes.{Consumes}
+use Rattle.ciborium_ll_io.specs.declared.io.Read.{Ghosts as Reader}
+use Rattle.ciborium_ll_io.specs.declared.io.Write.{Ghosts as Writer}
+use Rattle.ciborium_ll_decoder.specs.declared.dec.Error.{Error}
+use Rattle.ciborium_ll_decoder.specs.declared.dec.Error.TheVariants as e
+use Rattle.ciborium_ll_grammar.specs.Title.{shortest_title, BeginsRefused}
+use Rattle.ciborium_ll_grammar.specs.Strings.{Kind, Text, kind_header}
+use Rattle.ciborium_ll_text.specs.Text.{IsCharacters, BeginsNoText}
+use Rattle.ciborium_ll_grammar.specs.Elements.{Mark, spelling, IsStrictSpelling}
+use Rattle.ciborium_ll_grammar.specs.Items.{IsTakenTitle}
+use Rattle.ciborium_ll_grammar.specs.Faults.{Point, Due, In, BodyDue, IsAtTitle, IsRefusedIn, Reaches, due_title, with_front}
+use Rattle.ciborium_ll_grammar.specs.Faults.{Answer, Syntax, FirstFault, NoTitle, LongTitle, OtherTitle, DamagedText}
+use Rattle.ciborium_ll_grammar.specs.Faults.{CutDamagedText}
+use Rattle.ciborium_ll_decoder.specs.Decoding.{Begins, view, Strictly, offset_limit, next_read}
+use Rattle.ciborium_ll_decoder.specs.Finishing.{IsNoText, BeginsRest}
+use Rattle.ciborium_ll_decoder.specs.BodyCopies.{Sides}
+use Rattle.ciborium_ll_recode.specs.Recoding.{Copied, CopiesRun, StopsAtTitle, StopsAtOther, StopsInBody}
+use Rattle.ciborium_ll_recode.specs.RecodingTold.{IsTold, CopiesFront, MeetsFault}
+use Rattle.ciborium_ll_grammar.proofs.ElementLaws.{run_again}
+use Rattle.ciborium_ll_decoder.proofs.DamageLaws.{damage_read}
 use Rattle.ciborium_ll_decoder.proofs.ToldLaws.{consumes_told, next_read_small}
 use Rattle.ciborium_ll_io.proofs.WriteLaws.{appends_told}
-use Rattle.ciborium_ll_decoder.proofs.NestLaws.{alone_bytes, open_alone, open_length}
-use Rattle.ciborium_ll_recode.proofs.RecodeFaultLaws.{came, all_told, no_title_told, other_title_told}
-use Rattle.ciborium_ll_recode.proofs.RecodeFaultLaws.{front_output, damaged_told}
+use Rattle.ciborium_ll_recode.proofs.RecodeLaws.{writes_then}
+use Rattle.ciborium_ll_text.proofs.Lists.{front_of, front_behind}
+use Rattle.ciborium_ll_text.proofs.FrontLaws.{no_text_behind}
+use Rattle.ciborium_ll_recode.proofs.RunLaws.{run_settled, run_still}
+
+-- where a title is due no body's title is under way
+spelled_at : (point : Point) {bytes : List ℕ} {marks : List Mark} → IsAtTitle point
+    → IsStrictSpelling bytes marks [] → IsStrictSpelling bytes marks (due_title point)
+spelled_at Due title spelled = spelled
+spelled_at (In kind) title spelled = spelled
+spelled_at (BodyDue kind len start) title spelled = absurd title
+
+-- the fault of a text's body
+damage : (strict : Bool) (bytes : List ℕ) (marks : List Mark) (len start : ℕ) (read front more ahead behind : List ℕ)
+    → ahead ≡ read ++ behind → read ≡ front ++ more → IsCharacters front → length read ≤ len → IsNoText [] len read
+    → FirstFault strict bytes marks (BodyDue Text len start) ahead (Syntax start) (with_front marks Text len front)
+    (length read)
+damage strict bytes marks len start read front more ahead behind split e text within (inl whole) =
+    let taken : take len ahead ≡ read = front_of len ahead read behind split whole.0 in
+    let counted = ap length split in
+    let parts = ap length e in
+    DamagedText front more (omega (arith, whole.0, counted, length-append {A = ℕ}))
+    (λ u. whole.1 (subst IsCharacters taken u)) (taken ∙ e) text (omega (arith, parts, length-append {A = ℕ})) within
+damage strict bytes marks len start read front more ahead behind split e text within (inr begins) =
+    let counted = ap length split in
+    let parts = ap length e in
+    let more_behind = λ (z : List ℕ). ap (λ (v : List ℕ). v ++ z) e ∙ append_assoc front more z in
+    elim (cases_lt (length ahead) len) [
+      | inl cut ↦ CutDamagedText front (more ++ behind) cut
+          (subst BeginsNoText (sym split) (no_text_behind read behind begins)) (split ∙ more_behind behind) text
+          (omega (arith, parts, length-append {A = ℕ})) (omega (arith, counted, length-append {A = ℕ}))
+      | inr all ↦ (
+          let rest = take (len - length read) behind in
+          let taken : take len ahead ≡ read ++ rest = front_behind len ahead read behind split within in
+          DamagedText front (more ++ rest) all (λ u. begins rest (subst IsCharacters taken u))
+          (taken ∙ more_behind rest) text (omega (arith, parts, length-append {A = ℕ})) within
+          )
+    ]
 
 module _ {R E W F : Type 0} {strict : Bool} (source : Reader R E) (sink : Writer W F) (count room : ℕ)
     (old : Sides R W) (due written : List ℕ) where
   module _ (told : IsTold source sink strict old due written) where
-    at_title : (marks : List Mark) (point : Point) (ahead : List ℕ) (n : ℕ) → IsAtTitle point
-        → n ≤ min 1 (length ahead) → StopsAt marks point ahead (spelling marks) n
-    at_title marks Due ahead n title less = (refl, less)
-    at_title marks (In k) ahead n title less = (refl, less)
-    at_title marks (BodyDue k len start) ahead n title less = absurd title
+    -- how far a copy came
+    pub record Came (bytes : List ℕ) (marks : List Mark) (now : Sides R W) : Type 0 where
+      pub rest : List ℕ
+      pub parts : due ≡ bytes ++ rest
+      pub left : view source now.decoder ≡ Some rest
+      pub output : sink.written now.writer ≡ Some (written ++ spelling marks)
 
-    -- behind elements or parts of one, and at most a first byte
-    title_short : (bytes : List ℕ) (marks : List Mark) (point : Point) (between new : Decoder R) (after : W)
-        (read behind : List ℕ) → Reaches count bytes marks point → IsAtTitle point
-        → (copied : Copied source sink old bytes marks (sides between after))
-        → (came source sink count room old due written told bytes marks (sides between after) copied).rest
-        ≡ read ++ behind → length read ≤ 1
-        → new.offset ≡ between.offset + length read → StopsShort source sink count due written old.decoder
-        (sides new after)
-    title_short bytes marks point between new after read behind reach title copied split few offset =
-        let c = came source sink count room old due written told bytes marks (sides between after) copied in
+    pub came : {bytes : List ℕ} {marks : List Mark} {now : Sides R W} → Copied source sink old bytes marks now
+        → Came bytes marks now
+    came {bytes} {marks} copied =
+        let gone = consumes_told _ _ due bytes told.due-told copied.passed.consumed in
+        record {
+          rest = gone.0;
+          parts = gone.2;
+          left = gone.1;
+          output = appends_told _ _ written (spelling marks) told.written-told copied.written.appended;
+        }
+
+    all_told : (new : Sides R W) → CopiesRun source sink count old new
+        → CopiesFront source sink strict count due written old.decoder new
+    all_told new all =
+        let c = came all.copied in
+        record {
+          front = record {
+            elements = all.bytes;
+            marks = all.marks;
+            rest = c.rest;
+            run = all.run;
+            is = c.parts;
+            spelled = λ on. all.strict (told.mode ∙ on) (told.none_waits on);
+          };
+          output = c.output;
+          again = (run_again count all.bytes all.marks all.run).run;
+          left = c.left;
+          offset = all.copied.passed.offset;
+          settled = run_settled count old.decoder new.decoder all.bytes all.marks all.run all.copied.passed.waiting;
+          still = run_still source count old.decoder new.decoder all.bytes all.marks all.run all.copied.passed;
+        }
+
+    -- a fault behind what was copied, of which these bytes were consumed
+    pub met : {bytes : List ℕ} {marks : List Mark} {point : Point} {now : Sides R W}
+        → Reaches count bytes marks point → Copied source sink old bytes marks now
+        → Strictly old.decoder (IsStrictSpelling bytes marks (due_title point)) → (new : Sides R W) (read : List ℕ)
+        → Consumes (view source now.decoder) (view source new.decoder) read
+        → new.decoder.offset ≡ now.decoder.offset + length read
+        → {out : List ℕ} → sink.written new.writer ≡ Some (written ++ out) → (answer : Answer)
+        → ((ahead behind : List ℕ) → view source now.decoder ≡ Some ahead → view source new.decoder ≡ Some behind
+        → ahead ≡ read ++ behind → FirstFault strict bytes marks point ahead answer out (length read))
+        → MeetsFault source sink strict count due written answer old.decoder new
+    met {bytes} {marks} {point} reach copied strictly new read consumed offset {out} output answer fault =
+        let c = came copied in
+        let gone = consumes_told _ _ c.rest read c.left consumed in
+        record {
+          fault = record {
+            before = bytes;
+            marks = marks;
+            point = point;
+            ahead = c.rest;
+            answer = answer;
+            written = out;
+            consumed = length read;
+            reach = reach;
+            is = c.parts;
+            spelled = λ on. strictly (told.mode ∙ on) (told.none_waits on);
+            fault = fault c.rest gone.0 c.left gone.1 gone.2;
+          };
+          answered = refl;
+          output = output;
+          left = gone.1 ∙ ap Some (sym (ap (drop (length read)) gone.2 ∙ drop-append_seam read gone.0));
+          offset = omega (arith, offset, copied.passed.offset);
+        }
+
+    -- a title or a body is no part of the grammar
+    abbrev MeetsSyntax : ℕ → Sides R W → Type 0
+    MeetsSyntax at new = (start : ℕ) × (at ≡ old.decoder.offset + start)
+        × MeetsFault source sink strict count due written (Syntax start) old.decoder new
+
+    pub title_spelled : {error : Error E} {new : Sides R W} (stops : StopsAtTitle source sink count old error new)
+        → Strictly old.decoder (IsStrictSpelling stops.bytes stops.marks (due_title stops.point))
+    title_spelled stops = λ on none. spelled_at stops.point stops.at_title (stops.strict on none)
+
+    -- a byte with which no title begins, or a title that a strict decoder refuses
+    no_title_told : (at : ℕ) (new : Sides R W) → StopsAtTitle source sink count old (e.Syntax at) new
+        → MeetsSyntax at new
+    no_title_told at new stops =
+        let output = (came stops.copied).output in
+        let place = stops.copied.passed.offset in
+        elim stops.fails [
+          | inl refused ↦ (
+            length stops.bytes,
+            refused.place ∙ place,
+            met stops.reaches stops.copied (title_spelled stops) new (refused.byte ∷ []) refused.bytes refused.offset output
+                (Syntax (length stops.bytes)) (λ ahead behind a b split.
+                NoTitle stops.at_title (subst BeginsRefused (sym split) refused.refused)),
+          )
+          | inr longer ↦ (
+            length stops.bytes,
+            longer.place ∙ place,
+            met stops.reaches stops.copied (title_spelled stops) new longer.title longer.bytes longer.offset output
+                (Syntax (length stops.bytes)) (λ ahead behind a b split.
+                LongTitle longer.header behind stops.at_title longer.is_title
+                (subst (λ (b : Bool). IsTakenTitle b longer.title longer.header → ⊥)
+                (sym longer.strict ∙ (stops.copied.passed.mode ∙ told.mode)) longer.not_strict) split),
+          )
+        ]
+
+    other_title_told : (at : ℕ) (new : Sides R W) → StopsAtOther source sink count old at new → MeetsSyntax at new
+    other_title_told at new stops =
+        let pulled = stops.other.pulled in (
+          length stops.bytes,
+          stops.other.place ∙ stops.copied.passed.offset,
+          met stops.reaches stops.copied stops.strict new pulled.title pulled.bytes pulled.offset
+              (came stops.copied).output (Syntax (length stops.bytes)) (λ ahead behind a b split.
+              OtherTitle stops.other.header behind pulled.is_title
+              (subst (λ (b : Bool). IsRefusedIn b stops.kind stops.other.header)
+              (stops.copied.passed.mode ∙ told.mode) stops.other.refused) split),
+        )
+
+    -- what is written up to a front of a body
+    pub front_output : {error : Error E} (new : Sides R W) (stops : StopsInBody source sink count room old error new)
+        → sink.written new.writer
+        ≡ Some (written ++ with_front stops.marks stops.kind stops.len stops.stopped.ends.part.front)
+    front_output new stops =
+        let title = shortest_title (kind_header stops.kind (Some stops.len)) in
+        let front = stops.stopped.ends.part.front in
+        let behind = writes_then source sink stops.between.writer stops.titled new.writer title front stops.title
+        stops.stopped.written in
+        appends_told _ _ written _ told.written-told (writes_then source sink old.writer stops.between.writer new.writer
+        (spelling stops.marks) (title ++ front) stops.copied.written behind).appended
+
+    damaged_told : (at : ℕ) (new : Sides R W) → StopsInBody source sink count room old (e.Syntax at) new
+        → MeetsSyntax at new
+    damaged_told at new stops =
+        let body = damage_read source stops.kind [] stops.len room (old.decoder.offset + stops.start) at
+        stops.between.decoder new.decoder stops.stopped.ends in (
+          stops.start,
+          stops.stopped.ends.stops.0,
+          met stops.reaches stops.copied stops.strict new body.read body.passed.consumed body.passed.offset
+              (front_output new stops) (Syntax stops.start) (λ ahead behind a b split.
+              subst (λ (k : Kind). FirstFault strict stops.bytes stops.marks (BodyDue k stops.len stops.start) ahead
+              (Syntax stops.start) (with_front stops.marks k stops.len body.front) (length body.read))
+              (sym body.textual) (damage strict stops.bytes stops.marks stops.len stops.start body.read body.front
+              body.more ahead behind split body.parts body.sound body.within body.no_text)),
+        )
+
+    -- ---- a stop that is no fault
+
+    -- at most a first byte of a title was consumed
+    at_title : (marks : List Mark) (point : Point) (ahead : List ℕ) (consumed : ℕ) → IsAtTitle point
+        → consumed ≤ min 1 (length ahead) → StopsAt marks point ahead (spelling marks) consumed
+    at_title marks Due ahead consumed title few = (refl, few)
+    at_title marks (In k) ahead consumed title few = (refl, few)
+    at_title marks (BodyDue k len start) ahead consumed title few = absurd title
+
+    -- of a body all that was read was consumed
+    abbrev pub in_body : (marks : List Mark) {k : Kind} {len : ℕ} (start : ℕ) {between after : Decoder R}
+        (part : BeginsRest source k [] len between after) (ahead behind : List ℕ) → ahead ≡ part.read ++ behind
+        → StopsAt marks (BodyDue k len start) ahead (with_front marks k len part.front) (length part.read)
+    in_body marks start part ahead behind split =
         let counted = ap length split in
+        let parts = ap length part.parts in (
+          part.front,
+          part.left ++ behind,
+          split ∙ ap (λ (z : List ℕ). z ++ behind) part.parts ∙ append_assoc part.front part.left behind,
+          refl,
+          part.sound,
+          omega (arith, parts, length-append {A = ℕ}),
+          omega (arith, parts, part.few, length-append {A = ℕ}),
+          omega (arith, counted, part.within, length-append {A = ℕ}),
+        )
+
+    -- behind what was copied so many bytes were consumed
+    short : {bytes : List ℕ} {marks : List Mark} {point : Point} {now : Sides R W} → Reaches count bytes marks point
+        → Copied source sink old bytes marks now → (new : Sides R W) (read out : List ℕ)
+        → new.decoder.offset ≡ now.decoder.offset + length read → sink.written new.writer ≡ Some (written ++ out)
+        → ((ahead : List ℕ) → view source now.decoder ≡ Some ahead → StopsAt marks point ahead out (length read))
+        → StopsShort source sink count due written old.decoder new
+    short {bytes} {marks} {point} reach copied new read out offset output stops =
+        let c = came copied in
         record {
           stop = record {
             before = bytes;
             marks = marks;
             point = point;
             ahead = c.rest;
-            consumed = length read;
-            reach = reach;
             is = c.parts;
-            stops = at_title marks point c.rest (length read) title (omega (arith, few, counted, length-append {A = ℕ}));
-            written = spelling marks;
+            reach = reach;
+            written = out;
+            consumed = length read;
+            stops = stops c.rest c.left;
           };
-          output = c.output;
+          output = output;
           offset = omega (arith, offset, copied.passed.offset);
         }
 
-    pub title_fails : (fault : E) (new : Sides R W) → StopsAtTitle source sink count old (e.Io fault) new
+    short_title : {error : Error E} (new : Sides R W) (stops : StopsAtTitle source sink count old error new)
+        (read : List ℕ) → length read ≤ 1 → new.decoder.offset ≡ stops.between.offset + length read
+        → ((ahead : List ℕ) → view source stops.between ≡ Some ahead → Begins read ahead)
         → StopsShort source sink count due written old.decoder new
-    title_fails fault new stops =
-        let c = came source sink count room old due written told stops.bytes stops.marks
-        (sides stops.between new.writer) stops.copied in
-        let began = rw c.left at stops.fails.began in
-        title_short stops.bytes stops.marks stops.point stops.between new.decoder new.writer stops.fails.read began.0
-        stops.reaches stops.at_title stops.copied began.1 stops.fails.within_first stops.fails.offset
+    short_title new stops read few offset begins =
+        short stops.reaches stops.copied new read (spelling stops.marks) offset (came stops.copied).output
+        (λ ahead is.
+        let counted = ap length (begins ahead is).1 in
+        at_title stops.marks stops.point ahead (length read) stops.at_title
+        (omega (arith, few, counted, length-append {A = ℕ})))
 
-    pub title_passes : (new : Sides R W) → StopsAtTitle source sink count old e.TooLong new
-        → StopsShort source sink count due written old.decoder new × (offset_limit ≤ new.decoder.offset + max 8 room)
+    short_body : {error : Error E} (new : Sides R W) (stops : StopsInBody source sink count room old error new)
+        → new.decoder.offset ≡ stops.stopped.ends.between.offset
+        → StopsShort source sink count due written old.decoder new
+    short_body new stops offset =
+        let part = stops.stopped.ends.part in
+        short stops.reaches stops.copied new part.read _ (offset ∙ part.passed.offset) (front_output new stops)
+        (λ ahead is.
+        let gone = consumes_told _ _ ahead part.read is part.passed.consumed in
+        in_body stops.marks stops.start part ahead gone.0 gone.2)
+
+    -- the offset can't take the next read
+    abbrev pub PassesAnyhow : Sides R W → Type 0
+    PassesAnyhow new = StopsShort source sink count due written old.decoder new
+        × (offset_limit ≤ new.decoder.offset + max 8 room)
+
+    title_passes : (new : Sides R W) → StopsAtTitle source sink count old e.TooLong new → PassesAnyhow new
     title_passes new stops =
-        let c = came source sink count room old due written told stops.bytes stops.marks
-        (sides stops.between new.writer) stops.copied in
-        let gone = consumes_told _ _ c.rest stops.fails.read c.left stops.fails.bytes in
-        let full : 2 ^ 64 ≤ new.decoder.offset + next_read stops.fails.read = stops.fails.full in (
-          title_short stops.bytes stops.marks stops.point stops.between new.decoder new.writer stops.fails.read gone.0
-              stops.reaches stops.at_title stops.copied gone.2 stops.fails.within_first stops.fails.offset,
-          omega (arith, full, next_read_small stops.fails.read, le-max_left 8 room),
+        let read = stops.fails.read in
+        let full : 2 ^ 64 ≤ new.decoder.offset + next_read read = stops.fails.full in (
+          short_title new stops read stops.fails.within_first stops.fails.offset (λ ahead is.
+              let gone = consumes_told _ _ ahead read is stops.fails.bytes in
+              (gone.0, gone.2)),
+          omega (arith, full, next_read_small read, le-max_left 8 room),
         )
 
-    pub opens_pass : (new : Sides R W) → StopsTooDeep source sink count old new
-        → StopsShort source sink count due written old.decoder new × (offset_limit ≤ new.decoder.offset + max 8 room)
+    opens_pass : (new : Sides R W) → StopsTooDeep source sink count old new → PassesAnyhow new
     opens_pass new stops =
-        let c = came source sink count room old due written told stops.bytes stops.marks
-        (sides stops.between new.writer) stops.copied in
         let title = stops.pulled.title in
-        let gone = consumes_told _ _ c.rest title c.left stops.pulled.bytes in
         let lone = ap length (alone_bytes title (kind_header stops.kind None) stops.pulled.is_title
         (open_alone stops.kind)) in
         let full : 2 ^ 64 ≤ new.decoder.offset + 1 = stops.full in (
-          title_short stops.bytes stops.marks (In stops.kind) stops.between new.decoder new.writer title gone.0
-              stops.reaches (tt {0}) stops.copied gone.2
-              (omega (arith, lone, open_length stops.kind)) stops.pulled.offset,
+          short stops.reaches stops.copied new title (spelling stops.marks) stops.pulled.offset
+              (came stops.copied).output (λ ahead is.
+              let gone = consumes_told _ _ ahead title is stops.pulled.bytes in
+              let counted = ap length gone.2 in
+              at_title stops.marks (In stops.kind) ahead (length title) tt
+              (omega (arith, lone, open_length stops.kind, counted, length-append {A = ℕ}))),
           omega (arith, full, le-max_left 8 room),
         )
 
-    -- behind a part of a body
-    pub body_short : (bytes : List ℕ) (marks : List Mark) (k : Kind) (len start : ℕ) (between : Sides R W) (titled : W)
-        (after : Decoder R) (new : Sides R W) → Reaches count bytes marks (BodyDue k len start)
-        → Copied source sink old bytes marks between → WritesAll sink between.writer
-        (shortest_title (kind_header k (Some len))) titled
-        → (part : BeginsRest source k [] len between.decoder after) → WritesAll sink titled part.front new.writer
-        → new.decoder.offset ≡ after.offset → StopsShort source sink count due written old.decoder new
-    body_short bytes marks k len start between titled after new reach copied title part wrote offset =
-        let c = came source sink count room old due written told bytes marks between copied in
-        let gone = consumes_told _ _ c.rest part.read c.left part.passed.consumed in
-        let behind = ap length gone.2 in
-        let parts = ap length part.parts in
-        let split : c.rest ≡ part.front ++ (part.left ++ gone.0) = gone.2 ∙ ap (λ (z : List ℕ). z ++ gone.0) part.parts
-        ∙ append_assoc part.front part.left gone.0 in
-        record {
-          stop = record {
-            before = bytes;
-            marks = marks;
-            point = BodyDue k len start;
-            ahead = c.rest;
-            consumed = length part.read;
-            reach = reach;
-            is = c.parts;
-            stops = (
-              part.front,
-              part.left ++ gone.0,
-              split,
-              refl,
-              part.sound,
-              omega (arith, parts, length-append {A = ℕ}),
-              omega (arith, parts, part.few, length-append {A = ℕ}),
-              omega (arith, behind, part.within, length-append {A = ℕ}),
-            );
-            written = with_front marks k len part.front;
-          };
-          output = front_output source sink count room old due written told marks bytes part.front k len between titled
-              new.writer copied title wrote;
-          offset = omega (arith, offset, part.passed.offset, copied.passed.offset);
-        }
-
-    pub body_passes : (new : Sides R W) → StopsInBody source sink count room old e.TooLong new
-        → StopsShort source sink count due written old.decoder new × (offset_limit ≤ new.decoder.offset + max 8 room)
+    body_passes : (new : Sides R W) → StopsInBody source sink count room old e.TooLong new → PassesAnyhow new
     body_passes new stops =
-        let passes = stops.stopped.ends in
-        let full : 2 ^ 64 ≤ passes.between.offset + passes.count = passes.stops.0 in (
-          body_short stops.bytes stops.marks stops.kind stops.len stops.start stops.between stops.titled passes.between
-              new stops.reaches stops.copied
-              stops.title passes.part stops.stopped.written passes.stops.1.offset,
-          omega (arith, full, passes.filled, passes.stops.1.offset, le-max_right 8 room),
-        )
+        let ends = stops.stopped.ends in
+        let full : 2 ^ 64 ≤ ends.between.offset + ends.count = ends.stops.0 in
+        let offset = ends.stops.1.offset in
+        (short_body new stops offset, omega (arith, full, ends.filled, offset, le-max_right 8 room))
 
     abbrev pub unwritten : (new : Sides R W) → StopsWriting source sink count room old new
         → StopsUnwritten source sink count room due written old.decoder new
@@ -179,19 +356,17 @@ module _ {R E W F : Type 0} {strict : Bool} (source : Reader R E) (sink : Writer
     pub recode_anyhow : (new : Sides R W) (result : Result (Unit {0}) (RecodeError E F))
         → CopiesElements source sink count room old result new
         → RecodesAnyhow source sink strict count room due written old.decoder result new
-    recode_anyhow new (Ok unit) all = all_told source sink count room old due written told new all.elements
-    recode_anyhow new (Err (r.Read (e.Io fault))) (inl stops) = title_fails fault new stops
-    recode_anyhow new (Err (r.Read (e.Io fault))) (inr stops) =
-        let fails = stops.stopped.ends in
-        body_short stops.bytes stops.marks stops.kind stops.len stops.start stops.between stops.titled fails.between
-        new stops.reaches stops.copied
-        stops.title fails.part stops.stopped.written fails.stops.1.offset
+    recode_anyhow new (Ok unit) all = all_told new all.elements
+    recode_anyhow new (Err (r.Read (e.Io fault))) (inl stops) =
+        let fails = stops.fails in
+        short_title new stops fails.read fails.within_first fails.offset (λ ahead is. rw is at fails.began)
+    recode_anyhow new (Err (r.Read (e.Io fault))) (inr stops) = short_body new stops stops.stopped.ends.stops.1.offset
     recode_anyhow new (Err (r.Read (e.Syntax at))) (inl stops) =
-        no_title_told source sink count room old due written told at new stops
+        no_title_told at new stops
     recode_anyhow new (Err (r.Read (e.Syntax at))) (inr (inl stops)) =
-        other_title_told source sink count room old due written told at new stops
+        other_title_told at new stops
     recode_anyhow new (Err (r.Read (e.Syntax at))) (inr (inr stops)) =
-        damaged_told source sink count room old due written told at new stops
+        damaged_told at new stops
     recode_anyhow new (Err (r.Read e.TooLong)) (inl stops) = title_passes new stops
     recode_anyhow new (Err (r.Read e.TooLong)) (inr (inl stops)) = opens_pass new stops
     recode_anyhow new (Err (r.Read e.TooLong)) (inr (inr stops)) = body_passes new stops

@@ -6,7 +6,7 @@ use Rattle.std.proofs.lemmas.List.{length-take-le, take-append-drop}
 use Rattle.ciborium_ll_grammar.specs.Title.{IsTitle, shortest_title, title_len}
 use Rattle.ciborium_ll_grammar.specs.Strings.{Kind, Bytes, Text, kind_header, IsString, AreStrings, none, more, IsWritable}
 use Rattle.ciborium_ll_grammar.specs.Strings.IsString.{definite, indefinite}
-use Rattle.ciborium_ll_grammar.specs.Elements.{Mark, Whole, mark_spelling, Open, pieces, spelling, IsElement, IsPlain, plain, string}
+use Rattle.ciborium_ll_grammar.specs.Elements.{Mark, Whole, Open, pieces, spelling, IsElement, IsPlain, plain, string}
 use Rattle.ciborium_ll_grammar.specs.Elements.{IsRun, done, next}
 use Rattle.ciborium_ll_grammar.specs.Faults.{Point, Due, In, BodyDue, due_title, IsInside, opened, deeper}
 use Rattle.ciborium_ll_grammar.specs.Faults.{Reaches, due, inside, body, body_inside, RunInFront}
