@@ -1,37 +1,44 @@
--- The copy of one element, by its parts.
-use Rattle.std.proofs.Common.{◌≡◌, ℕ, suc, ◌+◌, ◌<◌, ◌≤◌, List, [], ◌∷◌, ◌++◌, None, Result, Ok, Err, refl, sym}
-use Rattle.std.proofs.Common.{subst, ◌∙◌, inl, inr, arith, append_assoc, append-nil}
+-- The copy of one element, by its parts: how it goes on, and where it stops.
+use Rattle.std.proofs.Common.{◌≡◌, ℕ, suc, ◌+◌, ◌-◌, ◌<◌, ◌≤◌, List, [], ◌∷◌, ◌++◌, length, Some, None, Result, Ok, Err}
+use Rattle.std.proofs.Common.{refl, sym, ap, subst, ◌∙◌, inl, inr, arith, append_assoc, append-nil, length-append}
+use Rattle.std.proofs.lemmas.Bool.{cases_lt}
+use Rattle.std.specs.List.{AllByRecursion}
 use Rattle.std.specs.Result.{IsErrAnd, MatchResult}
 use Rattle.std.proofs.KnownBytes.{Appends-nil}
-use Rattle.ciborium_ll_io.proofs.WriteLaws.{Shrinks-zero}
+use Rattle.ciborium_ll_io.proofs.WriteLaws.{Shrinks-zero, WritesBytes-then}
 use Rattle.ciborium_ll_io.specs.declared.io.Read.{Ghosts as Reader}
 use Rattle.ciborium_ll_io.specs.declared.io.Write.{Ghosts as Writer}
+use Rattle.ciborium_ll_io.specs.Writes.{WritesAll, WritesBytes}
 use Rattle.ciborium_ll_grammar.specs.declared.hdr.Header.{Header}
 use Rattle.ciborium_ll_grammar.specs.declared.hdr.Header.TheVariants as h
+use Rattle.ciborium_ll_grammar.specs.Title.{IsTitle, IsStrictTitle, shortest_title, title_len}
+use Rattle.ciborium_ll_grammar.specs.Strings.{Kind, kind_header, none}
+use Rattle.ciborium_ll_grammar.specs.Strings.IsString.{definite}
+use Rattle.ciborium_ll_grammar.specs.Elements.{IsPlain, Mark, Plain, Whole, Open, Close, mark_spelling, spelling}
+use Rattle.ciborium_ll_grammar.specs.Elements.{pieces, open_marks, IsElement, plain, string, IsRun, done, IsMeant}
+use Rattle.ciborium_ll_grammar.specs.Elements.{IsStrictSpelling}
+use Rattle.ciborium_ll_grammar.specs.Faults.{Point, Due, In, BodyDue, Reaches, due, inside, opened, body, IsAtTitle}
+use Rattle.ciborium_ll_grammar.specs.Faults.{due_title, with_front}
+use Rattle.ciborium_ll_grammar.proofs.TitleLaws.{shortest_no_longer}
+use Rattle.ciborium_ll_grammar.proofs.ElementLaws.{run_again, spelling-append}
+use Rattle.ciborium_ll_grammar.proofs.StepLaws.{add_element}
+use Rattle.ciborium_ll_grammar.proofs.SpelledLaws.{spelled_none, spelled_then, spelled_title}
 use Rattle.ciborium_ll_decoder.specs.declared.dec.Decoder.{Decoder}
 use Rattle.ciborium_ll_decoder.specs.declared.dec.Error.{Error}
 use Rattle.ciborium_ll_decoder.specs.declared.dec.Error.TheVariants as e
 use Rattle.ciborium_ll_decoder.specs.declared.copy.RecodeError.{RecodeError}
 use Rattle.ciborium_ll_decoder.specs.declared.copy.RecodeError.TheVariants as r
-use Rattle.ciborium_ll_grammar.specs.Title.{IsTitle, IsStrictTitle, shortest_title, title_len}
-use Rattle.ciborium_ll_grammar.specs.Strings.{Kind, kind_header, none}
-use Rattle.ciborium_ll_grammar.specs.Elements.{IsPlain, Mark, Plain, Open, Close, spelling, pieces, open_marks, plain}
-use Rattle.ciborium_ll_grammar.specs.Elements.{IsRun, done}
-use Rattle.ciborium_ll_grammar.specs.Faults.{Due, In, Reaches, due, inside, opened}
-use Rattle.ciborium_ll_decoder.specs.Decoding.{Passes, Strictly, IsSteady, PullsHeader, PullsTitle}
-use Rattle.ciborium_ll_io.specs.Writes.{WritesAll, WritesBytes, WritesFront}
-use Rattle.ciborium_ll_recode.specs.Recoding.{WritesHeader, Copied, CopiesRun, CopiesAll, StopsAtTitle, StopsWriting}
-use Rattle.ciborium_ll_recode.specs.Recoding.{CopiesElements, CopiesOne, StopsCopy, IsBehind, GoesOn, IsWithin, ReadsString}
-use Rattle.ciborium_ll_decoder.specs.BodyCopies.{Sides, sides}
-use Rattle.ciborium_ll_grammar.proofs.TitleLaws.{shortest_no_longer}
-use Rattle.ciborium_ll_grammar.proofs.ElementLaws.{run_again}
-use Rattle.ciborium_ll_grammar.proofs.StepLaws.{add_element}
-use Rattle.ciborium_ll_decoder.proofs.DecodingLaws.{Passes-none, Passes-pull, passes_settled}
+use Rattle.ciborium_ll_decoder.specs.Decoding.{Strictly, IsSteady, PullsHeader, PullsTitle}
+use Rattle.ciborium_ll_decoder.specs.BodyCopies.{CopiesBody, Sides, sides}
+use Rattle.ciborium_ll_decoder.proofs.BodyLaws.{sound_body}
+use Rattle.ciborium_ll_decoder.proofs.DecodingLaws.{Passes-none, Passes-pull, Passes-then, passes_settled}
 use Rattle.ciborium_ll_decoder.proofs.NestLaws.{alone_bytes, open_alone}
-use Rattle.ciborium_ll_recode.proofs.RecodeLaws.{marks_then, mark_unwritten, element_unwritten, header_error}
-use Rattle.ciborium_ll_recode.proofs.RunLaws.{run_settled}
 use Rattle.ciborium_ll_decoder.proofs.SegmentLaws.{sound_none}
-use Rattle.ciborium_ll_grammar.proofs.SpelledLaws.{spelled_none, spelled_then}
+use Rattle.ciborium_ll_recode.specs.Recoding.{WritesHeader, NextWrite, Alone, Titled, Chunk, Copied, CopiesRun}
+use Rattle.ciborium_ll_recode.specs.Recoding.{CopiesAll, StopsAtTitle, StopsInBody, StopsCopy, CopiesElements}
+use Rattle.ciborium_ll_recode.specs.Recoding.{CopiesOne, IsBehind, GoesOn, CopiesElement, CopiesBehind, IsWithin}
+use Rattle.ciborium_ll_recode.specs.Recoding.{ReadsString}
+use Rattle.ciborium_ll_recode.proofs.RunLaws.{run_settled}
 
 -- a copy hands on what the write of a header's shortest title answered
 pub title_answered : {E W F : Type 0} (sink : Writer W F) (old : W) (wrote : Result (Unit {0}) F)
@@ -43,209 +50,328 @@ title_answered sink old (Ok unit) answer bytes header new wrote same cases = rw 
 title_answered sink old (Err fault) (Err error) bytes header new wrote same cases = rw cases (rw same at wrote)
 title_answered sink old (Err fault) (Ok unit) bytes header new wrote same cases = absurd cases
 
+-- the last title of an element is the next write
+next_element : {count before : ℕ} (room : ℕ) {bytes : List ℕ} (marks : List Mark) (mark : Mark) (header : Header)
+    → mark_spelling mark ≡ shortest_title header → before < count → IsRun (suc before) bytes (marks ++ mark ∷ [])
+    → NextWrite count room bytes [] (spelling marks) (shortest_title header)
+next_element {count} {before} room {bytes} marks mark header spelled less run =
+    Alone marks mark header spelled (elim (cases_lt (suc before) count) [
+      | inl fewer ↦ inr (Due, due fewer run, tt)
+      | inr all ↦ (let same : suc before ≡ count = omega arith in inl (rw same at run))
+    ])
+
 module _ {R E W F : Type 0} (source : Reader R E) (sink : Writer W F) where
+  pub writes_then : {writer between writer' : W} {xs ys : List ℕ} → WritesAll sink writer xs between
+      → WritesAll sink between ys writer' → WritesAll sink writer (xs ++ ys) writer'
+  writes_then {writer} {between} {writer'} {xs} {ys} first second =
+      WritesBytes-then sink {T = Unit {0}} writer between writer' (Ok (tt {0})) xs ys first second
+
+  -- marks, and more marks, are written
+  pub marks_then : {writer between writer' : W} (marks others : List Mark) → WritesAll sink writer (spelling marks) between
+      → WritesAll sink between (spelling others) writer' → WritesAll sink writer (spelling (marks ++ others)) writer'
+  marks_then marks others first second = rw spelling-append (writes_then first second)
+
+  pub mark_then : {writer between writer' : W} (marks : List Mark) (mark : Mark)
+      → WritesAll sink writer (spelling marks) between → WritesAll sink between (mark_spelling mark) writer'
+      → WritesAll sink writer (spelling (marks ++ mark ∷ [])) writer'
+  mark_then marks mark first second = marks_then marks (mark ∷ []) first (rw append-nil second)
+
+  -- what is written up to a front of a body
+  pub front_then : {writer between titled writer' : W} (marks : List Mark) (kind : Kind) (len : ℕ) {front : List ℕ}
+      → WritesAll sink writer (spelling marks) between
+      → WritesAll sink between (shortest_title (kind_header kind (Some len))) titled
+      → WritesAll sink titled front writer' → WritesAll sink writer (with_front marks kind len front) writer'
+  front_then marks kind len all title front = writes_then all (writes_then title front)
+
+  -- ---- where a copy stops
+
+  -- behind what was copied this point is reached
+  pub record StandsAt (count : ℕ) (old : Sides R W) (bytes : List ℕ) (marks : List Mark) (point : Point)
+      (now : Sides R W) : Type 0 where
+    pub reach : Reaches count bytes marks point
+    pub copied : Copied source sink old bytes marks now
+    pub strict : Strictly old.decoder (IsStrictSpelling bytes marks (due_title point))
+
+  -- no title was pulled
+  pub title_stops : {count : ℕ} (room : ℕ) {old now : Sides R W} {bytes : List ℕ} {marks : List Mark} {point : Point}
+      → StandsAt count old bytes marks point now → IsAtTitle point → due_title point ≡ [] → (new : Decoder R)
+      (error : Error E) → PullsHeader source now.decoder (Err error) new
+      → StopsCopy source sink count room old (r.Read error) (sides new now.writer)
+  title_stops {count} room {old} {now} {bytes} {marks} {point} stands at_title alone new error fails =
+      by_error error fails
+    where
+      stop : (error : Error E) → PullsHeader source now.decoder (Err error) new
+          → StopsAtTitle source sink count old error (sides new now.writer)
+      stop error fails = record {
+        bytes = bytes;
+        marks = marks;
+        point = point;
+        reaches = stands.reach;
+        at_title = at_title;
+        between = now.decoder;
+        copied = stands.copied;
+        fails = fails;
+        strict = rw alone at stands.strict;
+      }
+
+      by_error : (error : Error E) → PullsHeader source now.decoder (Err error) new
+          → StopsCopy source sink count room old (r.Read error) (sides new now.writer)
+      by_error (e.Io fault) fails = inl (stop (e.Io fault) fails)
+      by_error (e.Syntax at) fails = inl (stop (e.Syntax at) fails)
+      by_error e.TooLong fails = inl (stop e.TooLong fails)
+      by_error e.Waiting fails = absurd fails
+
+  -- a title was not written: the only error of its write is the writer's
+  pub header_stops : {count room : ℕ} {old now : Sides R W} {bytes : List ℕ} {marks : List Mark} (header : Header)
+      (error : RecodeError E F) (after : W)
+      → NextWrite count room bytes [] (spelling marks) (shortest_title header) → Copied source sink old bytes marks now
+      → WritesHeader {E = E} sink now.writer (Err error) header after
+      → StopsCopy source sink count room old error (sides now.decoder after)
+  header_stops {now = now} {bytes} {marks} header (r.Write fault) after next copied fails = record {
+    bytes = bytes;
+    read = [];
+    passed = rw append-nil copied.passed;
+    whole = spelling marks;
+    next = shortest_title header;
+    next_write = next;
+    between = now.writer;
+    written = copied.written;
+    fails = fails;
+  }
+  header_stops header (r.Read error) after next copied fails = absurd fails
+
+  -- the copy of a body stopped, behind its title
+  pub body_stops : {count : ℕ} (room : ℕ) {old between : Sides R W} {bytes : List ℕ} {marks : List Mark} {k : Kind}
+      {len start : ℕ} → StandsAt count old bytes marks (BodyDue k len start) between → {titled : W}
+      → WritesAll sink between.writer (shortest_title (kind_header k (Some len))) titled → (new : Sides R W)
+      (error : RecodeError E F)
+      → CopiesBody source sink k len room (old.decoder.offset + start) (sides between.decoder titled) (Err error) new
+      → StopsCopy source sink count room old error new
+  body_stops room {old} {between} {bytes} {marks} {k} {len} {start} stands title new (r.Write fault) stops = record {
+    bytes = bytes;
+    read = stops.front ++ (stops.chunk ++ stops.kept);
+    passed = Passes-then source old.decoder between.decoder new.decoder bytes _ stands.copied.passed stops.passed;
+    whole = with_front marks k len stops.front;
+    next = stops.chunk;
+    next_write = Chunk marks k len start stops.front stops.chunk stops.kept stands.reach stops.sound stops.within
+        stops.filled stops.few;
+    between = stops.between;
+    written = front_then marks k len stands.copied.written title stops.written;
+    fails = stops.stopped;
+  }
+  body_stops {count} room {old} {between} {bytes} {marks} {k} {len} {start} stands {titled} title new (r.Read error) stops =
+      by_error error record {
+        bytes = bytes;
+        marks = marks;
+        kind = k;
+        len = len;
+        start = start;
+        reaches = stands.reach;
+        between = between;
+        copied = stands.copied;
+        titled = titled;
+        title = title;
+        stopped = stops;
+        strict = stands.strict;
+      }
+    where
+      by_error : (error : Error E) → StopsInBody source sink count room old error new
+          → StopsCopy source sink count room old (r.Read error) new
+      by_error (e.Io fault) stops = inr stops
+      by_error (e.Syntax at) stops = inr (inr stops)
+      by_error e.TooLong stops = inr (inr stops)
+      by_error e.Waiting stops = stops.stopped.ends.stops
+
   -- ---- the title of an element
 
   -- a header's shortest title fits before the offset behind it
-  pub pulled_covers : (old new : Decoder R) (header : Header) → PullsTitle source old header new → title_len header
-      ≤ new.offset
-  pulled_covers old new header pulled = omega (arith, pulled.offset, shortest_no_longer pulled.title header pulled.is_title)
+  pub pulled_covers : (old new : Decoder R) (header : Header) → PullsTitle source old header new
+      → title_len header ≤ new.offset
+  pulled_covers old new header pulled =
+      omega (arith, pulled.offset, shortest_no_longer pulled.title header pulled.is_title)
 
-  module _ (count before : ℕ) (old now : Sides R W) where
-    -- behind whole elements
-    whole : (behind : IsBehind source sink count before [] old now) → Copied source sink old behind.bytes behind.marks
-        now
-    whole behind = subst (λ (z : List ℕ). Copied source sink old z behind.marks now) (append-nil behind.bytes)
-        behind.copied
+  module _ {count before : ℕ} {old now : Sides R W} (behind : IsBehind source sink count before [] old now) where
+    -- behind whole elements one is due
+    stands_due : StandsAt count old behind.bytes behind.marks Due now
+    stands_due =
+        record { reach = due behind.due behind.run; copied = rw append-nil at behind.copied; strict = behind.strict }
 
-    -- the title of an element was pulled
-    pub behind_pulled : (new : Decoder R) (header : Header) → IsBehind source sink count before [] old now
-        → (pulled : PullsTitle source now.decoder header new) → (IsSteady source now.decoder → IsSteady source new)
+    pub pull_stops : (room : ℕ) (new : Decoder R) (error : Error E) → PullsHeader source now.decoder (Err error) new
+        → StopsCopy source sink count room old (r.Read error) (sides new now.writer)
+    pull_stops room new error fails = title_stops room stands_due tt refl new error fails
+
+    -- it was pulled
+    behind_pulled : {new : Decoder R} {header : Header} (pulled : PullsTitle source now.decoder header new)
+        → (IsSteady source now.decoder → IsSteady source new)
         → IsBehind source sink count before pulled.title old (sides new now.writer)
-    behind_pulled new header behind pulled steady = record {
+    behind_pulled {new} {header} pulled steady = record {
       bytes = behind.bytes;
       marks = behind.marks;
       due = behind.due;
       run = behind.run;
       copied = record {
-        passed = Passes-pull source old.decoder now.decoder new behind.bytes header pulled (whole behind).passed steady;
+        passed = Passes-pull source old.decoder now.decoder new behind.bytes header pulled stands_due.copied.passed
+            steady;
         written = behind.copied.written;
       };
       strict = behind.strict;
     }
 
     -- of a strict decoder it is a strict title
-    pub title_taken : (new : Decoder R) (header : Header) → IsBehind source sink count before [] old now
-        → (pulled : PullsTitle source now.decoder header new)
+    title_taken : {new : Decoder R} {header : Header} (pulled : PullsTitle source now.decoder header new)
         → Strictly old.decoder (IsStrictTitle pulled.title header)
-    title_taken new header behind pulled = λ on none. pulled.strict (behind.copied.passed.mode ∙ on)
+    title_taken pulled = λ on none. pulled.strict (behind.copied.passed.mode ∙ on)
         (passes_settled source old.decoder now.decoder (behind.bytes ++ []) behind.copied.passed none)
 
-    title_stops : (new : Decoder R) (error : Error E) → IsBehind source sink count before [] old now
-        → PullsHeader source now.decoder (Err error) new
-        → StopsAtTitle source sink count old error (sides new now.writer)
-    title_stops new error behind fails = record {
-      bytes = behind.bytes;
-      marks = behind.marks;
-      point = Due;
-      reaches = due behind.due behind.run;
-      at_title = tt;
-      between = now.decoder;
-      copied = whole behind;
-      fails = fails;
-      strict = behind.strict;
-    }
+  -- behind its title the copy of an element goes on
+  pub element_copied : {now : Sides R W} {header : Header} (room : ℕ) (result : Result (Unit {0}) (RecodeError E F))
+      (new : Sides R W) {between : Decoder R} → PullsTitle source now.decoder header between
+      → (IsSteady source now.decoder → IsSteady source between)
+      → CopiesBehind source sink header room (sides between now.writer) result new
+      → CopiesElement source sink room now result new
+  element_copied room result new pulled steady goes_on = λ count before old behind.
+      goes_on count before old pulled.title pulled.is_title (title_taken behind pulled)
+      (behind_pulled behind pulled steady)
 
-    -- the title of an element was not pulled
-    pub pull_stops : (room : ℕ) (new : Decoder R) (error : Error E) → IsBehind source sink count before [] old now
-        → PullsHeader source now.decoder (Err error) new
-        → StopsCopy source sink count room old (r.Read error) (sides new now.writer)
-    pull_stops room new (e.Io fault) behind fails = inl (title_stops new (e.Io fault) behind fails)
-    pull_stops room new (e.Syntax at) behind fails = inl (title_stops new (e.Syntax at) behind fails)
-    pull_stops room new e.TooLong behind fails = inl (title_stops new e.TooLong behind fails)
-    pull_stops room new e.Waiting behind fails = absurd fails
+  -- ---- an element more
 
-    -- ---- a header that begins no string
+  added : {before : ℕ} {old new : Sides R W} {bytes : List ℕ} {marks : List Mark} (w : List ℕ) (ms : List Mark)
+      → IsRun before bytes marks → Strictly old.decoder (IsStrictSpelling bytes marks []) → IsElement w ms
+      → Copied source sink old (bytes ++ w) (marks ++ ms) new
+      → Strictly old.decoder ((w ≡ spelling ms) × AllByRecursion IsMeant ms)
+      → CopiesRun source sink (suc before) old new
+  added {before} {bytes = bytes} {marks} w ms run strict element copied same = record {
+    bytes = bytes ++ w;
+    marks = marks ++ ms;
+    run = add_element before bytes marks run w ms element;
+    copied = copied;
+    strict = λ on none. spelled_then bytes marks w ms (strict on none) (same on none).0 (same on none).1;
+  }
 
-    plain_added : (header : Header) (title : List ℕ) (after : W) → IsPlain header → IsTitle title header
-        → Strictly old.decoder (IsStrictTitle title header) → IsBehind source sink count before title old now
-        → WritesAll sink now.writer (shortest_title header) after
-        → CopiesRun source sink (suc before) old (sides now.decoder after)
-    plain_added header title after p t only behind wrote = record {
-      bytes = behind.bytes ++ title;
-      marks = behind.marks ++ Plain header ∷ [];
-      run = add_element before behind.bytes behind.marks behind.run title (Plain header ∷ []) (plain header t p);
-      copied = record {
-        passed = behind.copied.passed;
-        written = marks_then source sink old.writer now.writer after behind.marks (Plain header ∷ [])
-            behind.copied.written
-            (subst (λ (z : List ℕ). WritesAll sink now.writer z after) (sym (append-nil (shortest_title header)))
-            wrote);
-      };
-      strict = λ on none.
-          let first = only on none in
-          spelled_then behind.bytes behind.marks title (Plain header ∷ []) (behind.strict on none)
-          (first.shortest ∙ sym (append-nil (shortest_title header))) (first.meant, tt);
-    }
-
-    plain_unwritten : (room : ℕ) (header : Header) (title : List ℕ) (after : W) (fault : F) → IsPlain header
-        → IsTitle title header → IsBehind source sink count before title old now
-        → WritesFront sink now.writer (shortest_title header) after
-        → StopsWriting source sink count room old (sides now.decoder after)
-    plain_unwritten room header title after fault p t behind stopped =
-        element_unwritten source sink count room old before (behind.bytes ++ title) behind.marks (Plain header) header
-        now after fault behind.due refl
-        (add_element before behind.bytes behind.marks behind.run title (Plain header ∷ []) (plain header t p))
-        behind.copied stopped
-
-    pub plain_goes_on : (room : ℕ) (header : Header) (title : List ℕ) (result : Result (Unit {0}) (RecodeError E F))
-        (after : W) → IsPlain header → IsTitle title header → Strictly old.decoder (IsStrictTitle title header)
-        → IsBehind source sink count before title old now → WritesHeader sink now.writer result header after
+  module _ {count before : ℕ} {title : List ℕ} {old now : Sides R W}
+      (behind : IsBehind source sink count before title old now) where
+    -- a header that begins no string
+    pub plain_goes_on : (room : ℕ) (header : Header) (result : Result (Unit {0}) (RecodeError E F)) (after : W)
+        → IsPlain header → IsTitle title header → Strictly old.decoder (IsStrictTitle title header)
+        → WritesHeader sink now.writer result header after
         → GoesOn source sink count before room old result (sides now.decoder after)
-    plain_goes_on room header title (Ok unit) after p t only behind wrote =
-        plain_added header title after p t only behind wrote
-    plain_goes_on room header title (Err error) after p t only behind wrote =
-        header_error source sink count room old now after header error wrote
-        (λ fault stopped. plain_unwritten room header title after fault p t behind stopped)
+    plain_goes_on room header (Ok unit) after p t only wrote =
+        added title (Plain header ∷ []) behind.run behind.strict (plain header t p)
+        record {
+          passed = behind.copied.passed;
+          written = mark_then behind.marks (Plain header) behind.copied.written wrote;
+        }
+        (λ on none.
+        let first = only on none in
+        (first.shortest ∙ sym (append-nil (shortest_title header)), (first.meant, tt)))
+    plain_goes_on room header (Err error) after p t only wrote =
+        header_stops header error after (next_element room behind.marks (Plain header) header refl behind.due
+        (add_element before behind.bytes behind.marks behind.run title (Plain header ∷ []) (plain header t p)))
+        behind.copied wrote
+
+    -- ---- a string of a definite length
+
+    module _ (k : Kind) (len room : ℕ) (t : IsTitle title (kind_header k (Some len))) where
+      -- the title of its body is the next write
+      pub definite_next : NextWrite count room (behind.bytes ++ title) [] (spelling behind.marks)
+          (shortest_title (kind_header k (Some len)))
+      definite_next = Titled behind.marks k len _ (body k (due behind.due behind.run) t)
+
+      -- its body, with its answer
+      pub definite_goes_on : Strictly old.decoder (IsStrictTitle title (kind_header k (Some len))) → (place : ℕ)
+          → place + title_len (kind_header k (Some len)) ≡ now.decoder.offset → (titled : W)
+          → WritesAll sink now.writer (shortest_title (kind_header k (Some len))) titled → (new : Sides R W)
+          (result : Result (Unit {0}) (RecodeError E F))
+          → CopiesBody source sink k len room place (sides now.decoder titled) result new
+          → GoesOn source sink count before room old result new
+      definite_goes_on only place at titled wrote new (Ok unit) whole =
+          let b = whole.ends.read in
+          let lengths : len ≡ length b = sym whole.ends.all in
+          added (title ++ b) (Whole k b ∷ []) behind.run behind.strict
+          (string k (definite (rw lengths at t)) (sound_body k b whole.ends.sound))
+          record {
+            passed = rw (← (append_assoc behind.bytes title b)) (Passes-then source old.decoder now.decoder new.decoder
+                (behind.bytes ++ title) b behind.copied.passed whole.ends.passed);
+            written = mark_then behind.marks (Whole k b) behind.copied.written
+                (writes_then (rw lengths at wrote) whole.written);
+          }
+          (λ on none.
+          let first = rw lengths at (only on none) in
+          (ap (λ (z : List ℕ). z ++ b) first.shortest ∙ sym (append-nil _), (tt, tt)))
+      definite_goes_on only place at titled wrote new (Err error) stopped =
+          -- the place of a body is where its shortest title would begin, behind a title of any length
+          let start = length (behind.bytes ++ title) - title_len (kind_header k (Some len)) in
+          let placed : place ≡ old.decoder.offset + start = omega
+          (arith, at, behind.copied.passed.offset, shortest_no_longer title _ t, length-append behind.bytes title) in
+          body_stops room record {
+            reach = body k (due behind.due behind.run) t;
+            copied = behind.copied;
+            strict = λ on none.
+                spelled_title behind.bytes behind.marks title _ (behind.strict on none) (only on none).shortest;
+          } wrote new error (subst (λ (n : ℕ). CopiesBody source sink k len room n (sides now.decoder titled) (Err error) new)
+          placed stopped)
 
     -- ---- a string of indefinite length
 
-    -- its open was written
-    pub opened_within : (k : Kind) (title : List ℕ) (titled : W) → IsTitle title (kind_header k None)
-        → IsBehind source sink count before title old now
-        → WritesAll sink now.writer (shortest_title (kind_header k None)) titled
-        → IsWithin source sink count before k old (sides now.decoder titled)
-    opened_within k title titled t behind wrote = record {
-      bytes = behind.bytes;
-      marks = behind.marks;
-      due = behind.due;
-      run = behind.run;
-      copied = record {
-        passed = subst (λ (z : List ℕ). Passes source old.decoder (behind.bytes ++ z) now.decoder)
-            (alone_bytes title (kind_header k None) t (open_alone k)) behind.copied.passed;
-        written = marks_then source sink old.writer now.writer titled behind.marks (Open k ∷ []) behind.copied.written
-            (subst (λ (z : List ℕ). WritesAll sink now.writer z titled)
-            (sym (append-nil (shortest_title (kind_header k None)))) wrote);
-      };
-      strict = behind.strict;
-    }
+    module _ (k : Kind) (t : IsTitle title (kind_header k None)) where
+      -- its open was written
+      pub opened_within : (titled : W) → WritesAll sink now.writer (shortest_title (kind_header k None)) titled
+          → IsWithin source sink count before k old (sides now.decoder titled)
+      opened_within titled wrote = record {
+        bytes = behind.bytes;
+        marks = behind.marks;
+        due = behind.due;
+        run = behind.run;
+        copied = record {
+          passed = rw (alone_bytes title (kind_header k None) t (open_alone k)) at behind.copied.passed;
+          written = mark_then behind.marks (Open k) behind.copied.written wrote;
+        };
+        strict = behind.strict;
+      }
 
-    -- its open was not written
-    pub open_unwritten : (room : ℕ) (k : Kind) (title : List ℕ) (after : W) (fault : F)
-        → IsTitle title (kind_header k None)
-        → IsBehind source sink count before title old now
-        → WritesFront sink now.writer (shortest_title (kind_header k None)) after
-        → StopsWriting source sink count room old (sides now.decoder after)
-    open_unwritten room k title after fault t behind stopped =
-        let reach : Reaches count (behind.bytes ++ (title ++ [])) (behind.marks ++ Open k ∷ []) (In k) =
-        inside behind.due behind.run (opened t none) (sound_none k) in
-        mark_unwritten source sink count room old (behind.bytes ++ title) behind.marks (Open k) (kind_header k None) now
-        after fault refl behind.copied stopped
-        (inr (
-          In k,
-          subst (λ (z : List ℕ). Reaches count (behind.bytes ++ z) (behind.marks ++ Open k ∷ []) (In k))
-              (append-nil title) reach,
-          tt,
-        ))
+      -- its open is the next write
+      pub open_next : (room : ℕ) → NextWrite count room (behind.bytes ++ title) [] (spelling behind.marks)
+          (shortest_title (kind_header k None))
+      open_next room =
+          let reach : Reaches count (behind.bytes ++ (title ++ [])) (behind.marks ++ Open k ∷ []) (In k) =
+          inside behind.due behind.run (opened t none) (sound_none k) in
+          Alone behind.marks (Open k) (kind_header k None) refl (inr (In k, rw append-nil at reach, tt))
 
-    -- ---- its close
+  -- its close
+  pub close_goes_on : {count before : ℕ} {old now : Sides R W} {k : Kind} (room : ℕ)
+      (result : Result (Unit {0}) (RecodeError E F)) (after : W)
+      → before < count → ReadsString source sink before k old now
+      → WritesHeader sink now.writer result h.Break after
+      → GoesOn source sink count before room old result (sides now.decoder after)
+  close_goes_on {before = before} {k = k} room (Ok unit) after less read wrote = record {
+    bytes = read.bytes ++ read.element;
+    marks = read.marks ++ open_marks k read.bodies;
+    run = add_element before read.bytes read.marks read.run read.element _ read.is_element;
+    copied = record {
+      passed = read.copied.passed;
+      written = rw append_assoc at (mark_then (read.marks ++ Open k ∷ pieces k read.bodies) Close
+          read.copied.written wrote);
+    };
+    strict = read.strict;
+  }
+  close_goes_on {before = before} {k = k} room (Err error) after less read wrote =
+      header_stops h.Break error after (next_element room (read.marks ++ Open k ∷ pieces k read.bodies) Close
+      h.Break refl less (rw append_assoc (add_element before read.bytes read.marks read.run read.element _
+      read.is_element))) read.copied wrote
 
-    close_marks : (k : Kind) (marks : List Mark) (bodies : List (List ℕ))
-        → (marks ++ Open k ∷ pieces k bodies) ++ Close ∷ [] ≡ marks ++ open_marks k bodies
-    close_marks k marks bodies = append_assoc marks (Open k ∷ pieces k bodies) (Close ∷ [])
+  -- ---- the loop over elements
 
-    closed : (k : Kind) (after : W) → ReadsString source sink before k old now
-        → WritesAll sink now.writer (shortest_title h.Break) after
-        → CopiesRun source sink (suc before) old (sides now.decoder after)
-    closed k after string wrote = record {
-      bytes = string.bytes ++ string.element;
-      marks = string.marks ++ open_marks k string.bodies;
-      run = add_element before string.bytes string.marks string.run string.element (open_marks k string.bodies)
-          string.is_element;
-      copied = record {
-        passed = string.copied.passed;
-        written = subst (λ (z : List Mark). WritesAll sink old.writer (spelling z) after)
-            (close_marks k string.marks string.bodies)
-            (marks_then source sink old.writer now.writer after (string.marks ++ Open k ∷ pieces k string.bodies)
-            (Close ∷ []) string.copied.written wrote);
-      };
-      strict = string.strict;
-    }
-
-    unclosed : (room : ℕ) (k : Kind) (after : W) (fault : F) → before < count → ReadsString source sink before k old now
-        → WritesFront sink now.writer (shortest_title h.Break) after
-        → StopsWriting source sink count room old (sides now.decoder after)
-    unclosed room k after fault less string stopped =
-        element_unwritten source sink count room old before (string.bytes ++ string.element)
-        (string.marks ++ Open k ∷ pieces k string.bodies) Close h.Break now after fault less refl
-        (subst (λ (z : List Mark). IsRun (suc before) (string.bytes ++ string.element) z)
-        (sym (close_marks k string.marks string.bodies))
-        (add_element before string.bytes string.marks string.run string.element (open_marks k string.bodies)
-        string.is_element))
-        string.copied stopped
-
-    pub close_goes_on : (room : ℕ) (k : Kind) (result : Result (Unit {0}) (RecodeError E F)) (after : W)
-        → before < count → ReadsString source sink before k old now
-        → WritesHeader sink now.writer result h.Break after
-        → GoesOn source sink count before room old result (sides now.decoder after)
-    close_goes_on room k (Ok unit) after less string wrote = closed k after string wrote
-    close_goes_on room k (Err error) after less string wrote =
-        header_error source sink count room old now after h.Break error wrote
-        (λ fault stopped. unclosed room k after fault less string stopped)
-
-    -- ---- the loop over elements
-
-    -- one element more is due
-    pub run_behind : before < count → CopiesRun source sink before old now → IsBehind source sink count before [] old
-        now
-    run_behind less run = record {
-      bytes = run.bytes;
-      marks = run.marks;
-      due = less;
-      run = run.run;
-      copied = subst (λ (z : List ℕ). Copied source sink old z run.marks now) (sym (append-nil run.bytes)) run.copied;
-      strict = run.strict;
-    }
+  -- one element more is due
+  pub run_behind : (count before : ℕ) (old now : Sides R W) → before < count → CopiesRun source sink before old now
+      → IsBehind source sink count before [] old now
+  run_behind count before old now less run = record {
+    bytes = run.bytes;
+    marks = run.marks;
+    due = less;
+    run = run.run;
+    copied = rw append-nil run.copied;
+    strict = run.strict;
+  }
 
   pub added_run : (before : ℕ) (old now : Sides R W) → CopiesRun source sink (suc before) old now
       → CopiesRun source sink (before + 1) old now

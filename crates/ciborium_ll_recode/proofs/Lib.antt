@@ -2,7 +2,6 @@ pub mod CopyLaws
 pub mod ExactlyLaws
 pub mod NumberTitles
 pub mod RecodeAnyhowLaws
-pub mod RecodeLaws
 pub mod RecodeReadyLaws
 pub mod RoomLaws
 pub mod RunLaws

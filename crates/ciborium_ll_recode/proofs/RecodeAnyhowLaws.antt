@@ -1,6 +1,7 @@
 -- A copy of elements where bytes are told, whichever side fails: how far it came, and what stopped it there.
-use Rattle.std.proofs.Common.{◌≡◌, ℕ, Bool, ◌+◌, ◌-◌, ◌≤◌, List, [], ◌∷◌, ◌++◌, length, take, drop, Some, refl, sym, ap, subst}
-use Rattle.std.proofs.Common.{◌^◌, min, max, None, Result, Ok, Err, ◌∙◌, inl, inr, arith, append_assoc, length-append}
+use Rattle.std.proofs.Common.{◌≡◌, ℕ, Bool, ◌+◌, ◌-◌, ◌≤◌, List, [], ◌∷◌, ◌++◌, length, take, drop, Some, refl, sym, ap}
+use Rattle.std.proofs.Common.{subst, ◌^◌, min, max, None, Result, Ok, Err, ◌∙◌, inl, inr, arith, append_assoc}
+use Rattle.std.proofs.Common.{length-append}
 use Rattle.std.proofs.Math.Seq.{drop-append_seam}
 use Rattle.std.proofs.lemmas.Bool.{cases_lt}
 use Rattle.std.proofs.Math.Nat.{le-max_left, le-max_right}
@@ -9,31 +10,31 @@ use Rattle.ciborium_ll_decoder.specs.declared.dec.Decoder.{Decoder}
 use Rattle.ciborium_ll_decoder.specs.declared.copy.RecodeError.{RecodeError}
 use Rattle.ciborium_ll_decoder.specs.declared.copy.RecodeError.TheVariants as r
 use Rattle.ciborium_ll_decoder.proofs.NestLaws.{alone_bytes, open_alone, open_length}
-use Rattle.ciborium_ll_recode.specs.Recoding.{CopiesElements, StopsTooDeep, StopsWriting}
-use Rattle.ciborium_ll_recode.specs.RecodingTold.{StopsAt, StopsShort, StopsUnwritten, RecodesAnyhow}
+use Rattle.ciborium_ll_recode.specs.Recoding.{CopiesElements, StopsTooDeep, StopsWriting, Copied, CopiesRun}
+use Rattle.ciborium_ll_recode.specs.Recoding.{StopsAtTitle, StopsAtOther, StopsInBody}
+use Rattle.ciborium_ll_recode.specs.RecodingTold.{StopsAt, StopsShort, StopsUnwritten, RecodesAnyhow, IsTold}
+use Rattle.ciborium_ll_recode.specs.RecodingTold.{CopiesFront, MeetsFault}
 use Rattle.std.specs.Io.KnownBytes.{Consumes}
 use Rattle.ciborium_ll_io.specs.declared.io.Read.{Ghosts as Reader}
 use Rattle.ciborium_ll_io.specs.declared.io.Write.{Ghosts as Writer}
 use Rattle.ciborium_ll_decoder.specs.declared.dec.Error.{Error}
 use Rattle.ciborium_ll_decoder.specs.declared.dec.Error.TheVariants as e
-use Rattle.ciborium_ll_grammar.specs.Title.{shortest_title, BeginsRefused}
+use Rattle.ciborium_ll_grammar.specs.Title.{BeginsRefused}
 use Rattle.ciborium_ll_grammar.specs.Strings.{Kind, Text, kind_header}
 use Rattle.ciborium_ll_text.specs.Text.{IsCharacters, BeginsNoText}
 use Rattle.ciborium_ll_grammar.specs.Elements.{Mark, spelling, IsStrictSpelling}
 use Rattle.ciborium_ll_grammar.specs.Items.{IsTakenTitle}
-use Rattle.ciborium_ll_grammar.specs.Faults.{Point, Due, In, BodyDue, IsAtTitle, IsRefusedIn, Reaches, due_title, with_front}
-use Rattle.ciborium_ll_grammar.specs.Faults.{Answer, Syntax, FirstFault, NoTitle, LongTitle, OtherTitle, DamagedText}
-use Rattle.ciborium_ll_grammar.specs.Faults.{CutDamagedText}
+use Rattle.ciborium_ll_grammar.specs.Faults.{Point, Due, In, BodyDue, IsAtTitle, IsRefusedIn, Reaches, due_title}
+use Rattle.ciborium_ll_grammar.specs.Faults.{with_front, Answer, Syntax, FirstFault, NoTitle, LongTitle, OtherTitle}
+use Rattle.ciborium_ll_grammar.specs.Faults.{DamagedText, CutDamagedText}
 use Rattle.ciborium_ll_decoder.specs.Decoding.{Begins, view, Strictly, offset_limit, next_read}
 use Rattle.ciborium_ll_decoder.specs.Finishing.{IsNoText, BeginsRest}
 use Rattle.ciborium_ll_decoder.specs.BodyCopies.{Sides}
-use Rattle.ciborium_ll_recode.specs.Recoding.{Copied, CopiesRun, StopsAtTitle, StopsAtOther, StopsInBody}
-use Rattle.ciborium_ll_recode.specs.RecodingTold.{IsTold, CopiesFront, MeetsFault}
 use Rattle.ciborium_ll_grammar.proofs.ElementLaws.{run_again}
 use Rattle.ciborium_ll_decoder.proofs.DamageLaws.{damage_read}
 use Rattle.ciborium_ll_decoder.proofs.ToldLaws.{consumes_told, next_read_small}
 use Rattle.ciborium_ll_io.proofs.WriteLaws.{appends_told}
-use Rattle.ciborium_ll_recode.proofs.RecodeLaws.{writes_then}
+use Rattle.ciborium_ll_recode.proofs.CopyLaws.{front_then}
 use Rattle.ciborium_ll_text.proofs.Lists.{front_of, front_behind}
 use Rattle.ciborium_ll_text.proofs.FrontLaws.{no_text_behind}
 use Rattle.ciborium_ll_recode.proofs.RunLaws.{run_settled, run_still}
@@ -198,12 +199,8 @@ module _ {R E W F : Type 0} {strict : Bool} (source : Reader R E) (sink : Writer
         → sink.written new.writer
         ≡ Some (written ++ with_front stops.marks stops.kind stops.len stops.stopped.ends.part.front)
     front_output new stops =
-        let title = shortest_title (kind_header stops.kind (Some stops.len)) in
-        let front = stops.stopped.ends.part.front in
-        let behind = writes_then source sink stops.between.writer stops.titled new.writer title front stops.title
-        stops.stopped.written in
-        appends_told _ _ written _ told.written-told (writes_then source sink old.writer stops.between.writer new.writer
-        (spelling stops.marks) (title ++ front) stops.copied.written behind).appended
+        appends_told _ _ written _ told.written-told (front_then source sink stops.marks stops.kind stops.len
+        stops.copied.written stops.title stops.stopped.written).appended
 
     damaged_told : (at : ℕ) (new : Sides R W) → StopsInBody source sink count room old (e.Syntax at) new
         → MeetsSyntax at new

@@ -4,16 +4,18 @@ use Rattle.std.proofs.Common.{false, subst, ◌∙◌, inl, inr, arith, append_a
 use Rattle.std.proofs.lemmas.Bool.{cases_lt}
 use Rattle.std.proofs.lemmas.List.{length-take-le, take-append-drop}
 use Rattle.ciborium_ll_grammar.specs.Title.{IsTitle, shortest_title, title_len}
-use Rattle.ciborium_ll_grammar.specs.Strings.{Kind, Bytes, Text, kind_header, IsString, AreStrings, none, more, IsWritable}
+use Rattle.ciborium_ll_grammar.specs.Strings.{Kind, Bytes, Text, kind_header, IsString, AreStrings, none, more}
+use Rattle.ciborium_ll_grammar.specs.Strings.{IsWritable}
 use Rattle.ciborium_ll_grammar.specs.Strings.IsString.{definite, indefinite}
 use Rattle.ciborium_ll_grammar.specs.Elements.{Mark, Whole, Open, pieces, spelling, IsElement, IsPlain, plain, string}
 use Rattle.ciborium_ll_grammar.specs.Elements.{IsRun, done, next}
-use Rattle.ciborium_ll_grammar.specs.Faults.{Point, Due, In, BodyDue, due_title, IsInside, opened, deeper}
-use Rattle.ciborium_ll_grammar.specs.Faults.{Reaches, due, inside, body, body_inside, RunInFront}
+use Rattle.ciborium_ll_grammar.specs.Faults.{Point, Due, In, BodyDue, due_title, IsInside, opened, deeper, Reaches, due}
+use Rattle.ciborium_ll_grammar.specs.Faults.{inside, body, body_inside, RunInFront}
 use Rattle.ciborium_ll_grammar.proofs.TitleLaws.{one_title, shortest_no_longer}
 use Rattle.ciborium_ll_grammar.proofs.StringLaws.{mixed, fronts, title_not_break, string_not_break, one_string}
-use Rattle.ciborium_ll_grammar.proofs.ElementLaws.{not_plain, string_fronts, one_element, pieces-append, spelling-append}
-use Rattle.ciborium_ll_grammar.proofs.ElementLaws.{open_spelled, run_again, AreStrings-append, AreWritable-append}
+use Rattle.ciborium_ll_grammar.proofs.ElementLaws.{not_plain, string_fronts, one_element, pieces-append}
+use Rattle.ciborium_ll_grammar.proofs.ElementLaws.{spelling-append, open_spelled, run_again, AreStrings-append}
+use Rattle.ciborium_ll_grammar.proofs.ElementLaws.{AreWritable-append}
 use Rattle.ciborium_ll_grammar.proofs.StepLaws.{add_element}
 use Rattle.ciborium_ll_grammar.proofs.HaltLaws.{IsBad, opens_of, opens_title}
 use Rattle.ciborium_ll_grammar.proofs.FaultLaws.{follows, bad_body, reach_stuck}

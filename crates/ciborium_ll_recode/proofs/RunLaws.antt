@@ -1,14 +1,13 @@
 -- Runs of elements: what is written of one is no longer than what was read, and whether a header waits behind it.
-use Rattle.std.proofs.Common.{◌≡◌, ℕ, ◌<◌, ◌⊎◌, List, [], length, Some, None, Option, IfSome}
-use Rattle.std.proofs.Common.{refl, ap, ◌∙◌, inl, inr, arith, length-append}
+use Rattle.std.proofs.Common.{◌≡◌, ℕ, ◌<◌, ◌⊎◌, List, [], length, Some, None, Option, IfSome, refl, ap, ◌∙◌, inl, inr}
+use Rattle.std.proofs.Common.{arith, length-append}
 use Rattle.ciborium_ll_grammar.specs.declared.hdr.Header.{Header}
 use Rattle.ciborium_ll_io.specs.declared.io.Read.{Ghosts as Reader}
 use Rattle.ciborium_ll_decoder.specs.declared.dec.Decoder.{Decoder}
 use Rattle.ciborium_ll_grammar.specs.Title.{shortest_title}
 use Rattle.ciborium_ll_grammar.specs.Strings.{kind_header}
 use Rattle.ciborium_ll_grammar.specs.Strings.IsString.{definite, indefinite}
-use Rattle.ciborium_ll_grammar.specs.Elements.{Mark, IsElement, plain, string}
-use Rattle.ciborium_ll_grammar.specs.Elements.{IsRun, done, next}
+use Rattle.ciborium_ll_grammar.specs.Elements.{Mark, IsElement, plain, string, IsRun, done, next}
 use Rattle.ciborium_ll_decoder.specs.Decoding.{Begins, Passes}
 use Rattle.ciborium_ll_grammar.proofs.TitleLaws.{shortest_some}
 use Rattle.ciborium_ll_decoder.proofs.NestLaws.{title_some}

@@ -1,18 +1,16 @@
 -- The copy of a string's segments, behind its open.
-use Rattle.std.proofs.Common.{◌≡◌, ℕ, ◌+◌, List, [], ◌∷◌, ◌++◌, length, Some, None, Ok, Err, refl, sym, ap}
-use Rattle.std.proofs.Common.{subst, ◌∙◌, inl, inr, arith, append_assoc, append-nil, length-append}
+use Rattle.std.proofs.Common.{◌≡◌, ℕ, List, [], ◌∷◌, ◌++◌, length, Bool, Option, Some, None, Result, Ok, Err, refl, sym}
+use Rattle.std.proofs.Common.{ap, subst, ◌∙◌, inl, inr, arith, append_assoc, length-append}
 use Rattle.std.proofs.KnownBytes.{Appends-nil}
 use Rattle.ciborium_ll_io.specs.declared.io.Read.{Ghosts as Reader}
 use Rattle.ciborium_ll_io.specs.declared.io.Write.{Ghosts as Writer}
-use Rattle.ciborium_ll_io.specs.Writes.{WritesAll, WritesFront}
+use Rattle.ciborium_ll_io.specs.Writes.{WritesAll}
 use Rattle.ciborium_ll_io.proofs.WriteLaws.{Shrinks-zero}
 use Rattle.ciborium_ll_grammar.specs.declared.hdr.Header.TheVariants as h
 use Rattle.ciborium_ll_grammar.specs.Title.{shortest_title}
 use Rattle.ciborium_ll_grammar.specs.Strings.{Kind, kind_header}
-use Rattle.ciborium_ll_grammar.specs.Elements.{Mark, Open, Piece, spelling, pieces, open_marks, body_spelling}
-use Rattle.ciborium_ll_grammar.specs.Elements.{IsStrictSpelling}
-use Rattle.ciborium_ll_grammar.specs.Faults.{In, BodyDue, Reaches, inside, body_inside}
-use Rattle.ciborium_ll_grammar.proofs.OpenStrings.{IsInsideAt}
+use Rattle.ciborium_ll_grammar.specs.Elements.{Open, Piece, spelling, pieces, open_marks}
+use Rattle.ciborium_ll_grammar.specs.Faults.{In, BodyDue, inside, body_inside}
 use Rattle.ciborium_ll_grammar.proofs.StepLaws.{counted, close_last}
 use Rattle.ciborium_ll_grammar.proofs.ElementLaws.{open_spelled}
 use Rattle.ciborium_ll_grammar.proofs.SpelledLaws.{pieces_meant, open_meant, spelled_then, spelled_title}
@@ -25,13 +23,14 @@ use Rattle.ciborium_ll_decoder.specs.declared.seg.Body.{Body}
 use Rattle.ciborium_ll_decoder.specs.declared.seg.Progress.{Progress}
 use Rattle.ciborium_ll_decoder.specs.declared.seg.Progress.TheVariants as p
 use Rattle.ciborium_ll_decoder.specs.BodyCopies.{BodyWritten, CopiesBody, Sides, sides}
-use Rattle.ciborium_ll_decoder.specs.Decoding.{Passes, IsSteady, PullsHeader, Strictly}
+use Rattle.ciborium_ll_decoder.specs.Decoding.{IsSteady}
+use Rattle.ciborium_ll_decoder.specs.Segments.{AdvancesTo}
 use Rattle.ciborium_ll_decoder.proofs.DecodingLaws.{Passes-pulled, Passes-then, passes_settled}
 use Rattle.ciborium_ll_decoder.proofs.NestLaws.{alone_bytes, title_some}
-use Rattle.ciborium_ll_decoder.proofs.SegmentLaws.{AdvancesAmong, IsAmong, StringSoFar, opens_counted, other_inside}
-use Rattle.ciborium_ll_decoder.proofs.SegmentLaws.{piece_spelled, segment_added, so_far_opened, some_open}
-use Rattle.ciborium_ll_recode.specs.Recoding.{Copied, StopsAtTitle, StopsWriting, StopsCopy, IsWithin, ReadsString}
-use Rattle.ciborium_ll_recode.proofs.RecodeLaws.{marks_then, writes_then, title_unwritten, body_stops}
+use Rattle.ciborium_ll_decoder.proofs.SegmentLaws.{AdvancesAmong, IsAmong, StringSoFar, advances_among, opens_counted}
+use Rattle.ciborium_ll_decoder.proofs.SegmentLaws.{other_inside, piece_spelled, segment_added, so_far_opened, some_open}
+use Rattle.ciborium_ll_recode.specs.Recoding.{StopsCopy, IsWithin, ReadsString}
+use Rattle.ciborium_ll_recode.proofs.CopyLaws.{StandsAt, marks_then, mark_then, writes_then, title_stops, body_stops}
 
 module _ {R E W F : Type 0} (source : Reader R E) (sink : Writer W F) (k : Kind) where
   -- what the loop keeps: the bodies so far were read, and written as pieces
@@ -53,132 +52,115 @@ module _ {R E W F : Type 0} (source : Reader R E) (sink : Writer W F) (k : Kind)
     };
   }
 
-  -- ---- behind elements
+  module _ {opened now : Sides R W} {progress : Progress} (so_far : CopiedSoFar opened progress now) where
+    -- where the next call of `advance` leads
+    abbrev pub Leads : Result (Option Body) (Error E) → Progress → Decoder R → Type 0
+    Leads result after new = AdvancesAmong source k so_far.bodies opened.decoder now.decoder result after new
 
-  module _ (count before : ℕ) (old opened : Sides R W) (outer : IsWithin source sink count before k old opened)
-      (bodies : List (List ℕ)) where
-    -- how far the copy came in all
-    abbrev so_far_bytes : List ℕ → List ℕ
-    so_far_bytes strings = outer.bytes ++ (shortest_title (kind_header k None) ++ strings)
+    pub leads : (strict : Bool) → strict ≡ opened.decoder.strict → (result : Result (Option Body) (Error E))
+        (after : Progress) (new : Decoder R) → AdvancesTo source k strict progress now.decoder result after new
+        → (IsSteady source now.decoder → IsSteady source new) → Leads result after new
+    leads strict mode result after new advances steady = advances_among source k so_far.bodies opened.decoder
+        now.decoder strict result progress after new mode so_far.so_far advances steady
 
-    abbrev so_far_marks : List Mark
-    so_far_marks = outer.marks ++ Open k ∷ pieces k bodies
+    -- ---- behind elements
 
-    reaches_inside : (left : ℕ) (between : Decoder R) (among : IsAmong source k left bodies opened.decoder between)
-        → Reaches count (so_far_bytes among.strings) so_far_marks (In k)
-    reaches_inside left between among = inside outer.due outer.run (counted k left _ _ among.within) among.sound
-
-    copied_inside : (left : ℕ) (between : Decoder R) (writer : W)
-        (among : IsAmong source k left bodies opened.decoder between)
-        → WritesAll sink opened.writer (spelling (pieces k bodies)) writer
-        → Copied source sink old (so_far_bytes among.strings) so_far_marks (sides between writer)
-    copied_inside left between writer among written =
-        let front = shortest_title (kind_header k None) in
-        record {
-          passed = subst (λ (z : List ℕ). Passes source old.decoder z between)
-              (append_assoc outer.bytes front among.strings)
-              (Passes-then source old.decoder opened.decoder between (outer.bytes ++ front) among.strings
-              outer.copied.passed among.passed);
-          written = subst (λ (z : List Mark). WritesAll sink old.writer (spelling z) writer)
-              (append_assoc outer.marks (Open k ∷ []) (pieces k bodies))
-              (marks_then source sink old.writer opened.writer writer (outer.marks ++ Open k ∷ [])
-              (pieces k bodies) outer.copied.written written);
-        }
-
-    -- of a strict decoder it is the spelling of what is written
-    inside_strict : (left : ℕ) (between : Decoder R) (among : IsAmong source k left bodies opened.decoder between)
-        → Strictly old.decoder (IsStrictSpelling (so_far_bytes among.strings) so_far_marks [])
-    inside_strict left between among = λ on none.
-        let front = shortest_title (kind_header k None) in
-        let tight = among.tight (outer.copied.passed.mode ∙ on) in
-        spelled_then outer.bytes outer.marks (front ++ among.strings) (Open k ∷ pieces k bodies)
-        (outer.strict on none) (ap (λ (z : List ℕ). front ++ z) tight.1) (tt, pieces_meant k bodies)
-
-    module _ (now : Sides R W) (new : Decoder R) (progress : Progress)
-        (written : WritesAll sink opened.writer (spelling (pieces k bodies)) now.writer) where
-      -- no title came
-      title_stops : (error : Error E)
-          (all : AdvancesAmong source k bodies opened.decoder now.decoder (Err error) progress new)
-          → PullsHeader source all.between (Err error) new
-          → StopsAtTitle source sink count old error (sides new now.writer)
-      title_stops error all fails = record {
-        bytes = so_far_bytes all.among.strings;
-        marks = so_far_marks;
-        point = In k;
-        reaches = reaches_inside all.left all.between all.among;
-        at_title = tt;
-        between = all.between;
-        copied = copied_inside all.left all.between now.writer all.among written;
-        fails = fails;
-        strict = inside_strict all.left all.between all.among;
-      }
+    module _ {count before : ℕ} {old : Sides R W} (outer : IsWithin source sink count before k old opened) where
+      -- how far the copy came in all, where a title is due
+      stands_inside : {left : ℕ} {between : Decoder R} (among : IsAmong source k left so_far.bodies opened.decoder between)
+          → StandsAt source sink count old (outer.bytes ++ (shortest_title (kind_header k None) ++ among.strings))
+          (outer.marks ++ Open k ∷ pieces k so_far.bodies) (In k) (sides between now.writer)
+      stands_inside {left} {between} among =
+          let front = shortest_title (kind_header k None) in
+          record {
+            reach = inside outer.due outer.run (counted k left _ _ among.within) among.sound;
+            copied = record {
+              passed = rw (← (append_assoc outer.bytes front among.strings)) (Passes-then source old.decoder
+                  opened.decoder between (outer.bytes ++ front) among.strings outer.copied.passed among.passed);
+              written = rw append_assoc at (marks_then source sink (outer.marks ++ Open k ∷ []) (pieces k so_far.bodies)
+                  outer.copied.written so_far.written);
+            };
+            -- of a strict decoder it is the spelling of what is written
+            strict = λ on none.
+                spelled_then outer.bytes outer.marks _ (Open k ∷ pieces k so_far.bodies) (outer.strict on none)
+                (ap (λ (z : List ℕ). front ++ z) (among.tight (outer.copied.passed.mode ∙ on)).1)
+                (tt, pieces_meant k so_far.bodies);
+          }
 
       -- `advance` failed
-      pub segments_stop : (room : ℕ) (error : Error E)
-          → AdvancesAmong source k bodies opened.decoder now.decoder (Err error) progress new
+      pub segments_stop : (room : ℕ) (error : Error E) {after : Progress} {new : Decoder R} → Leads (Err error) after new
           → StopsCopy source sink count room old (r.Read error) (sides new now.writer)
-      segments_stop room (e.Io fault) all = inl (title_stops (e.Io fault) all all.ends.0)
-      segments_stop room (e.Syntax at) all = elim all.ends [
-        | inl refused ↦ inl (title_stops (e.Syntax at) all refused.0)
-        | inr other ↦ inr (inl (record {
-          bytes = so_far_bytes all.among.strings;
-          marks = so_far_marks;
-          kind = k;
-          reaches = reaches_inside all.left all.between all.among;
-          between = all.between;
-          copied = copied_inside all.left all.between now.writer all.among written;
-          other = other_inside source k opened.decoder.strict all.left all.between at progress new
-              all.among.passed.mode (some_open k all.left _ _ all.among.within) other;
-          strict = inside_strict all.left all.between all.among;
-        }))
+      segments_stop room (e.Io fault) {new = new} all =
+          title_stops source sink room (stands_inside all.among) tt refl new (e.Io fault) all.ends.0
+      segments_stop room (e.Syntax at) {after} {new} all = elim all.ends [
+        | inl refused ↦ title_stops source sink room (stands_inside all.among) tt refl new (e.Syntax at) refused.0
+        | inr other ↦ (
+            let stands = stands_inside all.among in
+            inr (inl (record {
+              bytes = outer.bytes ++ (shortest_title (kind_header k None) ++ all.among.strings);
+              marks = outer.marks ++ Open k ∷ pieces k so_far.bodies;
+              kind = k;
+              reaches = stands.reach;
+              between = all.between;
+              copied = stands.copied;
+              other = other_inside source k opened.decoder.strict all.left all.between at after new
+                  all.among.passed.mode (some_open k all.left _ _ all.among.within) other;
+              strict = stands.strict;
+            }))
+            )
       ]
-      segments_stop room e.TooLong all = elim all.ends [
-        | inl passes ↦ inl (title_stops e.TooLong all passes.0)
-        | inr deep ↦ inr (inl (record {
-          bytes = so_far_bytes all.among.strings;
-          marks = so_far_marks;
-          kind = k;
-          reaches = reaches_inside all.left all.between all.among;
-          between = all.between;
-          copied = copied_inside all.left all.between now.writer all.among written;
-          pulled = deep.pulled;
-          full = (
-              let copied = copied_inside all.left all.between now.writer all.among written in
-              omega (arith, opens_counted k all.left _ _ all.among.within, deep.most, copied.passed.offset, deep.pulled.offset, title_some deep.pulled.title (kind_header k None) deep.pulled.is_title, length-append {A = ℕ})
+      segments_stop room e.TooLong {new = new} all = elim all.ends [
+        | inl passes ↦ title_stops source sink room (stands_inside all.among) tt refl new e.TooLong passes.0
+        | inr deep ↦ (
+            let stands = stands_inside all.among in
+            inr (inl (record {
+              bytes = outer.bytes ++ (shortest_title (kind_header k None) ++ all.among.strings);
+              marks = outer.marks ++ Open k ∷ pieces k so_far.bodies;
+              kind = k;
+              reaches = stands.reach;
+              between = all.between;
+              copied = stands.copied;
+              pulled = deep.pulled;
+              full = omega (
+                arith,
+                opens_counted k all.left _ _ all.among.within,
+                deep.most,
+                stands.copied.passed.offset,
+                deep.pulled.offset,
+                title_some deep.pulled.title (kind_header k None) deep.pulled.is_title,
+                length-append {A = ℕ},
               );
-        }))
+            }))
+            )
       ]
       segments_stop room e.Waiting all = absurd all.ends
 
       -- the last break
-      pub segments_end : AdvancesAmong source k bodies opened.decoder now.decoder (Ok None) progress new
+      pub segments_end : {after : Progress} {new : Decoder R} → Leads (Ok None) after new
           → ReadsString source sink before k old (sides new now.writer)
-      segments_end all =
+      segments_end {new = new} all =
           let among = all.among in
+          let bodies = so_far.bodies in
           let front = shortest_title (kind_header k None) in
-          let copied = copied_inside all.left all.between now.writer among written in
+          let string = front ++ among.strings in
+          let stands = stands_inside among in
           let break = alone_bytes all.ends.pulled.title h.Break all.ends.pulled.is_title refl in
-          let last = subst (λ (n : ℕ). IsInsideAt k n (front ++ among.strings) bodies) all.ends.last
-          among.within in
-          let passed = Passes-pulled source old.decoder all.between new (so_far_bytes among.strings) h.Break
-          all.ends.pulled copied.passed (λ s. all.steady (outer.copied.passed.steady s)) in
+          let passed = Passes-pulled source old.decoder all.between new (outer.bytes ++ string) h.Break all.ends.pulled
+          stands.copied.passed (λ s. all.steady (outer.copied.passed.steady s)) in
           record {
             bytes = outer.bytes;
             marks = outer.marks;
             run = outer.run;
-            element = (front ++ among.strings) ++ 0xff ∷ [];
+            element = string ++ 0xff ∷ [];
             bodies = bodies;
-            is_element = close_last k (front ++ among.strings) bodies last among.sound;
+            is_element = close_last k string bodies (rw all.ends.last at among.within) among.sound;
             copied = record {
-              passed = subst (λ (z : List ℕ). Passes source old.decoder z new)
-                  (ap (λ (z : List ℕ). so_far_bytes among.strings ++ z) break ∙ append_assoc outer.bytes
-                  (front ++ among.strings) (0xff ∷ [])) passed;
-              written = copied.written;
+              passed = rw (break, append_assoc outer.bytes string (0xff ∷ [])) at passed;
+              written = stands.copied.written;
             };
             strict = λ on none.
                 let tight = among.tight (outer.copied.passed.mode ∙ on) in
-                spelled_then outer.bytes outer.marks ((front ++ among.strings) ++ 0xff ∷ [])
-                (open_marks k bodies) (outer.strict on none)
+                spelled_then outer.bytes outer.marks (string ++ 0xff ∷ []) (open_marks k bodies) (outer.strict on none)
                 (ap (λ (z : List ℕ). (front ++ z) ++ 0xff ∷ []) tight.1 ∙ append_assoc front
                 (spelling (pieces k bodies)) (0xff ∷ []) ∙ sym (open_spelled k bodies))
                 (open_meant k bodies);
@@ -186,43 +168,27 @@ module _ {R E W F : Type 0} (source : Reader R E) (sink : Writer W F) (k : Kind)
 
       -- ---- a segment that was announced
 
-      module _ (body : Body)
-          (all : AdvancesAmong source k bodies opened.decoder now.decoder (Ok (Some body)) progress new) where
-        announced_reach : Reaches count (so_far_bytes all.among.strings ++ all.ends.pulled.title)
-            so_far_marks (BodyDue k body.length (length (so_far_bytes all.among.strings)))
-        announced_reach = body_inside (reaches_inside all.left all.between all.among)
-            all.ends.pulled.is_title
-
-        announced_copied : Copied source sink old (so_far_bytes all.among.strings ++ all.ends.pulled.title)
-            so_far_marks (sides new now.writer)
-        announced_copied =
-            let copied = copied_inside all.left all.between now.writer all.among written in
+      module _ {body : Body} {after : Progress} {new : Decoder R} (all : Leads (Ok (Some body)) after new) where
+        -- its body is due
+        pub announced : StandsAt source sink count old
+            ((outer.bytes ++ (shortest_title (kind_header k None) ++ all.among.strings)) ++ all.ends.pulled.title)
+            (outer.marks ++ Open k ∷ pieces k so_far.bodies) (BodyDue k body.length
+            (length (outer.bytes ++ (shortest_title (kind_header k None) ++ all.among.strings)))) (sides new now.writer)
+        announced =
+            let stands = stands_inside all.among in
+            let pulled = all.ends.pulled in
             record {
-              passed = Passes-pulled source old.decoder all.between new (so_far_bytes all.among.strings)
-                  (kind_header k (Some body.length)) all.ends.pulled copied.passed
-                  (λ s. all.steady (outer.copied.passed.steady s));
-              written = copied.written;
+              reach = body_inside stands.reach pulled.is_title;
+              copied = record {
+                passed = Passes-pulled source old.decoder all.between new _ (kind_header k (Some body.length)) pulled
+                    stands.copied.passed (λ s. all.steady (outer.copied.passed.steady s));
+                written = stands.copied.written;
+              };
+              strict = λ on none.
+                  let settled = passes_settled source old.decoder all.between _ stands.copied.passed none in
+                  let only = pulled.strict (stands.copied.passed.mode ∙ on) settled in
+                  spelled_title _ _ pulled.title _ (stands.strict on none) only.shortest;
             }
-
-        announced_strict : Strictly old.decoder
-            (IsStrictSpelling (so_far_bytes all.among.strings ++ all.ends.pulled.title)
-            so_far_marks (shortest_title (kind_header k (Some body.length))))
-        announced_strict = λ on none.
-            let settled = passes_settled source old.decoder opened.decoder
-            (outer.bytes ++ shortest_title (kind_header k None)) outer.copied.passed none in
-            let only = all.ends.pulled.strict (all.among.passed.mode ∙ (outer.copied.passed.mode ∙ on))
-            (passes_settled source opened.decoder all.between all.among.strings all.among.passed settled) in
-            spelled_title (so_far_bytes all.among.strings) so_far_marks all.ends.pulled.title
-            (shortest_title (kind_header k (Some body.length)))
-            (inside_strict all.left all.between all.among on none) only.shortest
-
-        -- the writer failed at its title
-        pub segment_unwritten : (room : ℕ) (after : W) (fault : F)
-            → WritesFront sink now.writer (shortest_title (kind_header k (Some body.length))) after
-            → StopsWriting source sink count room old (sides new after)
-        segment_unwritten room after fault stopped =
-            title_unwritten source sink count room old _ _ k body.length _ (sides new now.writer) after fault
-            announced_reach announced_copied stopped
 
         -- the copy of its body stopped
         pub segment_stops : (room : ℕ) (titled : W) (ended : Sides R W) (error : RecodeError E F)
@@ -230,38 +196,24 @@ module _ {R E W F : Type 0} (source : Reader R E) (sink : Writer W F) (k : Kind)
             → CopiesBody source sink k body.length room body.place (sides new titled) (Err error) ended
             → StopsCopy source sink count room old error ended
         segment_stops room titled ended error title stops =
-            let copied = copied_inside all.left all.between now.writer all.among written in
-            let placed : body.place ≡ old.decoder.offset + length (so_far_bytes all.among.strings) = all.ends.place
-            ∙ copied.passed.offset in
-            body_stops source sink count room old _ _ k body.length _ (sides new now.writer) titled ended error
-            announced_reach announced_strict announced_copied title
-            (subst (λ (n : ℕ). CopiesBody source sink k body.length room n (sides new titled) (Err error) ended) placed
-            stops)
+            body_stops source sink room announced title ended error
+            (subst (λ (n : ℕ). CopiesBody source sink k body.length room n (sides new titled) (Err error) ended)
+            (all.ends.place ∙ (stands_inside all.among).copied.passed.offset) stops)
 
-  -- ---- one segment more
+    -- ---- one segment more
 
-  pub segment_copied : (bodies : List (List ℕ)) (opened now : Sides R W) (new : Decoder R) (titled : W)
-      (ended : Sides R W) (body : Body) (progress : Progress) → opened.decoder.waiting ≡ None
-      → AdvancesAmong source k bodies opened.decoder now.decoder (Ok (Some body)) progress new
-      → WritesAll sink opened.writer (spelling (pieces k bodies)) now.writer
-      → WritesAll sink now.writer (shortest_title (kind_header k (Some body.length))) titled
-      → BodyWritten source sink k body.length (sides new titled) ended
-      → (IsSteady source new → IsSteady source ended.decoder) → CopiedSoFar opened progress ended
-  segment_copied bodies opened now new titled ended body progress settled all written title whole steady =
-      let b = whole.ends.read in
-      let lengths : body.length ≡ length b = sym whole.ends.all in
-      let title' = subst (λ (n : ℕ). WritesAll sink now.writer (shortest_title (kind_header k (Some n))) titled)
-      lengths title in
-      let spelled : WritesAll sink now.writer (body_spelling k b) ended.writer =
-      writes_then source sink now.writer titled ended.writer (shortest_title (kind_header k (Some (length b)))) b
-      title' whole.written in
-      let one = subst (λ (z : List ℕ). WritesAll sink now.writer z ended.writer) (sym (append-nil (body_spelling k b)))
-      spelled in
-      record {
-        bodies = bodies ++ b ∷ [];
-        so_far = segment_added source k bodies opened.decoder now.decoder new ended.decoder body progress settled all
-            whole.ends steady;
-        written = subst (λ (z : List ℕ). WritesAll sink opened.writer z ended.writer) (sym (piece_spelled k bodies b))
-            (marks_then source sink opened.writer now.writer ended.writer (pieces k bodies) (Piece k b ∷ []) written
-            one);
-      }
+    pub segment_copied : {body : Body} {after : Progress} {new : Decoder R} {titled : W} {ended : Sides R W}
+        → opened.decoder.waiting ≡ None → Leads (Ok (Some body)) after new
+        → WritesAll sink now.writer (shortest_title (kind_header k (Some body.length))) titled
+        → BodyWritten source sink k body.length (sides new titled) ended
+        → (IsSteady source new → IsSteady source ended.decoder) → CopiedSoFar opened after ended
+    segment_copied {body} {after} {new} {ended = ended} settled all title whole steady =
+        let b = whole.ends.read in
+        let lengths : body.length ≡ length b = sym whole.ends.all in
+        record {
+          bodies = so_far.bodies ++ b ∷ [];
+          so_far = segment_added source k so_far.bodies opened.decoder now.decoder new ended.decoder body after settled
+              all whole.ends steady;
+          written = rw piece_spelled (mark_then source sink (pieces k so_far.bodies) (Piece k b) so_far.written
+              (writes_then source sink (rw lengths at title) whole.written));
+        }

@@ -15,12 +15,13 @@ use Rattle.ciborium_ll_grammar.specs.Elements.{AreWritable, IsPlain, Mark, piece
 use Rattle.ciborium_ll_grammar.specs.Elements.{IsElement, plain, string, IsRun, done, next}
 use Rattle.ciborium_ll_grammar.specs.StrictElements.{AreFlat, none as no_flat, more as more_flat, IsStrictElement}
 use Rattle.ciborium_ll_grammar.specs.StrictElements.{plain as strict_plain, whole as strict_whole}
-use Rattle.ciborium_ll_grammar.specs.StrictElements.{parts as strict_parts}
-use Rattle.ciborium_ll_grammar.specs.StrictElements.{AreStrictElements, done as strict_done, next as strict_next}
+use Rattle.ciborium_ll_grammar.specs.StrictElements.{parts as strict_parts, AreStrictElements, done as strict_done}
+use Rattle.ciborium_ll_grammar.specs.StrictElements.{next as strict_next}
 use Rattle.ciborium_ll_grammar.specs.Faults.{RunInFront}
 use Rattle.ciborium_ll_grammar.specs.Shortening.{IsBody, bytes, text, ShortensString, titled, ShortensStrings, no_more}
 use Rattle.ciborium_ll_grammar.specs.Shortening.{definite_more, open_more, ShortensElement, number, simple, float}
-use Rattle.ciborium_ll_grammar.specs.Shortening.{alone, whole, parts, Shortens, done as shortens_done, next as shortens_next}
+use Rattle.ciborium_ll_grammar.specs.Shortening.{alone, whole, parts, Shortens, done as shortens_done}
+use Rattle.ciborium_ll_grammar.specs.Shortening.{next as shortens_next}
 use Rattle.ciborium_ll_grammar.proofs.TitleLaws.{title_in_range}
 use Rattle.ciborium_ll_grammar.proofs.ElementLaws.{AreWritable-left, AreWritable-right, spelling-append, pieces-append}
 use Rattle.ciborium_ll_grammar.proofs.ElementLaws.{open_spelled}

@@ -7,18 +7,16 @@ use Rattle.ciborium_ll_grammar.specs.Title.{title_len}
 use Rattle.ciborium_ll_grammar.specs.Strings.{kind_header}
 use Rattle.ciborium_ll_recode.specs.Sides.{sides_of}
 use Rattle.ciborium_ll_recode.proofs.ThroughEncoder.{through_encoder}
-use Rattle.ciborium_ll_recode.proofs.RecodeLaws.{definite_goes_on, definite_unwritten, header_error}
+use Rattle.ciborium_ll_recode.proofs.CopyLaws.{definite_goes_on, definite_next, header_stops}
 use Rattle.ciborium_ll_recode.proofs.recode.copy_definite.Goals as goal
 
 pub returns-in_err-write_header-clause-copied : goal.returns-in_err-write_header-clause-copied
 returns-in_err-write_header-clause-copied g c = λ count before old title t taken behind.
     let same = exit_is c.from_residual.result c.in_err-write_header.field-0.0 c.from_residual.ensures.1 in
     let wrote = c.in_err-write_header.ensures.header in
-    rw same (header_error g.R.Read g.W.Write count (length c.args.buffer.now) old
-    (sides_of c.args.decoder.now c.args.encoder.now) _ _
-    c.in_err-write_header.field-0.0 (rw c.header.ensures at wrote) (λ fault stopped.
-    definite_unwritten g.R.Read g.W.Write count (length c.args.buffer.now) old before behind.bytes title behind.marks
-    g.P.Parser.kind c.args.len _ _ fault behind.due t behind.run behind.copied stopped))
+    rw same (header_stops g.R.Read g.W.Write _ c.in_err-write_header.field-0.0 _
+    (definite_next g.R.Read g.W.Write behind g.P.Parser.kind c.args.len (length c.args.buffer.now) t) behind.copied
+    (rw c.header.ensures at wrote))
 
 pub returns-clause-copied : goal.returns-clause-copied
 returns-clause-copied g c = λ count before old title t taken behind.
@@ -34,11 +32,10 @@ returns-clause-copied g c = λ count before old title t taken behind.
     (sides_of c.offset.new.self c.write_header.new.encoder) c.copy_body.result
     (sides_of c.copy_body.new.decoder c.copy_body.new.writer))
     (placed : place + title_len (kind_header k (Some c.args.len)) ≡ lent.offset).
-    definite_goes_on g.R.Read g.W.Write count (length c.args.buffer.now) old before behind.bytes title behind.marks k
-    c.args.len place (sides_of lent c.args.encoder.now) _ _ c.copy_body.result behind.due t behind.run behind.copied
-    placed titled (subst (λ (d : Decoder g.row.R.Denot). CopiesBody g.R.Read g.W.Write k c.args.len
+    definite_goes_on g.R.Read g.W.Write behind k c.args.len (length c.args.buffer.now) t taken place placed _ titled _
+    c.copy_body.result (subst (λ (d : Decoder g.row.R.Denot). CopiesBody g.R.Read g.W.Write k c.args.len
     (length c.args.buffer.now) place (sides_of d c.write_header.new.encoder) c.copy_body.result
-    (sides_of c.copy_body.new.decoder c.copy_body.new.writer)) c.offset.ensures.same copied) taken behind.strict in
+    (sides_of c.copy_body.new.decoder c.copy_body.new.writer)) c.offset.ensures.same copied) in
     subst (λ (d : Decoder g.row.R.Denot). GoesOn g.R.Read g.W.Write count before (length c.args.buffer.now) old
     c.copy_body.result (sides_of d c.copy_body.new.writer)) (search rules)
     (goes_on _ (through_encoder g.R.Read g.W.Write k c.args.len (length c.args.buffer.now) _

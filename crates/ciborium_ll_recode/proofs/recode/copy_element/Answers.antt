@@ -4,10 +4,8 @@ use Rattle.ciborium_ll_grammar.specs.declared.hdr.Header.TheVariants as h
 use Rattle.ciborium_ll_decoder.specs.declared.copy.RecodeError.TheVariants as r
 use Rattle.ciborium_ll_grammar.specs.Title.{title_len}
 use Rattle.ciborium_ll_decoder.specs.Decoding.{PullsTitle}
-use Rattle.ciborium_ll_decoder.specs.BodyCopies.{sides}
-use Rattle.ciborium_ll_recode.specs.Sides.{sides_of}
 use Rattle.ciborium_ll_decoder.proofs.DecodingLaws.{exit_is, MovesOn-then}
-use Rattle.ciborium_ll_recode.proofs.CopyLaws.{pulled_covers, behind_pulled, title_answered, title_taken, pull_stops, plain_goes_on}
+use Rattle.ciborium_ll_recode.proofs.CopyLaws.{pulled_covers, title_answered, element_copied, pull_stops, plain_goes_on}
 use Rattle.ciborium_ll_recode.proofs.recode.copy_element.Goals as goal
 
 pub returns-in_err-_header : goal.returns-in_err-_header
@@ -15,9 +13,8 @@ returns-in_err-_header g c =
     let same = exit_is c.from_residual.result (r.Read c.in_err-_header.field-0.0) c.from_residual.ensures.1 in
     record {
       copied = λ count before old behind.
-          rw same (pull_stops g.R.Read g.W.Write count before old (sides_of c.args.decoder.now c.args.encoder.now)
-          (length c.args.buffer.now) c.pull_title.new.decoder c.in_err-_header.field-0.0 behind
-          c.in_err-_header.ensures.header);
+          rw same (pull_stops g.R.Read g.W.Write behind (length c.args.buffer.now) c.pull_title.new.decoder
+          c.in_err-_header.field-0.0 c.in_err-_header.ensures.header);
       moves_on = c.pull_title.ensures.moves_on;
       target = refl;
     }
@@ -51,12 +48,8 @@ returns-in-Bytes g c =
     let pulled = subst (λ (x : Header). PullsTitle g.R.Read c.args.decoder.now x c.pull_title.new.decoder) is
     c.in_ok-_header.ensures.header in
     record {
-      copied = λ count before old behind.
-          c.copy_string.ensures.copied count before old pulled.title pulled.is_title
-          (title_taken g.R.Read g.W.Write count before old (sides_of c.args.decoder.now c.args.encoder.now)
-          c.pull_title.new.decoder (h.Bytes arm.len) behind pulled)
-          (behind_pulled g.R.Read g.W.Write count before old (sides_of c.args.decoder.now c.args.encoder.now)
-          c.pull_title.new.decoder (h.Bytes arm.len) behind pulled c.pull_title.ensures.moves_on.steady);
+      copied = element_copied g.R.Read g.W.Write (length c.args.buffer.now) _ _ pulled
+          c.pull_title.ensures.moves_on.steady c.copy_string.ensures.copied;
       moves_on = MovesOn-then g.R.Read _ _ _ c.pull_title.ensures.moves_on c.copy_string.ensures.moves_on;
       target = c.copy_string.ensures.target;
     }
@@ -68,12 +61,8 @@ returns-in-Text g c =
     let pulled = subst (λ (x : Header). PullsTitle g.R.Read c.args.decoder.now x c.pull_title.new.decoder) is
     c.in_ok-_header.ensures.header in
     record {
-      copied = λ count before old behind.
-          c.copy_string-in-Text.ensures.copied count before old pulled.title pulled.is_title
-          (title_taken g.R.Read g.W.Write count before old (sides_of c.args.decoder.now c.args.encoder.now)
-          c.pull_title.new.decoder (h.Text arm.len) behind pulled)
-          (behind_pulled g.R.Read g.W.Write count before old (sides_of c.args.decoder.now c.args.encoder.now)
-          c.pull_title.new.decoder (h.Text arm.len) behind pulled c.pull_title.ensures.moves_on.steady);
+      copied = element_copied g.R.Read g.W.Write (length c.args.buffer.now) _ _ pulled
+          c.pull_title.ensures.moves_on.steady c.copy_string-in-Text.ensures.copied;
       moves_on = MovesOn-then g.R.Read _ _ _ c.pull_title.ensures.moves_on c.copy_string-in-Text.ensures.moves_on;
       target = c.copy_string-in-Text.ensures.target;
     }
@@ -84,18 +73,13 @@ returns-in-Plain g c =
     let title = c.in_ok-_header.ensures.title in
     let writer = c.args.encoder.now.writer in
     record {
-      copied = λ count before old behind.
-          let pulled = c.in_ok-_header.ensures.header in
-          plain_goes_on g.R.Read g.W.Write count before old (sides c.pull_title.new.decoder writer)
-          (length c.args.buffer.now) header pulled.title c.map_err.result c.push_title.new.encoder.writer
-          (c.element.ensures.plain header title c.in-Plain.is) pulled.is_title
-          (title_taken g.R.Read g.W.Write count before old (sides_of c.args.decoder.now c.args.encoder.now)
-          c.pull_title.new.decoder header behind pulled)
-          (behind_pulled g.R.Read g.W.Write count before old (sides_of c.args.decoder.now c.args.encoder.now)
-          c.pull_title.new.decoder header behind pulled c.pull_title.ensures.moves_on.steady)
+      copied = element_copied g.R.Read g.W.Write (length c.args.buffer.now) _ _ c.in_ok-_header.ensures.header
+          c.pull_title.ensures.moves_on.steady (λ count before old bytes is only behind.
+          plain_goes_on g.R.Read g.W.Write behind (length c.args.buffer.now) header c.map_err.result
+          c.push_title.new.encoder.writer (c.element.ensures.plain header title c.in-Plain.is) is only
           (title_answered g.W.Write writer c.push_title.result c.map_err.result _ header
           c.push_title.new.encoder.writer c.push_title.ensures.title (c.shortest.ensures.bytes header title)
-          (search rules));
+          (search rules)));
       moves_on = c.pull_title.ensures.moves_on;
       target = c.push_title.ensures.target;
     }

@@ -1,34 +1,26 @@
 use Rattle.std.proofs.Common.{length}
 use Rattle.ciborium_ll_decoder.proofs.DecodingLaws.{exit_is}
-use Rattle.ciborium_ll_recode.specs.Sides.{sides_of}
-use Rattle.ciborium_ll_recode.proofs.RecodeLaws.{header_error}
-use Rattle.ciborium_ll_recode.proofs.CopyLaws.{opened_within, open_unwritten, close_goes_on}
+use Rattle.ciborium_ll_recode.proofs.CopyLaws.{header_stops, opened_within, open_next, close_goes_on}
 use Rattle.ciborium_ll_recode.proofs.recode.copy_indefinite.Goals as goal
 
 pub returns-in_err-write_header-clause-copied : goal.returns-in_err-write_header-clause-copied
 returns-in_err-write_header-clause-copied g c = λ count before old title t only behind.
     let wrote = rw c.header.ensures at c.in_err-write_header.ensures.header in
-    let stops = header_error g.R.Read g.W.Write count (length c.args.buffer.now) old
-    (sides_of c.args.decoder.now c.args.encoder.now) _ _
-    c.in_err-write_header.field-0.0 wrote (λ fault stopped.
-    open_unwritten g.R.Read g.W.Write count before old (sides_of c.args.decoder.now c.args.encoder.now)
-    (length c.args.buffer.now) g.P.Parser.kind title _ fault t behind stopped) in
-    rw (exit_is c.from_residual.result c.in_err-write_header.field-0.0 c.from_residual.ensures.1) stops
+    rw (exit_is c.from_residual.result c.in_err-write_header.field-0.0 c.from_residual.ensures.1)
+    (header_stops g.R.Read g.W.Write _ c.in_err-write_header.field-0.0 _
+    (open_next g.R.Read g.W.Write behind g.P.Parser.kind t (length c.args.buffer.now)) behind.copied wrote)
 
 pub returns-in_err-copy_segments-clause-copied : goal.returns-in_err-copy_segments-clause-copied
 returns-in_err-copy_segments-clause-copied g c = λ count before old title t only behind.
     let same = exit_is c.from_residual-in_err-copy_segments.result c.in_err-copy_segments.field-0.0 c.from_residual-in_err-copy_segments.ensures.1 in
     let titled = rw c.header.ensures at c.in_ok-write_header.ensures.header in
     let copied = rw c.in_err-copy_segments.was at c.copy_segments.ensures.copied in
-    rw same (copied count before old (opened_within g.R.Read g.W.Write count before old
-    (sides_of c.args.decoder.now c.args.encoder.now) g.P.Parser.kind title _ t behind titled))
+    rw same (copied count before old (opened_within g.R.Read g.W.Write behind g.P.Parser.kind t _ titled))
 
 pub returns-clause-copied : goal.returns-clause-copied
 returns-clause-copied g c = λ count before old title t only behind.
     let titled = rw c.header.ensures at c.in_ok-write_header.ensures.header in
     let copied = rw c.in_ok-copy_segments.was at c.copy_segments.ensures.copied in
-    let string = copied count before old (opened_within g.R.Read g.W.Write count before old
-    (sides_of c.args.decoder.now c.args.encoder.now) g.P.Parser.kind title _ t behind titled) in
-    close_goes_on g.R.Read g.W.Write count before old
-    (sides_of c.copy_segments.new.decoder c.copy_segments.new.encoder) (length c.args.buffer.now) g.P.Parser.kind _ _
-    behind.due string c.write_header-2.ensures.header
+    let string = copied count before old (opened_within g.R.Read g.W.Write behind g.P.Parser.kind t _ titled) in
+    close_goes_on g.R.Read g.W.Write (length c.args.buffer.now) _ _ behind.due string
+    c.write_header-2.ensures.header

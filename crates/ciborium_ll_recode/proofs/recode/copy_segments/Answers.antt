@@ -3,13 +3,13 @@ use Rattle.ciborium_ll_decoder.specs.declared.dec.Decoder.{Decoder}
 use Rattle.ciborium_ll_decoder.specs.declared.copy.RecodeError.TheVariants as r
 use Rattle.ciborium_ll_decoder.specs.Decoding.{MovesOn}
 use Rattle.ciborium_ll_decoder.specs.BodyCopies.{CopiesBody}
-use Rattle.ciborium_ll_recode.specs.Recoding.{ReadsString, GoesOnWithin}
+use Rattle.ciborium_ll_recode.specs.Recoding.{ReadsString, GoesOnWithin, Titled}
 use Rattle.ciborium_ll_recode.specs.Sides.{sides_of}
 use Rattle.ciborium_ll_decoder.proofs.DecodingLaws.{exit_is, nearer, MovesOn-none, MovesOn-then}
 use Rattle.ciborium_ll_recode.proofs.ThroughEncoder.{through_encoder}
-use Rattle.ciborium_ll_recode.proofs.RecodeLaws.{header_error}
-use Rattle.ciborium_ll_decoder.proofs.SegmentLaws.{advances_among, announced_rises}
-use Rattle.ciborium_ll_recode.proofs.SegmentCopyLaws.{copied_opened, segments_stop, segments_end, segment_unwritten}
+use Rattle.ciborium_ll_recode.proofs.CopyLaws.{header_stops}
+use Rattle.ciborium_ll_decoder.proofs.SegmentLaws.{announced_rises}
+use Rattle.ciborium_ll_recode.proofs.SegmentCopyLaws.{copied_opened, leads, segments_stop, segments_end, announced}
 use Rattle.ciborium_ll_recode.proofs.SegmentCopyLaws.{segment_stops, segment_copied}
 use Rattle.ciborium_ll_recode.proofs.recode.copy_segments.Goals as goal
 
@@ -28,83 +28,59 @@ segments-init g c = record {
 pub returns-clause-copied : goal.returns-clause-copied
 returns-clause-copied g c = λ count before old within.
     let k = g.P.Parser.kind in
-    let opened = sides_of c.args.decoder.now c.args.encoder.now in
-    let now = sides_of c.segments.segments.decoder.now c.segments.encoder in
     let so_far = c.segments.invariant.so_far in
     let none : c.in_ok-body.field-0 ≡ None = search rules in
-    let advances = rw none at c.in_ok-body.ensures.advances in
-    let all = advances_among g.R.Read k so_far.bodies opened.decoder now.decoder c.segments.segments.strict
-    (Ok None) c.segments.segments.progress c.advance.new.self.progress c.advance.new.self.decoder.now
-    c.segments.invariant.mode so_far.so_far advances c.advance.ensures.moves_on.steady in
-    let fin = segments_end g.R.Read g.W.Write k count before old opened within so_far.bodies now _ _ so_far.written all
-    in
-    subst (λ (d : Decoder g.row.R.Denot). ReadsString g.R.Read g.W.Write before k old
-    (sides_of d c.segments.encoder)) (search rules) fin
+    let all = leads g.R.Read g.W.Write k so_far _ c.segments.invariant.mode (Ok None) c.advance.new.self.progress
+    c.advance.new.self.decoder.now (rw none at c.in_ok-body.ensures.advances) c.advance.ensures.moves_on.steady in
+    subst (λ (d : Decoder g.row.R.Denot). ReadsString g.R.Read g.W.Write before k old (sides_of d c.segments.encoder))
+    (search rules) (segments_end g.R.Read g.W.Write k so_far within all)
 
 pub returns-in_err-body-clause-copied : goal.returns-in_err-body-clause-copied
 returns-in_err-body-clause-copied g c = λ count before old within.
     let k = g.P.Parser.kind in
-    let opened = sides_of c.args.decoder.now c.args.encoder.now in
-    let now = sides_of c.segments.segments.decoder.now c.segments.encoder in
     let so_far = c.segments.invariant.so_far in
     let error = c.in_err-body.field-0.0 in
     let same = exit_is c.from_residual.result (r.Read error) c.from_residual.ensures.1 in
-    let all = advances_among g.R.Read k so_far.bodies opened.decoder now.decoder c.segments.segments.strict
-    (Err error) c.segments.segments.progress c.advance.new.self.progress c.advance.new.self.decoder.now
-    c.segments.invariant.mode so_far.so_far c.in_err-body.ensures.advances c.advance.ensures.moves_on.steady in
+    let all = leads g.R.Read g.W.Write k so_far _ c.segments.invariant.mode (Err error) c.advance.new.self.progress
+    c.advance.new.self.decoder.now c.in_err-body.ensures.advances c.advance.ensures.moves_on.steady in
     subst (λ (d : Decoder g.row.R.Denot). GoesOnWithin g.R.Read g.W.Write count before k (length c.args.buffer.now)
     old c.from_residual.result (sides_of d c.segments.encoder)) {x = c.advance.new.self.decoder.now} (search rules)
-    (rw same (segments_stop g.R.Read g.W.Write k count before old opened within so_far.bodies now _ _ so_far.written
-    (length c.args.buffer.now) error all))
+    (rw same (segments_stop g.R.Read g.W.Write k so_far within (length c.args.buffer.now) error all))
 
 pub returns-in_err-write_header-clause-copied : goal.returns-in_err-write_header-clause-copied
 returns-in_err-write_header-clause-copied g c = λ count before old within.
     let k = g.P.Parser.kind in
-    let opened = sides_of c.args.decoder.now c.args.encoder.now in
-    let now = sides_of c.segments.segments.decoder.now c.segments.encoder in
     let so_far = c.segments.invariant.so_far in
     let same = exit_is c.from_residual-in_err-write_header.result c.in_err-write_header.field-0.0 c.from_residual-in_err-write_header.ensures.1 in
     let advances = rw c.in-Some.is at c.in_ok-body.ensures.advances in
-    let all = advances_among g.R.Read k so_far.bodies opened.decoder now.decoder c.segments.segments.strict
-    (Ok (Some c.in-Some.body)) c.segments.segments.progress c.advance.new.self.progress
-    c.advance.new.self.decoder.now c.segments.invariant.mode so_far.so_far advances c.advance.ensures.moves_on.steady in
+    let all = leads g.R.Read g.W.Write k so_far _ c.segments.invariant.mode (Ok (Some c.in-Some.body))
+    c.advance.new.self.progress c.advance.new.self.decoder.now advances c.advance.ensures.moves_on.steady in
+    let stands = announced g.R.Read g.W.Write k so_far within all in
     let wrote = rw c.header.ensures at c.in_err-write_header.ensures.header in
     subst (λ (d : Decoder g.row.R.Denot). GoesOnWithin g.R.Read g.W.Write count before k (length c.args.buffer.now)
     old c.from_residual-in_err-write_header.result (sides_of d c.write_header.new.encoder))
     {x = c.advance.new.self.decoder.now} (search rules)
-    (rw same (header_error g.R.Read g.W.Write count (length c.args.buffer.now) old
-    (sides_of c.advance.new.self.decoder.now c.segments.encoder) c.write_header.new.encoder.writer _
-    c.in_err-write_header.field-0.0 wrote (λ fault stopped.
-    segment_unwritten g.R.Read g.W.Write k count before old opened within so_far.bodies now
-    c.advance.new.self.decoder.now c.advance.new.self.progress so_far.written c.in-Some.body all
-    (length c.args.buffer.now) c.write_header.new.encoder.writer fault
-    stopped)))
+    (rw same (header_stops g.R.Read g.W.Write {room = length c.args.buffer.now} _ c.in_err-write_header.field-0.0
+    c.write_header.new.encoder.writer (Titled _ k _ _ stands.reach) stands.copied wrote))
 
 pub segments-smaller : goal.segments-smaller
 segments-smaller g c =
     let k = g.P.Parser.kind in
-    let opened = sides_of c.args.decoder.now c.args.encoder.now in
-    let now = sides_of c.segments.segments.decoder.now c.segments.encoder in
     let so_far = c.segments.invariant.so_far in
     let advances = rw c.in-Some.is at c.in_ok-body.ensures.advances in
-    let all = advances_among g.R.Read k so_far.bodies opened.decoder now.decoder c.segments.segments.strict
-    (Ok (Some c.in-Some.body)) c.segments.segments.progress c.advance.new.self.progress
-    c.advance.new.self.decoder.now c.segments.invariant.mode so_far.so_far advances c.advance.ensures.moves_on.steady in
-    let rises = announced_rises g.R.Read k so_far.bodies opened.decoder now.decoder c.advance.new.self.decoder.now
-    c.in-Some.body c.advance.new.self.progress all in
-    nearer now.decoder c.advance.new.self.decoder.now c.copy.new.self.decoder.now rises
+    let all = leads g.R.Read g.W.Write k so_far _ c.segments.invariant.mode (Ok (Some c.in-Some.body))
+    c.advance.new.self.progress c.advance.new.self.decoder.now advances c.advance.ensures.moves_on.steady in
+    nearer c.segments.segments.decoder.now c.advance.new.self.decoder.now c.copy.new.self.decoder.now
+    (announced_rises g.R.Read k so_far.bodies c.args.decoder.now _ _ c.in-Some.body _ all)
     c.in_ok-copy.ensures.moves_on.rises
 
 pub segments-preserved : goal.segments-preserved
 segments-preserved g c =
     let k = g.P.Parser.kind in
-    let opened = sides_of c.args.decoder.now c.args.encoder.now in
-    let now = sides_of c.segments.segments.decoder.now c.segments.encoder in
     let so_far = c.segments.invariant.so_far in
     let advances = rw c.in-Some.is at c.in_ok-body.ensures.advances in
-    let all = advances_among g.R.Read k so_far.bodies opened.decoder now.decoder c.segments.segments.strict
-    (Ok (Some c.in-Some.body)) c.segments.segments.progress c.advance.new.self.progress
-    c.advance.new.self.decoder.now c.segments.invariant.mode so_far.so_far advances c.advance.ensures.moves_on.steady in
+    let all = leads g.R.Read g.W.Write k so_far _ c.segments.invariant.mode (Ok (Some c.in-Some.body))
+    c.advance.new.self.progress c.advance.new.self.decoder.now advances c.advance.ensures.moves_on.steady in
     let titled = rw c.header.ensures at c.in_ok-write_header.ensures.header in
     let whole = through_encoder g.R.Read g.W.Write k c.in-Some.body.length (length c.segments.buffer)
     c.in-Some.body.place c.advance.new.self.decoder.now c.copy.new.self.decoder.now c.write_header.new.encoder
@@ -114,10 +90,8 @@ segments-preserved g c =
     record {
       same = search rules;
       mode = c.copy.ensures.mode ∙ (c.advance.ensures.mode ∙ c.segments.invariant.mode);
-      so_far = segment_copied g.R.Read g.W.Write k so_far.bodies opened now c.advance.new.self.decoder.now
-          c.write_header.new.encoder.writer (sides_of c.copy.new.self.decoder.now c.copy.new.writer)
-          c.in-Some.body c.copy.new.self.progress c.requires.none_waits
-          (rw (sym c.copy.ensures.progress) at all) so_far.written titled whole copy.steady;
+      so_far = rw c.copy.ensures.progress (segment_copied g.R.Read g.W.Write k so_far c.requires.none_waits all titled
+          whole copy.steady);
       moves_on = MovesOn-then g.R.Read _ _ _ c.segments.invariant.moves_on (MovesOn-then g.R.Read _ _ _ advance copy);
       target = c.copy.ensures.target ∙ (c.write_header.ensures.target ∙ c.segments.invariant.target);
     }
@@ -125,14 +99,11 @@ segments-preserved g c =
 pub returns-in_err-copy-clause-copied : goal.returns-in_err-copy-clause-copied
 returns-in_err-copy-clause-copied g c = λ count before old within.
     let k = g.P.Parser.kind in
-    let opened = sides_of c.args.decoder.now c.args.encoder.now in
-    let now = sides_of c.segments.segments.decoder.now c.segments.encoder in
     let so_far = c.segments.invariant.so_far in
     let same = exit_is c.from_residual-in_err-copy.result c.in_err-copy.field-0.0 c.from_residual-in_err-copy.ensures.1 in
     let advances = rw c.in-Some.is at c.in_ok-body.ensures.advances in
-    let all = advances_among g.R.Read k so_far.bodies opened.decoder now.decoder c.segments.segments.strict
-    (Ok (Some c.in-Some.body)) c.segments.segments.progress c.advance.new.self.progress
-    c.advance.new.self.decoder.now c.segments.invariant.mode so_far.so_far advances c.advance.ensures.moves_on.steady in
+    let all = leads g.R.Read g.W.Write k so_far _ c.segments.invariant.mode (Ok (Some c.in-Some.body))
+    c.advance.new.self.progress c.advance.new.self.decoder.now advances c.advance.ensures.moves_on.steady in
     let titled = rw c.header.ensures at c.in_ok-write_header.ensures.header in
     let error = c.in_err-copy.field-0.0 in
     let body = c.in-Some.body in
@@ -145,9 +116,7 @@ returns-in_err-copy-clause-copied g c = λ count before old within.
     subst (λ (d : Decoder g.row.R.Denot). GoesOnWithin g.R.Read g.W.Write count before k (length c.args.buffer.now)
     old c.from_residual-in_err-copy.result (sides_of d c.copy.new.writer)) {x = c.copy.new.self.decoder.now}
     (search rules)
-    (rw same (segment_stops g.R.Read g.W.Write k count before old opened within so_far.bodies now
-    c.advance.new.self.decoder.now c.advance.new.self.progress so_far.written c.in-Some.body all
-    (length c.args.buffer.now) c.write_header.new.encoder.writer
+    (rw same (segment_stops g.R.Read g.W.Write k so_far within all (length c.args.buffer.now) _
     (sides_of c.copy.new.self.decoder.now c.copy.new.writer) error titled stops))
 
 -- ---- the writer stays on its slice
