@@ -1,6 +1,7 @@
 -- The titles of a number, as `Shortens` has them, are the titles of its header.
 use Rattle.std.proofs.Common.{◌≡◌, ℕ, ◌+◌, ◌*◌, ◌<◌, ◌≤◌, ◌^◌, Bool, true, List, [], ◌∷◌, length, Option, Some, None}
-use Rattle.std.proofs.Common.{refl, sym, ap, subst, ◌∙◌, arith}
+use Rattle.std.proofs.Common.{refl, sym, ap, ◌∙◌, arith, IfSome}
+use Rattle.std.proofs.lemmas.Bool.Decides.{nat_tests}
 use Rattle.ciborium_ll_grammar.specs.declared.hdr.Header.{Header}
 use Rattle.ciborium_ll_grammar.specs.declared.hdr.Header.TheVariants as h
 use Rattle.ciborium_ll_grammar.specs.declared.hdr.Float.TheVariants as f
@@ -9,8 +10,7 @@ use Rattle.ciborium_ll_grammar.specs.Title.{major_code, first_byte, Size, Small,
 use Rattle.ciborium_ll_grammar.specs.Title.{minor_of, affix_of, numbered_title, open_header, IsTitle, numbered, alone}
 use Rattle.ciborium_ll_grammar.specs.Title.{least_size, shortest_numbered}
 use Rattle.ciborium_ll_grammar.specs.Shortening.{SaysNumber, small, one, two, four, eight, IsNumberTitle}
-use Rattle.ciborium_ll_grammar.proofs.TitleLaws.{least_fits, shortest_no_longer}
-use Rattle.ciborium_ll_grammar.proofs.TightLaws.{tight_title}
+use Rattle.ciborium_ll_grammar.proofs.TitleLaws.{least_fits}
 
 -- ---- the titles that a header has
 
@@ -35,21 +35,15 @@ IsTitleOf (h.Float (f.Single n)) title = title ≡ numbered_title Other Four n
 IsTitleOf (h.Float (f.Double n)) title = title ≡ numbered_title Other Eight n
 IsTitleOf h.Break title = title ≡ first_byte Other 31 ∷ []
 
-alone_of : (major : Major) (header : Header) → open_header major ≡ Some header
-    → IsTitleOf header (first_byte major 31 ∷ [])
-alone_of Unsigned header is = absurd cc
-alone_of Negative header is = absurd cc
-alone_of ByteString header is =
-    let same : h.Bytes None ≡ header = cc in subst (λ x. IsTitleOf x (first_byte ByteString 31 ∷ [])) same refl
-alone_of TextString header is =
-    let same : h.Text None ≡ header = cc in subst (λ x. IsTitleOf x (first_byte TextString 31 ∷ [])) same refl
-alone_of Array header is =
-    let same : h.Array None ≡ header = cc in subst (λ x. IsTitleOf x (first_byte Array 31 ∷ [])) same refl
-alone_of Map header is =
-    let same : h.Map None ≡ header = cc in subst (λ x. IsTitleOf x (first_byte Map 31 ∷ [])) same refl
-alone_of Tag header is = absurd cc
-alone_of Other header is =
-    let same : h.Break ≡ header = cc in subst (λ x. IsTitleOf x (first_byte Other 31 ∷ [])) same refl
+alone_of : (major : Major) → IfSome (open_header major) (λ header. IsTitleOf header (first_byte major 31 ∷ []))
+alone_of Unsigned = tt
+alone_of Negative = tt
+alone_of ByteString = refl
+alone_of TextString = refl
+alone_of Array = refl
+alone_of Map = refl
+alone_of Tag = tt
+alone_of Other = refl
 
 pub title_of : (title : List ℕ) (header : Header) → IsTitle title header → IsTitleOf header title
 title_of title header (numbered Unsigned size n below) = (size, below, refl)
@@ -64,25 +58,17 @@ title_of title header (numbered Other One n below) = ((One, below, refl), omega 
 title_of title header (numbered Other Two n below) = refl
 title_of title header (numbered Other Four n below) = refl
 title_of title header (numbered Other Eight n below) = refl
-title_of title header (alone major named is) = alone_of major named is
+title_of title header (alone major named is) = rw is at (alone_of major)
 
 -- ---- the bytes of a number by its size
 
 -- what a size says is its number
 pub says_of : (s : Size) (n : ℕ) → n < size_limit s → SaysNumber (minor_of s n) (affix_of s n) n
-says_of Small n l = small l
-says_of One n l = one l
-says_of Two n l = two l
-says_of Four n l = four l
-says_of Eight n l = eight l
+says_of s n l = grind (arith, small, one, two, four, eight)
 
 -- a number of a size is below 2^64
 pub size_below : (s : Size) (n : ℕ) → n < size_limit s → n < 2 ^ 64
-size_below Small n l = omega (arith, l)
-size_below One n l = omega (arith, l)
-size_below Two n l = omega (arith, l)
-size_below Four n l = omega (arith, l)
-size_below Eight n l = omega (arith, l)
+size_below s n l = grind arith
 
 -- each title that says a number is of a size
 sized : (m : Major) (n minor : ℕ) (affix : List ℕ) → SaysNumber minor affix n
@@ -98,13 +84,12 @@ pub has_number : (b : Bool) (m : Major) (n : ℕ) (title : List ℕ) → IsNumbe
 has_number b m n title p = let z = sized m n p.minor p.affix p.says in (z.0, z.1, p.is ∙ z.2)
 
 -- the affix of the least size has the fewest bytes
-least_fewest : (n minor : ℕ) (affix : List ℕ) → SaysNumber minor affix n
-    → length (affix_of (least_size n) n) ≤ length affix
-least_fewest n minor affix says =
-    let z = sized Unsigned n minor affix says in
-    let l = shortest_no_longer (numbered_title Unsigned z.0 n) (h.Positive n) (numbered Unsigned z.0 n z.1) in
-    let e = ap length z.2 in
-    omega (arith, l, e)
+least_fewest : (s : Size) (n : ℕ) → n < size_limit s → length (affix_of (least_size n) n) ≤ length (affix_of s n)
+least_fewest s n below = grind (arith, nat_tests)
+
+fewest_least : (s : Size) (n : ℕ) → n < size_limit s → length (affix_of s n) ≤ length (affix_of (least_size n) n)
+    → s ≡ least_size n
+fewest_least s n below few = grind (arith, nat_tests)
 
 -- the title of a size is one of its number, and the shortest one where it is that of the least size
 pub taken_title : (b : Bool) (m : Major) (n : ℕ) (title : List ℕ) → HasNumber m n title
@@ -116,9 +101,10 @@ taken_title b m n title z least =
       says = says_of z.0 n z.1;
       is = z.2;
       fewest = λ on minor other says. (
-          let e = ap length (sym z.2 ∙ least on) in
-          let l = least_fewest n minor other says in
-          omega (arith, l, e)
+          let s = sized m n minor other says in
+          let same = ap length (sym z.2 ∙ least on) in
+          let long = ap length s.2 in
+          omega (arith, same, long, least_fewest s.0 n s.1)
           );
     }
 
@@ -130,15 +116,8 @@ least_title b m n below =
 pub fewest_is : (m : Major) (n : ℕ) (title : List ℕ) → IsNumberTitle true (major_code m) n title
     → title ≡ shortest_numbered m n
 fewest_is m n title p =
+    let z = has_number true m n title p in
     let least = least_size n in
-    let z = sized Unsigned n p.minor p.affix p.says in
-    let few = p.fewest refl (minor_of least n) (affix_of least n) (says_of least n
-    (least_fits n (size_below z.0 n z.1))) in
-    let long = ap length z.2 in
-    let tight = tight_title (numbered_title Unsigned z.0 n) (h.Positive n) (numbered Unsigned z.0 n z.1) (omega (arith, few, long)) in
-    let same : (32 * 0 + p.minor) ∷ p.affix ≡ (32 * 0 + minor_of least n) ∷ affix_of least n = z.2 ∙ tight in
-    let affix : p.affix ≡ affix_of least n = cc in
-    let byte : 32 * 0 + p.minor ≡ 32 * 0 + minor_of least n = cc in
-    let minor : p.minor ≡ minor_of least n = omega (arith, byte) in
-    p.is ∙ (ap (λ (z : ℕ). (32 * major_code m + z) ∷ p.affix) minor
-    ∙ ap (λ (z : List ℕ). (32 * major_code m + minor_of least n) ∷ z) affix)
+    let few = p.fewest refl _ _ (says_of least n (least_fits n (size_below z.0 n z.1))) in
+    let long = ap length (sym p.is ∙ z.2) in
+    z.2 ∙ ap (λ (s : Size). numbered_title m s n) (fewest_least z.0 n z.1 (omega (arith, few, long)))

@@ -1,6 +1,6 @@
 -- Elements that are their own spelling are those whose titles are all strict, with no open inside another one.
-use Rattle.std.proofs.Common.{◌≡◌, ℕ, ◌≤◌, ◌↔◌, true, false, List, [], ◌∷◌, ◌++◌, length, Some, None, refl, sym, ap}
-use Rattle.std.proofs.Common.{subst, ◌∙◌, arith, append-nil, length-append}
+use Rattle.std.proofs.Common.{◌≡◌, ℕ, ◌≤◌, ◌↔◌, true, false, List, ◌++◌, length, Some, None, refl, sym, ap, subst, ◌∙◌}
+use Rattle.std.proofs.Common.{arith, append-nil, length-append}
 use Rattle.std.specs.List.{AllByRecursion}
 use Rattle.ciborium_ll_grammar.specs.Title.{shortest_title}
 use Rattle.ciborium_ll_grammar.specs.Strings.{Kind, kind_header, AreStrings, none as no_strings, more as more_strings}
@@ -45,51 +45,40 @@ strict_elements n w ms (run_next {count = m} {first = y} {rest = z} {marks = ns}
 
 -- ---- and back
 
-flat_strings : (k : Kind) (w : List ℕ) (bs : List (List ℕ)) → AreFlat k w bs → AreStrings k w bs
-flat_strings k w bs none = no_strings
-flat_strings k w bs (more {rest = y} {bodies = es} p s f) = more_strings (definite p) (flat_strings k y es f)
+flat_spelled : (k : Kind) {w : List ℕ} {bs : List (List ℕ)} → AreFlat k w bs
+    → AreStrings k w bs × (w ≡ spelling (pieces k bs))
+flat_spelled k none = (no_strings, refl)
+flat_spelled k (more {body = b} {rest = y} p s f) =
+    let others = flat_spelled k f in (
+      more_strings (definite p) others.0,
+      ap (λ (z : List ℕ). (z ++ b) ++ y) s.shortest ∙ ap (λ (z : List ℕ). body_spelling k b ++ z) others.1,
+    )
 
-flat_spelled : (k : Kind) (w : List ℕ) (bs : List (List ℕ)) → AreFlat k w bs → w ≡ spelling (pieces k bs)
-flat_spelled k w bs none = refl
-flat_spelled k w bs (more {title = t} {body = b} {rest = y} {bodies = es} p s f) =
-    ap (λ (z : List ℕ). (z ++ b) ++ y) s.shortest
-    ∙ ap (λ (z : List ℕ). body_spelling k b ++ z) (flat_spelled k y es f)
+element_spelled : {w : List ℕ} {ms : List Mark} → IsStrictElement w ms
+    → IsElement w ms × (w ≡ spelling ms) × AllByRecursion IsMeant ms
+element_spelled (plain header p s q) =
+    (plain_element header p q, s.shortest ∙ sym (append-nil (shortest_title header)), (s.meant, tt))
+element_spelled (whole {body = b} k p s sound) = (
+  string k (definite p) (sound, tt),
+  ap (λ (z : List ℕ). z ++ b) s.shortest ∙ sym (append-nil (body_spelling k b)),
+  (tt, tt),
+)
+element_spelled (parts {title = t} {strings = y} {bodies = bs} k p f sound) =
+    let strings = flat_spelled k f in
+    let title = alone_bytes t (kind_header k None) p (open_alone k) in
+    (string k (indefinite p strings.0) sound, rw (title, strings.1) (sym (open_spelled k bs)), open_meant k bs)
 
-element_of : (w : List ℕ) (ms : List Mark) → IsStrictElement w ms → IsElement w ms
-element_of w ms (plain header p s q) = plain_element header p q
-element_of w ms (whole k p s sound) = string k (definite p) (sound, tt)
-element_of w ms (parts {strings = y} {bodies = bs} k p f sound) =
-    string k (indefinite p (flat_strings k y bs f)) sound
-
-element_spelled : (w : List ℕ) (ms : List Mark) → IsStrictElement w ms → w ≡ spelling ms
-element_spelled w ms (plain header p s q) = s.shortest ∙ sym (append-nil (shortest_title header))
-element_spelled w ms (whole {body = b} k p s sound) =
-    ap (λ (z : List ℕ). z ++ b) s.shortest ∙ sym (append-nil (body_spelling k b))
-element_spelled w ms (parts {title = t} {strings = y} {bodies = bs} k p f sound) =
-    let header = kind_header k None in
-    ap (λ (z : List ℕ). z ++ (y ++ 0xff ∷ [])) (alone_bytes t header p (open_alone k))
-    ∙ ap (λ (z : List ℕ). shortest_title header ++ (z ++ 0xff ∷ [])) (flat_spelled k y bs f) ∙ sym (open_spelled k bs)
-
-element_meant : (w : List ℕ) (ms : List Mark) → IsStrictElement w ms → AllByRecursion IsMeant ms
-element_meant w ms (plain header p s q) = (s.meant, tt)
-element_meant w ms (whole k p s sound) = (tt, tt)
-element_meant w ms (parts {bodies = bs} k p f sound) = open_meant k bs
-
-run_of : (n : ℕ) (w : List ℕ) (ms : List Mark) → AreStrictElements n w ms → IsRun n w ms
-run_of n w ms done = run_done
-run_of n w ms (next {count = m} {first = y} {rest = z} {marks = ns} {others = os} e run) =
-    run_next (element_of y ns e) (run_of m z os run)
-
-run_spelled : (n : ℕ) (w : List ℕ) (ms : List Mark) → AreStrictElements n w ms → w ≡ spelling ms
-run_spelled n w ms done = refl
-run_spelled n w ms (next {count = m} {first = y} {rest = z} {marks = ns} {others = os} e run) =
-    ap (λ (v : List ℕ). v ++ z) (element_spelled y ns e) ∙ ap (λ (v : List ℕ). spelling ns ++ v)
-    (run_spelled m z os run) ∙ sym (spelling-append ns os)
-
-run_meant : (n : ℕ) (w : List ℕ) (ms : List Mark) → AreStrictElements n w ms → AllByRecursion IsMeant ms
-run_meant n w ms done = tt
-run_meant n w ms (next {count = m} {first = y} {rest = z} {marks = ns} {others = os} e run) =
-    meant_append ns os (element_meant y ns e) (run_meant m z os run)
+run_spelled : {n : ℕ} {w : List ℕ} {ms : List Mark} → AreStrictElements n w ms → IsStrictRun n w ms
+run_spelled done = record { run = run_done; same = refl; meant = tt }
+run_spelled (next {rest = z} {marks = ns} {others = os} e run) =
+    let one = element_spelled e in
+    let all = run_spelled run in
+    record {
+      run = run_next one.0 all.run;
+      same = ap (λ (v : List ℕ). v ++ z) one.1 ∙ ap (λ (v : List ℕ). spelling ns ++ v) all.same
+          ∙ sym (spelling-append ns os);
+      meant = meant_append ns os one.2 all.meant;
+    }
 
 -- ---- the law
 
@@ -97,11 +86,7 @@ pub titles : (count : ℕ) (bytes : List ℕ) (marks : List Mark)
     → IsStrictRun count bytes marks ↔ AreStrictElements count bytes marks
 titles count bytes marks = (
   λ strict. strict_elements count bytes marks strict.run strict.same strict.meant,
-  λ elements. record {
-    run = run_of count bytes marks elements;
-    same = run_spelled count bytes marks elements;
-    meant = run_meant count bytes marks elements;
-  },
+  run_spelled,
 )
 
 -- a strict run in front is the one run in front
