@@ -40,48 +40,37 @@ numbered_shortens b m n title z major least =
 
 -- a simple value that a strict decoder takes
 meant_simple : (n : ℕ) → (IsSmallSimple (h.Simple n) → ⊥) → (n < 24) ⊎ (32 ≤ n)
-meant_simple n small = elim (cases_lt n 24)
-    [ inl a ↦ inl a | inr a ↦ elim (cases_lt n 32) [ inl b ↦ absurd (small (a, b)) | inr b ↦ inr b ] ]
+meant_simple n small = grind arith
 
 -- of a float, by its size
-float_shortens : (b : Bool) (s : Size) (n : ℕ) (title : List ℕ) → n < size_limit s
-    → 2 < length (numbered_title Other s n) → title ≡ numbered_title Other s n → ShortensElement b title (numbered_title Other s n)
-float_shortens b s n title below long is =
-    subst (λ (z : List ℕ). ShortensElement b z (numbered_title Other s n)) (sym is)
-    (float long (taken_title false Other n (numbered_title Other s n) (s, below, refl) (λ on. absurd cc)))
-
--- a title of one byte, which no number is in
-alone_shortens : (b : Bool) (title : List ℕ) (byte : ℕ) → title ≡ byte ∷ []
-    → (byte ≡ 0x9f) ⊎ (byte ≡ 0xbf) ⊎ (byte ≡ 0xff) → ShortensElement b title (byte ∷ [])
-alone_shortens b title byte is which =
-    subst (λ (z : List ℕ). ShortensElement b z (byte ∷ [])) (sym is) (alone which)
+float_shortens : (b : Bool) (s : Size) (n : ℕ) {title : List ℕ} → n < size_limit s
+    → 2 < length (numbered_title Other s n) → title ≡ numbered_title Other s n
+    → ShortensElement b title (numbered_title Other s n)
+float_shortens b s n below long is =
+    rw is (float long (taken_title false Other n (numbered_title Other s n) (s, below, refl) (λ on. absurd cc)))
 
 plain_shortens : (b : Bool) (header : Header) (title : List ℕ) → IsTitle title header → IsTitleOf header title
-    → IsPlain header → (b ≡ true → IsStrictTitle title header) → ShortensElement b title (shortest_title header)
-plain_shortens b (h.Positive n) title p z q s =
-    numbered_shortens b Unsigned n title z (inl (omega arith)) (λ on. (s on).shortest)
-plain_shortens b (h.Negative n) title p z q s =
-    numbered_shortens b Negative n title z (inl (omega arith)) (λ on. (s on).shortest)
-plain_shortens b (h.Tag n) title p z q s =
-    numbered_shortens b Tag n title z (inr (omega arith, omega arith)) (λ on. (s on).shortest)
-plain_shortens b (h.Array (Some n)) title p z q s =
-    numbered_shortens b Array n title z (inr (omega arith, omega arith)) (λ on. (s on).shortest)
-plain_shortens b (h.Map (Some n)) title p z q s =
-    numbered_shortens b Map n title z (inr (omega arith, omega arith)) (λ on. (s on).shortest)
-plain_shortens b (h.Array None) title p z q s = alone_shortens b title (first_byte Array 31) z (inl refl)
-plain_shortens b (h.Map None) title p z q s = alone_shortens b title (first_byte Map 31) z (inr (inl refl))
-plain_shortens b h.Break title p z q s = alone_shortens b title (first_byte Other 31) z (inr (inr refl))
-plain_shortens b (h.Simple n) title p z q s =
-    simple z.1 (λ on. meant_simple n (s on).meant) (taken_title b Other n title z.0 (λ on. (s on).shortest))
+    → IsPlain header → (b ≡ true → title ≡ shortest_title header) → (b ≡ true → IsSmallSimple header → ⊥)
+    → ShortensElement b title (shortest_title header)
+plain_shortens b (h.Positive n) t p z q s m = numbered_shortens b Unsigned n t z (inl (omega arith)) s
+plain_shortens b (h.Negative n) t p z q s m = numbered_shortens b Negative n t z (inl (omega arith)) s
+plain_shortens b (h.Tag n) t p z q s m = numbered_shortens b Tag n t z (inr (omega arith, omega arith)) s
+plain_shortens b (h.Array (Some n)) t p z q s m = numbered_shortens b Array n t z (inr (omega arith, omega arith)) s
+plain_shortens b (h.Map (Some n)) t p z q s m = numbered_shortens b Map n t z (inr (omega arith, omega arith)) s
+plain_shortens b (h.Array None) t p z q s m = rw z (alone (inl refl))
+plain_shortens b (h.Map None) t p z q s m = rw z (alone (inr (inl refl)))
+plain_shortens b h.Break t p z q s m = rw z (alone (inr (inr refl)))
+plain_shortens b (h.Simple n) t p z q s m =
+    simple z.1 (λ on. meant_simple n (m on)) (taken_title b Other n t z.0 s)
     (least_title true Other n (size_below z.0.0 n z.0.1))
-plain_shortens b (h.Float (f.Half n)) title p z q s =
-    float_shortens b Two n title (title_in_range title (h.Float (f.Half n)) p) (omega arith) z
-plain_shortens b (h.Float (f.Single n)) title p z q s =
-    float_shortens b Four n title (title_in_range title (h.Float (f.Single n)) p) (omega arith) z
-plain_shortens b (h.Float (f.Double n)) title p z q s =
-    float_shortens b Eight n title (title_in_range title (h.Float (f.Double n)) p) (omega arith) z
-plain_shortens b (h.Bytes len) title p z q s = absurd q
-plain_shortens b (h.Text len) title p z q s = absurd q
+plain_shortens b (h.Float (f.Half n)) t p z q s m =
+    float_shortens b Two n (title_in_range t (h.Float (f.Half n)) p) (omega arith) z
+plain_shortens b (h.Float (f.Single n)) t p z q s m =
+    float_shortens b Four n (title_in_range t (h.Float (f.Single n)) p) (omega arith) z
+plain_shortens b (h.Float (f.Double n)) t p z q s m =
+    float_shortens b Eight n (title_in_range t (h.Float (f.Double n)) p) (omega arith) z
+plain_shortens b (h.Bytes len) t p z q s m = absurd q
+plain_shortens b (h.Text len) t p z q s m = absurd q
 
 -- ---- strings
 
@@ -90,25 +79,23 @@ abbrev pub string_code : Kind → ℕ
 string_code Bytes = 2
 string_code Text = 3
 
-body_of : (k : Kind) (body : List ℕ) → IsWritable k body → IsBody (string_code k) body
-body_of Bytes body sound = bytes
-body_of Text body sound = text sound
-
 empty_body : (k : Kind) → IsBody (string_code k) []
 empty_body Bytes = bytes
 empty_body Text = text (record { characters = []; each = tt; whole = refl })
 
+titled_by : (b : Bool) (m : Major) (title body : List ℕ) → HasNumber m (length body) title
+    → (b ≡ true → title ≡ shortest_numbered m (length body)) → IsBody (major_code m) body
+    → ShortensString b (major_code m) (title ++ body) (shortest_numbered m (length body) ++ body)
+titled_by b m title body z least sound = titled (taken_title b m (length body) title z least)
+    (least_title true m (length body) (size_below z.0 (length body) z.1)) sound
+
 string_shortens : (b : Bool) (k : Kind) (title body : List ℕ) → IsTitle title (kind_header k (Some (length body)))
     → (b ≡ true → IsStrictTitle title (kind_header k (Some (length body)))) → IsWritable k body
     → ShortensString b (string_code k) (title ++ body) (body_spelling k body)
-string_shortens b Bytes title body p s sound =
-    let z = title_of title (h.Bytes (Some (length body))) p in
-    titled (taken_title b ByteString (length body) title z (λ on. (s on).shortest))
-    (least_title true ByteString (length body) (size_below z.0 (length body) z.1)) bytes
-string_shortens b Text title body p s sound =
-    let z = title_of title (h.Text (Some (length body))) p in
-    titled (taken_title b TextString (length body) title z (λ on. (s on).shortest))
-    (least_title true TextString (length body) (size_below z.0 (length body) z.1)) (text sound)
+string_shortens b Bytes t x p s sound =
+    titled_by b ByteString t x (title_of t (h.Bytes (Some (length x))) p) (λ on. (s on).shortest) bytes
+string_shortens b Text t x p s sound =
+    titled_by b TextString t x (title_of t (h.Text (Some (length x))) p) (λ on. (s on).shortest) (text sound)
 
 -- the open of a string has one title
 abbrev pub open_byte : Kind → ℕ
@@ -128,15 +115,10 @@ parts_spelled k bs = open_spelled k bs
     ∙ ap (λ (z : List ℕ). z ++ (spelling (pieces k bs) ++ 0xff ∷ [])) (open_shortest k)
 
 parts_shortened : (b : Bool) (k : Kind) (title strings : List ℕ) (bs : List (List ℕ))
-    → IsTitle title (kind_header k None)
-    → ShortensStrings b (string_code k) strings (spelling (pieces k bs))
+    → IsTitle title (kind_header k None) → ShortensStrings b (string_code k) strings (spelling (pieces k bs))
     → ShortensElement b (title ++ (strings ++ 0xff ∷ [])) (spelling (open_marks k bs))
 parts_shortened b k title strings bs p within =
-    let all : ShortensElement b (open_byte k ∷ (strings ++ 0xff ∷ []))
-    (open_byte k ∷ (spelling (pieces k bs) ++ 0xff ∷ [])) = parts (empty_body k) within in
-    subst (λ (z : List ℕ). ShortensElement b (z ++ (strings ++ 0xff ∷ [])) (spelling (open_marks k bs)))
-    (sym (open_title k title p))
-    (subst (λ (z : List ℕ). ShortensElement b (open_byte k ∷ (strings ++ 0xff ∷ [])) z) (sym (parts_spelled k bs)) all)
+    rw (open_title k title p, parts_spelled k bs) (parts (empty_body k) within)
 
 -- ---- any elements
 
@@ -145,41 +127,29 @@ mutual
       → ShortensStrings false (string_code k) rest written
       → ShortensStrings false (string_code k) (w ++ rest) (spelling (pieces k bs) ++ written)
   any_one k w bs (definite {title = t} {body = b} p) sound rest written others =
-      subst (λ (z : List ℕ). ShortensStrings false (string_code k) ((t ++ b) ++ rest) (z ++ written))
-      (sym (append-nil (body_spelling k b)))
-      (definite_more (string_shortens false k t b p (λ on. absurd cc) sound.0) others)
+      rw append-nil (definite_more (string_shortens false k t b p (λ on. absurd cc) sound.0) others)
   any_one k w bs (indefinite {title = t} {strings = x} {bodies = cs} p q) sound rest written others =
-      subst
-      (λ (z : List ℕ). ShortensStrings false (string_code k) ((z ++ (x ++ 0xff ∷ [])) ++ rest)
-      (spelling (pieces k cs) ++ written))
-      (sym (open_title k t p)) (open_more refl (any_all k x cs q sound) others)
+      rw (open_title k t p) (open_more refl (any_all k x cs q sound) others)
 
   any_all : (k : Kind) (w : List ℕ) (bs : List (List ℕ)) → AreStrings k w bs → AreWritable k bs
       → ShortensStrings false (string_code k) w (spelling (pieces k bs))
   any_all k w bs none sound = no_more
   any_all k w bs (more {first = x} {rest = y} {bodies = ds} {others = es} s ss) sound =
-      subst (λ (z : List ℕ). ShortensStrings false (string_code k) (x ++ y) z)
-      (sym (ap spelling (pieces-append k ds es) ∙ spelling-append (pieces k ds) (pieces k es)))
-      (any_one k x ds s (AreWritable-left k ds es sound) y (spelling (pieces k es))
+      rw (pieces-append, spelling-append) (any_one k x ds s (AreWritable-left k ds es sound) y _
       (any_all k y es ss (AreWritable-right k ds es sound)))
 
 any_element : (w : List ℕ) (ms : List Mark) → IsElement w ms → ShortensElement false w (spelling ms)
 any_element w ms (plain header p q) =
-    subst (λ (z : List ℕ). ShortensElement false w z) (sym (append-nil (shortest_title header)))
-    (plain_shortens false header w p (title_of w header p) q (λ on. absurd cc))
+    rw append-nil (plain_shortens false header w p (title_of w header p) q (λ on. absurd cc) (λ on. absurd cc))
 any_element w ms (string k (definite {title = t} {body = b} p) sound) =
-    subst (λ (z : List ℕ). ShortensElement false (t ++ b) z) (sym (append-nil (body_spelling k b)))
-    (whole (string_shortens false k t b p (λ on. absurd cc) sound.0))
+    rw append-nil (whole (string_shortens false k t b p (λ on. absurd cc) sound.0))
 any_element w ms (string k (indefinite {title = t} {strings = x} {bodies = bs} p q) sound) =
     parts_shortened false k t x bs p (any_all k x bs q sound)
 
 -- an element more
 next_shortened : (b : Bool) (m : ℕ) (x y rest : List ℕ) (ns os : List Mark) → ShortensElement b x (spelling ns)
     → Shortens b m (y ++ rest) (spelling os) rest → Shortens b (suc m) ((x ++ y) ++ rest) (spelling (ns ++ os)) rest
-next_shortened b m x y rest ns os e others =
-    subst (λ (z : List ℕ). Shortens b (suc m) z (spelling (ns ++ os)) rest) (sym (append_assoc x y rest))
-    (subst (λ (z : List ℕ). Shortens b (suc m) (x ++ (y ++ rest)) z rest) (sym (spelling-append ns os))
-    (shortens_next e others))
+next_shortened b m x y rest ns os e others = rw (append_assoc x y rest, spelling-append) (shortens_next e others)
 
 any_run : (n : ℕ) (w : List ℕ) (ms : List Mark) → IsRun n w ms → (rest : List ℕ)
     → Shortens false n (w ++ rest) (spelling ms) rest
@@ -197,11 +167,9 @@ flat_strings k w bs (more_flat {title = t} {body = b} {rest = y} {bodies = es} p
 
 strict_element : (w : List ℕ) (ms : List Mark) → IsStrictElement w ms → ShortensElement true w (spelling ms)
 strict_element w ms (strict_plain header p s q) =
-    subst (λ (z : List ℕ). ShortensElement true w z) (sym (append-nil (shortest_title header)))
-    (plain_shortens true header w p (title_of w header p) q (λ on. s))
+    rw append-nil (plain_shortens true header w p (title_of w header p) q (λ on. s.shortest) (λ on. s.meant))
 strict_element w ms (strict_whole {title = t} {body = b} k p s sound) =
-    subst (λ (z : List ℕ). ShortensElement true (t ++ b) z) (sym (append-nil (body_spelling k b)))
-    (whole (string_shortens true k t b p (λ on. s) sound))
+    rw append-nil (whole (string_shortens true k t b p (λ on. s) sound))
 strict_element w ms (strict_parts {title = t} {strings = x} {bodies = bs} k p within sound) =
     parts_shortened true k t x bs p (flat_strings k x bs within sound)
 
@@ -215,16 +183,11 @@ strict_elements n w ms (strict_next {count = m} {first = x} {rest = y} {marks = 
 
 pub front_shortened : (strict : Bool) (count : ℕ) (due : List ℕ) (front : RunInFront strict count due)
     → Shortens strict count due (spelling front.marks) front.rest
-front_shortened false count due front =
-    subst (λ (z : List ℕ). Shortens false count z (spelling front.marks) front.rest) (sym front.is)
-    (any_run count front.elements front.marks front.run front.rest)
+front_shortened false count due front = rw front.is (any_run count front.elements front.marks front.run front.rest)
 front_shortened true count due front =
     let spelled = front.spelled refl in
-    let elements = (titles count front.elements front.marks).0
-    (record {
+    rw front.is (strict_elements count front.elements front.marks ((titles count front.elements front.marks).0 record {
       run = front.run;
       same = spelled_alone front.elements front.marks spelled;
       meant = spelled.meant;
-    }) in
-    subst (λ (z : List ℕ). Shortens true count z (spelling front.marks) front.rest) (sym front.is)
-    (strict_elements count front.elements front.marks elements front.rest)
+    }) front.rest)
