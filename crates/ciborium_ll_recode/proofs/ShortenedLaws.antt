@@ -1,13 +1,12 @@
 -- From elements and their marks to what `Shortens` says: their spelling is written.
 use Rattle.std.proofs.Common.{◌≡◌, ℕ, suc, ◌+◌, ◌*◌, ◌<◌, ◌≤◌, ◌⊎◌, inl, inr, Bool, true, false, List, [], ◌∷◌, ◌++◌}
-use Rattle.std.proofs.Common.{length, Some, None, refl, sym, ap, subst, ◌∙◌, arith, append-nil, append_assoc}
-use Rattle.std.proofs.lemmas.Bool.{cases_lt}
+use Rattle.std.proofs.Common.{length, Some, None, refl, ap, ◌∙◌, arith, append-nil, append_assoc}
 use Rattle.ciborium_ll_grammar.specs.declared.hdr.Header.{Header}
 use Rattle.ciborium_ll_grammar.specs.declared.hdr.Header.TheVariants as h
 use Rattle.ciborium_ll_grammar.specs.declared.hdr.Float.TheVariants as f
 use Rattle.ciborium_ll_grammar.specs.Title.{Major, Unsigned, Negative, ByteString, TextString, Array, Map, Tag, Other}
-use Rattle.ciborium_ll_grammar.specs.Title.{major_code, first_byte, Size, Two, Four, Eight, IsTitle, shortest_title}
-use Rattle.ciborium_ll_grammar.specs.Title.{size_limit, numbered_title, shortest_numbered, IsStrictTitle, IsSmallSimple}
+use Rattle.ciborium_ll_grammar.specs.Title.{major_code, Size, Two, Four, Eight, IsTitle, shortest_title, size_limit}
+use Rattle.ciborium_ll_grammar.specs.Title.{numbered_title, shortest_numbered, IsStrictTitle, IsSmallSimple}
 use Rattle.ciborium_ll_grammar.specs.Strings.{Kind, Bytes, Text, kind_header, IsString, AreStrings, none, more}
 use Rattle.ciborium_ll_grammar.specs.Strings.{IsWritable}
 use Rattle.ciborium_ll_grammar.specs.Strings.IsString.{definite, indefinite}

@@ -1,6 +1,6 @@
 -- From what `Shortens` says to elements and their marks: what is written is their spelling.
-use Rattle.std.proofs.Common.{◌≡◌, ℕ, zero, suc, ◌+◌, ◌*◌, ◌<◌, ◌≤◌, ◌⊎◌, ◌↔◌, inl, inr, Bool, true, false, List, []}
-use Rattle.std.proofs.Common.{◌∷◌, ◌++◌, length, Some, None, refl, sym, ap, subst, ◌∙◌, arith, append-nil, append_assoc}
+use Rattle.std.proofs.Common.{◌≡◌, ℕ, zero, suc, ◌+◌, ◌<◌, ◌≤◌, ◌⊎◌, ◌↔◌, inl, inr, Bool, true, false, List, [], ◌∷◌}
+use Rattle.std.proofs.Common.{◌++◌, length, Some, None, refl, sym, ap, subst, ◌∙◌, arith, append-nil, append_assoc}
 use Rattle.std.proofs.Common.{length-append}
 use Rattle.std.specs.List.{AllByRecursion}
 use Rattle.ciborium_ll_grammar.specs.declared.hdr.Header.{Header}
@@ -10,7 +10,6 @@ use Rattle.ciborium_ll_grammar.specs.Title.{Major, Unsigned, Negative, ByteStrin
 use Rattle.ciborium_ll_grammar.specs.Title.{major_code, Size, Small, One, Two, Four, Eight, size_limit, numbered_title}
 use Rattle.ciborium_ll_grammar.specs.Title.{numbered_header, IsTitle, numbered, alone as alone_title, shortest_title}
 use Rattle.ciborium_ll_grammar.specs.Title.{shortest_numbered, IsSmallSimple}
-use Rattle.ciborium_ll_text.specs.Text.{IsCharacters}
 use Rattle.ciborium_ll_grammar.specs.Strings.{Kind, Bytes, Text, kind_header, AreStrings, none, more, IsWritable}
 use Rattle.ciborium_ll_grammar.specs.Strings.{IsString}
 use Rattle.ciborium_ll_grammar.specs.Strings.IsString.{definite, indefinite}
@@ -27,53 +26,47 @@ use Rattle.ciborium_ll_grammar.proofs.SpelledLaws.{meant_append, open_meant}
 use Rattle.ciborium_ll_recode.proofs.NumberTitles.{has_number, fewest_is}
 use Rattle.ciborium_ll_recode.proofs.ShortenedLaws.{string_code, open_byte, parts_spelled, front_shortened}
 
--- ---- titles
-
--- a title that is the one with the fewest bytes
-fewest_on : (b : Bool) (m : Major) (n : ℕ) (w : List ℕ) → IsNumberTitle b (major_code m) n w → b ≡ true
-    → w ≡ shortest_numbered m n
-fewest_on b m n w p on = fewest_is m n w (subst (λ (c : Bool). IsNumberTitle c (major_code m) n w) on p)
-
 -- ---- strings
+
+-- two spellings joined
+joined : {x y : List ℕ} (ms ns : List Mark) → x ≡ spelling ms → y ≡ spelling ns → x ++ y ≡ spelling (ms ++ ns)
+joined ms ns p q = rw (p, q, spelling-append) refl
+
+-- the titles of a kind, by their major type
+kind_title : (b : Bool) (k : Kind) (n : ℕ) (t : List ℕ) → IsNumberTitle b (string_code k) n t
+    → IsTitle t (kind_header k (Some n))
+kind_title b Bytes n t p = let z = has_number b ByteString n t p in rw z.2 (numbered ByteString z.0 n z.1)
+kind_title b Text n t p = let z = has_number b TextString n t p in rw z.2 (numbered TextString z.0 n z.1)
+
+-- with the fewest bytes
+kind_fewest : (k : Kind) (n : ℕ) (t : List ℕ) → IsNumberTitle true (string_code k) n t
+    → t ≡ shortest_title (kind_header k (Some n))
+kind_fewest Bytes n t p = fewest_is ByteString n t p
+kind_fewest Text n t p = fewest_is TextString n t p
+
+body_writable : (k : Kind) (body : List ℕ) → IsBody (string_code k) body → IsWritable k body
+body_writable Bytes body any = tt
+body_writable Text body (text sound) = sound
 
 -- a string of a definite length, its body, and what is written of it
 record OneString (b : Bool) (k : Kind) (w written : List ℕ) : Type 0 where
-  title : List ℕ
   body : List ℕ
-  is : w ≡ title ++ body
-  is_title : IsTitle title (kind_header k (Some (length body)))
+  is_string : IsString k w (body ∷ [])
+  element : IsElement w (Whole k body ∷ [])
   sound : IsWritable k body
   spelled : written ≡ body_spelling k body
   same : b ≡ true → w ≡ body_spelling k body
 
--- by the major type of its kind
-one_string : (b : Bool) (k : Kind) (m : Major) (t s x : List ℕ)
-    → ((z : Size) → numbered_header m z (length x) ≡ kind_header k (Some (length x)))
-    → shortest_numbered m (length x) ++ x ≡ body_spelling k x → IsNumberTitle b (major_code m) (length x) t
-    → IsNumberTitle true (major_code m) (length x) s → IsWritable k x → OneString b k (t ++ x) (s ++ x)
-one_string b k m t s x named shortest p q sound =
-    let n = length x in
-    let z = has_number b m n t p in
-    let title = subst (λ (v : Header). IsTitle (numbered_title m z.0 n) v) (named z.0) (numbered m z.0 n z.1) in
-    record {
-      title = t;
-      body = x;
-      is = refl;
-      is_title = subst (λ (v : List ℕ). IsTitle v (kind_header k (Some n))) (sym z.2) title;
-      sound = sound;
-      spelled = ap (λ (v : List ℕ). v ++ x) (fewest_is m n s q) ∙ shortest;
-      same = λ on. ap (λ (v : List ℕ). v ++ x) (fewest_on b m n t p on) ∙ shortest;
-    }
-
-text_body : (body : List ℕ) → IsBody 3 body → IsCharacters body
-text_body body (text sound) = sound
-
 single : (b : Bool) (k : Kind) (w written : List ℕ) → ShortensString b (string_code k) w written
     → OneString b k w written
-single b Bytes w written (titled {title = t} {shortest = s} {body = x} p q y) =
-    one_string b Bytes ByteString t s x (λ z. refl) refl p q tt
-single b Text w written (titled {title = t} {shortest = s} {body = x} p q y) =
-    one_string b Text TextString t s x (λ z. refl) refl p q (text_body x y)
+single b k w written (titled {title = t} {shortest = s} {body = x} p q y) = record {
+  body = x;
+  is_string = definite (kind_title b k (length x) t p);
+  element = string k (definite (kind_title b k (length x) t p)) (body_writable k x y, tt);
+  sound = body_writable k x y;
+  spelled = ap (λ (v : List ℕ). v ++ x) (kind_fewest k (length x) s q);
+  same = λ on. ap (λ (v : List ℕ). v ++ x) (kind_fewest k (length x) t (rw on at p));
+}
 
 -- strings within an open, their bodies, and what is written of them
 record StringsWithin (b : Bool) (k : Kind) (w written : List ℕ) : Type 0 where
@@ -96,24 +89,19 @@ within b k w written (definite_more {first = x} {rest = y} {written = u} {more =
     let all = within b k y v others in
     record {
       bodies = one.body ∷ all.bodies;
-      are = more (subst (λ (z : List ℕ). IsString k z (one.body ∷ [])) (sym one.is) (definite one.is_title)) all.are;
+      are = more one.is_string all.are;
       sound = (one.sound, all.sound);
-      spelled = ap (λ (z : List ℕ). z ++ v) one.spelled
-          ∙ ap (λ (z : List ℕ). body_spelling k one.body ++ z) all.spelled;
-      same = λ on. ap (λ (z : List ℕ). z ++ y) (one.same on)
-          ∙ ap (λ (z : List ℕ). body_spelling k one.body ++ z) (all.same on);
+      spelled = cc (one.spelled, all.spelled);
+      same = λ on. cc (one.same on, all.same on);
     }
 within b k w written (open_more {within = x} {rest = y} {written = u} {more = v} off inner others) =
     let one = within b k x u inner in
     let all = within b k y v others in
-    let joined = ap spelling (pieces-append k one.bodies all.bodies)
-    ∙ spelling-append (pieces k one.bodies) (pieces k all.bodies) in
     record {
       bodies = one.bodies ++ all.bodies;
       are = more (indefinite (open_is_title k) one.are) all.are;
       sound = AreWritable-append k one.bodies all.bodies one.sound all.sound;
-      spelled = ap (λ (z : List ℕ). z ++ v) one.spelled
-          ∙ (ap (λ (z : List ℕ). spelling (pieces k one.bodies) ++ z) all.spelled ∙ sym joined);
+      spelled = rw pieces-append (joined (pieces k one.bodies) (pieces k all.bodies) one.spelled all.spelled);
       same = λ on. absurd cc;
     }
 
@@ -121,6 +109,10 @@ within b k w written (open_more {within = x} {rest = y} {written = u} {more = v}
 which_kind : (major : ℕ) (body : List ℕ) → IsBody major body → (k : Kind) × (major ≡ string_code k)
 which_kind major body bytes = (Bytes, refl)
 which_kind major body (text sound) = (Text, refl)
+
+string_kind : {b : Bool} {major : ℕ} {w written : List ℕ} → ShortensString b major w written
+    → (k : Kind) × (major ≡ string_code k)
+string_kind (titled {body = x} p q y) = which_kind _ x y
 
 -- ---- elements
 
@@ -139,96 +131,70 @@ plain_marked b header w written p q is same meant =
     record {
       marks = Plain header ∷ [];
       element = plain header p q;
-      spelled = is ∙ sym (append-nil (shortest_title header));
-      same = λ on. same on ∙ sym (append-nil (shortest_title header));
+      spelled = rw append-nil is;
+      same = λ on. rw append-nil (same on);
       meant = λ on. (meant on, tt);
     }
 
-number_marked : (b : Bool) (m : Major) (header : Header) (n : ℕ) (w written : List ℕ)
+number_marked : (b : Bool) (m : Major) (header : Header) {n : ℕ} {w written : List ℕ}
     → ((s : Size) → numbered_header m s n ≡ header) → IsPlain header → shortest_numbered m n ≡ shortest_title header
     → (IsSmallSimple header → ⊥) → IsNumberTitle b (major_code m) n w → IsNumberTitle true (major_code m) n written
     → MarkedElement b w written
-number_marked b m header n w written named q shortest meant p least =
+number_marked b m header {n} {w} {written} named q shortest meant p least =
     let z = has_number b m n w p in
-    let title : IsTitle (numbered_title m z.0 n) header = subst (λ (x : Header). IsTitle (numbered_title m z.0 n) x)
-    (named z.0) (numbered m z.0 n z.1) in
-    plain_marked b header w written (subst (λ (v : List ℕ). IsTitle v header) (sym z.2) title) q
-    (fewest_is m n written least ∙ shortest) (λ on. fewest_on b m n w p on ∙ shortest) (λ on. meant)
+    plain_marked b header w written (rw (z.2, ← (named z.0)) (numbered m z.0 n z.1)) q
+    (fewest_is m n written least ∙ shortest) (λ on. fewest_is m n w (rw on at p) ∙ shortest) (λ on. meant)
 
 by_major : (b : Bool) (major n : ℕ) (w written : List ℕ) → (major < 2) ⊎ ((3 < major) × (major < 7))
     → IsNumberTitle b major n w → IsNumberTitle true major n written → MarkedElement b w written
-by_major b zero n w written c p q =
-    number_marked b Unsigned (h.Positive n) n w written (λ s. refl) tt refl (λ x. x) p q
-by_major b (suc zero) n w written c p q =
-    number_marked b Negative (h.Negative n) n w written (λ s. refl) tt refl (λ x. x) p q
-by_major b (suc (suc zero)) n w written c p q =
-    absurd (elim c [ inl l ↦ omega (arith, l) | inr l ↦ omega (arith, l.0) ])
-by_major b (suc (suc (suc zero))) n w written c p q =
-    absurd (elim c [ inl l ↦ omega (arith, l) | inr l ↦ omega (arith, l.0) ])
-by_major b (suc (suc (suc (suc zero)))) n w written c p q =
-    number_marked b Array (h.Array (Some n)) n w written (λ s. refl) tt refl (λ x. x) p q
-by_major b (suc (suc (suc (suc (suc zero))))) n w written c p q =
-    number_marked b Map (h.Map (Some n)) n w written (λ s. refl) tt refl (λ x. x) p q
-by_major b (suc (suc (suc (suc (suc (suc zero)))))) n w written c p q =
-    number_marked b Tag (h.Tag n) n w written (λ s. refl) tt refl (λ x. x) p q
-by_major b (suc (suc (suc (suc (suc (suc (suc k))))))) n w written c p q =
-    absurd (elim c [ inl l ↦ omega (arith, l) | inr l ↦ omega (arith, l.1) ])
+by_major b zero n w written c p q = number_marked b Unsigned (h.Positive n) (λ s. refl) tt refl (λ x. x) p q
+by_major b (suc zero) n w written c p q = number_marked b Negative (h.Negative n) (λ s. refl) tt refl (λ x. x) p q
+by_major b (suc (suc zero)) n w written c p q = absurd (omega arith)
+by_major b (suc (suc (suc zero))) n w written c p q = absurd (omega arith)
+by_major b (suc (suc (suc (suc zero)))) n w written c p q = number_marked b Array (h.Array (Some n)) (λ s. refl) tt refl (λ x. x) p q
+by_major b (suc (suc (suc (suc (suc zero))))) n w written c p q = number_marked b Map (h.Map (Some n)) (λ s. refl) tt refl (λ x. x) p q
+by_major b (suc (suc (suc (suc (suc (suc zero)))))) n w written c p q = number_marked b Tag (h.Tag n) (λ s. refl) tt refl (λ x. x) p q
+by_major b (suc (suc (suc (suc (suc (suc (suc k))))))) n w written c p q = absurd (omega arith)
 
 simple_title : (s : Size) (n : ℕ) (w : List ℕ) → n < size_limit s → w ≡ numbered_title Other s n → length w ≤ 2
     → IsTitle w (h.Simple n)
-simple_title Small n w l e short =
-    subst (λ (v : List ℕ). IsTitle v (h.Simple n)) (sym e) (numbered Other Small n l)
-simple_title One n w l e short = subst (λ (v : List ℕ). IsTitle v (h.Simple n)) (sym e) (numbered Other One n l)
+simple_title Small n w l e short = rw e (numbered Other Small n l)
+simple_title One n w l e short = rw e (numbered Other One n l)
 simple_title Two n w l e short = absurd (let k = ap length e in omega (arith, k, short))
 simple_title Four n w l e short = absurd (let k = ap length e in omega (arith, k, short))
 simple_title Eight n w l e short = absurd (let k = ap length e in omega (arith, k, short))
+
+-- a title that is the shortest one
+own_marked : (b : Bool) (header : Header) (w : List ℕ) → w ≡ shortest_title header → IsTitle (shortest_title header) header
+    → IsPlain header → (IsSmallSimple header → ⊥) → MarkedElement b w w
+own_marked b header w is p q meant = plain_marked b header w w (rw is p) q is (λ on. is) (λ on. meant)
 
 float_marked : (b : Bool) (s : Size) (n : ℕ) (w : List ℕ) → n < size_limit s → w ≡ numbered_title Other s n
     → 2 < length w → MarkedElement b w w
 float_marked b Small n w l e long = absurd (let k = ap length e in omega (arith, k, long))
 float_marked b One n w l e long = absurd (let k = ap length e in omega (arith, k, long))
-float_marked b Two n w l e long =
-    let header = h.Float (f.Half n) in
-    plain_marked b header w w (subst (λ (v : List ℕ). IsTitle v header) (sym e) (numbered Other Two n l)) tt e (λ on. e)
-    (λ on x. x)
-float_marked b Four n w l e long =
-    let header = h.Float (f.Single n) in
-    plain_marked b header w w (subst (λ (v : List ℕ). IsTitle v header) (sym e) (numbered Other Four n l)) tt e
-    (λ on. e) (λ on x. x)
-float_marked b Eight n w l e long =
-    let header = h.Float (f.Double n) in
-    plain_marked b header w w (subst (λ (v : List ℕ). IsTitle v header) (sym e) (numbered Other Eight n l)) tt e
-    (λ on. e) (λ on x. x)
-
--- a byte that is a title of its own
-byte_marked : (b : Bool) (header : Header) (byte : ℕ) → IsTitle (byte ∷ []) header → IsPlain header
-    → byte ∷ [] ≡ shortest_title header → (IsSmallSimple header → ⊥) → MarkedElement b (byte ∷ []) (byte ∷ [])
-byte_marked b header byte p q is meant = plain_marked b header (byte ∷ []) (byte ∷ []) p q is (λ on. is) (λ on. meant)
+float_marked b Two n w l e long = own_marked b (h.Float (f.Half n)) w e (numbered Other Two n l) tt (λ x. x)
+float_marked b Four n w l e long = own_marked b (h.Float (f.Single n)) w e (numbered Other Four n l) tt (λ x. x)
+float_marked b Eight n w l e long = own_marked b (h.Float (f.Double n)) w e (numbered Other Eight n l) tt (λ x. x)
 
 alone_marked : (b : Bool) (byte : ℕ) → (byte ≡ 0x9f) ⊎ (byte ≡ 0xbf) ⊎ (byte ≡ 0xff)
     → MarkedElement b (byte ∷ []) (byte ∷ [])
-alone_marked b byte which =
-    elim which [
-      | inl e ↦ subst (λ (v : ℕ). MarkedElement b (v ∷ []) (v ∷ [])) (sym e)
-          (byte_marked b (h.Array None) 0x9f (alone_title Array (h.Array None) refl) tt refl (λ x. x))
-      | inr other ↦ elim other [
-        | inl e ↦ subst (λ (v : ℕ). MarkedElement b (v ∷ []) (v ∷ [])) (sym e)
-            (byte_marked b (h.Map None) 0xbf (alone_title Map (h.Map None) refl) tt refl (λ x. x))
-        | inr e ↦ subst (λ (v : ℕ). MarkedElement b (v ∷ []) (v ∷ [])) (sym e)
-            (byte_marked b h.Break 0xff (alone_title Other h.Break refl) tt refl (λ x. x))
-      ]
-    ]
+alone_marked b byte (inl e) =
+    rw e (own_marked b (h.Array None) (0x9f ∷ []) refl (alone_title Array (h.Array None) refl) tt (λ x. x))
+alone_marked b byte (inr (inl e)) =
+    rw e (own_marked b (h.Map None) (0xbf ∷ []) refl (alone_title Map (h.Map None) refl) tt (λ x. x))
+alone_marked b byte (inr (inr e)) =
+    rw e (own_marked b h.Break (0xff ∷ []) refl (alone_title Other h.Break refl) tt (λ x. x))
 
-string_marked : (b : Bool) (k : Kind) (w written : List ℕ) → ShortensString b (string_code k) w written
+whole_marked : (b : Bool) (k : Kind) (w written : List ℕ) → ShortensString b (string_code k) w written
     → MarkedElement b w written
-string_marked b k w written s =
+whole_marked b k w written s =
     let one = single b k w written s in
     record {
       marks = Whole k one.body ∷ [];
-      element = subst (λ (z : List ℕ). IsElement z (Whole k one.body ∷ [])) (sym one.is)
-          (string k (definite one.is_title) (one.sound, tt));
-      spelled = one.spelled ∙ sym (append-nil (body_spelling k one.body));
-      same = λ on. one.same on ∙ sym (append-nil (body_spelling k one.body));
+      element = one.element;
+      spelled = rw append-nil one.spelled;
+      same = λ on. rw append-nil (one.same on);
       meant = λ on. (tt, tt);
     }
 
@@ -239,33 +205,25 @@ parts_marked b k strings written s =
     record {
       marks = open_marks k all.bodies;
       element = string k (indefinite (open_is_title k) all.are) all.sound;
-      spelled = ap (λ (z : List ℕ). open_byte k ∷ (z ++ 0xff ∷ [])) all.spelled ∙ sym (parts_spelled k all.bodies);
-      same = λ on. ap (λ (z : List ℕ). open_byte k ∷ (z ++ 0xff ∷ [])) (all.same on) ∙ sym (parts_spelled k all.bodies);
+      spelled = rw parts_spelled (ap (λ (z : List ℕ). open_byte k ∷ (z ++ 0xff ∷ [])) all.spelled);
+      same = λ on. rw parts_spelled (ap (λ (z : List ℕ). open_byte k ∷ (z ++ 0xff ∷ [])) (all.same on));
       meant = λ on. open_meant k all.bodies;
     }
-
-whole_marked : (b : Bool) (major : ℕ) (w written : List ℕ) → ShortensString b major w written
-    → MarkedElement b w written
-whole_marked b major w written (titled {title = t} {shortest = s} {body = x} p q y) =
-    let k = which_kind major x y in
-    string_marked b k.0 (t ++ x) (s ++ x)
-    (subst (λ (c : ℕ). ShortensString b c (t ++ x) (s ++ x)) k.1 (titled p q y))
 
 element_marked : (b : Bool) (w written : List ℕ) → ShortensElement b w written → MarkedElement b w written
 element_marked b w written (number {major = major} {n = n} c p q) = by_major b major n w written c p q
 element_marked b w written (simple {n = n} short meant p q) =
     let z = has_number b Other n w p in
     plain_marked b (h.Simple n) w written (simple_title z.0 n w z.1 z.2 short) tt (fewest_is Other n written q)
-    (fewest_on b Other n w p)
+    (λ on. fewest_is Other n w (rw on at p))
     (λ on small. elim (meant on) [ inl a ↦ omega (arith, a, small.0) | inr a ↦ omega (arith, a, small.1) ])
 element_marked b w written (float {bits = n} long p) =
     let z = has_number false Other n w p in float_marked b z.0 n w z.1 z.2 long
 element_marked b w written (alone {byte = byte} which) = alone_marked b byte which
-element_marked b w written (whole {major = major} s) = whole_marked b major w written s
+element_marked b w written (whole {major = major} s) =
+    let k = string_kind s in whole_marked b k.0 w written (rw k.1 at s)
 element_marked b w written (parts {major = major} {strings = x} {written = y} kind s) =
-    let k = which_kind major [] kind in
-    subst (λ (c : ℕ). MarkedElement b ((32 * c + 31) ∷ (x ++ 0xff ∷ [])) ((32 * c + 31) ∷ (y ++ 0xff ∷ []))) (sym k.1)
-    (parts_marked b k.0 x y (subst (λ (c : ℕ). ShortensStrings b c x y) k.1 s))
+    let k = which_kind major [] kind in rw k.1 (parts_marked b k.0 x y (rw k.1 at s))
 
 -- ---- in front of bytes
 
@@ -295,16 +253,13 @@ fronted b count due written rest
     (shortens_next {count = m} {element = x} {bytes = y} {written = u} {more = v} e others) =
     let one = element_marked b x u e in
     let all = fronted b m y v rest others in
-    let joined = spelling-append one.marks all.marks in
     record {
       elements = x ++ all.elements;
       marks = one.marks ++ all.marks;
       run = next one.element all.run;
-      is = ap (λ (z : List ℕ). x ++ z) all.is ∙ sym (append_assoc x all.elements rest);
-      spelled = ap (λ (z : List ℕ). z ++ v) one.spelled
-          ∙ (ap (λ (z : List ℕ). spelling one.marks ++ z) all.spelled ∙ sym joined);
-      same = λ on. ap (λ (z : List ℕ). z ++ all.elements) (one.same on)
-          ∙ (ap (λ (z : List ℕ). spelling one.marks ++ z) (all.same on) ∙ sym joined);
+      is = cc (all.is, append_assoc x all.elements rest);
+      spelled = joined one.marks all.marks one.spelled all.spelled;
+      same = λ on. joined one.marks all.marks (one.same on) (all.same on);
       meant = λ on. meant_append one.marks all.marks (one.meant on) (all.meant on);
     }
 
