@@ -9,11 +9,10 @@ use Rattle.ciborium_ll_decoder.specs.BodyCopies.{Sides}
 use Rattle.ciborium_ll_recode.specs.Recoding.{CopiesElements}
 use Rattle.ciborium_ll_recode.specs.RecodingTold.{IsReady, CopiesFront, RecodesTold}
 use Rattle.ciborium_ll_recode.specs.Exactly.{OnlyBytesStop, CopiesExactly}
-use Rattle.ciborium_ll_grammar.proofs.ElementLaws.{one_run}
 use Rattle.ciborium_ll_decoder.proofs.BodyLaws.{view_none}
 use Rattle.ciborium_ll_recode.proofs.RecodeReadyLaws.{recode_told, recode_exactly}
 use Rattle.ciborium_ll_recode.proofs.ShortenedLaws.{front_shortened}
-use Rattle.ciborium_ll_recode.proofs.ShortensLaws.{shortened_front, shortened_again}
+use Rattle.ciborium_ll_recode.proofs.ShortensLaws.{shortened_front, shortened_again, shortened_one}
 
 module _ {R E W F : Type 0} {strict : Bool} (source : Reader R E) (sink : Writer W F) (count room : ℕ)
     (old : Sides R W) (due written : List ℕ)
@@ -68,16 +67,12 @@ module _ {R E W F : Type 0} {strict : Bool} (source : Reader R E) (sink : Writer
             λ copy. ok.1 (shortened_front strict count due copy.0 copy.1 copy.2).0,
           );
           copied = λ copy rest is. (
-              let found = shortened_front strict count due copy rest is in
-              let front = found.0 in
-              let copies = copies_front result told (ok.1 front) in
-              let all = copies.front in
-              let one = one_run count front.elements front.marks front.run all.elements front.rest all.rest all.marks
-              all.run (sym front.is ∙ all.is) in (
-                copies.output
-                    ∙ ap (λ (z : List ℕ). Some (written ++ z)) (ap spelling (sym one.1) ∙ sym found.1),
+              let copies = copies_front result told (ok.1 (shortened_front strict count due copy rest is).0) in
+              let same = shortened_one strict strict count due _ _ copy rest (front_shortened strict count due
+              copies.front) is in (
+                copies.output ∙ ap (λ (z : List ℕ). Some (written ++ z)) same.0,
                 sym (view_none new.decoder.waiting (source.ahead new.decoder.reader) (none_waits copies)) ∙ copies.left
-                    ∙ ap (λ (z : List ℕ). Some z) (sym one.2 ∙ sym found.2),
+                    ∙ ap (λ (z : List ℕ). Some z) same.1,
               )
               );
           again = λ copy rest is. shortened_again strict count due copy rest is;

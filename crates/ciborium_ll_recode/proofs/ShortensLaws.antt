@@ -1,8 +1,7 @@
 -- From what `Shortens` says to elements and their marks: what is written is their spelling.
 use Rattle.std.proofs.Common.{◌≡◌, ℕ, zero, suc, ◌+◌, ◌<◌, ◌≤◌, ◌⊎◌, ◌↔◌, inl, inr, Bool, true, false, List, [], ◌∷◌}
-use Rattle.std.proofs.Common.{◌++◌, length, Some, None, refl, sym, ap, subst, ◌∙◌, arith, append-nil, append_assoc}
+use Rattle.std.proofs.Common.{◌++◌, length, Some, None, refl, sym, ap, ◌∙◌, arith, append-nil, append_assoc}
 use Rattle.std.proofs.Common.{length-append}
-use Rattle.std.specs.List.{AllByRecursion}
 use Rattle.ciborium_ll_grammar.specs.declared.hdr.Header.{Header}
 use Rattle.ciborium_ll_grammar.specs.declared.hdr.Header.TheVariants as h
 use Rattle.ciborium_ll_grammar.specs.declared.hdr.Float.TheVariants as f
@@ -11,10 +10,9 @@ use Rattle.ciborium_ll_grammar.specs.Title.{major_code, Size, Small, One, Two, F
 use Rattle.ciborium_ll_grammar.specs.Title.{numbered_header, IsTitle, numbered, alone as alone_title, shortest_title}
 use Rattle.ciborium_ll_grammar.specs.Title.{shortest_numbered, IsSmallSimple}
 use Rattle.ciborium_ll_grammar.specs.Strings.{Kind, Bytes, Text, kind_header, AreStrings, none, more, IsWritable}
-use Rattle.ciborium_ll_grammar.specs.Strings.{IsString}
 use Rattle.ciborium_ll_grammar.specs.Strings.IsString.{definite, indefinite}
 use Rattle.ciborium_ll_grammar.specs.Elements.{AreWritable, IsPlain, Mark, Plain, Whole, pieces, open_marks, spelling}
-use Rattle.ciborium_ll_grammar.specs.Elements.{body_spelling, IsMeant, IsElement, plain, string, IsRun, done, next}
+use Rattle.ciborium_ll_grammar.specs.Elements.{IsStrictSpelling, IsElement, plain, string, done, next}
 use Rattle.ciborium_ll_grammar.specs.Faults.{RunInFront}
 use Rattle.ciborium_ll_grammar.specs.Shortening.{IsNumberTitle, IsBody, bytes, text, ShortensString, titled}
 use Rattle.ciborium_ll_grammar.specs.Shortening.{ShortensStrings, no_more, definite_more, open_more, ShortensElement}
@@ -22,7 +20,7 @@ use Rattle.ciborium_ll_grammar.specs.Shortening.{number, simple, float, alone, w
 use Rattle.ciborium_ll_grammar.specs.Shortening.{done as shortens_done, next as shortens_next}
 use Rattle.ciborium_ll_grammar.proofs.ElementLaws.{AreWritable-append, spelling-append, pieces-append, run_again}
 use Rattle.ciborium_ll_grammar.proofs.ElementLaws.{one_run}
-use Rattle.ciborium_ll_grammar.proofs.SpelledLaws.{meant_append, open_meant}
+use Rattle.ciborium_ll_grammar.proofs.SpelledLaws.{open_meant, spelled_none, spelled_then, spelled_alone}
 use Rattle.ciborium_ll_recode.proofs.NumberTitles.{has_number, fewest_is}
 use Rattle.ciborium_ll_recode.proofs.ShortenedLaws.{string_code, open_byte, parts_spelled, front_shortened}
 
@@ -48,26 +46,6 @@ body_writable : (k : Kind) (body : List ℕ) → IsBody (string_code k) body →
 body_writable Bytes body any = tt
 body_writable Text body (text sound) = sound
 
--- a string of a definite length, its body, and what is written of it
-record OneString (b : Bool) (k : Kind) (w written : List ℕ) : Type 0 where
-  body : List ℕ
-  is_string : IsString k w (body ∷ [])
-  element : IsElement w (Whole k body ∷ [])
-  sound : IsWritable k body
-  spelled : written ≡ body_spelling k body
-  same : b ≡ true → w ≡ body_spelling k body
-
-single : (b : Bool) (k : Kind) (w written : List ℕ) → ShortensString b (string_code k) w written
-    → OneString b k w written
-single b k w written (titled {title = t} {shortest = s} {body = x} p q y) = record {
-  body = x;
-  is_string = definite (kind_title b k (length x) t p);
-  element = string k (definite (kind_title b k (length x) t p)) (body_writable k x y, tt);
-  sound = body_writable k x y;
-  spelled = ap (λ (v : List ℕ). v ++ x) (kind_fewest k (length x) s q);
-  same = λ on. ap (λ (v : List ℕ). v ++ x) (kind_fewest k (length x) t (rw on at p));
-}
-
 -- strings within an open, their bodies, and what is written of them
 record StringsWithin (b : Bool) (k : Kind) (w written : List ℕ) : Type 0 where
   bodies : List (List ℕ)
@@ -84,15 +62,15 @@ within : (b : Bool) (k : Kind) (w written : List ℕ) → ShortensStrings b (str
     → StringsWithin b k w written
 within b k w written no_more =
     record { bodies = []; are = none; sound = tt; spelled = refl; same = λ on. refl }
-within b k w written (definite_more {first = x} {rest = y} {written = u} {more = v} s others) =
-    let one = single b k x u s in
+within b k w written
+    (definite_more {rest = y} {more = v} (titled {title = t} {shortest = s} {body = x} p q sound) others) =
     let all = within b k y v others in
     record {
-      bodies = one.body ∷ all.bodies;
-      are = more one.is_string all.are;
-      sound = (one.sound, all.sound);
-      spelled = cc (one.spelled, all.spelled);
-      same = λ on. cc (one.same on, all.same on);
+      bodies = x ∷ all.bodies;
+      are = more (definite (kind_title b k (length x) t p)) all.are;
+      sound = (body_writable k x sound, all.sound);
+      spelled = cc (kind_fewest k (length x) s q, all.spelled);
+      same = λ on. cc (kind_fewest k (length x) t (rw on at p), all.same on);
     }
 within b k w written (open_more {within = x} {rest = y} {written = u} {more = v} off inner others) =
     let one = within b k x u inner in
@@ -121,8 +99,7 @@ record MarkedElement (b : Bool) (w written : List ℕ) : Type 0 where
   marks : List Mark
   element : IsElement w marks
   spelled : written ≡ spelling marks
-  same : b ≡ true → w ≡ spelling marks
-  meant : b ≡ true → AllByRecursion IsMeant marks
+  strict : b ≡ true → IsStrictSpelling w marks []
 
 plain_marked : (b : Bool) (header : Header) (w written : List ℕ) → IsTitle w header → IsPlain header
     → written ≡ shortest_title header → (b ≡ true → w ≡ shortest_title header)
@@ -132,8 +109,7 @@ plain_marked b header w written p q is same meant =
       marks = Plain header ∷ [];
       element = plain header p q;
       spelled = rw append-nil is;
-      same = λ on. rw append-nil (same on);
-      meant = λ on. (meant on, tt);
+      strict = λ on. record { same = simp append-nil (same on); meant = (meant on, tt) };
     }
 
 number_marked : (b : Bool) (m : Major) (header : Header) {n : ℕ} {w written : List ℕ}
@@ -188,15 +164,15 @@ alone_marked b byte (inr (inr e)) =
 
 whole_marked : (b : Bool) (k : Kind) (w written : List ℕ) → ShortensString b (string_code k) w written
     → MarkedElement b w written
-whole_marked b k w written s =
-    let one = single b k w written s in
-    record {
-      marks = Whole k one.body ∷ [];
-      element = one.element;
-      spelled = rw append-nil one.spelled;
-      same = λ on. rw append-nil (one.same on);
-      meant = λ on. (tt, tt);
-    }
+whole_marked b k w written (titled {title = t} {shortest = s} {body = x} p q sound) = record {
+  marks = Whole k x ∷ [];
+  element = string k (definite (kind_title b k (length x) t p)) (body_writable k x sound, tt);
+  spelled = rw append-nil (cc (kind_fewest k (length x) s q));
+  strict = λ on. record {
+    same = simp append-nil (cc (kind_fewest k (length x) t (rw on at p)));
+    meant = (tt, tt);
+  };
+}
 
 parts_marked : (b : Bool) (k : Kind) (strings written : List ℕ) → ShortensStrings b (string_code k) strings written
     → MarkedElement b (open_byte k ∷ (strings ++ 0xff ∷ [])) (open_byte k ∷ (written ++ 0xff ∷ []))
@@ -206,8 +182,10 @@ parts_marked b k strings written s =
       marks = open_marks k all.bodies;
       element = string k (indefinite (open_is_title k) all.are) all.sound;
       spelled = rw parts_spelled (ap (λ (z : List ℕ). open_byte k ∷ (z ++ 0xff ∷ [])) all.spelled);
-      same = λ on. rw parts_spelled (ap (λ (z : List ℕ). open_byte k ∷ (z ++ 0xff ∷ [])) (all.same on));
-      meant = λ on. open_meant k all.bodies;
+      strict = λ on. record {
+        same = simp (append-nil, parts_spelled) (ap (λ (z : List ℕ). open_byte k ∷ (z ++ 0xff ∷ [])) (all.same on));
+        meant = open_meant k all.bodies;
+      };
     }
 
 element_marked : (b : Bool) (w written : List ℕ) → ShortensElement b w written → MarkedElement b w written
@@ -227,117 +205,88 @@ element_marked b w written (parts {major = major} {strings = x} {written = y} ki
 
 -- ---- in front of bytes
 
--- the elements in front, their marks, and what is written of them
-record FrontElements (b : Bool) (count : ℕ) (due written rest : List ℕ) : Type 0 where
-  elements : List ℕ
-  marks : List Mark
-  run : IsRun count elements marks
-  is : due ≡ elements ++ rest
-  spelled : written ≡ spelling marks
-  same : b ≡ true → elements ≡ spelling marks
-  meant : b ≡ true → AllByRecursion IsMeant marks
-
-fronted : (b : Bool) (count : ℕ) (due written rest : List ℕ) → Shortens b count due written rest
-    → FrontElements b count due written rest
-fronted b count due written rest shortens_done =
-    record {
-      elements = [];
-      marks = [];
-      run = done;
-      is = refl;
-      spelled = refl;
-      same = λ on. refl;
-      meant = λ on. tt;
-    }
-fronted b count due written rest
-    (shortens_next {count = m} {element = x} {bytes = y} {written = u} {more = v} e others) =
-    let one = element_marked b x u e in
-    let all = fronted b m y v rest others in
-    record {
-      elements = x ++ all.elements;
-      marks = one.marks ++ all.marks;
-      run = next one.element all.run;
-      is = cc (all.is, append_assoc x all.elements rest);
-      spelled = joined one.marks all.marks one.spelled all.spelled;
-      same = λ on. joined one.marks all.marks (one.same on) (all.same on);
-      meant = λ on. meant_append one.marks all.marks (one.meant on) (all.meant on);
-    }
+-- elements in front, with what `Shortens` says of them
+abbrev pub SpellsFront : Bool → ℕ → List ℕ → List ℕ → List ℕ → Type 0
+SpellsFront strict count due written rest =
+    (front : RunInFront strict count due) × (written ≡ spelling front.marks) × (rest ≡ front.rest)
 
 -- so many elements stand in front, what is written is their spelling, and the rest is what follows
 pub shortened_front : (strict : Bool) (count : ℕ) (due written rest : List ℕ) → Shortens strict count due written rest
-    → (front : RunInFront strict count due) × (written ≡ spelling front.marks) × (rest ≡ front.rest)
-shortened_front strict count due written rest s =
-    let all = fronted strict count due written rest s in (
+    → SpellsFront strict count due written rest
+shortened_front strict count due written rest shortens_done = (
+  record { elements = []; marks = []; rest = rest; run = done; is = refl; spelled = λ on. spelled_none },
+  refl,
+  refl,
+)
+shortened_front strict count due written rest
+    (shortens_next {count = m} {element = x} {bytes = y} {written = u} {more = v} e others) =
+    let one = element_marked strict x u e in
+    let all = shortened_front strict m y v rest others in
+    let front = all.0 in (
       record {
-        elements = all.elements;
-        marks = all.marks;
-        rest = rest;
-        run = all.run;
-        is = all.is;
-        spelled = λ on. record { same = all.same on ∙ sym (append-nil (spelling all.marks)); meant = all.meant on };
+        elements = x ++ front.elements;
+        marks = one.marks ++ front.marks;
+        rest = front.rest;
+        run = next one.element front.run;
+        is = cc (front.is, append_assoc x front.elements front.rest);
+        spelled = λ on.
+            let spelled = front.spelled on in
+            spelled_then x one.marks front.elements front.marks (one.strict on)
+            (spelled_alone front.elements front.marks spelled) spelled.meant;
       },
-      all.spelled,
-      refl,
+      joined one.marks front.marks one.spelled all.1,
+      all.2,
     )
 
 -- what is written of elements is written of itself again
 pub shortened_again : (strict : Bool) (count : ℕ) (due written rest : List ℕ) → Shortens strict count due written rest
     → Shortens strict count written written []
 shortened_again strict count due written rest s =
-    let all = fronted strict count due written rest s in
-    let spelled = spelling all.marks in
-    let front : RunInFront strict count spelled = record {
-      elements = spelled;
-      marks = all.marks;
+    let all = shortened_front strict count due written rest s in
+    let front = all.0 in
+    rw all.1 (front_shortened strict count (spelling front.marks) record {
+      elements = spelling front.marks;
+      marks = front.marks;
       rest = [];
-      run = (run_again count all.elements all.marks all.run).run;
-      is = sym (append-nil spelled);
-      spelled = λ on. record { same = sym (append-nil spelled); meant = all.meant on };
-    } in
-    subst (λ (z : List ℕ). Shortens strict count z z []) (sym all.spelled) (front_shortened strict count spelled front)
+      run = (run_again count front.elements front.marks front.run).run;
+      is = sym (append-nil (spelling front.marks));
+      spelled = λ on. record { same = sym (append-nil (spelling front.marks)); meant = (front.spelled on).meant };
+    })
 
 -- ---- what the laws say besides
-
--- elements in front, with what `Shortens` says of them
-abbrev pub SpellsFront : Bool → ℕ → List ℕ → List ℕ → List ℕ → Type 0
-SpellsFront strict count due written rest =
-    (front : RunInFront strict count due) × (written ≡ spelling front.marks) × (rest ≡ front.rest)
 
 pub shortened_is : (strict : Bool) (count : ℕ) (due written rest : List ℕ)
     → Shortens strict count due written rest ↔ SpellsFront strict count due written rest
 shortened_is strict count due written rest = (
   shortened_front strict count due written rest,
-  λ found. (
-      let front = found.0 in
-      subst (λ (z : List ℕ). Shortens strict count due z rest) (sym found.1)
-      (subst (λ (z : List ℕ). Shortens strict count due (spelling front.marks) z) (sym found.2)
-      (front_shortened strict count due front))
-      ),
+  λ found. rw (found.1, found.2) (front_shortened strict count due found.0),
 )
 
 -- at most one copy and one rest, however strict the decoder is
 pub shortened_one : (strict other : Bool) (count : ℕ) (due written rest copy left : List ℕ)
     → Shortens strict count due written rest → Shortens other count due copy left → (written ≡ copy) × (rest ≡ left)
 shortened_one strict other count due written rest copy left s t =
-    let a = fronted strict count due written rest s in
-    let b = fronted other count due copy left t in
-    let one = one_run count a.elements a.marks a.run b.elements rest left b.marks b.run (sym a.is ∙ b.is) in
-    (a.spelled ∙ (ap spelling one.1 ∙ sym b.spelled), one.2)
+    let a = shortened_front strict count due written rest s in
+    let b = shortened_front other count due copy left t in
+    let one = one_run count a.0.elements a.0.marks a.0.run b.0.elements a.0.rest b.0.rest b.0.marks b.0.run
+    (sym a.0.is ∙ b.0.is) in
+    (a.1 ∙ (ap spelling one.1 ∙ sym b.1), a.2 ∙ one.2 ∙ sym b.2)
 
 -- the copy is no longer than what was copied
 pub shortened_no_longer : (strict : Bool) (count : ℕ) (due written rest : List ℕ)
     → Shortens strict count due written rest → length written + length rest ≤ length due
 shortened_no_longer strict count due written rest s =
-    let all = fronted strict count due written rest s in
-    let again = run_again count all.elements all.marks all.run in
-    let shorter = again.shorter in
-    let long = ap length all.is in
-    let spelled = ap length all.spelled in
-    omega (arith, shorter, long, spelled, length-append {A = ℕ})
+    let all = shortened_front strict count due written rest s in
+    let shorter = (run_again count all.0.elements all.0.marks all.0.run).shorter in
+    let long = ap length all.0.is in
+    let spelled = ap length all.1 in
+    let rest-long = ap length all.2 in
+    omega (arith, shorter, long, spelled, rest-long, length-append {A = ℕ})
 
 -- what a strict decoder takes is written as it was
 pub shortened_same : (count : ℕ) (due written rest : List ℕ) → Shortens true count due written rest
     → due ≡ written ++ rest
 shortened_same count due written rest s =
-    let all = fronted true count due written rest s in
-    all.is ∙ ap (λ (z : List ℕ). z ++ rest) (all.same refl ∙ sym all.spelled)
+    let all = shortened_front true count due written rest s in
+    let same = spelled_alone all.0.elements all.0.marks (all.0.spelled refl) in
+    cc (all.0.is, same, all.1, all.2)

@@ -42,6 +42,7 @@ returns-in_err-copy_element g c =
     c.elements.invariant.so_far in
     let stops = one_stops g.R.Read g.W.Write c.args.count c.elements._copied room (length c.elements.buffer) old now error
     behind c.elements.auto.buffer in
+    let all = stops c.in_err-copy_element.ensures in
     record {
       copied = record {
         -- searched for, so that an error of no element is refused here
@@ -49,14 +50,10 @@ returns-in_err-copy_element g c =
         moves_on = MovesOn-then g.R.Read _ _ _ c.elements.invariant.moves_on c.copy_element.ensures.moves_on;
         target = c.copy_element.ensures.target ∙ c.elements.invariant.target;
       };
-      told = λ strict due written ready. rw same (recode_told g.R.Read g.W.Write c.args.count room old due written ready _
-          (Err error) (stops c.in_err-copy_element.ensures));
-      exactly = λ strict due written alone. rw same (exactly g.R.Read g.W.Write c.args.count room old due written alone _
-          (Err error) (stops c.in_err-copy_element.ensures));
-      front = λ strict due written ready. rw same (recode_exactly g.R.Read g.W.Write c.args.count room old due written
-          ready _ (Err error) (stops c.in_err-copy_element.ensures));
-      anyhow = λ strict due written told. rw same (recode_anyhow g.R.Read g.W.Write c.args.count room old due written told
-          _ (Err error) (stops c.in_err-copy_element.ensures));
+      told = λ strict due written ready. rw same (recode_told _ _ _ _ _ _ _ ready _ (Err error) all);
+      exactly = λ strict due written alone. rw same (exactly _ _ _ _ old _ _ alone _ (Err error) all);
+      front = λ strict due written ready. rw same (recode_exactly _ _ _ _ _ _ _ ready _ (Err error) all);
+      anyhow = λ strict due written told. rw same (recode_anyhow _ _ _ room _ _ _ told _ (Err error) all);
     }
 
 pub returns : goal.returns
@@ -73,12 +70,8 @@ returns g c =
         moves_on = c.elements.invariant.moves_on;
         target = c.elements.invariant.target;
       };
-      told = λ strict due written ready. recode_told g.R.Read g.W.Write c.args.count (length c.args.buffer.now) old due
-          written ready _ (Ok (tt {0})) all;
-      exactly = λ strict due written alone. exactly g.R.Read g.W.Write c.args.count (length c.args.buffer.now) old due
-          written alone _ (Ok (tt {0})) all;
-      front = λ strict due written ready. recode_exactly g.R.Read g.W.Write c.args.count (length c.args.buffer.now) old due
-          written ready _ (Ok (tt {0})) all;
-      anyhow = λ strict due written told. recode_anyhow g.R.Read g.W.Write c.args.count (length c.args.buffer.now) old due
-          written told _ (Ok (tt {0})) all;
+      told = λ strict due written ready. recode_told _ _ _ _ _ _ _ ready _ (Ok (tt {0})) all;
+      exactly = λ strict due written alone. exactly _ _ _ _ old _ _ alone _ (Ok (tt {0})) all;
+      front = λ strict due written ready. recode_exactly _ _ _ _ _ _ _ ready _ (Ok (tt {0})) all;
+      anyhow = λ strict due written told. recode_anyhow _ _ _ (length c.args.buffer.now) _ _ _ told _ (Ok (tt {0})) all;
     }
