@@ -32,9 +32,8 @@ module _ {R E W F : Type 0} {strict : Bool} (source : Reader R E) (sink : Writer
         enough = elim alone.enough [
           | inl copy ↦ (
               let front = shortened_front false count due copy.0 copy.1 copy.2 in
-              let long = ap length front.1 in
               let fits = copy.3 in
-              inl (front.0, omega (arith, long, fits))
+              inl (front.0, omega (arith, ap length front.1, fits))
               )
           | inr fits ↦ inr fits
         ];

@@ -102,9 +102,7 @@ taken_title b m n title z least =
       is = z.2;
       fewest = λ on minor other says. (
           let s = sized m n minor other says in
-          let same = ap length (sym z.2 ∙ least on) in
-          let long = ap length s.2 in
-          omega (arith, same, long, least_fewest s.0 n s.1)
+          omega (arith, ap length (sym z.2 ∙ least on), ap length s.2, least_fewest s.0 n s.1)
           );
     }
 
@@ -119,5 +117,4 @@ fewest_is m n title p =
     let z = has_number true m n title p in
     let least = least_size n in
     let few = p.fewest refl _ _ (says_of least n (least_fits n (size_below z.0 n z.1))) in
-    let long = ap length (sym p.is ∙ z.2) in
-    z.2 ∙ ap (λ (s : Size). numbered_title m s n) (fewest_least z.0 n z.1 (omega (arith, few, long)))
+    z.2 ∙ ap (λ (s : Size). numbered_title m s n) (fewest_least z.0 n z.1 (omega (arith, few, ap length (sym p.is ∙ z.2))))

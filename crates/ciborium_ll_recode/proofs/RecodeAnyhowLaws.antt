@@ -58,18 +58,16 @@ damage strict bytes marks len start read front more ahead behind split e text wi
     DamagedText front more (omega (arith, whole.0, counted, length-append {A = ℕ}))
     (λ u. whole.1 (subst IsCharacters taken u)) (taken ∙ e) text (omega (arith, parts, length-append {A = ℕ})) within
 damage strict bytes marks len start read front more ahead behind split e text within (inr begins) =
-    let counted = ap length split in
-    let parts = ap length e in
     let more_behind = λ (z : List ℕ). ap (λ (v : List ℕ). v ++ z) e ∙ append_assoc front more z in
     elim (cases_lt (length ahead) len) [
       | inl cut ↦ CutDamagedText front (more ++ behind) cut
           (subst BeginsNoText (sym split) (no_text_behind read behind begins)) (split ∙ more_behind behind) text
-          (omega (arith, parts, length-append {A = ℕ})) (omega (arith, counted, length-append {A = ℕ}))
+          (omega (arith, ap length e, length-append {A = ℕ})) (omega (arith, ap length split, length-append {A = ℕ}))
       | inr all ↦ (
           let rest = take (len - length read) behind in
           let taken : take len ahead ≡ read ++ rest = front_behind len ahead read behind split within in
           DamagedText front (more ++ rest) all (λ u. begins rest (subst IsCharacters taken u))
-          (taken ∙ more_behind rest) text (omega (arith, parts, length-append {A = ℕ})) within
+          (taken ∙ more_behind rest) text (omega (arith, ap length e, length-append {A = ℕ})) within
           )
     ]
 
@@ -231,7 +229,6 @@ module _ {R E W F : Type 0} {strict : Bool} (source : Reader R E) (sink : Writer
         (part : BeginsRest source k [] len between after) (ahead behind : List ℕ) → ahead ≡ part.read ++ behind
         → StopsAt marks (BodyDue k len start) ahead (with_front marks k len part.front) (length part.read)
     in_body marks start part ahead behind split =
-        let counted = ap length split in
         let parts = ap length part.parts in (
           part.front,
           part.left ++ behind,
@@ -240,7 +237,7 @@ module _ {R E W F : Type 0} {strict : Bool} (source : Reader R E) (sink : Writer
           part.sound,
           omega (arith, parts, length-append {A = ℕ}),
           omega (arith, parts, part.few, length-append {A = ℕ}),
-          omega (arith, counted, part.within, length-append {A = ℕ}),
+          omega (arith, ap length split, part.within, length-append {A = ℕ}),
         )
 
     -- behind what was copied so many bytes were consumed
@@ -274,9 +271,8 @@ module _ {R E W F : Type 0} {strict : Bool} (source : Reader R E) (sink : Writer
     short_title new stops read few offset begins =
         short stops.reaches stops.copied new read (spelling stops.marks) offset (came stops.copied).output
         (λ ahead is.
-        let counted = ap length (begins ahead is).1 in
         at_title stops.marks stops.point ahead (length read) stops.at_title
-        (omega (arith, few, counted, length-append {A = ℕ})))
+        (omega (arith, few, ap length (begins ahead is).1, length-append {A = ℕ})))
 
     short_body : {error : Error E} (new : Sides R W) (stops : StopsInBody source sink count room old error new)
         → new.decoder.offset ≡ stops.stopped.ends.between.offset
@@ -312,9 +308,8 @@ module _ {R E W F : Type 0} {strict : Bool} (source : Reader R E) (sink : Writer
           short stops.reaches stops.copied new title (spelling stops.marks) stops.pulled.offset
               (came stops.copied).output (λ ahead is.
               let gone = consumes_told _ _ ahead title is stops.pulled.bytes in
-              let counted = ap length gone.2 in
               at_title stops.marks (In stops.kind) ahead (length title) tt
-              (omega (arith, lone, open_length stops.kind, counted, length-append {A = ℕ}))),
+              (omega (arith, lone, open_length stops.kind, ap length gone.2, length-append {A = ℕ}))),
           omega (arith, full, le-max_left 8 room),
         )
 
@@ -358,12 +353,9 @@ module _ {R E W F : Type 0} {strict : Bool} (source : Reader R E) (sink : Writer
         let fails = stops.fails in
         short_title new stops fails.read fails.within_first fails.offset (λ ahead is. rw is at fails.began)
     recode_anyhow new (Err (r.Read (e.Io fault))) (inr stops) = short_body new stops stops.stopped.ends.stops.1.offset
-    recode_anyhow new (Err (r.Read (e.Syntax at))) (inl stops) =
-        no_title_told at new stops
-    recode_anyhow new (Err (r.Read (e.Syntax at))) (inr (inl stops)) =
-        other_title_told at new stops
-    recode_anyhow new (Err (r.Read (e.Syntax at))) (inr (inr stops)) =
-        damaged_told at new stops
+    recode_anyhow new (Err (r.Read (e.Syntax at))) (inl stops) = no_title_told at new stops
+    recode_anyhow new (Err (r.Read (e.Syntax at))) (inr (inl stops)) = other_title_told at new stops
+    recode_anyhow new (Err (r.Read (e.Syntax at))) (inr (inr stops)) = damaged_told at new stops
     recode_anyhow new (Err (r.Read e.TooLong)) (inl stops) = title_passes new stops
     recode_anyhow new (Err (r.Read e.TooLong)) (inr (inl stops)) = opens_pass new stops
     recode_anyhow new (Err (r.Read e.TooLong)) (inr (inr stops)) = body_passes new stops

@@ -41,8 +41,7 @@ module _ {R E W F : Type 0} {strict : Bool} (source : Reader R E) (sink : Writer
         (title_spelled source sink count room old due written told stops) new read cut.0 stops.fails.offset
         (came source sink count room old due written told stops.copied).output Short (λ ahead behind a b split.
         let ends = rw a at cut.1 in
-        let counted = ap length ends.1 in
-        let first : min 1 (length ahead) ≡ length read = omega (arith, counted, length-take 1 ahead) in
+        let first : min 1 (length ahead) ≡ length read = omega (arith, ap length ends.1, length-take 1 ahead) in
         subst (λ (n : ℕ). FirstFault strict stops.bytes stops.marks stops.point ahead Short (spelling stops.marks) n)
         first (CutTitle stops.at_title ends.0))
 
@@ -62,9 +61,8 @@ module _ {R E W F : Type 0} {strict : Bool} (source : Reader R E) (sink : Writer
         (front_output source sink count room old due written told new stops) Short (λ ahead behind a b split.
         let z = in_body source sink count room old due written told stops.marks stops.start part ahead behind split in
         let few = rw (sym same ∙ b) at still.1 in
-        let counted = ap length split in
-        CutBody z.0 z.1 (omega (arith, few, counted, ends.filled, part.within, length-append {A = ℕ})) z.2 z.4 z.5 z.6
-        (omega (arith, counted, length-append {A = ℕ})))
+        CutBody z.0 z.1 (omega (arith, few, ap length split, ends.filled, part.within, length-append {A = ℕ})) z.2 z.4 z.5 z.6
+        (omega (arith, ap length split, length-append {A = ℕ})))
 
     pub short_told : (fault : E) (new : Sides R W) → StopsCopy source sink count room old (r.Read (e.Io fault)) new
         → MeetsFault source sink strict count due written Short old.decoder new
@@ -76,22 +74,20 @@ module _ {R E W F : Type 0} {strict : Bool} (source : Reader R E) (sink : Writer
     offset_fits : (new : Sides R W) → PassesAnyhow source sink count room old due written ready.told new → ⊥
     offset_fits new passes =
         let stop = passes.0.stop in
-        let counted = ap length stop.is in
         let consumed = no_more stop.marks stop.point stop.ahead stop.written stop.consumed stop.stops in
         let title : old.decoder.offset + length due + 8 < 2 ^ 64 = ready.fits-title in
         let chunk : old.decoder.offset + length due + room < 2 ^ 64 = ready.fits-chunk in
         let full : 2 ^ 64 ≤ new.decoder.offset + max 8 room = passes.1 in
-        omega (arith, counted, consumed, title, chunk, full, passes.0.offset, length-append {A = ℕ})
+        omega (arith, ap length stop.is, consumed, title, chunk, full, passes.0.offset, length-append {A = ℕ})
 
     writer_fits : (new : Sides R W) → StopsWriting source sink count room old new → ⊥
     writer_fits new stops =
         let gone = consumes_told _ _ due (stops.bytes ++ stops.read) ready.told.due-told stops.passed.consumed in
         let left = shrinks_told _ _ ready.room (length stops.whole) ready.room-told stops.written.room in
         let less : left.0 < length stops.next = rw left.1 at stops.fails.full in
-        let whole = ap length gone.2 in
         elim ready.enough [
           | inl fits ↦ omega (arith, less, left.2, fits.1, next_spelled gone.0 stops.next_write fits.0 gone.2)
-          | inr fits ↦ omega (arith, less, left.2, fits, whole, next_shorter stops.next_write, length-append {A = ℕ})
+          | inr fits ↦ omega (arith, less, left.2, fits, ap length gone.2, next_shorter stops.next_write, length-append {A = ℕ})
         ]
 
     pub recode_told : (new : Sides R W) (result : Result (Unit {0}) (RecodeError E F))

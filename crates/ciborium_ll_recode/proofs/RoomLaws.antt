@@ -142,8 +142,7 @@ module _ {k : Kind} where
       (sym (append_assoc t (x ++ 0xff ∷ []) q) ∙ sym e ∙ z.3)).0 in
       let g = inside_rest i y _ bs (subst (λ (r : Kind). IsString r (t ++ (x ++ 0xff ∷ [])) bs) same (indefinite p s)) q e in
       let sizes = ap (λ (r : Kind). size r bs) same in
-      let spelled = ap length (open_spelled j bs) in
-      omega (arith, g.1.cost, sizes, spelled, open_length j, length-append {A = ℕ})
+      omega (arith, g.1.cost, sizes, ap length (open_spelled j bs), open_length j, length-append {A = ℕ})
 
   -- a string more is inside
   inside_add : {u w : List ℕ} {bs cs : List (List ℕ)} → IsInside k u bs → IsString k w cs

@@ -26,7 +26,7 @@ pub run_settled : {R : Type 0} (count : ℕ) (old new : Decoder R) (bytes : List
 run_settled count old new bytes marks run (inr none) some = none
 run_settled count old new bytes marks done (inl empty) some = absurd (omega (arith, some))
 run_settled count old new bytes marks (next {first = x} {rest = y} {marks = ms} element more) (inl empty) some =
-    absurd (let none = ap length empty.0 in omega (arith, none, element_some x ms element, length-append {A = ℕ}))
+    absurd (omega (arith, ap length empty.0, element_some x ms element, length-append {A = ℕ}))
 
 -- where no bytes were read, a header waits just where one waited
 waits_as : {R : Type 0} (old new : Decoder R) (waited : Option Header) → old.waiting ≡ waited → new.waiting ≡ None
@@ -35,7 +35,7 @@ waits_as : {R : Type 0} (old new : Decoder R) (waited : Option Header) → old.w
 waits_as old new None is none waited = none
 waits_as old new (Some header) is none (inl same) = ap (λ d. d.waiting) same ∙ is
 waits_as old new (Some header) is none (inr begins) =
-    absurd (let nothing = ap length begins.1 in omega (arith, nothing, shortest_some header, length-append {A = ℕ}))
+    absurd (omega (arith, ap length begins.1, shortest_some header, length-append {A = ℕ}))
 
 pub run_still : {R E : Type 0} (source : Reader R E) (count : ℕ) (old new : Decoder R) (bytes : List ℕ)
     (marks : List Mark) → IsRun count bytes marks → Passes source old bytes new

@@ -136,9 +136,9 @@ simple_title : (s : Size) (n : ℕ) (w : List ℕ) → n < size_limit s → w �
     → IsTitle w (h.Simple n)
 simple_title Small n w l e short = rw e (numbered Other Small n l)
 simple_title One n w l e short = rw e (numbered Other One n l)
-simple_title Two n w l e short = absurd (let k = ap length e in omega (arith, k, short))
-simple_title Four n w l e short = absurd (let k = ap length e in omega (arith, k, short))
-simple_title Eight n w l e short = absurd (let k = ap length e in omega (arith, k, short))
+simple_title Two n w l e short = absurd (omega (arith, ap length e, short))
+simple_title Four n w l e short = absurd (omega (arith, ap length e, short))
+simple_title Eight n w l e short = absurd (omega (arith, ap length e, short))
 
 -- a title that is the shortest one
 own_marked : (b : Bool) (header : Header) (w : List ℕ) → w ≡ shortest_title header → IsTitle (shortest_title header) header
@@ -147,8 +147,8 @@ own_marked b header w is p q meant = plain_marked b header w w (rw is p) q is (�
 
 float_marked : (b : Bool) (s : Size) (n : ℕ) (w : List ℕ) → n < size_limit s → w ≡ numbered_title Other s n
     → 2 < length w → MarkedElement b w w
-float_marked b Small n w l e long = absurd (let k = ap length e in omega (arith, k, long))
-float_marked b One n w l e long = absurd (let k = ap length e in omega (arith, k, long))
+float_marked b Small n w l e long = absurd (omega (arith, ap length e, long))
+float_marked b One n w l e long = absurd (omega (arith, ap length e, long))
 float_marked b Two n w l e long = own_marked b (h.Float (f.Half n)) w e (numbered Other Two n l) tt (λ x. x)
 float_marked b Four n w l e long = own_marked b (h.Float (f.Single n)) w e (numbered Other Four n l) tt (λ x. x)
 float_marked b Eight n w l e long = own_marked b (h.Float (f.Double n)) w e (numbered Other Eight n l) tt (λ x. x)
@@ -278,10 +278,7 @@ pub shortened_no_longer : (strict : Bool) (count : ℕ) (due written rest : List
 shortened_no_longer strict count due written rest s =
     let all = shortened_front strict count due written rest s in
     let shorter = (run_again count all.0.elements all.0.marks all.0.run).shorter in
-    let long = ap length all.0.is in
-    let spelled = ap length all.1 in
-    let rest-long = ap length all.2 in
-    omega (arith, shorter, long, spelled, rest-long, length-append {A = ℕ})
+    omega (arith, shorter, ap length all.0.is, ap length all.1, ap length all.2, length-append {A = ℕ})
 
 -- what a strict decoder takes is written as it was
 pub shortened_same : (count : ℕ) (due written rest : List ℕ) → Shortens true count due written rest

@@ -30,9 +30,8 @@ strict_element w ms (string k (definite {title = t} {body = b} p) sound) same me
     whole k p (strict_title k (Some (length b)) t p (omega (arith, counted, length-append {A = ℕ}))) sound.0
 strict_element w ms (string k (indefinite {title = t} {strings = y} {bodies = bs} p q) sound) same meant =
     let header = kind_header k None in
-    let counted = ap length (same ∙ open_spelled k bs) in
     let n = shortest_no_longer t header p in
-    parts k p (flat k y bs q (omega (arith, counted, n, length-append {A = ℕ}))) sound
+    parts k p (flat k y bs q (omega (arith, ap length (same ∙ open_spelled k bs), n, length-append {A = ℕ}))) sound
 
 strict_elements : (n : ℕ) (w : List ℕ) (ms : List Mark) → IsRun n w ms → w ≡ spelling ms → AllByRecursion IsMeant ms
     → AreStrictElements n w ms
