@@ -1,7 +1,6 @@
 -- The copy of one element, by its parts: how it goes on, and where it stops.
 use Rattle.std.proofs.Common.{◌≡◌, ℕ, suc, ◌+◌, ◌-◌, ◌<◌, ◌≤◌, List, [], ◌∷◌, ◌++◌, length, Some, None, Result, Ok, Err}
-use Rattle.std.proofs.Common.{refl, sym, ap, subst, ◌∙◌, inl, inr, arith, append_assoc, append-nil, length-append}
-use Rattle.std.proofs.lemmas.Bool.{cases_lt}
+use Rattle.std.proofs.Common.{refl, sym, ap, subst, ◌∙◌, ◌⊎◌, inl, inr, arith, append_assoc, append-nil, length-append}
 use Rattle.std.specs.List.{AllByRecursion}
 use Rattle.std.specs.Result.{IsErrAnd, MatchResult}
 use Rattle.std.proofs.KnownBytes.{Appends-nil}
@@ -25,7 +24,6 @@ use Rattle.ciborium_ll_grammar.proofs.StepLaws.{add_element}
 use Rattle.ciborium_ll_grammar.proofs.SpelledLaws.{spelled_none, spelled_then, spelled_title}
 use Rattle.ciborium_ll_decoder.specs.declared.dec.Decoder.{Decoder}
 use Rattle.ciborium_ll_decoder.specs.declared.dec.Error.{Error}
-use Rattle.ciborium_ll_decoder.specs.declared.dec.Error.TheVariants as e
 use Rattle.ciborium_ll_decoder.specs.declared.copy.RecodeError.{RecodeError}
 use Rattle.ciborium_ll_decoder.specs.declared.copy.RecodeError.TheVariants as r
 use Rattle.ciborium_ll_decoder.specs.Decoding.{Strictly, IsSteady, PullsHeader, PullsTitle}
@@ -46,19 +44,16 @@ pub title_answered : {E W F : Type 0} (sink : Writer W F) (old : W) (wrote : Res
     → WritesBytes sink old wrote bytes new → bytes ≡ shortest_title header
     → MatchResult wrote (λ done. answer ≡ Ok done) (λ fault. IsErrAnd answer (λ error. error ≡ r.Write fault))
     → WritesHeader sink old answer header new
-title_answered sink old (Ok unit) answer bytes header new wrote same cases = rw cases (rw same at wrote)
-title_answered sink old (Err fault) (Err error) bytes header new wrote same cases = rw cases (rw same at wrote)
-title_answered sink old (Err fault) (Ok unit) bytes header new wrote same cases = absurd cases
+title_answered sink old wrote answer bytes header new writes same cases = grind arith
 
 -- the last title of an element is the next write
 next_element : {count before : ℕ} (room : ℕ) {bytes : List ℕ} (marks : List Mark) (mark : Mark) (header : Header)
     → mark_spelling mark ≡ shortest_title header → before < count → IsRun (suc before) bytes (marks ++ mark ∷ [])
     → NextWrite count room bytes [] (spelling marks) (shortest_title header)
-next_element {count} {before} room {bytes} marks mark header spelled less run =
-    Alone marks mark header spelled (elim (cases_lt (suc before) count) [
-      | inl fewer ↦ inr (Due, due fewer run, tt)
-      | inr all ↦ (let same : suc before ≡ count = omega arith in inl (rw same at run))
-    ])
+next_element {count} room {bytes} marks mark header spelled less run =
+    let all = marks ++ mark ∷ [] in
+    let whole : IsRun count bytes all ⊎ Reaches count bytes all Due = grind (arith, due) in
+    Alone marks mark header spelled (elim whole [ inl all ↦ inl all | inr reach ↦ inr (Due, reach, tt) ])
 
 module _ {R E W F : Type 0} (source : Reader R E) (sink : Writer W F) where
   pub writes_then : {writer between writer' : W} {xs ys : List ℕ} → WritesAll sink writer xs between
@@ -92,17 +87,17 @@ module _ {R E W F : Type 0} (source : Reader R E) (sink : Writer W F) where
     pub copied : Copied source sink old bytes marks now
     pub strict : Strictly old.decoder (IsStrictSpelling bytes marks (due_title point))
 
+  title_error : {count : ℕ} (room : ℕ) {old new : Sides R W} (error : Error E)
+      → StopsAtTitle source sink count old error new → StopsCopy source sink count room old (r.Read error) new
+  title_error room error stops = grind arith
+
   -- no title was pulled
   pub title_stops : {count : ℕ} (room : ℕ) {old now : Sides R W} {bytes : List ℕ} {marks : List Mark} {point : Point}
       → StandsAt count old bytes marks point now → IsAtTitle point → due_title point ≡ [] → (new : Decoder R)
       (error : Error E) → PullsHeader source now.decoder (Err error) new
       → StopsCopy source sink count room old (r.Read error) (sides new now.writer)
-  title_stops {count} room {old} {now} {bytes} {marks} {point} stands at_title alone new error fails =
-      by_error error fails
-    where
-      stop : (error : Error E) → PullsHeader source now.decoder (Err error) new
-          → StopsAtTitle source sink count old error (sides new now.writer)
-      stop error fails = record {
+  title_stops room {old} {now} {bytes} {marks} {point} stands at_title alone new error fails =
+      title_error room error record {
         bytes = bytes;
         marks = marks;
         point = point;
@@ -113,13 +108,6 @@ module _ {R E W F : Type 0} (source : Reader R E) (sink : Writer W F) where
         fails = fails;
         strict = rw alone at stands.strict;
       }
-
-      by_error : (error : Error E) → PullsHeader source now.decoder (Err error) new
-          → StopsCopy source sink count room old (r.Read error) (sides new now.writer)
-      by_error (e.Io fault) fails = inl (stop (e.Io fault) fails)
-      by_error (e.Syntax at) fails = inl (stop (e.Syntax at) fails)
-      by_error e.TooLong fails = inl (stop e.TooLong fails)
-      by_error e.Waiting fails = absurd fails
 
   -- a title was not written: the only error of its write is the writer's
   pub header_stops : {count room : ℕ} {old now : Sides R W} {bytes : List ℕ} {marks : List Mark} (header : Header)
@@ -139,6 +127,10 @@ module _ {R E W F : Type 0} (source : Reader R E) (sink : Writer W F) where
     fails = fails;
   }
   header_stops header (r.Read error) after next copied fails = absurd fails
+
+  body_error : {count : ℕ} (room : ℕ) {old new : Sides R W} (error : Error E)
+      → StopsInBody source sink count room old error new → StopsCopy source sink count room old (r.Read error) new
+  body_error room error stops = grind arith
 
   -- the copy of a body stopped, behind its title
   pub body_stops : {count : ℕ} (room : ℕ) {old between : Sides R W} {bytes : List ℕ} {marks : List Mark} {k : Kind}
@@ -160,7 +152,7 @@ module _ {R E W F : Type 0} (source : Reader R E) (sink : Writer W F) where
     fails = stops.stopped;
   }
   body_stops {count} room {old} {between} {bytes} {marks} {k} {len} {start} stands {titled} title new (r.Read error) stops =
-      by_error error record {
+      body_error room error record {
         bytes = bytes;
         marks = marks;
         kind = k;
@@ -174,13 +166,6 @@ module _ {R E W F : Type 0} (source : Reader R E) (sink : Writer W F) where
         stopped = stops;
         strict = stands.strict;
       }
-    where
-      by_error : (error : Error E) → StopsInBody source sink count room old error new
-          → StopsCopy source sink count room old (r.Read error) new
-      by_error (e.Io fault) stops = inr stops
-      by_error (e.Syntax at) stops = inr (inr stops)
-      by_error e.TooLong stops = inr (inr stops)
-      by_error e.Waiting stops = stops.stopped.ends.stops
 
   -- ---- the title of an element
 

@@ -1,6 +1,6 @@
 -- When a copy succeeds, and what it then wrote and left, in the words of `Shortens`.
-use Rattle.std.proofs.Common.{◌≡◌, ℕ, zero, suc, inl, inr, Bool, false, List, ◌++◌, length, Some, None, Result, Ok, Err}
-use Rattle.std.proofs.Common.{IsOk, refl, sym, ap, ◌∙◌, arith}
+use Rattle.std.proofs.Common.{◌≡◌, ℕ, inl, inr, Bool, false, List, ◌++◌, length, Some, None, Result, Ok, Err, IsOk, sym}
+use Rattle.std.proofs.Common.{ap, ◌∙◌, arith}
 use Rattle.ciborium_ll_io.specs.declared.io.Read.{Ghosts as Reader}
 use Rattle.ciborium_ll_io.specs.declared.io.Write.{Ghosts as Writer}
 use Rattle.ciborium_ll_decoder.specs.declared.copy.RecodeError.{RecodeError}
@@ -44,11 +44,7 @@ module _ {R E W F : Type 0} {strict : Bool} (source : Reader R E) (sink : Writer
   module _ (new : Sides R W) where
     -- behind a copy no header waits
     none_waits : CopiesFront source sink strict count due written old.decoder new → new.decoder.waiting ≡ None
-    none_waits front = by_count count refl
-      where
-        by_count : (n : ℕ) → count ≡ n → new.decoder.waiting ≡ None
-        by_count zero is = front.still is ∙ alone.none_waits
-        by_count (suc n) is = front.settled (omega (arith, is))
+    none_waits front = let none = alone.none_waits in grind (arith, none)
 
     copies_front : (result : Result (Unit {0}) (RecodeError E F)) → RecodesTold source sink strict count due written
         old.decoder result new → IsOk result → CopiesFront source sink strict count due written old.decoder new

@@ -6,7 +6,7 @@ use Rattle.ciborium_ll_grammar.specs.declared.hdr.Header.{Header}
 use Rattle.ciborium_ll_grammar.specs.declared.hdr.Header.TheVariants as h
 use Rattle.ciborium_ll_grammar.specs.declared.hdr.Float.TheVariants as f
 use Rattle.ciborium_ll_grammar.specs.Title.{Major, Unsigned, Negative, ByteString, TextString, Array, Map, Tag, Other}
-use Rattle.ciborium_ll_grammar.specs.Title.{major_code, first_byte, Size, Small, One, Two, Four, Eight, size_limit}
+use Rattle.ciborium_ll_grammar.specs.Title.{major_code, first_byte, Size, Two, Four, Eight, size_limit, numbered_header}
 use Rattle.ciborium_ll_grammar.specs.Title.{minor_of, affix_of, numbered_title, open_header, IsTitle, numbered, alone}
 use Rattle.ciborium_ll_grammar.specs.Title.{least_size, shortest_numbered}
 use Rattle.ciborium_ll_grammar.specs.Shortening.{SaysNumber, small, one, two, four, eight, IsNumberTitle}
@@ -36,28 +36,13 @@ IsTitleOf (h.Float (f.Double n)) title = title ≡ numbered_title Other Eight n
 IsTitleOf h.Break title = title ≡ first_byte Other 31 ∷ []
 
 alone_of : (major : Major) → IfSome (open_header major) (λ header. IsTitleOf header (first_byte major 31 ∷ []))
-alone_of Unsigned = tt
-alone_of Negative = tt
-alone_of ByteString = refl
-alone_of TextString = refl
-alone_of Array = refl
-alone_of Map = refl
-alone_of Tag = tt
-alone_of Other = refl
+alone_of major = grind arith
+
+numbered_is : (m : Major) (s : Size) (n : ℕ) → n < size_limit s → IsTitleOf (numbered_header m s n) (numbered_title m s n)
+numbered_is m s n below = grind arith
 
 pub title_of : (title : List ℕ) (header : Header) → IsTitle title header → IsTitleOf header title
-title_of title header (numbered Unsigned size n below) = (size, below, refl)
-title_of title header (numbered Negative size n below) = (size, below, refl)
-title_of title header (numbered ByteString size n below) = (size, below, refl)
-title_of title header (numbered TextString size n below) = (size, below, refl)
-title_of title header (numbered Array size n below) = (size, below, refl)
-title_of title header (numbered Map size n below) = (size, below, refl)
-title_of title header (numbered Tag size n below) = (size, below, refl)
-title_of title header (numbered Other Small n below) = ((Small, below, refl), omega arith)
-title_of title header (numbered Other One n below) = ((One, below, refl), omega arith)
-title_of title header (numbered Other Two n below) = refl
-title_of title header (numbered Other Four n below) = refl
-title_of title header (numbered Other Eight n below) = refl
+title_of title header (numbered major size n below) = numbered_is major size n below
 title_of title header (alone major named is) = rw is at (alone_of major)
 
 -- ---- the bytes of a number by its size
@@ -73,11 +58,7 @@ size_below s n l = grind arith
 -- each title that says a number is of a size
 sized : (m : Major) (n minor : ℕ) (affix : List ℕ) → SaysNumber minor affix n
     → HasNumber m n ((32 * major_code m + minor) ∷ affix)
-sized m n minor affix (small l) = (Small, l, refl)
-sized m n minor affix (one l) = (One, l, refl)
-sized m n minor affix (two l) = (Two, l, refl)
-sized m n minor affix (four l) = (Four, l, refl)
-sized m n minor affix (eight l) = (Eight, l, refl)
+sized m n minor affix says = grind arith
 
 pub has_number : (b : Bool) (m : Major) (n : ℕ) (title : List ℕ) → IsNumberTitle b (major_code m) n title
     → HasNumber m n title

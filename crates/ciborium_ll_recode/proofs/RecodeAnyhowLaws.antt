@@ -24,9 +24,9 @@ use Rattle.ciborium_ll_grammar.specs.Strings.{Kind, Text, kind_header}
 use Rattle.ciborium_ll_text.specs.Text.{IsCharacters, BeginsNoText}
 use Rattle.ciborium_ll_grammar.specs.Elements.{Mark, spelling, IsStrictSpelling}
 use Rattle.ciborium_ll_grammar.specs.Items.{IsTakenTitle}
-use Rattle.ciborium_ll_grammar.specs.Faults.{Point, Due, In, BodyDue, IsAtTitle, IsRefusedIn, Reaches, due_title}
-use Rattle.ciborium_ll_grammar.specs.Faults.{with_front, Answer, Syntax, FirstFault, NoTitle, LongTitle, OtherTitle}
-use Rattle.ciborium_ll_grammar.specs.Faults.{DamagedText, CutDamagedText}
+use Rattle.ciborium_ll_grammar.specs.Faults.{Point, In, BodyDue, IsAtTitle, IsRefusedIn, Reaches, due_title, with_front}
+use Rattle.ciborium_ll_grammar.specs.Faults.{Answer, Syntax, FirstFault, NoTitle, LongTitle, OtherTitle, DamagedText}
+use Rattle.ciborium_ll_grammar.specs.Faults.{CutDamagedText}
 use Rattle.ciborium_ll_decoder.specs.Decoding.{Begins, view, Strictly, offset_limit, next_read}
 use Rattle.ciborium_ll_decoder.specs.Finishing.{IsNoText, BeginsRest}
 use Rattle.ciborium_ll_decoder.specs.BodyCopies.{Sides}
@@ -40,11 +40,9 @@ use Rattle.ciborium_ll_text.proofs.FrontLaws.{no_text_behind}
 use Rattle.ciborium_ll_recode.proofs.RunLaws.{run_settled, run_still}
 
 -- where a title is due no body's title is under way
-spelled_at : (point : Point) {bytes : List ℕ} {marks : List Mark} → IsAtTitle point
+spelled_at : (point : Point) (bytes : List ℕ) (marks : List Mark) → IsAtTitle point
     → IsStrictSpelling bytes marks [] → IsStrictSpelling bytes marks (due_title point)
-spelled_at Due title spelled = spelled
-spelled_at (In kind) title spelled = spelled
-spelled_at (BodyDue kind len start) title spelled = absurd title
+spelled_at point bytes marks title spelled = grind arith
 
 -- the fault of a text's body
 damage : (strict : Bool) (bytes : List ℕ) (marks : List Mark) (len start : ℕ) (read front more ahead behind : List ℕ)
@@ -153,7 +151,7 @@ module _ {R E W F : Type 0} {strict : Bool} (source : Reader R E) (sink : Writer
 
     pub title_spelled : {error : Error E} {new : Sides R W} (stops : StopsAtTitle source sink count old error new)
         → Strictly old.decoder (IsStrictSpelling stops.bytes stops.marks (due_title stops.point))
-    title_spelled stops = λ on none. spelled_at stops.point stops.at_title (stops.strict on none)
+    title_spelled stops = λ on none. spelled_at stops.point stops.bytes stops.marks stops.at_title (stops.strict on none)
 
     -- a byte with which no title begins, or a title that a strict decoder refuses
     no_title_told : (at : ℕ) (new : Sides R W) → StopsAtTitle source sink count old (e.Syntax at) new
@@ -220,9 +218,7 @@ module _ {R E W F : Type 0} {strict : Bool} (source : Reader R E) (sink : Writer
     -- at most a first byte of a title was consumed
     at_title : (marks : List Mark) (point : Point) (ahead : List ℕ) (consumed : ℕ) → IsAtTitle point
         → consumed ≤ min 1 (length ahead) → StopsAt marks point ahead (spelling marks) consumed
-    at_title marks Due ahead consumed title few = (refl, few)
-    at_title marks (In k) ahead consumed title few = (refl, few)
-    at_title marks (BodyDue k len start) ahead consumed title few = absurd title
+    at_title marks point ahead consumed title few = grind arith
 
     -- of a body all that was read was consumed
     abbrev pub in_body : (marks : List Mark) {k : Kind} {len : ℕ} (start : ℕ) {between after : Decoder R}

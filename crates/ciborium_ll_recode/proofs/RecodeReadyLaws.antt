@@ -8,7 +8,7 @@ use Rattle.ciborium_ll_decoder.specs.declared.dec.Error.TheVariants as e
 use Rattle.ciborium_ll_decoder.specs.declared.copy.RecodeError.{RecodeError}
 use Rattle.ciborium_ll_decoder.specs.declared.copy.RecodeError.TheVariants as r
 use Rattle.ciborium_ll_grammar.specs.Elements.{Mark, spelling}
-use Rattle.ciborium_ll_grammar.specs.Faults.{Point, Due, In, BodyDue, Short, FirstFault, CutTitle, CutBody, RunInFront}
+use Rattle.ciborium_ll_grammar.specs.Faults.{Point, Short, FirstFault, CutTitle, CutBody, RunInFront}
 use Rattle.ciborium_ll_decoder.specs.Decoding.{view, IsSteady}
 use Rattle.ciborium_ll_decoder.specs.BodyCopies.{Sides}
 use Rattle.ciborium_ll_recode.specs.Recoding.{CopiesElements, StopsAtTitle, StopsInBody, StopsCopy, StopsWriting}
@@ -24,9 +24,7 @@ use Rattle.ciborium_ll_recode.proofs.RecodeAnyhowLaws.{recode_anyhow}
 -- no more is consumed than is ahead
 no_more : (marks : List Mark) (point : Point) (ahead written : List ℕ) (consumed : ℕ)
     → StopsAt marks point ahead written consumed → consumed ≤ length ahead
-no_more marks Due ahead written consumed stops = omega (arith, stops.1)
-no_more marks (In kind) ahead written consumed stops = omega (arith, stops.1)
-no_more marks (BodyDue kind len start) ahead written consumed stops = omega (arith, stops.7)
+no_more marks point ahead written consumed stops = grind arith
 
 module _ {R E W F : Type 0} {strict : Bool} (source : Reader R E) (sink : Writer W F) (count room : ℕ)
     (old : Sides R W) (due written : List ℕ) where

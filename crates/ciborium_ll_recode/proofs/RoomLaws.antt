@@ -4,8 +4,7 @@ use Rattle.std.proofs.Common.{false, subst, ◌∙◌, inl, inr, arith, append_a
 use Rattle.std.proofs.lemmas.Bool.{cases_lt}
 use Rattle.std.proofs.lemmas.List.{length-take-le, take-append-drop}
 use Rattle.ciborium_ll_grammar.specs.Title.{IsTitle, shortest_title, title_len}
-use Rattle.ciborium_ll_grammar.specs.Strings.{Kind, Bytes, Text, kind_header, IsString, AreStrings, none, more}
-use Rattle.ciborium_ll_grammar.specs.Strings.{IsWritable}
+use Rattle.ciborium_ll_grammar.specs.Strings.{Kind, kind_header, IsString, AreStrings, none, more, IsWritable}
 use Rattle.ciborium_ll_grammar.specs.Strings.IsString.{definite, indefinite}
 use Rattle.ciborium_ll_grammar.specs.Elements.{Mark, Whole, Open, pieces, spelling, IsElement, IsPlain, plain, string}
 use Rattle.ciborium_ll_grammar.specs.Elements.{IsRun, done, next}
@@ -157,8 +156,7 @@ module _ {k : Kind} where
 
 -- a body that can't be there is bad
 bad_of : (k : Kind) (len : ℕ) (x : List ℕ) → (len ≤ length x → IsWritable k (take len x) → ⊥) → IsBad k len x
-bad_of Bytes len x fails = elim (cases_lt (length x) len) [ inl short ↦ short | inr all ↦ absurd (fails all tt) ]
-bad_of Text len x fails = elim (cases_lt (length x) len) [ inl short ↦ inl short | inr all ↦ inr (fails all) ]
+bad_of k len x fails = grind arith
 
 -- how long the body is that is due
 abbrev body_len : Point → ℕ

@@ -1,41 +1,30 @@
 -- Runs of elements: what is written of one is no longer than what was read, and whether a header waits behind it.
-use Rattle.std.proofs.Common.{◌≡◌, ℕ, ◌<◌, ◌⊎◌, List, [], length, Some, None, Option, IfSome, refl, ap, ◌∙◌, inl, inr}
-use Rattle.std.proofs.Common.{arith, length-append}
+use Rattle.std.proofs.Common.{◌≡◌, ℕ, ◌<◌, ◌⊎◌, List, [], length, None, Option, IfSome, refl, ap, inl, inr, arith}
+use Rattle.std.proofs.Common.{length-append}
 use Rattle.ciborium_ll_grammar.specs.declared.hdr.Header.{Header}
 use Rattle.ciborium_ll_io.specs.declared.io.Read.{Ghosts as Reader}
 use Rattle.ciborium_ll_decoder.specs.declared.dec.Decoder.{Decoder}
 use Rattle.ciborium_ll_grammar.specs.Title.{shortest_title}
-use Rattle.ciborium_ll_grammar.specs.Strings.{kind_header}
-use Rattle.ciborium_ll_grammar.specs.Strings.IsString.{definite, indefinite}
-use Rattle.ciborium_ll_grammar.specs.Elements.{Mark, IsElement, plain, string, IsRun, done, next}
+use Rattle.ciborium_ll_grammar.specs.Elements.{Mark, IsElement, IsRun, done, next}
 use Rattle.ciborium_ll_decoder.specs.Decoding.{Begins, Passes}
 use Rattle.ciborium_ll_grammar.proofs.TitleLaws.{shortest_some}
 use Rattle.ciborium_ll_decoder.proofs.NestLaws.{title_some}
 
 -- an element has a byte
 element_some : (w : List ℕ) (ms : List Mark) → IsElement w ms → 0 < length w
-element_some w ms (plain x p q) = title_some w x p
-element_some w ms (string k (definite {title = t} {body = b} p) s) = omega (arith, title_some t (kind_header k (Some (length b))) p, length-append {A = ℕ})
-element_some w ms (string k (indefinite {title = t} {strings = y} p q) s) =
-    omega (arith, title_some t (kind_header k None) p, length-append {A = ℕ})
+element_some w ms e = grind (arith, title_some, length-append {A = ℕ})
 
 -- behind some elements no header waits
 pub run_settled : {R : Type 0} (count : ℕ) (old new : Decoder R) (bytes : List ℕ) (marks : List Mark)
     → IsRun count bytes marks → ((bytes ≡ []) × (new ≡ old)) ⊎ (new.waiting ≡ None)
     → 0 < count → new.waiting ≡ None
-run_settled count old new bytes marks run (inr none) some = none
-run_settled count old new bytes marks done (inl empty) some = absurd (omega (arith, some))
-run_settled count old new bytes marks (next {first = x} {rest = y} {marks = ms} element more) (inl empty) some =
-    absurd (omega (arith, ap length empty.0, element_some x ms element, length-append {A = ℕ}))
+run_settled count old new bytes marks run way some = grind (arith, element_some, length-append {A = ℕ})
 
 -- where no bytes were read, a header waits just where one waited
 waits_as : {R : Type 0} (old new : Decoder R) (waited : Option Header) → old.waiting ≡ waited → new.waiting ≡ None
     → IfSome waited (λ header. (new ≡ old) ⊎ Begins (shortest_title header) [])
     → new.waiting ≡ waited
-waits_as old new None is none waited = none
-waits_as old new (Some header) is none (inl same) = ap (λ d. d.waiting) same ∙ is
-waits_as old new (Some header) is none (inr begins) =
-    absurd (omega (arith, ap length begins.1, shortest_some header, length-append {A = ℕ}))
+waits_as old new waited is settled began = grind (arith, shortest_some, length-append {A = ℕ})
 
 pub run_still : {R E : Type 0} (source : Reader R E) (count : ℕ) (old new : Decoder R) (bytes : List ℕ)
     (marks : List Mark) → IsRun count bytes marks → Passes source old bytes new

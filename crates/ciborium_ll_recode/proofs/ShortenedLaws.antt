@@ -79,8 +79,7 @@ string_code Bytes = 2
 string_code Text = 3
 
 empty_body : (k : Kind) → IsBody (string_code k) []
-empty_body Bytes = bytes
-empty_body Text = text (record { characters = []; each = tt; whole = refl })
+empty_body k = grind (arith, bytes, text)
 
 titled_by : (b : Bool) (m : Major) (title body : List ℕ) → HasNumber m (length body) title
     → (b ≡ true → title ≡ shortest_numbered m (length body)) → IsBody (major_code m) body
@@ -101,12 +100,10 @@ abbrev pub open_byte : Kind → ℕ
 open_byte k = 32 * string_code k + 31
 
 pub open_title : (k : Kind) (title : List ℕ) → IsTitle title (kind_header k None) → title ≡ open_byte k ∷ []
-open_title Bytes title p = title_of title (h.Bytes None) p
-open_title Text title p = title_of title (h.Text None) p
+open_title k title p = grind (arith, title_of)
 
 pub open_shortest : (k : Kind) → shortest_title (kind_header k None) ≡ open_byte k ∷ []
-open_shortest Bytes = refl
-open_shortest Text = refl
+open_shortest k = grind arith
 
 pub parts_spelled : (k : Kind) (bs : List (List ℕ))
     → spelling (open_marks k bs) ≡ open_byte k ∷ (spelling (pieces k bs) ++ 0xff ∷ [])

@@ -14,10 +14,10 @@ use Rattle.ciborium_ll_grammar.specs.Strings.IsString.{definite, indefinite}
 use Rattle.ciborium_ll_grammar.specs.Elements.{AreWritable, IsPlain, Mark, Plain, Whole, pieces, open_marks, spelling}
 use Rattle.ciborium_ll_grammar.specs.Elements.{IsStrictSpelling, IsElement, plain, string, done, next}
 use Rattle.ciborium_ll_grammar.specs.Faults.{RunInFront}
-use Rattle.ciborium_ll_grammar.specs.Shortening.{IsNumberTitle, IsBody, bytes, text, ShortensString, titled}
-use Rattle.ciborium_ll_grammar.specs.Shortening.{ShortensStrings, no_more, definite_more, open_more, ShortensElement}
-use Rattle.ciborium_ll_grammar.specs.Shortening.{number, simple, float, alone, whole, parts, Shortens}
-use Rattle.ciborium_ll_grammar.specs.Shortening.{done as shortens_done, next as shortens_next}
+use Rattle.ciborium_ll_grammar.specs.Shortening.{IsNumberTitle, IsBody, ShortensString, titled, ShortensStrings}
+use Rattle.ciborium_ll_grammar.specs.Shortening.{no_more, definite_more, open_more, ShortensElement, number, simple}
+use Rattle.ciborium_ll_grammar.specs.Shortening.{float, alone, whole, parts, Shortens, done as shortens_done}
+use Rattle.ciborium_ll_grammar.specs.Shortening.{next as shortens_next}
 use Rattle.ciborium_ll_grammar.proofs.ElementLaws.{AreWritable-append, spelling-append, pieces-append, run_again}
 use Rattle.ciborium_ll_grammar.proofs.ElementLaws.{one_run}
 use Rattle.ciborium_ll_grammar.proofs.SpelledLaws.{open_meant, spelled_none, spelled_then, spelled_alone}
@@ -43,8 +43,7 @@ kind_fewest Bytes n t p = fewest_is ByteString n t p
 kind_fewest Text n t p = fewest_is TextString n t p
 
 body_writable : (k : Kind) (body : List ℕ) → IsBody (string_code k) body → IsWritable k body
-body_writable Bytes body any = tt
-body_writable Text body (text sound) = sound
+body_writable k body is = grind arith
 
 -- strings within an open, their bodies, and what is written of them
 record StringsWithin (b : Bool) (k : Kind) (w written : List ℕ) : Type 0 where
@@ -85,8 +84,7 @@ within b k w written (open_more {within = x} {rest = y} {written = u} {more = v}
 
 -- the kind of a body
 which_kind : (major : ℕ) (body : List ℕ) → IsBody major body → (k : Kind) × (major ≡ string_code k)
-which_kind major body bytes = (Bytes, refl)
-which_kind major body (text sound) = (Text, refl)
+which_kind major body is = grind arith
 
 string_kind : {b : Bool} {major : ℕ} {w written : List ℕ} → ShortensString b major w written
     → (k : Kind) × (major ≡ string_code k)
