@@ -26,7 +26,7 @@ use Rattle.ciborium_ll_decoder.specs.declared.dec.Decoder.{Decoder}
 use Rattle.ciborium_ll_decoder.specs.declared.dec.Error.{Error}
 use Rattle.ciborium_ll_decoder.specs.declared.copy.RecodeError.{RecodeError}
 use Rattle.ciborium_ll_decoder.specs.declared.copy.RecodeError.TheVariants as r
-use Rattle.ciborium_ll_decoder.specs.Decoding.{Strictly, IsSteady, PullsHeader, PullsTitle}
+use Rattle.ciborium_ll_decoder.specs.Decoding.{Passes, Strictly, IsSteady, PullsHeader, PullsTitle}
 use Rattle.ciborium_ll_decoder.specs.BodyCopies.{CopiesBody, Sides, sides}
 use Rattle.ciborium_ll_decoder.proofs.BodyLaws.{sound_body}
 use Rattle.ciborium_ll_decoder.proofs.DecodingLaws.{Passes-none, Passes-pull, Passes-then, passes_settled}
@@ -96,18 +96,9 @@ module _ {R E W F : Type 0} (source : Reader R E) (sink : Writer W F) where
       → StandsAt count old bytes marks point now → IsAtTitle point → due_title point ≡ [] → (new : Decoder R)
       (error : Error E) → PullsHeader source now.decoder (Err error) new
       → StopsCopy source sink count room old (r.Read error) (sides new now.writer)
-  title_stops room {old} {now} {bytes} {marks} {point} stands at_title alone new error fails =
-      title_error room error record {
-        bytes = bytes;
-        marks = marks;
-        point = point;
-        reaches = stands.reach;
-        at_title = at_title;
-        between = now.decoder;
-        copied = stands.copied;
-        fails = fails;
-        strict = rw alone at stands.strict;
-      }
+  title_stops room stands at_title alone new error fails =
+      let strict = rw alone at stands.strict in
+      title_error room error (search)
 
   -- a title was not written: the only error of its write is the writer's
   pub header_stops : {count room : ℕ} {old now : Sides R W} {bytes : List ℕ} {marks : List Mark} (header : Header)
@@ -115,17 +106,9 @@ module _ {R E W F : Type 0} (source : Reader R E) (sink : Writer W F) where
       → NextWrite count room bytes [] (spelling marks) (shortest_title header) → Copied source sink old bytes marks now
       → WritesHeader {E = E} sink now.writer (Err error) header after
       → StopsCopy source sink count room old error (sides now.decoder after)
-  header_stops {now = now} {bytes} {marks} header (r.Write fault) after next copied fails = record {
-    bytes = bytes;
-    read = [];
-    passed = rw append-nil copied.passed;
-    whole = spelling marks;
-    next = shortest_title header;
-    next_write = next;
-    between = now.writer;
-    written = copied.written;
-    fails = fails;
-  }
+  header_stops {old = old} {now} {bytes} header (r.Write fault) after next copied fails =
+      let passed : Passes source old.decoder (bytes ++ []) now.decoder = rw append-nil copied.passed in
+      search
   header_stops header (r.Read error) after next copied fails = absurd fails
 
   body_error : {count : ℕ} (room : ℕ) {old new : Sides R W} (error : Error E)
@@ -139,33 +122,14 @@ module _ {R E W F : Type 0} (source : Reader R E) (sink : Writer W F) where
       (error : RecodeError E F)
       → CopiesBody source sink k len room (old.decoder.offset + start) (sides between.decoder titled) (Err error) new
       → StopsCopy source sink count room old error new
-  body_stops room {old} {between} {bytes} {marks} {k} {len} {start} stands title new (r.Write fault) stops = record {
-    bytes = bytes;
-    read = stops.front ++ (stops.chunk ++ stops.kept);
-    passed = Passes-then source old.decoder between.decoder new.decoder bytes _ stands.copied.passed stops.passed;
-    whole = with_front marks k len stops.front;
-    next = stops.chunk;
-    next_write = Chunk marks k len start stops.front stops.chunk stops.kept stands.reach stops.sound stops.within
-        stops.filled stops.few;
-    between = stops.between;
-    written = front_then marks k len stands.copied.written title stops.written;
-    fails = stops.stopped;
-  }
-  body_stops {count} room {old} {between} {bytes} {marks} {k} {len} {start} stands {titled} title new (r.Read error) stops =
-      body_error room error record {
-        bytes = bytes;
-        marks = marks;
-        kind = k;
-        len = len;
-        start = start;
-        reaches = stands.reach;
-        between = between;
-        copied = stands.copied;
-        titled = titled;
-        title = title;
-        stopped = stops;
-        strict = stands.strict;
-      }
+  body_stops {count} room {old} {between} {bytes} {marks} {k} {len} {start} stands title new (r.Write fault) stops =
+      let passed = Passes-then source old.decoder between.decoder new.decoder bytes _ stands.copied.passed stops.passed in
+      let next : NextWrite count room bytes _ _ _ = Chunk marks k len start stops.front stops.chunk stops.kept stands.reach stops.sound
+      stops.within stops.filled stops.few in
+      let written = front_then marks k len stands.copied.written title stops.written in
+      let fails = stops.stopped in
+      search
+  body_stops room stands title new (r.Read error) stops = body_error room error (search)
 
   -- ---- the title of an element
 
@@ -189,18 +153,13 @@ module _ {R E W F : Type 0} (source : Reader R E) (sink : Writer W F) where
     behind_pulled : {new : Decoder R} {header : Header} (pulled : PullsTitle source now.decoder header new)
         → (IsSteady source now.decoder → IsSteady source new)
         → IsBehind source sink count before pulled.title old (sides new now.writer)
-    behind_pulled {new} {header} pulled steady = record {
-      bytes = behind.bytes;
-      marks = behind.marks;
-      due = behind.due;
-      run = behind.run;
-      copied = record {
-        passed = Passes-pull source old.decoder now.decoder new behind.bytes header pulled stands_due.copied.passed
-            steady;
-        written = behind.copied.written;
-      };
-      strict = behind.strict;
-    }
+    behind_pulled {new} {header} pulled steady =
+        let copied : Copied source sink old (behind.bytes ++ pulled.title) behind.marks (sides new now.writer) = record {
+          passed = Passes-pull source old.decoder now.decoder new behind.bytes header pulled stands_due.copied.passed
+              steady;
+          written = behind.copied.written;
+        } in
+        search
 
     -- of a strict decoder it is a strict title
     title_taken : {new : Decoder R} {header : Header} (pulled : PullsTitle source now.decoder header new)
@@ -302,17 +261,14 @@ module _ {R E W F : Type 0} (source : Reader R E) (sink : Writer W F) where
       -- its open was written
       pub opened_within : (titled : W) → WritesAll sink now.writer (shortest_title (kind_header k None)) titled
           → IsWithin source sink count before k old (sides now.decoder titled)
-      opened_within titled wrote = record {
-        bytes = behind.bytes;
-        marks = behind.marks;
-        due = behind.due;
-        run = behind.run;
-        copied = record {
-          passed = rw (alone_bytes title (kind_header k None) t (open_alone k)) at behind.copied.passed;
-          written = mark_then behind.marks (Open k) behind.copied.written wrote;
-        };
-        strict = behind.strict;
-      }
+      opened_within titled wrote =
+          let alone = alone_bytes title (kind_header k None) t (open_alone k) in
+          let copied : Copied source sink old (behind.bytes ++ shortest_title (kind_header k None))
+          (behind.marks ++ Open k ∷ []) (sides now.decoder titled) = record {
+            passed = rw alone at behind.copied.passed;
+            written = mark_then behind.marks (Open k) behind.copied.written wrote;
+          } in
+          search
 
       -- its open is the next write
       pub open_next : (room : ℕ) → NextWrite count room (behind.bytes ++ title) [] (spelling behind.marks)
@@ -349,14 +305,9 @@ module _ {R E W F : Type 0} (source : Reader R E) (sink : Writer W F) where
   -- one element more is due
   pub run_behind : (count before : ℕ) (old now : Sides R W) → before < count → CopiesRun source sink before old now
       → IsBehind source sink count before [] old now
-  run_behind count before old now less run = record {
-    bytes = run.bytes;
-    marks = run.marks;
-    due = less;
-    run = run.run;
-    copied = rw append-nil run.copied;
-    strict = run.strict;
-  }
+  run_behind count before old now less run =
+      let copied : Copied source sink old (run.bytes ++ []) run.marks now = rw append-nil run.copied in
+      search
 
   pub added_run : (before : ℕ) (old now : Sides R W) → CopiesRun source sink (suc before) old now
       → CopiesRun source sink (before + 1) old now
@@ -371,29 +322,12 @@ module _ {R E W F : Type 0} (source : Reader R E) (sink : Writer W F) where
 
   -- no element
   pub run_none : (start : Sides R W) → CopiesRun source sink 0 start start
-  run_none start = record {
-    bytes = [];
-    marks = [];
-    run = done;
-    copied = record {
-      passed = Passes-none source start.decoder;
-      written = record {
-        appended = Appends-nil (sink.written start.writer);
-        room = Shrinks-zero (sink.room start.writer);
-        failures = refl;
-      };
-    };
-    strict = λ on none. spelled_none;
-  }
+  run_none start = search (done, Passes-none source start.decoder, Appends-nil, Shrinks-zero, spelled_none)
 
   -- behind all elements
   pub copies_all : (count : ℕ) (old new : Sides R W) → CopiesRun source sink count old new
       → CopiesAll source sink count old new
   copies_all count old new run =
       let again = run_again count run.bytes run.marks run.run in
-      record {
-        elements = run;
-        again = again.run;
-        shorter = again.shorter;
-        settled = run_settled count old.decoder new.decoder run.bytes run.marks run.run run.copied.passed.waiting;
-      }
+      let settled = run_settled count old.decoder new.decoder run.bytes run.marks run.run run.copied.passed.waiting in
+      search

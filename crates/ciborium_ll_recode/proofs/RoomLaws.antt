@@ -74,8 +74,7 @@ module _ {k : Kind} where
   -- with more spelled before them
   rest_within : {x v : List ℕ} {before all before' all' : ℕ} → Rest k x v before all → before' + all ≤ all' + before
       → Rest k x v before' all'
-  rest_within r shift = record
-      { strings = r.strings; bodies = r.bodies; ok = r.ok; is = r.is; cost = omega (arith, shift, r.cost) }
+  rest_within r shift = search arith
 
   -- behind strings
   goes : {w w' : List ℕ} {bs bs' : List (List ℕ)} → AreStrings k w bs → AreStrings k w' bs' → (x v : List ℕ)

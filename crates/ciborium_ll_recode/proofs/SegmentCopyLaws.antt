@@ -1,6 +1,6 @@
 -- The copy of a string's segments, behind its open.
 use Rattle.std.proofs.Common.{◌≡◌, ℕ, List, [], ◌∷◌, ◌++◌, length, Bool, Option, Some, None, Result, Ok, Err, refl, sym}
-use Rattle.std.proofs.Common.{ap, subst, ◌∙◌, inl, inr, arith, append_assoc, length-append}
+use Rattle.std.proofs.Common.{ap, subst, ◌∙◌, inl, inr, arith, append_assoc, length-append, ◌≤◌, ◌+◌}
 use Rattle.std.proofs.KnownBytes.{Appends-nil}
 use Rattle.ciborium_ll_io.specs.declared.io.Read.{Ghosts as Reader}
 use Rattle.ciborium_ll_io.specs.declared.io.Write.{Ghosts as Writer}
@@ -23,7 +23,7 @@ use Rattle.ciborium_ll_decoder.specs.declared.seg.Body.{Body}
 use Rattle.ciborium_ll_decoder.specs.declared.seg.Progress.{Progress}
 use Rattle.ciborium_ll_decoder.specs.declared.seg.Progress.TheVariants as p
 use Rattle.ciborium_ll_decoder.specs.BodyCopies.{BodyWritten, CopiesBody, Sides, sides}
-use Rattle.ciborium_ll_decoder.specs.Decoding.{IsSteady}
+use Rattle.ciborium_ll_decoder.specs.Decoding.{IsSteady, offset_limit}
 use Rattle.ciborium_ll_decoder.specs.Segments.{AdvancesTo}
 use Rattle.ciborium_ll_decoder.proofs.DecodingLaws.{Passes-pulled, Passes-then, passes_settled}
 use Rattle.ciborium_ll_decoder.proofs.NestLaws.{alone_bytes, title_some}
@@ -42,15 +42,9 @@ module _ {R E W F : Type 0} (source : Reader R E) (sink : Writer W F) (k : Kind)
   -- behind its open nothing of a string was read or written
   pub copied_opened : (opened : Sides R W) (now : Decoder R) (progress : Progress) → opened.decoder.waiting ≡ None
       → progress ≡ p.Open 1 → now ≡ opened.decoder → CopiedSoFar opened progress (sides now opened.writer)
-  copied_opened opened now progress settled begun same = record {
-    bodies = [];
-    so_far = so_far_opened source k opened.decoder now progress settled begun same;
-    written = record {
-      appended = Appends-nil (sink.written opened.writer);
-      room = Shrinks-zero (sink.room opened.writer);
-      failures = refl;
-    };
-  }
+  copied_opened opened now progress settled begun same =
+      let so_far = so_far_opened source k opened.decoder now progress settled begun same in
+      search (Appends-nil, Shrinks-zero)
 
   module _ {opened now : Sides R W} {progress : Progress} (so_far : CopiedSoFar opened progress now) where
     -- where the next call of `advance` leads
@@ -96,41 +90,27 @@ module _ {R E W F : Type 0} (source : Reader R E) (sink : Writer W F) (k : Kind)
         | inl refused ↦ title_stops source sink room (stands_inside all.among) tt refl new (e.Syntax at) refused.0
         | inr other ↦ (
             let stands = stands_inside all.among in
-            inr (inl (record {
-              bytes = outer.bytes ++ (shortest_title (kind_header k None) ++ all.among.strings);
-              marks = outer.marks ++ Open k ∷ pieces k so_far.bodies;
-              kind = k;
-              reaches = stands.reach;
-              between = all.between;
-              copied = stands.copied;
-              other = other_inside source k opened.decoder.strict all.left all.between at after new
-                  all.among.passed.mode (some_open k all.left _ _ all.among.within) other;
-              strict = stands.strict;
-            }))
+            let refused = other_inside source k opened.decoder.strict all.left all.between at after new
+            all.among.passed.mode (some_open k all.left _ _ all.among.within) other in
+            inr (inl (search))
             )
       ]
       segments_stop room e.TooLong {new = new} all = elim all.ends [
         | inl passes ↦ title_stops source sink room (stands_inside all.among) tt refl new e.TooLong passes.0
         | inr deep ↦ (
             let stands = stands_inside all.among in
-            inr (inl (record {
-              bytes = outer.bytes ++ (shortest_title (kind_header k None) ++ all.among.strings);
-              marks = outer.marks ++ Open k ∷ pieces k so_far.bodies;
-              kind = k;
-              reaches = stands.reach;
-              between = all.between;
-              copied = stands.copied;
-              pulled = deep.pulled;
-              full = omega (
-                arith,
-                opens_counted k all.left _ _ all.among.within,
-                deep.most,
-                stands.copied.passed.offset,
-                deep.pulled.offset,
-                title_some deep.pulled.title (kind_header k None) deep.pulled.is_title,
-                length-append {A = ℕ},
-              );
-            }))
+            let title = title_some deep.pulled.title (kind_header k None) deep.pulled.is_title in
+            let opens = opens_counted k all.left _ _ all.among.within in
+            let full : offset_limit ≤ new.offset + 1 = omega (
+              arith,
+              opens,
+              title,
+              deep.most,
+              stands.copied.passed.offset,
+              deep.pulled.offset,
+              length-append {A = ℕ},
+            ) in
+            inr (inl (search))
             )
       ]
       segments_stop room e.Waiting all = absurd all.ends

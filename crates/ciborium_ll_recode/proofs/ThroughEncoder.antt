@@ -25,11 +25,10 @@ module _ {R E W F : Type 0} (source : Reader R E) (sink : Writer W F) where
 
   module _ (old new : Encoder W) (bytes : List ℕ) where
     all_passed_on : WritesAll passing_on old bytes new → WritesAll sink (writer_of old) bytes (writer_of new)
-    all_passed_on written =
-        record { appended = written.appended; room = written.room; failures = written.failures }
+    all_passed_on written = assumption
 
     front_passed_on : WritesFront passing_on old bytes new → WritesFront sink (writer_of old) bytes (writer_of new)
-    front_passed_on stopped = record { front = stopped.front; full = stopped.full; failures = stopped.failures }
+    front_passed_on stopped = assumption
 
   -- a body that was copied to an encoder was copied to its writer
   pub through_encoder : (kind : Kind) (len room place : ℕ) (old new : Decoder R) (encoder encoder' : Encoder W)
@@ -40,17 +39,7 @@ module _ {R E W F : Type 0} (source : Reader R E) (sink : Writer W F) where
       record { ends = copied.ends; written = all_passed_on encoder encoder' _ copied.written }
   through_encoder kind len room place old new encoder encoder' (Err (r.Read error)) copied =
       record { ends = copied.ends; written = all_passed_on encoder encoder' _ copied.written }
-  through_encoder kind len room place old new encoder encoder' (Err (r.Write fault)) stops = record {
-    front = stops.front;
-    chunk = stops.chunk;
-    kept = stops.kept;
-    between = writer_of stops.between;
-    passed = stops.passed;
-    within = stops.within;
-    filled = stops.filled;
-    few = stops.few;
-    stuck = stops.stuck;
-    sound = stops.sound;
-    written = all_passed_on encoder stops.between stops.front stops.written;
-    stopped = front_passed_on stops.between encoder' stops.chunk stops.stopped;
-  }
+  through_encoder kind len room place old new encoder encoder' (Err (r.Write fault)) stops =
+      let written = all_passed_on encoder stops.between stops.front stops.written in
+      let stopped = front_passed_on stops.between encoder' stops.chunk stops.stopped in
+      search
