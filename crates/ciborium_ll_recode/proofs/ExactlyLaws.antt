@@ -1,13 +1,13 @@
 -- When a copy succeeds, and what it then wrote and left, in the words of `Shortens`.
-use Rattle.std.proofs.Common.{◌≡◌, ℕ, inl, inr, Bool, false, List, ◌++◌, length, Some, None, Result, Ok, Err, IsOk, sym}
-use Rattle.std.proofs.Common.{ap, ◌∙◌, arith}
+use Rattle.std.proofs.Common.{◌≡◌, ℕ, inl, inr, Bool, true, false, List, ◌++◌, length, Some, None, Result, Ok, Err}
+use Rattle.std.proofs.Common.{IsOk, sym, ap, ◌∙◌, arith}
 use Rattle.ciborium_ll_io.specs.declared.io.Read.{Ghosts as Reader}
 use Rattle.ciborium_ll_io.specs.declared.io.Write.{Ghosts as Writer}
 use Rattle.ciborium_ll_decoder.specs.declared.copy.RecodeError.{RecodeError}
 use Rattle.ciborium_ll_grammar.specs.Elements.{spelling}
 use Rattle.ciborium_ll_decoder.specs.BodyCopies.{Sides}
 use Rattle.ciborium_ll_recode.specs.Recoding.{CopiesElements}
-use Rattle.ciborium_ll_recode.specs.RecodingTold.{IsReady, CopiesFront, RecodesTold}
+use Rattle.ciborium_ll_recode.specs.RecodingTold.{IsTold, IsReady, CopiesFront, RecodesTold}
 use Rattle.ciborium_ll_recode.specs.Exactly.{OnlyBytesStop, CopiesExactly}
 use Rattle.ciborium_ll_decoder.proofs.BodyLaws.{view_none}
 use Rattle.ciborium_ll_recode.proofs.RecodeReadyLaws.{recode_told, recode_exactly}
@@ -19,14 +19,12 @@ module _ {R E W F : Type 0} {strict : Bool} (source : Reader R E) (sink : Writer
     (alone : OnlyBytesStop source sink strict count room old.decoder old.writer due written) where
   ready : IsReady source sink strict count room old due written
   ready =
+      let ahead = view_none old.decoder.waiting (source.ahead old.decoder.reader) alone.none_waits ∙ alone.due-told in
+      let none = λ (on : strict ≡ true). alone.none_waits in
+      let told : IsTold source sink strict old due written = search in
       record {
         steady = alone.steady;
-        told = record {
-          mode = alone.mode;
-          due-told = view_none old.decoder.waiting (source.ahead old.decoder.reader) alone.none_waits ∙ alone.due-told;
-          written-told = alone.written-told;
-          none_waits = λ on. alone.none_waits;
-        };
+        told = told;
         room = alone.room;
         room-told = alone.room-told;
         enough = elim alone.enough [

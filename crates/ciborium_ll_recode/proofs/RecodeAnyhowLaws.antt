@@ -1,6 +1,6 @@
 -- A copy of elements where bytes are told, whichever side fails: how far it came, and what stopped it there.
 use Rattle.std.proofs.Common.{◌≡◌, ℕ, Bool, ◌+◌, ◌-◌, ◌≤◌, List, [], ◌∷◌, ◌++◌, length, take, drop, Some, refl, sym, ap}
-use Rattle.std.proofs.Common.{subst, ◌^◌, min, max, None, Result, Ok, Err, ◌∙◌, inl, inr, arith, append_assoc}
+use Rattle.std.proofs.Common.{true, subst, ◌^◌, min, max, None, Result, Ok, Err, ◌∙◌, inl, inr, arith, append_assoc}
 use Rattle.std.proofs.Common.{length-append}
 use Rattle.std.proofs.Math.Seq.{drop-append_seam}
 use Rattle.std.proofs.lemmas.Bool.{cases_lt}
@@ -12,8 +12,8 @@ use Rattle.ciborium_ll_decoder.specs.declared.copy.RecodeError.TheVariants as r
 use Rattle.ciborium_ll_decoder.proofs.NestLaws.{alone_bytes, open_alone, open_length}
 use Rattle.ciborium_ll_recode.specs.Recoding.{CopiesElements, StopsTooDeep, StopsWriting, Copied, CopiesRun}
 use Rattle.ciborium_ll_recode.specs.Recoding.{StopsAtTitle, StopsAtOther, StopsInBody}
-use Rattle.ciborium_ll_recode.specs.RecodingTold.{StopsAt, StopsShort, StopsUnwritten, RecodesAnyhow, IsTold}
-use Rattle.ciborium_ll_recode.specs.RecodingTold.{CopiesFront, MeetsFault}
+use Rattle.ciborium_ll_recode.specs.RecodingTold.{StopInReading, StopsAt, StopsShort, StopsUnwritten, RecodesAnyhow}
+use Rattle.ciborium_ll_recode.specs.RecodingTold.{IsTold, CopiesFront, MeetsFault}
 use Rattle.std.specs.Io.KnownBytes.{Consumes}
 use Rattle.ciborium_ll_io.specs.declared.io.Read.{Ghosts as Reader}
 use Rattle.ciborium_ll_io.specs.declared.io.Write.{Ghosts as Writer}
@@ -26,7 +26,7 @@ use Rattle.ciborium_ll_grammar.specs.Elements.{Mark, spelling, IsStrictSpelling}
 use Rattle.ciborium_ll_grammar.specs.Items.{IsTakenTitle}
 use Rattle.ciborium_ll_grammar.specs.Faults.{Point, In, BodyDue, IsAtTitle, IsRefusedIn, Reaches, due_title, with_front}
 use Rattle.ciborium_ll_grammar.specs.Faults.{Answer, Syntax, FirstFault, NoTitle, LongTitle, OtherTitle, DamagedText}
-use Rattle.ciborium_ll_grammar.specs.Faults.{CutDamagedText}
+use Rattle.ciborium_ll_grammar.specs.Faults.{CutDamagedText, HasFault, RunInFront}
 use Rattle.ciborium_ll_decoder.specs.Decoding.{Begins, view, Strictly, offset_limit, next_read}
 use Rattle.ciborium_ll_decoder.specs.Finishing.{IsNoText, BeginsRest}
 use Rattle.ciborium_ll_decoder.specs.BodyCopies.{Sides}
@@ -83,26 +83,17 @@ module _ {R E W F : Type 0} {strict : Bool} (source : Reader R E) (sink : Writer
         → Came bytes marks now
     came {bytes} {marks} copied =
         let gone = consumes_told _ _ due bytes told.due-told copied.passed.consumed in
-        record {
-          rest = gone.0;
-          parts = gone.2;
-          left = gone.1;
-          output = appends_told _ _ written (spelling marks) told.written-told copied.written.appended;
-        }
+        let output = appends_told _ _ written (spelling marks) told.written-told copied.written.appended in
+        search
 
     all_told : (new : Sides R W) → CopiesRun source sink count old new
         → CopiesFront source sink strict count due written old.decoder new
     all_told new all =
         let c = came all.copied in
+        let spelled = λ (on : strict ≡ true). all.strict (told.mode ∙ on) (told.none_waits on) in
+        let front : RunInFront strict count due = search in
         record {
-          front = record {
-            elements = all.bytes;
-            marks = all.marks;
-            rest = c.rest;
-            run = all.run;
-            is = c.parts;
-            spelled = λ on. all.strict (told.mode ∙ on) (told.none_waits on);
-          };
+          front = front;
           output = c.output;
           again = (run_again count all.bytes all.marks all.run).run;
           left = c.left;
@@ -124,20 +115,11 @@ module _ {R E W F : Type 0} {strict : Bool} (source : Reader R E) (sink : Writer
     met {bytes} {marks} {point} reach copied strictly new read consumed offset {out} output answer fault =
         let c = came copied in
         let gone = consumes_told _ _ c.rest read c.left consumed in
+        let at = fault c.rest gone.0 c.left gone.1 gone.2 in
+        let spelled = λ (on : strict ≡ true). strictly (told.mode ∙ on) (told.none_waits on) in
+        let met : HasFault strict count due = search in
         record {
-          fault = record {
-            before = bytes;
-            marks = marks;
-            point = point;
-            ahead = c.rest;
-            answer = answer;
-            written = out;
-            consumed = length read;
-            reach = reach;
-            is = c.parts;
-            spelled = λ on. strictly (told.mode ∙ on) (told.none_waits on);
-            fault = fault c.rest gone.0 c.left gone.1 gone.2;
-          };
+          fault = met;
           answered = refl;
           output = output;
           left = gone.1 ∙ ap Some (sym (ap (drop (length read)) gone.2 ∙ drop-append_seam read gone.0));
@@ -242,23 +224,11 @@ module _ {R E W F : Type 0} {strict : Bool} (source : Reader R E) (sink : Writer
         → new.decoder.offset ≡ now.decoder.offset + length read → sink.written new.writer ≡ Some (written ++ out)
         → ((ahead : List ℕ) → view source now.decoder ≡ Some ahead → StopsAt marks point ahead out (length read))
         → StopsShort source sink count due written old.decoder new
-    short {bytes} {marks} {point} reach copied new read out offset output stops =
+    short reach copied new read out offset output stops =
         let c = came copied in
-        record {
-          stop = record {
-            before = bytes;
-            marks = marks;
-            point = point;
-            ahead = c.rest;
-            is = c.parts;
-            reach = reach;
-            written = out;
-            consumed = length read;
-            stops = stops c.rest c.left;
-          };
-          output = output;
-          offset = omega (arith, offset, copied.passed.offset);
-        }
+        let at = stops c.rest c.left in
+        let stop : StopInReading count due = search in
+        record { stop = stop; output = output; offset = omega (arith, offset, copied.passed.offset) }
 
     short_title : {error : Error E} (new : Sides R W) (stops : StopsAtTitle source sink count old error new)
         (read : List ℕ) → length read ≤ 1 → new.decoder.offset ≡ stops.between.offset + length read

@@ -1,12 +1,13 @@
 -- Elements that are their own spelling are those whose titles are all strict, with no open inside another one.
-use Rattle.std.proofs.Common.{◌≡◌, ℕ, ◌≤◌, ◌↔◌, true, false, List, ◌++◌, length, Some, None, refl, sym, ap, subst, ◌∙◌}
-use Rattle.std.proofs.Common.{arith, append-nil, length-append}
+use Rattle.std.proofs.Common.{[], ◌≡◌, ℕ, ◌≤◌, ◌↔◌, true, false, List, ◌++◌, length, Some, None, refl, sym, ap, subst}
+use Rattle.std.proofs.Common.{◌∙◌, arith, append-nil, length-append}
 use Rattle.std.specs.List.{AllByRecursion}
 use Rattle.ciborium_ll_grammar.specs.Title.{shortest_title}
 use Rattle.ciborium_ll_grammar.specs.Strings.{Kind, kind_header, AreStrings, none as no_strings, more as more_strings}
 use Rattle.ciborium_ll_grammar.specs.Strings.IsString.{definite, indefinite}
 use Rattle.ciborium_ll_grammar.specs.Elements.{Mark, IsMeant, pieces, spelling, body_spelling, IsElement, IsRun, string}
 use Rattle.ciborium_ll_grammar.specs.Elements.{IsStrictRun, plain as plain_element, done as run_done, next as run_next}
+use Rattle.ciborium_ll_grammar.specs.Elements.{IsStrictSpelling}
 use Rattle.ciborium_ll_grammar.specs.Faults.{RunInFront}
 use Rattle.ciborium_ll_grammar.specs.StrictElements.{AreFlat, none, more, IsStrictElement, plain, whole, parts}
 use Rattle.ciborium_ll_grammar.specs.StrictElements.{AreStrictElements, done, next}
@@ -100,14 +101,13 @@ unchanged count bytes front = (
         subst (λ (z : List Mark). AllByRecursion IsMeant z) (sym one.1) spelled.meant,
       )
       ),
-  λ same. record {
-    elements = front.elements;
-    marks = front.marks;
-    rest = front.rest;
-    run = front.run;
-    is = front.is;
-    spelled = λ on. record { same = sym same.0 ∙ sym (append-nil (spelling front.marks)); meant = same.1 };
-  },
+  λ same. (
+      let strict : true ≡ true → IsStrictSpelling front.elements front.marks [] = λ on. record {
+        same = sym same.0 ∙ sym (append-nil (spelling front.marks));
+        meant = same.1;
+      } in
+      search
+      ),
 )
 
 pub as_long : (count : ℕ) (bytes : List ℕ) (front : RunInFront false count bytes)
