@@ -43,7 +43,8 @@ reach_shorter : {count : ℕ} {bytes : List ℕ} {marks : List Mark} {point : Po
     → length (spelling marks) + length (due_title point) ≤ length bytes
 reach_shorter (due {before = j} {bytes = u} {marks = ms} less run) = omega (arith, (run_again j u ms run).shorter)
 reach_shorter (inside {before = j} {bytes = u} {opens = v} {marks = ms} {bodies = bs} {kind = k} less run i s) =
-    omega (arith, (run_again j u ms run).shorter, inside_shorter k v bs i, open_long, open_length k, length-append {A = ℕ})
+    let again = (run_again j u ms run).shorter in
+    omega (arith, again, inside_shorter k v bs i, open_long, open_length k, length-append {A = ℕ})
 reach_shorter (body {bytes = u} {title = t} {len = l} k reach p) =
     omega (arith, reach_shorter reach, shortest_no_longer t (kind_header k (Some l)) p, length-append {A = ℕ})
 reach_shorter (body_inside {bytes = u} {title = t} {len = l} {kind = k} reach p) =
@@ -85,8 +86,7 @@ module _ {k : Kind} where
       absurd (string_not_break k a (y ++ x) v cs s (sym (append_assoc a y x) ∙ e))
   goes (more {first = a} {rest = y} {bodies = cs} {others = ds} s ss)
       (more {first = b} {rest = z} {bodies = es} {others = fs} s' ss') x v e =
-      let o = one_string k a b (y ++ x) (z ++ 0xff ∷ v) cs es s s'
-      (sym (append_assoc a y x) ∙ (e ∙ append_assoc b z (0xff ∷ v))) in
+      let o = one_string k a b (y ++ x) (z ++ 0xff ∷ v) cs es s s' (simp append_assoc at e) in
       let same = ap (λ (z : List (List ℕ)). size k z) o.1 in
       rest_within (goes ss ss' x v o.2) (omega (arith, same, size-append))
 
@@ -113,12 +113,10 @@ module _ {k : Kind} where
   inside_rest : {u : List ℕ} {os : List (List ℕ)} → IsInside k u os → (y w : List ℕ) (bs : List (List ℕ))
       → IsString k w bs → (q : List ℕ) → u ++ y ≡ w ++ q → (z : List ℕ) × Rest k y z (size k os) (size k bs)
   inside_rest (opened {title = t} {strings = w} p s) y x bs (definite {title = t'} {body = b} p') q e =
-      absurd (mixed (length b) (sym (fronts k t t' (w ++ y) (b ++ q) None (Some (length b)) p p'
-      (sym (append_assoc t w y) ∙ e ∙ append_assoc t' b q)).1))
+      let o = fronts k t t' (w ++ y) (b ++ q) None (Some (length b)) p p' (simp append_assoc at e) in
+      absurd (mixed (length b) (sym o.1))
   inside_rest (opened {title = t} {strings = w} p s) y z bs (indefinite {title = t'} {strings = x} p' s') q e =
-      let o = fronts k t t' (w ++ y) ((x ++ 0xff ∷ []) ++ q) None None p p'
-      (sym (append_assoc t w y) ∙ e ∙ append_assoc t' (x ++ 0xff ∷ []) q) in
-      (q, goes s s' y q (o.2 ∙ append_assoc x (0xff ∷ []) q))
+      (q, goes s s' y q (fronts k t t' (w ++ y) (x ++ 0xff ∷ q) None None p p' (simp append_assoc at e)).2)
   inside_rest (deeper {outer = a} {inner = b} {bodies = cs} {others = ds} i j) y w bs s q e =
       let g = inside_rest i (b ++ y) w bs s q (sym (append_assoc a b y) ∙ e) in
       let m = strings_rest j y (inside_rest j y) g.1.ok g.0 g.1.is in
@@ -138,7 +136,8 @@ module _ {k : Kind} where
       let z = first_open i y in
       let same = (string_fronts j k t z.0 ((x ++ 0xff ∷ []) ++ q) z.1 None None p z.2
       (sym (append_assoc t (x ++ 0xff ∷ []) q) ∙ sym e ∙ z.3)).0 in
-      let g = inside_rest i y _ bs (subst (λ (r : Kind). IsString r (t ++ (x ++ 0xff ∷ [])) bs) same (indefinite p s)) q e in
+      let all = subst (λ (r : Kind). IsString r (t ++ (x ++ 0xff ∷ [])) bs) same (indefinite p s) in
+      let g = inside_rest i y _ bs all q e in
       let sizes = ap (λ (r : Kind). size r bs) same in
       omega (arith, g.1.cost, sizes, ap length (open_spelled j bs), open_length j, length-append {A = ℕ})
 
@@ -170,7 +169,8 @@ module _ {n : ℕ} {w : List ℕ} {ns : List Mark} (run : IsRun n w ns) (v : Lis
       let f = follows i a os r n w ns run l (b ++ x) v (sym (append_assoc a b x) ∙ e) in
       let front = append_assoc a f.word f.rest ∙ ap (λ (z : List ℕ). a ++ z) (sym f.is)
       ∙ (sym (append_assoc a b x) ∙ e) in
-      omega (arith, run_within (add_element i a os r f.word f.marks f.ok) run l f.rest v front, element_rest q f.ok x f.rest f.is, spelled_long os f.marks, open_long k os bs)
+      let longer = run_within (add_element i a os r f.word f.marks f.ok) run l f.rest v front in
+      omega (arith, longer, element_rest q f.ok x f.rest f.is, spelled_long, open_long k os bs)
 
   -- with a body that is there
   body_added : (b x : List ℕ) {k : Kind} {u : List ℕ} {ms : List Mark} {start : ℕ}
@@ -178,13 +178,14 @@ module _ {n : ℕ} {w : List ℕ} {ns : List Mark} (run : IsRun n w ns) (v : Lis
       → length (spelling ms) + title_len (kind_header k (Some (length b))) + length b ≤ length (spelling ns)
   body_added b x {ms = ms} (body {title = t} k (due {before = i} {bytes = a} l r) p) sound e =
       let mark = Whole k b ∷ [] in
-      let title = shortest_title (kind_header k (Some (length b))) in
-      omega (arith, run_within (add_element i a ms r (t ++ b) mark (string k (definite p) (sound, tt))) run l x v (append_assoc a (t ++ b) x ∙ ap (λ (z : List ℕ). a ++ z) (append_assoc t b x) ∙ sym (append_assoc a t (b ++ x)) ∙ e), spelled_long ms mark, length-append {A = ℕ})
+      let added = add_element i a ms r (t ++ b) mark (string k (definite p) (sound, tt)) in
+      let front : (a ++ (t ++ b)) ++ x ≡ w ++ v = simp append_assoc (simp append_assoc at e) in
+      omega (arith, run_within added run l x v front, spelled_long ms mark, length-append {A = ℕ})
   body_added b x (body_inside {title = t}
       (inside {before = i} {bytes = a} {opens = c} {marks = os} {bodies = bs} {kind = k} l r q ok) p) sound e =
-      let title = shortest_title (kind_header k (Some (length b))) in
       let all = inside l r (inside_add q (definite p)) (AreWritable-append k bs (b ∷ []) ok (sound, tt)) in
-      omega (arith, inside_within all x (simp append_assoc (simp append_assoc at e)), open_long k os bs, open_long k os (bs ++ b ∷ []), size-append k bs (b ∷ []), length-append {A = ℕ})
+      let within = inside_within all x (simp append_assoc (simp append_assoc at e)) in
+      omega (arith, within, open_long k os, size-append k bs (b ∷ []), length-append {A = ℕ})
 
   reach_within : {u : List ℕ} {ms : List Mark} {at : Point} → Reaches n u ms at → (x : List ℕ) → u ++ x ≡ w ++ v
       → length (spelling ms) + length (due_title at) + body_len at ≤ length (spelling ns)
@@ -205,8 +206,8 @@ module _ {n : ℕ} {w : List ℕ} {ns : List Mark} (run : IsRun n w ns) (v : Lis
 -- ---- what a copy that stops in writing was to write
 
 -- is within what holds the spelling of what came, with the end of a body under way
-next_within : {count room : ℕ} {before read whole next : List ℕ} → NextWrite count room before read whole next → (all : ℕ)
-    → ((marks : List Mark) → IsRun count before marks → length (spelling marks) ≤ all)
+next_within : {count room : ℕ} {before read whole next : List ℕ} → NextWrite count room before read whole next
+    → (all : ℕ) → ((marks : List Mark) → IsRun count before marks → length (spelling marks) ≤ all)
     → ((marks : List Mark) (point : Point) → Reaches count before marks point
     → length (spelling marks) + length (due_title point) + min (body_len point) (length read) ≤ all)
     → length whole + length next ≤ all
@@ -216,7 +217,6 @@ next_within (Alone marks mark header spelled (inr at)) all runs reaches =
     omega (arith, reaches _ _ at.1, ap length spelled, spelled_long marks (mark ∷ []), length-append {A = ℕ})
 next_within (Titled marks kind len start reach) all runs reaches = omega (arith, reaches _ _ reach)
 next_within (Chunk marks kind len start front chunk kept reach sound within filled few) all runs reaches =
-    let title = shortest_title (kind_header kind (Some len)) in
     omega (arith, reaches _ _ reach, within, filled, length-append {A = ℕ})
 
 pub next_shorter : {count room : ℕ} {before read whole next : List ℕ}
@@ -226,8 +226,8 @@ next_shorter {before = before} {read = read} next_write =
     (λ ms at reach. omega (arith, reach_shorter reach, length-append {A = ℕ}))
 
 -- and within the spelling of the elements, where they stand in front
-pub next_spelled : {count room : ℕ} {before read whole next due : List ℕ} (rest : List ℕ) → NextWrite count room before read whole next
-    → (front : RunInFront false count due) → due ≡ (before ++ read) ++ rest
+pub next_spelled : {count room : ℕ} {before read whole next due : List ℕ} (rest : List ℕ)
+    → NextWrite count room before read whole next → (front : RunInFront false count due) → due ≡ (before ++ read) ++ rest
     → length whole + length next ≤ length (spelling front.marks)
 next_spelled {before = before} {read = read} rest next_write front is =
     let same : before ++ (read ++ rest) ≡ front.elements ++ front.rest = sym (append_assoc before read rest)
