@@ -29,7 +29,7 @@ use Rattle.ciborium_ll_decoder.specs.declared.copy.RecodeError.TheVariants as r
 use Rattle.ciborium_ll_decoder.specs.Decoding.{Passes, Strictly, IsSteady, PullsHeader, PullsTitle}
 use Rattle.ciborium_ll_decoder.specs.BodyCopies.{CopiesBody, Sides, sides}
 use Rattle.ciborium_ll_decoder.proofs.BodyLaws.{sound_body}
-use Rattle.ciborium_ll_decoder.proofs.DecodingLaws.{Passes-none, Passes-pull, Passes-then, passes_settled}
+use Rattle.ciborium_ll_decoder.proofs.DecodingLaws.{Passes-none, Passes-pulled, Passes-then, passes_settled}
 use Rattle.ciborium_ll_decoder.proofs.NestLaws.{alone_bytes, open_alone}
 use Rattle.ciborium_ll_decoder.proofs.SegmentLaws.{sound_none}
 use Rattle.ciborium_ll_recode.specs.Recoding.{WritesHeader, NextWrite, Alone, Titled, Chunk, Copied, CopiesRun}
@@ -133,6 +133,22 @@ module _ {R E W F : Type 0} (source : Reader R E) (sink : Writer W F) where
 
   -- ---- the title of an element
 
+  -- a title more was pulled
+  pub copied_pulled : {old now : Sides R W} {bytes : List ℕ} {marks : List Mark} {header : Header} {new : Decoder R}
+      → Copied source sink old bytes marks now → (pulled : PullsTitle source now.decoder header new)
+      → (IsSteady source old.decoder → IsSteady source new)
+      → Copied source sink old (bytes ++ pulled.title) marks (sides new now.writer)
+  copied_pulled {old} {now} {bytes} {header = header} {new} copied pulled steady =
+      let passed = Passes-pulled source old.decoder now.decoder new bytes header pulled copied.passed steady in
+      search
+
+  -- of a strict decoder it is a strict title
+  pub title_taken : {old now : Sides R W} {bytes : List ℕ} {marks : List Mark} {header : Header} {new : Decoder R}
+      → Copied source sink old bytes marks now → (pulled : PullsTitle source now.decoder header new)
+      → Strictly old.decoder (IsStrictTitle pulled.title header)
+  title_taken {old} {now} copied pulled = λ on none. pulled.strict (copied.passed.mode ∙ on)
+      (passes_settled source old.decoder now.decoder _ copied.passed none)
+
   -- a header's shortest title fits before the offset behind it
   pub pulled_covers : (old new : Decoder R) (header : Header) → PullsTitle source old header new
       → title_len header ≤ new.offset
@@ -149,24 +165,6 @@ module _ {R E W F : Type 0} (source : Reader R E) (sink : Writer W F) where
         → StopsCopy source sink count room old (r.Read error) (sides new now.writer)
     pull_stops room new error fails = title_stops room stands_due tt refl new error fails
 
-    -- it was pulled
-    behind_pulled : {new : Decoder R} {header : Header} (pulled : PullsTitle source now.decoder header new)
-        → (IsSteady source now.decoder → IsSteady source new)
-        → IsBehind source sink count before pulled.title old (sides new now.writer)
-    behind_pulled {new} {header} pulled steady =
-        let copied : Copied source sink old (behind.bytes ++ pulled.title) behind.marks (sides new now.writer) = record {
-          passed = Passes-pull source old.decoder now.decoder new behind.bytes header pulled stands_due.copied.passed
-              steady;
-          written = behind.copied.written;
-        } in
-        search
-
-    -- of a strict decoder it is a strict title
-    title_taken : {new : Decoder R} {header : Header} (pulled : PullsTitle source now.decoder header new)
-        → Strictly old.decoder (IsStrictTitle pulled.title header)
-    title_taken pulled = λ on none. pulled.strict (behind.copied.passed.mode ∙ on)
-        (passes_settled source old.decoder now.decoder (behind.bytes ++ []) behind.copied.passed none)
-
   -- behind its title the copy of an element goes on
   pub element_copied : {now : Sides R W} {header : Header} (room : ℕ) (result : Result (Unit {0}) (RecodeError E F))
       (new : Sides R W) {between : Decoder R} → PullsTitle source now.decoder header between
@@ -174,8 +172,9 @@ module _ {R E W F : Type 0} (source : Reader R E) (sink : Writer W F) where
       → CopiesBehind source sink header room (sides between now.writer) result new
       → CopiesElement source sink room now result new
   element_copied room result new pulled steady goes_on = λ count before old behind.
-      goes_on count before old pulled.title pulled.is_title (title_taken behind pulled)
-      (behind_pulled behind pulled steady)
+      let stands = stands_due behind in
+      let copied = copied_pulled stands.copied pulled (λ s. steady (behind.copied.passed.steady s)) in
+      goes_on count before old pulled.title pulled.is_title (title_taken behind.copied pulled) (search)
 
   -- ---- an element more
 

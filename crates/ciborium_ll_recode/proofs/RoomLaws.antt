@@ -3,7 +3,7 @@ use Rattle.std.proofs.Common.{◌≡◌, ℕ, ◌+◌, ◌≤◌, List, [], ◌�
 use Rattle.std.proofs.Common.{false, subst, ◌∙◌, inl, inr, arith, append_assoc, append-nil, length-append}
 use Rattle.std.proofs.lemmas.Bool.{cases_lt}
 use Rattle.std.proofs.lemmas.List.{length-take-le, take-append-drop}
-use Rattle.ciborium_ll_grammar.specs.Title.{IsTitle, shortest_title, title_len}
+use Rattle.ciborium_ll_grammar.specs.Title.{IsTitle, title_len}
 use Rattle.ciborium_ll_grammar.specs.Strings.{Kind, kind_header, IsString, AreStrings, none, more, IsWritable}
 use Rattle.ciborium_ll_grammar.specs.Strings.IsString.{definite, indefinite}
 use Rattle.ciborium_ll_grammar.specs.Elements.{Mark, Whole, Open, pieces, spelling, IsElement, IsPlain, plain, string}

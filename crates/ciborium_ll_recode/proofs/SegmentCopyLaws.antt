@@ -25,12 +25,13 @@ use Rattle.ciborium_ll_decoder.specs.declared.seg.Progress.TheVariants as p
 use Rattle.ciborium_ll_decoder.specs.BodyCopies.{BodyWritten, CopiesBody, Sides, sides}
 use Rattle.ciborium_ll_decoder.specs.Decoding.{IsSteady, offset_limit}
 use Rattle.ciborium_ll_decoder.specs.Segments.{AdvancesTo}
-use Rattle.ciborium_ll_decoder.proofs.DecodingLaws.{Passes-pulled, Passes-then, passes_settled}
+use Rattle.ciborium_ll_decoder.proofs.DecodingLaws.{Passes-then}
 use Rattle.ciborium_ll_decoder.proofs.NestLaws.{alone_bytes, title_some}
 use Rattle.ciborium_ll_decoder.proofs.SegmentLaws.{AdvancesAmong, IsAmong, StringSoFar, advances_among, opens_counted}
 use Rattle.ciborium_ll_decoder.proofs.SegmentLaws.{other_inside, piece_spelled, segment_added, so_far_opened, some_open}
 use Rattle.ciborium_ll_recode.specs.Recoding.{StopsCopy, IsWithin, ReadsString}
 use Rattle.ciborium_ll_recode.proofs.CopyLaws.{StandsAt, marks_then, mark_then, writes_then, title_stops, body_stops}
+use Rattle.ciborium_ll_recode.proofs.CopyLaws.{copied_pulled, title_taken}
 
 module _ {R E W F : Type 0} (source : Reader R E) (sink : Writer W F) (k : Kind) where
   -- what the loop keeps: the bodies so far were read, and written as pieces
@@ -101,15 +102,7 @@ module _ {R E W F : Type 0} (source : Reader R E) (sink : Writer W F) (k : Kind)
             let stands = stands_inside all.among in
             let title = title_some deep.pulled.title (kind_header k None) deep.pulled.is_title in
             let opens = opens_counted k all.left _ _ all.among.within in
-            let full : offset_limit ≤ new.offset + 1 = omega (
-              arith,
-              opens,
-              title,
-              deep.most,
-              stands.copied.passed.offset,
-              deep.pulled.offset,
-              length-append {A = ℕ},
-            ) in
+            let full : offset_limit ≤ new.offset + 1 = omega (arith, length-append {A = ℕ}) in
             inr (inl (search))
             )
       ]
@@ -125,8 +118,8 @@ module _ {R E W F : Type 0} (source : Reader R E) (sink : Writer W F) (k : Kind)
           let string = front ++ among.strings in
           let stands = stands_inside among in
           let break = alone_bytes all.ends.pulled.title h.Break all.ends.pulled.is_title refl in
-          let passed = Passes-pulled source old.decoder all.between new (outer.bytes ++ string) h.Break all.ends.pulled
-          stands.copied.passed (λ s. all.steady (outer.copied.passed.steady s)) in
+          let pulled = copied_pulled source sink stands.copied all.ends.pulled
+          (λ s. all.steady (outer.copied.passed.steady s)) in
           record {
             bytes = outer.bytes;
             marks = outer.marks;
@@ -135,8 +128,8 @@ module _ {R E W F : Type 0} (source : Reader R E) (sink : Writer W F) (k : Kind)
             bodies = bodies;
             is_element = close_last k string bodies (rw all.ends.last at among.within) among.sound;
             copied = record {
-              passed = rw (break, append_assoc outer.bytes string (0xff ∷ [])) at passed;
-              written = stands.copied.written;
+              passed = rw (break, append_assoc outer.bytes string (0xff ∷ [])) at pulled.passed;
+              written = pulled.written;
             };
             strict = λ on none.
                 let tight = among.tight (outer.copied.passed.mode ∙ on) in
@@ -159,14 +152,9 @@ module _ {R E W F : Type 0} (source : Reader R E) (sink : Writer W F) (k : Kind)
             let pulled = all.ends.pulled in
             record {
               reach = body_inside stands.reach pulled.is_title;
-              copied = record {
-                passed = Passes-pulled source old.decoder all.between new _ (kind_header k (Some body.length)) pulled
-                    stands.copied.passed (λ s. all.steady (outer.copied.passed.steady s));
-                written = stands.copied.written;
-              };
+              copied = copied_pulled source sink stands.copied pulled (λ s. all.steady (outer.copied.passed.steady s));
               strict = λ on none.
-                  let settled = passes_settled source old.decoder all.between _ stands.copied.passed none in
-                  let only = pulled.strict (stands.copied.passed.mode ∙ on) settled in
+                  let only = title_taken source sink stands.copied pulled on none in
                   spelled_title _ _ pulled.title _ (stands.strict on none) only.shortest;
             }
 

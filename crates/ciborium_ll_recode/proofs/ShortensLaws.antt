@@ -110,24 +110,31 @@ plain_marked b header w written p q is same meant =
       strict = λ on. record { same = simp append-nil (same on); meant = (meant on, tt) };
     }
 
-number_marked : (b : Bool) (m : Major) (header : Header) {n : ℕ} {w written : List ℕ}
-    → ((s : Size) → numbered_header m s n ≡ header) → IsPlain header → shortest_numbered m n ≡ shortest_title header
-    → (IsSmallSimple header → ⊥) → IsNumberTitle b (major_code m) n w → IsNumberTitle true (major_code m) n written
-    → MarkedElement b w written
-number_marked b m header {n} {w} {written} named q shortest meant p least =
+-- a title of an integer, an array, a map or a tag has a header that begins no string, and that its major type gives
+counts : (m : Major) → (major_code m < 2) ⊎ ((3 < major_code m) × (major_code m < 7)) → (n : ℕ) (s : Size)
+    → (numbered_header m s n ≡ numbered_header m Small n) × IsPlain (numbered_header m Small n)
+    × (shortest_numbered m n ≡ shortest_title (numbered_header m Small n))
+    × (IsSmallSimple (numbered_header m Small n) → ⊥)
+counts m which n s = grind arith
+
+number_marked : (b : Bool) (m : Major) {n : ℕ} {w written : List ℕ}
+    → (major_code m < 2) ⊎ ((3 < major_code m) × (major_code m < 7)) → IsNumberTitle b (major_code m) n w
+    → IsNumberTitle true (major_code m) n written → MarkedElement b w written
+number_marked b m {n} {w} {written} which p least =
     let z = has_number b m n w p in
-    plain_marked b header w written (rw (z.2, ← (named z.0)) (numbered m z.0 n z.1)) q
-    (fewest_is m n written least ∙ shortest) (λ on. fewest_is m n w (rw on at p) ∙ shortest) (λ on. meant)
+    let c = counts m which n z.0 in
+    plain_marked b (numbered_header m Small n) w written (rw (z.2, ← c.0) (numbered m z.0 n z.1)) c.1
+    (fewest_is m n written least ∙ c.2) (λ on. fewest_is m n w (rw on at p) ∙ c.2) (λ on. c.3)
 
 by_major : (b : Bool) (major n : ℕ) (w written : List ℕ) → (major < 2) ⊎ ((3 < major) × (major < 7))
     → IsNumberTitle b major n w → IsNumberTitle true major n written → MarkedElement b w written
-by_major b zero n w written c p q = number_marked b Unsigned (h.Positive n) (λ s. refl) tt refl (λ x. x) p q
-by_major b (suc zero) n w written c p q = number_marked b Negative (h.Negative n) (λ s. refl) tt refl (λ x. x) p q
+by_major b zero n w written c p q = number_marked b Unsigned c p q
+by_major b (suc zero) n w written c p q = number_marked b Negative c p q
 by_major b (suc (suc zero)) n w written c p q = absurd (omega arith)
 by_major b (suc (suc (suc zero))) n w written c p q = absurd (omega arith)
-by_major b (suc (suc (suc (suc zero)))) n w written c p q = number_marked b Array (h.Array (Some n)) (λ s. refl) tt refl (λ x. x) p q
-by_major b (suc (suc (suc (suc (suc zero))))) n w written c p q = number_marked b Map (h.Map (Some n)) (λ s. refl) tt refl (λ x. x) p q
-by_major b (suc (suc (suc (suc (suc (suc zero)))))) n w written c p q = number_marked b Tag (h.Tag n) (λ s. refl) tt refl (λ x. x) p q
+by_major b (suc (suc (suc (suc zero)))) n w written c p q = number_marked b Array c p q
+by_major b (suc (suc (suc (suc (suc zero))))) n w written c p q = number_marked b Map c p q
+by_major b (suc (suc (suc (suc (suc (suc zero)))))) n w written c p q = number_marked b Tag c p q
 by_major b (suc (suc (suc (suc (suc (suc (suc k))))))) n w written c p q = absurd (omega arith)
 
 simple_title : (s : Size) (n : ℕ) (w : List ℕ) → n < size_limit s → w ≡ numbered_title Other s n → length w ≤ 2
