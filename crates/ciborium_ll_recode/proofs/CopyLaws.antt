@@ -62,8 +62,9 @@ module _ {R E W F : Type 0} (source : Reader R E) (sink : Writer W F) where
       WritesBytes-then sink {T = Unit {0}} writer between writer' (Ok (tt {0})) xs ys first second
 
   -- marks, and more marks, are written
-  pub marks_then : {writer between writer' : W} (marks others : List Mark) → WritesAll sink writer (spelling marks) between
-      → WritesAll sink between (spelling others) writer' → WritesAll sink writer (spelling (marks ++ others)) writer'
+  pub marks_then : {writer between writer' : W} (marks others : List Mark)
+      → WritesAll sink writer (spelling marks) between → WritesAll sink between (spelling others) writer'
+      → WritesAll sink writer (spelling (marks ++ others)) writer'
   marks_then marks others first second = rw spelling-append (writes_then first second)
 
   pub mark_then : {writer between writer' : W} (marks : List Mark) (mark : Mark)
@@ -123,9 +124,10 @@ module _ {R E W F : Type 0} (source : Reader R E) (sink : Writer W F) where
       → CopiesBody source sink k len room (old.decoder.offset + start) (sides between.decoder titled) (Err error) new
       → StopsCopy source sink count room old error new
   body_stops {count} room {old} {between} {bytes} {marks} {k} {len} {start} stands title new (r.Write fault) stops =
-      let passed = Passes-then source old.decoder between.decoder new.decoder bytes _ stands.copied.passed stops.passed in
-      let next : NextWrite count room bytes _ _ _ = Chunk marks k len start stops.front stops.chunk stops.kept stands.reach stops.sound
-      stops.within stops.filled stops.few in
+      let passed = Passes-then source old.decoder between.decoder new.decoder bytes _ stands.copied.passed
+      stops.passed in
+      let next : NextWrite count room bytes _ _ _ = Chunk marks k len start stops.front stops.chunk stops.kept
+      stands.reach stops.sound stops.within stops.filled stops.few in
       let written = front_then marks k len stands.copied.written title stops.written in
       let fails = stops.stopped in
       search
@@ -251,8 +253,8 @@ module _ {R E W F : Type 0} (source : Reader R E) (sink : Writer W F) where
             copied = behind.copied;
             strict = λ on none.
                 spelled_title behind.bytes behind.marks title _ (behind.strict on none) (only on none).shortest;
-          } wrote new error (subst (λ (n : ℕ). CopiesBody source sink k len room n (sides now.decoder titled) (Err error) new)
-          placed stopped)
+          } wrote new error (subst (λ (n : ℕ). CopiesBody source sink k len room n (sides now.decoder titled)
+          (Err error) new) placed stopped)
 
     -- ---- a string of indefinite length
 

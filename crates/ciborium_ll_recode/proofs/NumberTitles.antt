@@ -38,7 +38,8 @@ IsTitleOf h.Break title = title ≡ first_byte Other 31 ∷ []
 alone_of : (major : Major) → IfSome (open_header major) (λ header. IsTitleOf header (first_byte major 31 ∷ []))
 alone_of major = grind arith
 
-numbered_is : (m : Major) (s : Size) (n : ℕ) → n < size_limit s → IsTitleOf (numbered_header m s n) (numbered_title m s n)
+numbered_is : (m : Major) (s : Size) (n : ℕ) → n < size_limit s
+    → IsTitleOf (numbered_header m s n) (numbered_title m s n)
 numbered_is m s n below = grind arith
 
 pub title_of : (title : List ℕ) (header : Header) → IsTitle title header → IsTitleOf header title
@@ -98,4 +99,5 @@ fewest_is m n title p =
     let z = has_number true m n title p in
     let least = least_size n in
     let few = p.fewest refl _ _ (says_of least n (least_fits n (size_below z.0 n z.1))) in
-    z.2 ∙ ap (λ (s : Size). numbered_title m s n) (fewest_least z.0 n z.1 (omega (arith, few, ap length (sym p.is ∙ z.2))))
+    let same = fewest_least z.0 n z.1 (omega (arith, few, ap length (sym p.is ∙ z.2))) in
+    z.2 ∙ ap (λ (s : Size). numbered_title m s n) same

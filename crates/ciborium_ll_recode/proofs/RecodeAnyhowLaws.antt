@@ -133,7 +133,7 @@ module _ {R E W F : Type 0} {strict : Bool} (source : Reader R E) (sink : Writer
 
     pub title_spelled : {error : Error E} {new : Sides R W} (stops : StopsAtTitle source sink count old error new)
         → Strictly old.decoder (IsStrictSpelling stops.bytes stops.marks (due_title stops.point))
-    title_spelled stops = λ on none. spelled_at stops.point stops.bytes stops.marks stops.at_title (stops.strict on none)
+    title_spelled stops = λ on none. spelled_at stops.point _ _ stops.at_title (stops.strict on none)
 
     -- a byte with which no title begins, or a title that a strict decoder refuses
     no_title_told : (at : ℕ) (new : Sides R W) → StopsAtTitle source sink count old (e.Syntax at) new
@@ -145,8 +145,8 @@ module _ {R E W F : Type 0} {strict : Bool} (source : Reader R E) (sink : Writer
           | inl refused ↦ (
             length stops.bytes,
             refused.place ∙ place,
-            met stops.reaches stops.copied (title_spelled stops) new (refused.byte ∷ []) refused.bytes refused.offset output
-                (Syntax (length stops.bytes)) (λ ahead behind a b split.
+            met stops.reaches stops.copied (title_spelled stops) new (refused.byte ∷ []) refused.bytes refused.offset
+                output (Syntax (length stops.bytes)) (λ ahead behind a b split.
                 NoTitle stops.at_title (subst BeginsRefused (sym split) refused.refused)),
           )
           | inr longer ↦ (

@@ -12,7 +12,7 @@ use Rattle.ciborium_ll_grammar.specs.Faults.{Point, Short, FirstFault, CutTitle,
 use Rattle.ciborium_ll_decoder.specs.Decoding.{view, IsSteady}
 use Rattle.ciborium_ll_decoder.specs.BodyCopies.{Sides}
 use Rattle.ciborium_ll_recode.specs.Recoding.{CopiesElements, StopsAtTitle, StopsInBody, StopsCopy, StopsWriting}
-use Rattle.ciborium_ll_recode.specs.RecodingTold.{IsReady, IsTold, StopsAt, MeetsFault, RecodesTold}
+use Rattle.ciborium_ll_recode.specs.RecodingTold.{RecodesAnyhow, IsReady, IsTold, StopsAt, MeetsFault, RecodesTold}
 use Rattle.ciborium_ll_grammar.proofs.StrictFaultLaws.{no_fault}
 use Rattle.ciborium_ll_decoder.proofs.BodyLaws.{view_none}
 use Rattle.ciborium_ll_decoder.proofs.ToldLaws.{consumes_told}
@@ -59,8 +59,8 @@ module _ {R E W F : Type 0} {strict : Bool} (source : Reader R E) (sink : Writer
         (front_output source sink count room old due written told new stops) Short (λ ahead behind a b split.
         let z = in_body source sink count room old due written told stops.marks stops.start part ahead behind split in
         let few = rw (sym same ∙ b) at still.1 in
-        CutBody z.0 z.1 (omega (arith, few, ap length split, ends.filled, part.within, length-append {A = ℕ})) z.2 z.4 z.5 z.6
-        (omega (arith, ap length split, length-append {A = ℕ})))
+        CutBody z.0 z.1 (omega (arith, few, ap length split, ends.filled, part.within, length-append {A = ℕ})) z.2 z.4
+        z.5 z.6 (omega (arith, ap length split, length-append {A = ℕ})))
 
     pub short_told : (fault : E) (new : Sides R W) → StopsCopy source sink count room old (r.Read (e.Io fault)) new
         → MeetsFault source sink strict count due written Short old.decoder new
@@ -85,22 +85,27 @@ module _ {R E W F : Type 0} {strict : Bool} (source : Reader R E) (sink : Writer
         let less : left.0 < length stops.next = rw left.1 at stops.fails.full in
         elim ready.enough [
           | inl fits ↦ omega (arith, less, left.2, fits.1, next_spelled gone.0 stops.next_write fits.0 gone.2)
-          | inr fits ↦ omega (arith, less, left.2, fits, ap length gone.2, next_shorter stops.next_write, length-append {A = ℕ})
+          | inr fits ↦ omega (arith, less, left.2, ap length gone.2, next_shorter stops.next_write, length-append {A = ℕ})
         ]
+
+    anyhow : (new : Sides R W) (result : Result (Unit {0}) (RecodeError E F))
+        → CopiesElements source sink count room old result new
+        → RecodesAnyhow source sink strict count room due written old.decoder result new
+    anyhow new result all = recode_anyhow source sink count room old due written ready.told new result all
 
     pub recode_told : (new : Sides R W) (result : Result (Unit {0}) (RecodeError E F))
         → CopiesElements source sink count room old result new
         → RecodesTold source sink strict count due written old.decoder result new
-    recode_told new (Ok unit) all = recode_anyhow source sink count room old due written ready.told new (Ok unit) all
+    recode_told new (Ok unit) all = anyhow new (Ok unit) all
     recode_told new (Err (r.Read (e.Io fault))) stops = short_told ready.steady ready.told fault new stops
-    recode_told new (Err (r.Read (e.Syntax at))) stops = recode_anyhow source sink count room old due written ready.told new (Err (r.Read (e.Syntax at))) stops
+    recode_told new (Err (r.Read (e.Syntax at))) stops = anyhow new (Err (r.Read (e.Syntax at))) stops
     recode_told new (Err (r.Read e.TooLong)) stops =
-        absurd (offset_fits new (recode_anyhow source sink count room old due written ready.told new (Err (r.Read e.TooLong)) stops))
+        absurd (offset_fits new (anyhow new (Err (r.Read e.TooLong)) stops))
     recode_told new (Err (r.Read e.Waiting)) stops = absurd stops
     recode_told new (Err (r.Write fault)) stops = absurd (writer_fits new stops)
 
-    exactly_told : (new : Sides R W) (result : Result (Unit {0}) (RecodeError E F)) → RecodesTold source sink strict count due
-        written old.decoder result new → IsOk result ↔ RunInFront strict count due
+    exactly_told : (new : Sides R W) (result : Result (Unit {0}) (RecodeError E F))
+        → RecodesTold source sink strict count due written old.decoder result new → IsOk result ↔ RunInFront strict count due
     exactly_told new (Ok unit) told = (λ ok. told.front, λ front. refl)
     exactly_told new (Err (r.Read (e.Io fault))) told =
         (λ ok. absurd cc, λ front. absurd (no_fault strict count due front told.fault))

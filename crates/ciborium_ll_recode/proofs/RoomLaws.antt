@@ -227,7 +227,8 @@ next_shorter {before = before} {read = read} next_write =
 
 -- and within the spelling of the elements, where they stand in front
 pub next_spelled : {count room : ℕ} {before read whole next due : List ℕ} (rest : List ℕ)
-    → NextWrite count room before read whole next → (front : RunInFront false count due) → due ≡ (before ++ read) ++ rest
+    → NextWrite count room before read whole next → (front : RunInFront false count due)
+    → due ≡ (before ++ read) ++ rest
     → length whole + length next ≤ length (spelling front.marks)
 next_spelled {before = before} {read = read} rest next_write front is =
     let same : before ++ (read ++ rest) ≡ front.elements ++ front.rest = sym (append_assoc before read rest)

@@ -62,7 +62,8 @@ module _ {R E W F : Type 0} (source : Reader R E) (sink : Writer W F) (k : Kind)
 
     module _ {count before : ℕ} {old : Sides R W} (outer : IsWithin source sink count before k old opened) where
       -- how far the copy came in all, where a title is due
-      stands_inside : {left : ℕ} {between : Decoder R} (among : IsAmong source k left so_far.bodies opened.decoder between)
+      stands_inside : {left : ℕ} {between : Decoder R}
+          (among : IsAmong source k left so_far.bodies opened.decoder between)
           → StandsAt source sink count old (outer.bytes ++ (shortest_title (kind_header k None) ++ among.strings))
           (outer.marks ++ Open k ∷ pieces k so_far.bodies) (In k) (sides between now.writer)
       stands_inside {left} {between} among =
@@ -83,8 +84,8 @@ module _ {R E W F : Type 0} (source : Reader R E) (sink : Writer W F) (k : Kind)
           }
 
       -- `advance` failed
-      pub segments_stop : (room : ℕ) (error : Error E) {after : Progress} {new : Decoder R} → Leads (Err error) after new
-          → StopsCopy source sink count room old (r.Read error) (sides new now.writer)
+      pub segments_stop : (room : ℕ) (error : Error E) {after : Progress} {new : Decoder R}
+          → Leads (Err error) after new → StopsCopy source sink count room old (r.Read error) (sides new now.writer)
       segments_stop room (e.Io fault) {new = new} all =
           title_stops source sink room (stands_inside all.among) tt refl new (e.Io fault) all.ends.0
       segments_stop room (e.Syntax at) {after} {new} all = elim all.ends [

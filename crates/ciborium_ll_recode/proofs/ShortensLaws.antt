@@ -146,8 +146,8 @@ simple_title Four n w l e short = absurd (omega (arith, ap length e, short))
 simple_title Eight n w l e short = absurd (omega (arith, ap length e, short))
 
 -- a title that is the shortest one
-own_marked : (b : Bool) (header : Header) (w : List ℕ) → w ≡ shortest_title header → IsTitle (shortest_title header) header
-    → IsPlain header → (IsSmallSimple header → ⊥) → MarkedElement b w w
+own_marked : (b : Bool) (header : Header) (w : List ℕ) → w ≡ shortest_title header
+    → IsTitle (shortest_title header) header → IsPlain header → (IsSmallSimple header → ⊥) → MarkedElement b w w
 own_marked b header w is p q meant = plain_marked b header w w (rw is p) q is (λ on. is) (λ on. meant)
 
 float_marked : (b : Bool) (s : Size) (n : ℕ) (w : List ℕ) → n < size_limit s → w ≡ numbered_title Other s n

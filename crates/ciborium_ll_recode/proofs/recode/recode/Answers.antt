@@ -40,8 +40,8 @@ returns-in_err-copy_element g c =
     let now = sides_of c.elements.decoder c.elements.encoder in
     let behind = run_behind g.R.Read g.W.Write c.args.count c.elements._copied old now c.elements-test.true
     c.elements.invariant.so_far in
-    let stops = one_stops g.R.Read g.W.Write c.args.count c.elements._copied room (length c.elements.buffer) old now error
-    behind c.elements.auto.buffer in
+    let stops = one_stops _ _ c.args.count c.elements._copied room (length c.elements.buffer) old now error behind
+    c.elements.auto.buffer in
     let all = stops c.in_err-copy_element.ensures in
     record {
       copied = record {
