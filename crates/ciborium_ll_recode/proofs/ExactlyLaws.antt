@@ -1,10 +1,11 @@
 -- When a copy succeeds, and what it then wrote and left, in the words of `Shortens`.
-use Rattle.std.proofs.Common.{◌≡◌, ℕ, inl, inr, Bool, true, false, List, ◌++◌, length, Some, None, Result, Ok, Err}
+use Rattle.std.proofs.Common.{◌≡◌, ◌≤◌, ◌⊎◌, ℕ, inl, inr, Bool, true, false, List, ◌++◌, length, Some, None, Result, Ok, Err}
 use Rattle.std.proofs.Common.{IsOk, sym, ap, ◌∙◌, arith}
 use Rattle.ciborium_ll_io.specs.declared.io.Read.{Ghosts as Reader}
 use Rattle.ciborium_ll_io.specs.declared.io.Write.{Ghosts as Writer}
 use Rattle.ciborium_ll_decoder.specs.declared.copy.RecodeError.{RecodeError}
 use Rattle.ciborium_ll_grammar.specs.Elements.{spelling}
+use Rattle.ciborium_ll_grammar.specs.Faults.{RunInFront}
 use Rattle.ciborium_ll_decoder.specs.BodyCopies.{Sides}
 use Rattle.ciborium_ll_recode.specs.Recoding.{CopiesElements}
 use Rattle.ciborium_ll_recode.specs.RecodingTold.{IsTold, IsReady, CopiesFront, RecodesTold}
@@ -22,22 +23,16 @@ module _ {R E W F : Type 0} {strict : Bool} (source : Reader R E) (sink : Writer
       let ahead = view_none old.decoder.waiting (source.ahead old.decoder.reader) alone.none_waits ∙ alone.due-told in
       let none = λ (on : strict ≡ true). alone.none_waits in
       let told : IsTold source sink strict old due written = search in
-      record {
-        steady = alone.steady;
-        told = told;
-        room = alone.room;
-        room-told = alone.room-told;
-        enough = elim alone.enough [
-          | inl copy ↦ (
-              let front = shortened_front false count due copy.0 copy.1 copy.2 in
-              let fits = copy.3 in
-              inl (front.0, omega (arith, ap length front.1, fits))
-              )
-          | inr fits ↦ inr fits
-        ];
-        fits-title = alone.fits-title;
-        fits-chunk = alone.fits-chunk;
-      }
+      let enough : ((front : RunInFront false count due) × (length (spelling front.marks) ≤ alone.room))
+      ⊎ (length due ≤ alone.room) = elim alone.enough [
+        | inl copy ↦ (
+            let front = shortened_front false count due copy.0 copy.1 copy.2 in
+            let fits = copy.3 in
+            inl (front.0, omega (arith, ap length front.1, fits))
+            )
+        | inr fits ↦ inr fits
+      ] in
+      search
 
   module _ (new : Sides R W) where
     -- behind a copy no header waits

@@ -102,29 +102,39 @@ module _ {R E W F : Type 0} {strict : Bool} (source : Reader R E) (sink : Writer
           still = run_still source count old.decoder new.decoder all.bytes all.marks all.run all.copied.passed;
         }
 
-    -- a fault behind what was copied, of which these bytes were consumed
-    pub met : {bytes : List ℕ} {marks : List Mark} {point : Point} {now : Sides R W}
-        → Reaches count bytes marks point → Copied source sink old bytes marks now
-        → Strictly old.decoder (IsStrictSpelling bytes marks (due_title point)) → (new : Sides R W) (read : List ℕ)
-        → Consumes (view source now.decoder) (view source new.decoder) read
-        → new.decoder.offset ≡ now.decoder.offset + length read
-        → {out : List ℕ} → sink.written new.writer ≡ Some (written ++ out) → (answer : Answer)
-        → ((ahead behind : List ℕ) → view source now.decoder ≡ Some ahead → view source new.decoder ≡ Some behind
-        → ahead ≡ read ++ behind → FirstFault strict bytes marks point ahead answer out (length read))
-        → MeetsFault source sink strict count due written answer old.decoder new
-    met {bytes} {marks} {point} reach copied strictly new read consumed offset {out} output answer fault =
-        let c = came copied in
-        let gone = consumes_told _ _ c.rest read c.left consumed in
-        let at = fault c.rest gone.0 c.left gone.1 gone.2 in
-        let spelled = λ (on : strict ≡ true). strictly (told.mode ∙ on) (told.none_waits on) in
-        let met : HasFault strict count due = search in
-        record {
-          fault = met;
-          answered = refl;
-          output = output;
-          left = gone.1 ∙ ap Some (sym (ap (drop (length read)) gone.2 ∙ drop-append_seam read gone.0));
-          offset = omega (arith, offset, copied.passed.offset);
-        }
+    -- behind what was copied these bytes were consumed, and so much was written in all
+    module _ {bytes : List ℕ} {marks : List Mark} {point : Point} {now : Sides R W}
+        (reach : Reaches count bytes marks point) (copied : Copied source sink old bytes marks now) (new : Sides R W)
+        (read : List ℕ) (offset : new.decoder.offset ≡ now.decoder.offset + length read) (out : List ℕ)
+        (output : sink.written new.writer ≡ Some (written ++ out)) where
+      -- a fault
+      pub met : Strictly old.decoder (IsStrictSpelling bytes marks (due_title point))
+          → Consumes (view source now.decoder) (view source new.decoder) read → (answer : Answer)
+          → ((ahead behind : List ℕ) → view source now.decoder ≡ Some ahead → view source new.decoder ≡ Some behind
+          → ahead ≡ read ++ behind → FirstFault strict bytes marks point ahead answer out (length read))
+          → MeetsFault source sink strict count due written answer old.decoder new
+      met strictly consumed answer fault =
+          let c = came copied in
+          let gone = consumes_told _ _ c.rest read c.left consumed in
+          let at = fault c.rest gone.0 c.left gone.1 gone.2 in
+          let spelled = λ (on : strict ≡ true). strictly (told.mode ∙ on) (told.none_waits on) in
+          let met : HasFault strict count due = search in
+          record {
+            fault = met;
+            answered = refl;
+            output = output;
+            left = gone.1 ∙ ap Some (sym (ap (drop (length read)) gone.2 ∙ drop-append_seam read gone.0));
+            offset = omega (arith, offset, copied.passed.offset);
+          }
+
+      -- a stop that is no fault
+      short : ((ahead : List ℕ) → view source now.decoder ≡ Some ahead → StopsAt marks point ahead out (length read))
+          → StopsShort source sink count due written old.decoder new
+      short stops =
+          let c = came copied in
+          let at = stops c.rest c.left in
+          let stop : StopInReading count due = search in
+          record { stop = stop; output = output; offset = omega (arith, offset, copied.passed.offset) }
 
     -- a title or a body is no part of the grammar
     abbrev MeetsSyntax : ℕ → Sides R W → Type 0
@@ -145,15 +155,15 @@ module _ {R E W F : Type 0} {strict : Bool} (source : Reader R E) (sink : Writer
           | inl refused ↦ (
             length stops.bytes,
             refused.place ∙ place,
-            met stops.reaches stops.copied (title_spelled stops) new (refused.byte ∷ []) refused.bytes refused.offset
-                output (Syntax (length stops.bytes)) (λ ahead behind a b split.
+            met stops.reaches stops.copied new (refused.byte ∷ []) refused.offset _ output (title_spelled stops)
+                refused.bytes (Syntax (length stops.bytes)) (λ ahead behind a b split.
                 NoTitle stops.at_title (subst BeginsRefused (sym split) refused.refused)),
           )
           | inr longer ↦ (
             length stops.bytes,
             longer.place ∙ place,
-            met stops.reaches stops.copied (title_spelled stops) new longer.title longer.bytes longer.offset output
-                (Syntax (length stops.bytes)) (λ ahead behind a b split.
+            met stops.reaches stops.copied new longer.title longer.offset _ output (title_spelled stops)
+                longer.bytes (Syntax (length stops.bytes)) (λ ahead behind a b split.
                 LongTitle longer.header behind stops.at_title longer.is_title
                 (subst (λ (b : Bool). IsTakenTitle b longer.title longer.header → ⊥)
                 (sym longer.strict ∙ (stops.copied.passed.mode ∙ told.mode)) longer.not_strict) split),
@@ -165,8 +175,8 @@ module _ {R E W F : Type 0} {strict : Bool} (source : Reader R E) (sink : Writer
         let pulled = stops.other.pulled in (
           length stops.bytes,
           stops.other.place ∙ stops.copied.passed.offset,
-          met stops.reaches stops.copied stops.strict new pulled.title pulled.bytes pulled.offset
-              (came stops.copied).output (Syntax (length stops.bytes)) (λ ahead behind a b split.
+          met stops.reaches stops.copied new pulled.title pulled.offset _ (came stops.copied).output stops.strict
+              pulled.bytes (Syntax (length stops.bytes)) (λ ahead behind a b split.
               OtherTitle stops.other.header behind pulled.is_title
               (subst (λ (b : Bool). IsRefusedIn b stops.kind stops.other.header)
               (stops.copied.passed.mode ∙ told.mode) stops.other.refused) split),
@@ -187,8 +197,8 @@ module _ {R E W F : Type 0} {strict : Bool} (source : Reader R E) (sink : Writer
         stops.between.decoder new.decoder stops.stopped.ends in (
           stops.start,
           stops.stopped.ends.stops.0,
-          met stops.reaches stops.copied stops.strict new body.read body.passed.consumed body.passed.offset
-              (front_output new stops) (Syntax stops.start) (λ ahead behind a b split.
+          met stops.reaches stops.copied new body.read body.passed.offset _ (front_output new stops) stops.strict
+              body.passed.consumed (Syntax stops.start) (λ ahead behind a b split.
               subst (λ (k : Kind). FirstFault strict stops.bytes stops.marks (BodyDue k stops.len stops.start) ahead
               (Syntax stops.start) (with_front stops.marks k stops.len body.front) (length body.read))
               (sym body.textual) (damage strict stops.bytes stops.marks stops.len stops.start body.read body.front
@@ -218,24 +228,12 @@ module _ {R E W F : Type 0} {strict : Bool} (source : Reader R E) (sink : Writer
           omega (arith, ap length split, part.within, length-append {A = ℕ}),
         )
 
-    -- behind what was copied so many bytes were consumed
-    short : {bytes : List ℕ} {marks : List Mark} {point : Point} {now : Sides R W} → Reaches count bytes marks point
-        → Copied source sink old bytes marks now → (new : Sides R W) (read out : List ℕ)
-        → new.decoder.offset ≡ now.decoder.offset + length read → sink.written new.writer ≡ Some (written ++ out)
-        → ((ahead : List ℕ) → view source now.decoder ≡ Some ahead → StopsAt marks point ahead out (length read))
-        → StopsShort source sink count due written old.decoder new
-    short reach copied new read out offset output stops =
-        let c = came copied in
-        let at = stops c.rest c.left in
-        let stop : StopInReading count due = search in
-        record { stop = stop; output = output; offset = omega (arith, offset, copied.passed.offset) }
-
     short_title : {error : Error E} (new : Sides R W) (stops : StopsAtTitle source sink count old error new)
         (read : List ℕ) → length read ≤ 1 → new.decoder.offset ≡ stops.between.offset + length read
         → ((ahead : List ℕ) → view source stops.between ≡ Some ahead → Begins read ahead)
         → StopsShort source sink count due written old.decoder new
     short_title new stops read few offset begins =
-        short stops.reaches stops.copied new read (spelling stops.marks) offset (came stops.copied).output
+        short stops.reaches stops.copied new read offset _ (came stops.copied).output
         (λ ahead is.
         at_title stops.marks stops.point ahead (length read) stops.at_title
         (omega (arith, few, ap length (begins ahead is).1, length-append {A = ℕ})))
@@ -245,7 +243,7 @@ module _ {R E W F : Type 0} {strict : Bool} (source : Reader R E) (sink : Writer
         → StopsShort source sink count due written old.decoder new
     short_body new stops offset =
         let part = stops.stopped.ends.part in
-        short stops.reaches stops.copied new part.read _ (offset ∙ part.passed.offset) (front_output new stops)
+        short stops.reaches stops.copied new part.read (offset ∙ part.passed.offset) _ (front_output new stops)
         (λ ahead is.
         let gone = consumes_told _ _ ahead part.read is part.passed.consumed in
         in_body stops.marks stops.start part ahead gone.0 gone.2)
@@ -271,7 +269,7 @@ module _ {R E W F : Type 0} {strict : Bool} (source : Reader R E) (sink : Writer
         let lone = ap length (alone_bytes title (kind_header stops.kind None) stops.pulled.is_title
         (open_alone stops.kind)) in
         let full : 2 ^ 64 ≤ new.decoder.offset + 1 = stops.full in (
-          short stops.reaches stops.copied new title (spelling stops.marks) stops.pulled.offset
+          short stops.reaches stops.copied new title stops.pulled.offset _
               (came stops.copied).output (λ ahead is.
               let gone = consumes_told _ _ ahead title is stops.pulled.bytes in
               at_title stops.marks (In stops.kind) ahead (length title) tt

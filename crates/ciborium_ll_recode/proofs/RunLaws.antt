@@ -1,4 +1,4 @@
--- Runs of elements: what is written of one is no longer than what was read, and whether a header waits behind it.
+-- Whether a header waits behind a run of elements.
 use Rattle.std.proofs.Common.{◌≡◌, ℕ, ◌<◌, ◌⊎◌, List, [], length, None, Option, IfSome, refl, ap, inl, inr, arith}
 use Rattle.std.proofs.Common.{length-append}
 use Rattle.ciborium_ll_grammar.specs.declared.hdr.Header.{Header}
@@ -20,19 +20,8 @@ pub run_settled : {R : Type 0} (count : ℕ) (old new : Decoder R) (bytes : List
     → 0 < count → new.waiting ≡ None
 run_settled count old new bytes marks run way some = grind (arith, element_some, length-append {A = ℕ})
 
--- where no bytes were read, a header waits just where one waited
-waits_as : {R : Type 0} (old new : Decoder R) (waited : Option Header) → old.waiting ≡ waited → new.waiting ≡ None
-    → IfSome waited (λ header. (new ≡ old) ⊎ Begins (shortest_title header) [])
-    → new.waiting ≡ waited
-waits_as old new waited is settled began = grind (arith, shortest_some, length-append {A = ℕ})
-
+-- behind none one waits just where one waited
 pub run_still : {R E : Type 0} (source : Reader R E) (count : ℕ) (old new : Decoder R) (bytes : List ℕ)
     (marks : List Mark) → IsRun count bytes marks → Passes source old bytes new
     → count ≡ 0 → new.waiting ≡ old.waiting
-run_still source count old new bytes marks done passed is =
-    elim passed.waiting [
-      | inl same ↦ ap (λ d. d.waiting) same.1
-      | inr none ↦
-          waits_as old new old.waiting refl none passed.waited
-    ]
-run_still source count old new bytes marks (next element more) passed is = absurd (omega (arith, is))
+run_still source count old new bytes marks run passed is = grind (arith, shortest_some, length-append {A = ℕ})

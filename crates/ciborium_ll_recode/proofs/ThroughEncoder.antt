@@ -35,11 +35,7 @@ module _ {R E W F : Type 0} (source : Reader R E) (sink : Writer W F) where
       (result : Result (Unit {0}) (RecodeError E F))
       → CopiesBody source passing_on kind len room place (sides old encoder) result (sides new encoder')
       → CopiesBody source sink kind len room place (sides_of old encoder) result (sides_of new encoder')
-  through_encoder kind len room place old new encoder encoder' (Ok done) copied =
-      record { ends = copied.ends; written = all_passed_on encoder encoder' _ copied.written }
-  through_encoder kind len room place old new encoder encoder' (Err (r.Read error)) copied =
-      record { ends = copied.ends; written = all_passed_on encoder encoder' _ copied.written }
+  through_encoder kind len room place old new encoder encoder' (Ok done) copied = search all_passed_on
+  through_encoder kind len room place old new encoder encoder' (Err (r.Read error)) copied = search all_passed_on
   through_encoder kind len room place old new encoder encoder' (Err (r.Write fault)) stops =
-      let written = all_passed_on encoder stops.between stops.front stops.written in
-      let stopped = front_passed_on stops.between encoder' stops.chunk stops.stopped in
-      search
+      search (all_passed_on, front_passed_on)
