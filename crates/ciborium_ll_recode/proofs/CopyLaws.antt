@@ -201,12 +201,8 @@ module _ {R E W F : Type 0} (source : Reader R E) (sink : Writer W F) where
         → WritesHeader sink now.writer result header after
         → GoesOn source sink count before room old result (sides now.decoder after)
     plain_goes_on room header (Ok unit) after p t only wrote =
-        added title (Plain header ∷ []) behind.run behind.strict (plain header t p)
-        record {
-          passed = behind.copied.passed;
-          written = mark_then behind.marks (Plain header) behind.copied.written wrote;
-        }
-        (λ on none.
+        let written = mark_then behind.marks (Plain header) behind.copied.written wrote in
+        added title (Plain header ∷ []) behind.run behind.strict (plain header t p) (search) (λ on none.
         let first = only on none in
         (first.shortest ∙ sym (append-nil (shortest_title header)), (first.meant, tt)))
     plain_goes_on room header (Err error) after p t only wrote =
@@ -232,15 +228,12 @@ module _ {R E W F : Type 0} (source : Reader R E) (sink : Writer W F) where
       definite_goes_on only place at titled wrote new (Ok unit) whole =
           let b = whole.ends.read in
           let lengths : len ≡ length b = sym whole.ends.all in
+          let passed = rw append_assoc at (Passes-then source old.decoder now.decoder new.decoder
+          (behind.bytes ++ title) b behind.copied.passed whole.ends.passed) in
+          let written = mark_then behind.marks (Whole k b) behind.copied.written
+          (writes_then (rw lengths at wrote) whole.written) in
           added (title ++ b) (Whole k b ∷ []) behind.run behind.strict
-          (string k (definite (rw lengths at t)) (sound_body k b whole.ends.sound))
-          record {
-            passed = rw (← (append_assoc behind.bytes title b)) (Passes-then source old.decoder now.decoder new.decoder
-                (behind.bytes ++ title) b behind.copied.passed whole.ends.passed);
-            written = mark_then behind.marks (Whole k b) behind.copied.written
-                (writes_then (rw lengths at wrote) whole.written);
-          }
-          (λ on none.
+          (string k (definite (rw lengths at t)) (sound_body k b whole.ends.sound)) (search) (λ on none.
           let first = rw lengths at (only on none) in
           (ap (λ (z : List ℕ). z ++ b) first.shortest ∙ sym (append-nil _), (tt, tt)))
       definite_goes_on only place at titled wrote new (Err error) stopped =
@@ -264,11 +257,8 @@ module _ {R E W F : Type 0} (source : Reader R E) (sink : Writer W F) where
           → IsWithin source sink count before k old (sides now.decoder titled)
       opened_within titled wrote =
           let alone = alone_bytes title (kind_header k None) t (open_alone k) in
-          let copied : Copied source sink old (behind.bytes ++ shortest_title (kind_header k None))
-          (behind.marks ++ Open k ∷ []) (sides now.decoder titled) = record {
-            passed = rw alone at behind.copied.passed;
-            written = mark_then behind.marks (Open k) behind.copied.written wrote;
-          } in
+          let passed = rw alone at behind.copied.passed in
+          let written = mark_then behind.marks (Open k) behind.copied.written wrote in
           search
 
       -- its open is the next write
@@ -285,17 +275,11 @@ module _ {R E W F : Type 0} (source : Reader R E) (sink : Writer W F) where
       → before < count → ReadsString source sink before k old now
       → WritesHeader sink now.writer result h.Break after
       → GoesOn source sink count before room old result (sides now.decoder after)
-  close_goes_on {before = before} {k = k} room (Ok unit) after less read wrote = record {
-    bytes = read.bytes ++ read.element;
-    marks = read.marks ++ open_marks k read.bodies;
-    run = add_element before read.bytes read.marks read.run read.element _ read.is_element;
-    copied = record {
-      passed = read.copied.passed;
-      written = rw append_assoc at (mark_then (read.marks ++ Open k ∷ pieces k read.bodies) Close
-          read.copied.written wrote);
-    };
-    strict = read.strict;
-  }
+  close_goes_on {before = before} {k = k} room (Ok unit) after less read wrote =
+      let run = add_element before read.bytes read.marks read.run read.element _ read.is_element in
+      let written = rw append_assoc at (mark_then (read.marks ++ Open k ∷ pieces k read.bodies) Close
+      read.copied.written wrote) in
+      search
   close_goes_on {before = before} {k = k} room (Err error) after less read wrote =
       header_stops h.Break error after (next_element room (read.marks ++ Open k ∷ pieces k read.bodies) Close
       h.Break refl less (rw append_assoc (add_element before read.bytes read.marks read.run read.element _
