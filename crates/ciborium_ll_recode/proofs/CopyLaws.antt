@@ -14,8 +14,7 @@ use Rattle.ciborium_ll_grammar.specs.Title.{IsTitle, IsStrictTitle, shortest_tit
 use Rattle.ciborium_ll_grammar.specs.Strings.{Kind, kind_header, none}
 use Rattle.ciborium_ll_grammar.specs.Strings.IsString.{definite}
 use Rattle.ciborium_ll_grammar.specs.Elements.{IsPlain, Mark, Plain, Whole, Open, Close, mark_spelling, spelling}
-use Rattle.ciborium_ll_grammar.specs.Elements.{pieces, open_marks, IsElement, plain, string, IsRun, done, IsMeant}
-use Rattle.ciborium_ll_grammar.specs.Elements.{IsStrictSpelling}
+use Rattle.ciborium_ll_grammar.specs.Elements.{pieces, IsElement, plain, string, IsRun, done, IsMeant, IsStrictSpelling}
 use Rattle.ciborium_ll_grammar.specs.Faults.{Point, Due, In, BodyDue, Reaches, due, inside, opened, body, IsAtTitle}
 use Rattle.ciborium_ll_grammar.specs.Faults.{due_title, with_front}
 use Rattle.ciborium_ll_grammar.proofs.TitleLaws.{shortest_no_longer}

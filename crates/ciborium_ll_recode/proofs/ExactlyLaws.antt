@@ -1,6 +1,6 @@
 -- When a copy succeeds, and what it then wrote and left, in the words of `Shortens`.
-use Rattle.std.proofs.Common.{◌≡◌, ◌≤◌, ◌⊎◌, ℕ, inl, inr, Bool, true, false, List, ◌++◌, length, Some, None, Result, Ok, Err}
-use Rattle.std.proofs.Common.{IsOk, sym, ap, ◌∙◌, arith}
+use Rattle.std.proofs.Common.{◌≡◌, ◌≤◌, ◌⊎◌, ℕ, inl, inr, Bool, true, false, List, ◌++◌, length, Some, None, Result, Ok}
+use Rattle.std.proofs.Common.{Err, IsOk, sym, ap, ◌∙◌, arith}
 use Rattle.ciborium_ll_io.specs.declared.io.Read.{Ghosts as Reader}
 use Rattle.ciborium_ll_io.specs.declared.io.Write.{Ghosts as Writer}
 use Rattle.ciborium_ll_decoder.specs.declared.copy.RecodeError.{RecodeError}

@@ -35,10 +35,9 @@ module _ {R E W F : Type 0} {strict : Bool} (source : Reader R E) (sink : Writer
     cut_title_told fault new stops =
         let cut = stops.fails.steady (stops.copied.passed.steady steady) in
         let read = stops.fails.read in
-        met source sink count room old due written told stops.reaches stops.copied
-        new read stops.fails.offset _
-        (came source sink count room old due written told stops.copied).output
-        (title_spelled source sink count room old due written told stops) cut.0 Short (λ ahead behind a b split.
+        met _ _ _ room _ _ _ told stops.reaches stops.copied new read stops.fails.offset _
+        (came _ _ count room _ _ _ told stops.copied).output (title_spelled _ _ _ room _ _ _ told stops) cut.0 Short
+        (λ ahead behind a b split.
         let ends = rw a at cut.1 in
         let first : min 1 (length ahead) ≡ length read = omega (arith, ap length ends.1, length-take 1 ahead) in
         subst (λ (n : ℕ). FirstFault strict stops.bytes stops.marks stops.point ahead Short (spelling stops.marks) n)
@@ -50,15 +49,14 @@ module _ {R E W F : Type 0} {strict : Bool} (source : Reader R E) (sink : Writer
         let ends = stops.stopped.ends in
         let fails = ends.stops.1 in
         let part = ends.part in
-        let ahead_of = λ (known : R). source.ahead known in
         let still = fails.steady (part.passed.steady (stops.copied.passed.steady steady)) in
         let same : view source new.decoder ≡ source.ahead ends.between.reader =
         view_none new.decoder.waiting (source.ahead new.decoder.reader) fails.none_waits ∙ still.0 in
         let before = view_none ends.between.waiting (source.ahead ends.between.reader) fails.none_waited in
-        met source sink count room old due written told stops.reaches stops.copied new part.read
-        (fails.offset ∙ part.passed.offset) _ (front_output source sink count room old due written told new stops)
-        stops.strict (rw (before ∙ sym same) at part.passed.consumed) Short (λ ahead behind a b split.
-        let z = in_body source sink count room old due written told stops.marks stops.start part ahead behind split in
+        met _ _ _ room _ _ _ told stops.reaches stops.copied new part.read (fails.offset ∙ part.passed.offset) _
+        (front_output _ _ _ _ _ _ _ told new stops) stops.strict (rw (before ∙ sym same) at part.passed.consumed) Short
+        (λ ahead behind a b split.
+        let z = in_body _ _ count room _ _ _ told stops.marks stops.start part ahead behind split in
         let few = rw (sym same ∙ b) at still.1 in
         CutBody z.0 z.1 (omega (arith, few, ap length split, ends.filled, part.within, length-append {A = ℕ})) z.2 z.4
         z.5 z.6 (omega (arith, ap length split, length-append {A = ℕ})))

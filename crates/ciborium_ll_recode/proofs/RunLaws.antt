@@ -1,12 +1,9 @@
 -- Whether a header waits behind a run of elements.
-use Rattle.std.proofs.Common.{◌≡◌, ℕ, ◌<◌, ◌⊎◌, List, [], length, None, Option, IfSome, refl, ap, inl, inr, arith}
-use Rattle.std.proofs.Common.{length-append}
-use Rattle.ciborium_ll_grammar.specs.declared.hdr.Header.{Header}
+use Rattle.std.proofs.Common.{◌≡◌, ℕ, ◌<◌, ◌⊎◌, List, [], length, None, arith, length-append}
 use Rattle.ciborium_ll_io.specs.declared.io.Read.{Ghosts as Reader}
 use Rattle.ciborium_ll_decoder.specs.declared.dec.Decoder.{Decoder}
-use Rattle.ciborium_ll_grammar.specs.Title.{shortest_title}
-use Rattle.ciborium_ll_grammar.specs.Elements.{Mark, IsElement, IsRun, done, next}
-use Rattle.ciborium_ll_decoder.specs.Decoding.{Begins, Passes}
+use Rattle.ciborium_ll_grammar.specs.Elements.{Mark, IsElement, IsRun}
+use Rattle.ciborium_ll_decoder.specs.Decoding.{Passes}
 use Rattle.ciborium_ll_grammar.proofs.TitleLaws.{shortest_some}
 use Rattle.ciborium_ll_decoder.proofs.NestLaws.{title_some}
 

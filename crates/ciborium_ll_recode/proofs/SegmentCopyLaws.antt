@@ -68,14 +68,13 @@ module _ {R E W F : Type 0} (source : Reader R E) (sink : Writer W F) (k : Kind)
           (outer.marks ++ Open k ∷ pieces k so_far.bodies) (In k) (sides between now.writer)
       stands_inside {left} {between} among =
           let front = shortest_title (kind_header k None) in
+          let passed = rw append_assoc at (Passes-then source old.decoder opened.decoder between (outer.bytes ++ front)
+          among.strings outer.copied.passed among.passed) in
+          let written = rw append_assoc at (marks_then source sink (outer.marks ++ Open k ∷ []) (pieces k so_far.bodies)
+          outer.copied.written so_far.written) in
           record {
             reach = inside outer.due outer.run (counted k left _ _ among.within) among.sound;
-            copied = record {
-              passed = rw (← (append_assoc outer.bytes front among.strings)) (Passes-then source old.decoder
-                  opened.decoder between (outer.bytes ++ front) among.strings outer.copied.passed among.passed);
-              written = rw append_assoc at (marks_then source sink (outer.marks ++ Open k ∷ []) (pieces k so_far.bodies)
-                  outer.copied.written so_far.written);
-            };
+            copied = search;
             -- of a strict decoder it is the spelling of what is written
             strict = λ on none.
                 spelled_then outer.bytes outer.marks _ (Open k ∷ pieces k so_far.bodies) (outer.strict on none)
@@ -121,6 +120,7 @@ module _ {R E W F : Type 0} (source : Reader R E) (sink : Writer W F) (k : Kind)
           let break = alone_bytes all.ends.pulled.title h.Break all.ends.pulled.is_title refl in
           let pulled = copied_pulled source sink stands.copied all.ends.pulled
           (λ s. all.steady (outer.copied.passed.steady s)) in
+          let passed = rw (break, append_assoc outer.bytes string (0xff ∷ [])) at pulled.passed in
           record {
             bytes = outer.bytes;
             marks = outer.marks;
@@ -128,10 +128,7 @@ module _ {R E W F : Type 0} (source : Reader R E) (sink : Writer W F) (k : Kind)
             element = string ++ 0xff ∷ [];
             bodies = bodies;
             is_element = close_last k string bodies (rw all.ends.last at among.within) among.sound;
-            copied = record {
-              passed = rw (break, append_assoc outer.bytes string (0xff ∷ [])) at pulled.passed;
-              written = pulled.written;
-            };
+            copied = search;
             strict = λ on none.
                 let tight = among.tight (outer.copied.passed.mode ∙ on) in
                 spelled_then outer.bytes outer.marks (string ++ 0xff ∷ []) (open_marks k bodies) (outer.strict on none)
