@@ -1,4 +1,5 @@
--- The copy of one element, by its parts: how it goes on, and where it stops.
+-- The copy of one element, by its parts: how it goes on, and where it stops. A body is copied to an encoder, which
+-- passes it on to its writer.
 use Rattle.std.proofs.Common.{◌≡◌, ℕ, suc, ◌+◌, ◌-◌, ◌<◌, ◌≤◌, List, [], ◌∷◌, ◌++◌, length, Some, None, Result, Ok, Err}
 use Rattle.std.proofs.Common.{refl, sym, ap, subst, ◌∙◌, ◌⊎◌, inl, inr, arith, append_assoc, append-nil, length-append}
 use Rattle.std.specs.List.{AllByRecursion}
@@ -7,7 +8,7 @@ use Rattle.std.proofs.KnownBytes.{Appends-nil}
 use Rattle.ciborium_ll_io.proofs.WriteLaws.{Shrinks-zero, WritesBytes-then}
 use Rattle.ciborium_ll_io.specs.declared.io.Read.{Ghosts as Reader}
 use Rattle.ciborium_ll_io.specs.declared.io.Write.{Ghosts as Writer}
-use Rattle.ciborium_ll_io.specs.Writes.{WritesAll, WritesBytes}
+use Rattle.ciborium_ll_io.specs.Writes.{WritesAll, WritesBytes, WritesFront}
 use Rattle.ciborium_ll_grammar.specs.declared.hdr.Header.{Header}
 use Rattle.ciborium_ll_grammar.specs.declared.hdr.Header.TheVariants as h
 use Rattle.ciborium_ll_grammar.specs.Title.{IsTitle, IsStrictTitle, shortest_title, title_len}
@@ -17,7 +18,7 @@ use Rattle.ciborium_ll_grammar.specs.Elements.{IsPlain, Mark, Plain, Whole, Open
 use Rattle.ciborium_ll_grammar.specs.Elements.{pieces, IsElement, plain, string, IsRun, done, IsMeant, IsStrictSpelling}
 use Rattle.ciborium_ll_grammar.specs.Faults.{Point, Due, In, BodyDue, Reaches, due, inside, opened, body, IsAtTitle}
 use Rattle.ciborium_ll_grammar.specs.Faults.{due_title, with_front}
-use Rattle.ciborium_ll_grammar.proofs.TitleLaws.{shortest_no_longer}
+use Rattle.ciborium_ll_grammar.proofs.TitleLaws.{shortest_no_longer, shortest_some}
 use Rattle.ciborium_ll_grammar.proofs.ElementLaws.{run_again, spelling-append}
 use Rattle.ciborium_ll_grammar.proofs.StepLaws.{add_element}
 use Rattle.ciborium_ll_grammar.proofs.SpelledLaws.{spelled_none, spelled_then, spelled_title}
@@ -29,13 +30,63 @@ use Rattle.ciborium_ll_decoder.specs.Decoding.{Passes, Strictly, IsSteady, Pulls
 use Rattle.ciborium_ll_decoder.specs.BodyCopies.{CopiesBody, Sides, sides}
 use Rattle.ciborium_ll_decoder.proofs.BodyLaws.{sound_body}
 use Rattle.ciborium_ll_decoder.proofs.DecodingLaws.{Passes-none, Passes-pulled, Passes-then, passes_settled}
-use Rattle.ciborium_ll_decoder.proofs.NestLaws.{alone_bytes, open_alone}
+use Rattle.ciborium_ll_decoder.proofs.NestLaws.{alone_bytes, open_alone, title_some}
 use Rattle.ciborium_ll_decoder.proofs.SegmentLaws.{sound_none}
 use Rattle.ciborium_ll_recode.specs.Recoding.{WritesHeader, NextWrite, Alone, Titled, Chunk, Copied, CopiesRun}
 use Rattle.ciborium_ll_recode.specs.Recoding.{CopiesAll, StopsAtTitle, StopsInBody, StopsCopy, CopiesElements}
 use Rattle.ciborium_ll_recode.specs.Recoding.{CopiesOne, IsBehind, GoesOn, CopiesElement, CopiesBehind, IsWithin}
 use Rattle.ciborium_ll_recode.specs.Recoding.{ReadsString}
-use Rattle.ciborium_ll_recode.proofs.RunLaws.{run_settled}
+use Rattle.ciborium_ll_encoder.specs.declared.enc.Encoder.{Encoder}
+use Rattle.ciborium_ll_encoder.specs.Encoding.{writer_of}
+use Rattle.ciborium_ll_recode.specs.Sides.{sides_of}
+
+-- ---- whether a header waits behind a run
+
+-- an element has a byte
+element_some : (w : List ℕ) (ms : List Mark) → IsElement w ms → 0 < length w
+element_some w ms e = grind (arith, title_some, length-append {A = ℕ})
+
+-- behind some elements no header waits
+pub run_settled : {R : Type 0} (count : ℕ) (old new : Decoder R) (bytes : List ℕ) (marks : List Mark)
+    → IsRun count bytes marks → ((bytes ≡ []) × (new ≡ old)) ⊎ (new.waiting ≡ None)
+    → 0 < count → new.waiting ≡ None
+run_settled count old new bytes marks run way some = grind (arith, element_some, length-append {A = ℕ})
+
+-- behind none one waits just where one waited
+pub run_still : {R E : Type 0} (source : Reader R E) (count : ℕ) (old new : Decoder R) (bytes : List ℕ)
+    (marks : List Mark) → IsRun count bytes marks → Passes source old bytes new
+    → count ≡ 0 → new.waiting ≡ old.waiting
+run_still source count old new bytes marks run passed is = grind (arith, shortest_some, length-append {A = ℕ})
+
+-- ---- what is written
+
+module _ {R E W F : Type 0} (source : Reader R E) (sink : Writer W F) where
+  -- an encoder as a writer passes on to its own
+  abbrev pub passing_on : Writer (Encoder W) F
+  passing_on = record {
+    written = λ encoder. sink.written (writer_of encoder);
+    room = λ encoder. sink.room (writer_of encoder);
+    failures = λ encoder. sink.failures (writer_of encoder);
+    flushed = λ old new. sink.flushed (writer_of old) (writer_of new);
+    target = λ encoder. sink.target (writer_of encoder);
+  }
+
+  module _ (old new : Encoder W) (bytes : List ℕ) where
+    all_passed_on : WritesAll passing_on old bytes new → WritesAll sink (writer_of old) bytes (writer_of new)
+    all_passed_on written = assumption
+
+    front_passed_on : WritesFront passing_on old bytes new → WritesFront sink (writer_of old) bytes (writer_of new)
+    front_passed_on stopped = assumption
+
+  -- a body that was copied to an encoder was copied to its writer
+  pub through_encoder : (kind : Kind) (len room place : ℕ) (old new : Decoder R) (encoder encoder' : Encoder W)
+      (result : Result (Unit {0}) (RecodeError E F))
+      → CopiesBody source passing_on kind len room place (sides old encoder) result (sides new encoder')
+      → CopiesBody source sink kind len room place (sides_of old encoder) result (sides_of new encoder')
+  through_encoder kind len room place old new encoder encoder' (Ok unit) copied = search all_passed_on
+  through_encoder kind len room place old new encoder encoder' (Err (r.Read error)) copied = search all_passed_on
+  through_encoder kind len room place old new encoder encoder' (Err (r.Write fault)) stops =
+      search (all_passed_on, front_passed_on)
 
 -- a copy hands on what the write of a header's shortest title answered
 pub title_answered : {E W F : Type 0} (sink : Writer W F) (old : W) (wrote : Result (Unit {0}) F)

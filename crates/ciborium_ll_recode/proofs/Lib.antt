@@ -4,9 +4,7 @@ pub mod NumberTitles
 pub mod RecodeAnyhowLaws
 pub mod RecodeReadyLaws
 pub mod RoomLaws
-pub mod RunLaws
 pub mod SegmentCopyLaws
 pub mod ShortenedLaws
 pub mod ShortensLaws
 pub mod StrictRunLaws
-pub mod ThroughEncoder

@@ -34,10 +34,9 @@ use Rattle.ciborium_ll_grammar.proofs.ElementLaws.{run_again}
 use Rattle.ciborium_ll_decoder.proofs.DamageLaws.{damage_read}
 use Rattle.ciborium_ll_decoder.proofs.ToldLaws.{consumes_told, next_read_small}
 use Rattle.ciborium_ll_io.proofs.WriteLaws.{appends_told}
-use Rattle.ciborium_ll_recode.proofs.CopyLaws.{front_then}
+use Rattle.ciborium_ll_recode.proofs.CopyLaws.{front_then, run_settled, run_still}
 use Rattle.ciborium_ll_text.proofs.Lists.{front_of, front_behind}
 use Rattle.ciborium_ll_text.proofs.FrontLaws.{no_text_behind}
-use Rattle.ciborium_ll_recode.proofs.RunLaws.{run_settled, run_still}
 
 -- where a title is due no body's title is under way
 spelled_at : (point : Point) (bytes : List ℕ) (marks : List Mark) → IsAtTitle point

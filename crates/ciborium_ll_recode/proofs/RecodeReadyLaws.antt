@@ -84,7 +84,7 @@ module _ {R E W F : Type 0} {strict : Bool} (source : Reader R E) (sink : Writer
         let less : left.0 < length stops.next = rw left.1 at stops.fails.full in
         elim ready.enough [
           | inl fits ↦ omega (arith, less, left.2, fits.1, next_spelled gone.0 stops.next_write fits.0 gone.2)
-          | inr fits ↦ omega (arith, less, left.2, ap length gone.2, next_shorter stops.next_write, length-append {A = ℕ})
+          | inr fits ↦ omega (arith, left.2, ap length gone.2, next_shorter stops.next_write, length-append {A = ℕ})
         ]
 
     anyhow : (new : Sides R W) (result : Result (Unit {0}) (RecodeError E F))
@@ -104,7 +104,8 @@ module _ {R E W F : Type 0} {strict : Bool} (source : Reader R E) (sink : Writer
     recode_told new (Err (r.Write fault)) stops = absurd (writer_fits new stops)
 
     exactly_told : (new : Sides R W) (result : Result (Unit {0}) (RecodeError E F))
-        → RecodesTold source sink strict count due written old.decoder result new → IsOk result ↔ RunInFront strict count due
+        → RecodesTold source sink strict count due written old.decoder result new
+        → IsOk result ↔ RunInFront strict count due
     exactly_told new (Ok unit) told = (λ ok. told.front, λ front. refl)
     exactly_told new (Err (r.Read (e.Io fault))) told =
         (λ ok. absurd cc, λ front. absurd (no_fault strict count due front told.fault))

@@ -6,8 +6,7 @@ use Rattle.ciborium_ll_recode.specs.Recoding.{GoesOn}
 use Rattle.ciborium_ll_grammar.specs.Title.{title_len}
 use Rattle.ciborium_ll_grammar.specs.Strings.{kind_header}
 use Rattle.ciborium_ll_recode.specs.Sides.{sides_of}
-use Rattle.ciborium_ll_recode.proofs.ThroughEncoder.{through_encoder}
-use Rattle.ciborium_ll_recode.proofs.CopyLaws.{definite_goes_on, definite_next, header_stops}
+use Rattle.ciborium_ll_recode.proofs.CopyLaws.{through_encoder, definite_goes_on, definite_next, header_stops}
 use Rattle.ciborium_ll_recode.proofs.recode.copy_definite.Goals as goal
 
 pub returns-in_err-write_header-clause-copied : goal.returns-in_err-write_header-clause-copied

@@ -6,8 +6,7 @@ use Rattle.ciborium_ll_decoder.specs.BodyCopies.{CopiesBody}
 use Rattle.ciborium_ll_recode.specs.Recoding.{ReadsString, GoesOnWithin, Titled}
 use Rattle.ciborium_ll_recode.specs.Sides.{sides_of}
 use Rattle.ciborium_ll_decoder.proofs.DecodingLaws.{exit_is, nearer, MovesOn-none, MovesOn-then}
-use Rattle.ciborium_ll_recode.proofs.ThroughEncoder.{through_encoder}
-use Rattle.ciborium_ll_recode.proofs.CopyLaws.{header_stops}
+use Rattle.ciborium_ll_recode.proofs.CopyLaws.{through_encoder, header_stops}
 use Rattle.ciborium_ll_decoder.proofs.SegmentLaws.{announced_rises}
 use Rattle.ciborium_ll_recode.proofs.SegmentCopyLaws.{copied_opened, leads, segments_stop, segments_end, announced}
 use Rattle.ciborium_ll_recode.proofs.SegmentCopyLaws.{segment_stops, segment_copied}
