@@ -27,16 +27,10 @@ returns-clause-copied g c = λ count before old title t taken behind.
     let at : c.offset.result ≡ lent.offset = c.offset.ensures.value in
     let covered = c.requires.covered in
     -- whichever place the body was given, the title's shortest form has to reach from there to the body
-    let goes_on = λ (place : ℕ) (copied : CopiesBody g.R.Read g.W.Write k c.args.len (length c.args.buffer.now) place
-    (sides_of c.offset.new.self c.write_header.new.encoder) c.copy_body.result
-    (sides_of c.copy_body.new.decoder c.copy_body.new.writer))
-    (placed : place + title_len (kind_header k (Some c.args.len)) ≡ lent.offset).
-    definite_goes_on g.R.Read g.W.Write behind k c.args.len (length c.args.buffer.now) t taken place placed _ titled _
-    c.copy_body.result (subst (λ (d : Decoder g.row.R.Denot). CopiesBody g.R.Read g.W.Write k c.args.len
-    (length c.args.buffer.now) place (sides_of d c.write_header.new.encoder) c.copy_body.result
-    (sides_of c.copy_body.new.decoder c.copy_body.new.writer)) c.offset.ensures.same copied) in
+    let copied = rw c.offset.ensures.same at (through_encoder g.R.Read g.W.Write k c.args.len (length c.args.buffer.now)
+    _ c.offset.new.self c.copy_body.new.decoder c.write_header.new.encoder c.copy_body.new.writer c.copy_body.result
+    c.copy_body.ensures.copied) in
     subst (λ (d : Decoder g.row.R.Denot). GoesOn g.R.Read g.W.Write count before (length c.args.buffer.now) old
     c.copy_body.result (sides_of d c.copy_body.new.writer)) (search rules)
-    (goes_on _ (through_encoder g.R.Read g.W.Write k c.args.len (length c.args.buffer.now) _
-    c.offset.new.self c.copy_body.new.decoder c.write_header.new.encoder
-    c.copy_body.new.writer c.copy_body.result c.copy_body.ensures.copied) (omega (arith, size, at, covered)))
+    (definite_goes_on g.R.Read g.W.Write behind k c.args.len (length c.args.buffer.now) t taken _
+    (omega (arith, size, at, covered)) _ titled _ c.copy_body.result copied)

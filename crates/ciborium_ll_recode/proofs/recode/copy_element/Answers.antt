@@ -28,25 +28,20 @@ copy_string-requires-in-Text-clause-none_waits g c = search rules
 pub copy_string-requires-clause-covered : goal.copy_string-requires-clause-covered
 copy_string-requires-clause-covered g c =
     let arm = c.in-Bytes in
-    let is : c.in_ok-_header._header ≡ h.Bytes arm.len = c.element.ensures.bytes c.in_ok-_header._header arm.len c.in_ok-_header.ensures.title arm.is in
-    subst (λ (x : Header). title_len x ≤ c.pull_title.new.decoder.offset) is
-    (pulled_covers g.R.Read g.W.Write c.args.decoder.now c.pull_title.new.decoder c.in_ok-_header._header
-    c.in_ok-_header.ensures.header)
+    let is = c.element.ensures.bytes _ arm.len c.in_ok-_header.ensures.title arm.is in
+    rw is at (pulled_covers g.R.Read g.W.Write _ _ _ c.in_ok-_header.ensures.header)
 
 pub copy_string-requires-in-Text-clause-covered : goal.copy_string-requires-in-Text-clause-covered
 copy_string-requires-in-Text-clause-covered g c =
     let arm = c.in-Text in
-    let is : c.in_ok-_header._header ≡ h.Text arm.len = c.element.ensures.text c.in_ok-_header._header arm.len c.in_ok-_header.ensures.title arm.is in
-    subst (λ (x : Header). title_len x ≤ c.pull_title.new.decoder.offset) is
-    (pulled_covers g.R.Read g.W.Write c.args.decoder.now c.pull_title.new.decoder c.in_ok-_header._header
-    c.in_ok-_header.ensures.header)
+    let is = c.element.ensures.text _ arm.len c.in_ok-_header.ensures.title arm.is in
+    rw is at (pulled_covers g.R.Read g.W.Write _ _ _ c.in_ok-_header.ensures.header)
 
 pub returns-in-Bytes : goal.returns-in-Bytes
 returns-in-Bytes g c =
     let arm = c.in-Bytes in
-    let is : c.in_ok-_header._header ≡ h.Bytes arm.len = c.element.ensures.bytes c.in_ok-_header._header arm.len c.in_ok-_header.ensures.title arm.is in
-    let pulled = subst (λ (x : Header). PullsTitle g.R.Read c.args.decoder.now x c.pull_title.new.decoder) is
-    c.in_ok-_header.ensures.header in
+    let is = c.element.ensures.bytes _ arm.len c.in_ok-_header.ensures.title arm.is in
+    let pulled = rw is at c.in_ok-_header.ensures.header in
     record {
       copied = element_copied g.R.Read g.W.Write (length c.args.buffer.now) _ _ pulled
           c.pull_title.ensures.moves_on.steady c.copy_string.ensures.copied;
@@ -57,9 +52,8 @@ returns-in-Bytes g c =
 pub returns-in-Text : goal.returns-in-Text
 returns-in-Text g c =
     let arm = c.in-Text in
-    let is : c.in_ok-_header._header ≡ h.Text arm.len = c.element.ensures.text c.in_ok-_header._header arm.len c.in_ok-_header.ensures.title arm.is in
-    let pulled = subst (λ (x : Header). PullsTitle g.R.Read c.args.decoder.now x c.pull_title.new.decoder) is
-    c.in_ok-_header.ensures.header in
+    let is = c.element.ensures.text _ arm.len c.in_ok-_header.ensures.title arm.is in
+    let pulled = rw is at c.in_ok-_header.ensures.header in
     record {
       copied = element_copied g.R.Read g.W.Write (length c.args.buffer.now) _ _ pulled
           c.pull_title.ensures.moves_on.steady c.copy_string-in-Text.ensures.copied;
