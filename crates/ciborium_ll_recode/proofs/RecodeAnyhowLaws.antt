@@ -50,10 +50,9 @@ damage : (strict : Bool) (bytes : List ℕ) (marks : List Mark) (len start : ℕ
     (length read)
 damage strict bytes marks len start read front more ahead behind split e text within (inl whole) =
     let taken : take len ahead ≡ read = front_of len ahead read behind split whole.0 in
-    let counted = ap length split in
-    let parts = ap length e in
-    DamagedText front more (omega (arith, whole.0, counted, length-append {A = ℕ}))
-    (λ u. whole.1 (subst IsCharacters taken u)) (taken ∙ e) text (omega (arith, parts, length-append {A = ℕ})) within
+    DamagedText front more (omega (arith, whole.0, ap length split, length-append {A = ℕ}))
+    (λ u. whole.1 (subst IsCharacters taken u)) (taken ∙ e) text (omega (arith, ap length e, length-append {A = ℕ}))
+    within
 damage strict bytes marks len start read front more ahead behind split e text within (inr begins) =
     let more_behind = λ (z : List ℕ). ap (λ (v : List ℕ). v ++ z) e ∙ append_assoc front more z in
     elim (cases_lt (length ahead) len) [

@@ -1,7 +1,6 @@
-use Rattle.std.proofs.Common.{rules, ap, subst, ◌∙◌, ◌≡◌, ◌+◌, ℕ, Some, length, arith}
+use Rattle.std.proofs.Common.{rules, ap, subst, ◌∙◌, ◌≡◌, Some, length, arith}
 use Rattle.ciborium_ll_decoder.proofs.DecodingLaws.{exit_is}
 use Rattle.ciborium_ll_decoder.specs.declared.dec.Decoder.{Decoder}
-use Rattle.ciborium_ll_decoder.specs.BodyCopies.{CopiesBody}
 use Rattle.ciborium_ll_recode.specs.Recoding.{GoesOn}
 use Rattle.ciborium_ll_grammar.specs.Title.{title_len}
 use Rattle.ciborium_ll_grammar.specs.Strings.{kind_header}

@@ -1,9 +1,5 @@
-use Rattle.std.proofs.Common.{rules, refl, subst, ◌≡◌, ◌≤◌, length}
-use Rattle.ciborium_ll_grammar.specs.declared.hdr.Header.{Header}
-use Rattle.ciborium_ll_grammar.specs.declared.hdr.Header.TheVariants as h
+use Rattle.std.proofs.Common.{rules, refl, length}
 use Rattle.ciborium_ll_decoder.specs.declared.copy.RecodeError.TheVariants as r
-use Rattle.ciborium_ll_grammar.specs.Title.{title_len}
-use Rattle.ciborium_ll_decoder.specs.Decoding.{PullsTitle}
 use Rattle.ciborium_ll_decoder.proofs.DecodingLaws.{exit_is, MovesOn-then}
 use Rattle.ciborium_ll_recode.proofs.CopyLaws.{pulled_covers, title_answered, element_copied, pull_stops, plain_goes_on}
 use Rattle.ciborium_ll_recode.proofs.recode.copy_element.Goals as goal

@@ -42,7 +42,6 @@ returns-in_err-copy_element g c =
     c.elements.invariant.so_far in
     let stops = one_stops _ _ c.args.count c.elements._copied room (length c.elements.buffer) old now error behind
     c.elements.auto.buffer in
-    let raised = c.in_err-copy_element.ensures in
     record {
       copied = record {
         -- searched for, so that an error of no element is refused here
@@ -50,10 +49,14 @@ returns-in_err-copy_element g c =
         moves_on = MovesOn-then g.R.Read _ _ _ c.elements.invariant.moves_on c.copy_element.ensures.moves_on;
         target = c.copy_element.ensures.target ∙ c.elements.invariant.target;
       };
-      told = λ strict due written ready. rw same (recode_told _ _ _ _ _ _ _ ready _ (Err error) (stops raised));
-      exactly = λ strict due written alone. rw same (exactly _ _ _ _ old _ _ alone _ (Err error) (stops raised));
-      front = λ strict due written ready. rw same (recode_exactly _ _ _ _ _ _ _ ready _ (Err error) (stops raised));
-      anyhow = λ strict due written told. rw same (recode_anyhow _ _ _ room _ _ _ told _ (Err error) (stops raised));
+      told = λ strict due written ready. rw same (recode_told _ _ _ _ _ _ _ ready _ (Err error)
+          (stops c.in_err-copy_element.ensures));
+      exactly = λ strict due written alone. rw same (exactly _ _ _ _ old _ _ alone _ (Err error)
+          (stops c.in_err-copy_element.ensures));
+      front = λ strict due written ready. rw same (recode_exactly _ _ _ _ _ _ _ ready _ (Err error)
+          (stops c.in_err-copy_element.ensures));
+      anyhow = λ strict due written told. rw same (recode_anyhow _ _ _ room _ _ _ told _ (Err error)
+          (stops c.in_err-copy_element.ensures));
     }
 
 pub returns : goal.returns
