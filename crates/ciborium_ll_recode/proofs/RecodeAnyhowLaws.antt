@@ -38,11 +38,6 @@ use Rattle.ciborium_ll_recode.proofs.CopyLaws.{front_then, run_settled, run_stil
 use Rattle.ciborium_ll_text.proofs.Lists.{front_of, front_behind}
 use Rattle.ciborium_ll_text.proofs.FrontLaws.{no_text_behind}
 
--- where a title is due no body's title is under way
-spelled_at : (point : Point) (bytes : List ℕ) (marks : List Mark) → IsAtTitle point
-    → IsStrictSpelling bytes marks [] → IsStrictSpelling bytes marks (due_title point)
-spelled_at point bytes marks title spelled = grind arith
-
 -- the fault of a text's body
 damage : (strict : Bool) (bytes : List ℕ) (marks : List Mark) (len start : ℕ) (read front more ahead behind : List ℕ)
     → ahead ≡ read ++ behind → read ≡ front ++ more → IsCharacters front → length read ≤ len → IsNoText [] len read
@@ -139,9 +134,13 @@ module _ {R E W F : Type 0} {strict : Bool} (source : Reader R E) (sink : Writer
     MeetsSyntax at new = (start : ℕ) × (at ≡ old.decoder.offset + start)
         × MeetsFault source sink strict count due written (Syntax start) old.decoder new
 
+    -- where a title is due no body's title is under way
     pub title_spelled : {error : Error E} {new : Sides R W} (stops : StopsAtTitle source sink count old error new)
         → Strictly old.decoder (IsStrictSpelling stops.bytes stops.marks (due_title stops.point))
-    title_spelled stops = λ on none. spelled_at stops.point _ _ stops.at_title (stops.strict on none)
+    title_spelled stops = λ on none.
+        let title = stops.at_title in
+        let spelled = stops.strict on none in
+        grind arith
 
     -- a byte with which no title begins, or a title that a strict decoder refuses
     no_title_told : (at : ℕ) (new : Sides R W) → StopsAtTitle source sink count old (e.Syntax at) new

@@ -21,11 +21,6 @@ use Rattle.ciborium_ll_recode.proofs.RoomLaws.{next_shorter, next_spelled}
 use Rattle.ciborium_ll_recode.proofs.RecodeAnyhowLaws.{came, met, title_spelled, front_output, in_body, PassesAnyhow}
 use Rattle.ciborium_ll_recode.proofs.RecodeAnyhowLaws.{recode_anyhow}
 
--- no more is consumed than is ahead
-no_more : (marks : List Mark) (point : Point) (ahead written : List ℕ) (consumed : ℕ)
-    → StopsAt marks point ahead written consumed → consumed ≤ length ahead
-no_more marks point ahead written consumed stops = grind arith
-
 module _ {R E W F : Type 0} {strict : Bool} (source : Reader R E) (sink : Writer W F) (count room : ℕ)
     (old : Sides R W) (due written : List ℕ) where
   -- a steady reader fails only where bytes are missing, whatever the writer does
@@ -71,7 +66,8 @@ module _ {R E W F : Type 0} {strict : Bool} (source : Reader R E) (sink : Writer
     offset_fits : (new : Sides R W) → PassesAnyhow source sink count room old due written ready.told new → ⊥
     offset_fits new passes =
         let stop = passes.0.stop in
-        let consumed = no_more stop.marks stop.point stop.ahead stop.written stop.consumed stop.stops in
+        let at = stop.stops in
+        let consumed : stop.consumed ≤ length stop.ahead = grind arith in
         let title : old.decoder.offset + length due + 8 < 2 ^ 64 = ready.fits-title in
         let chunk : old.decoder.offset + length due + room < 2 ^ 64 = ready.fits-chunk in
         let full : 2 ^ 64 ≤ new.decoder.offset + max 8 room = passes.1 in

@@ -16,6 +16,7 @@ use Rattle.ciborium_ll_grammar.specs.StrictElements.{AreFlat, none as no_flat, m
 use Rattle.ciborium_ll_grammar.specs.StrictElements.{plain as strict_plain, whole as strict_whole}
 use Rattle.ciborium_ll_grammar.specs.StrictElements.{parts as strict_parts, AreStrictElements, done as strict_done}
 use Rattle.ciborium_ll_grammar.specs.StrictElements.{next as strict_next}
+use Rattle.ciborium_ll_grammar.specs.Elements.{IsStrictRun}
 use Rattle.ciborium_ll_grammar.specs.Faults.{RunInFront}
 use Rattle.ciborium_ll_grammar.specs.Shortening.{IsBody, bytes, text, ShortensString, titled, ShortensStrings, no_more}
 use Rattle.ciborium_ll_grammar.specs.Shortening.{definite_more, open_more, ShortensElement, number, simple, float}
@@ -182,8 +183,7 @@ pub front_shortened : (strict : Bool) (count : ℕ) (due : List ℕ) (front : Ru
 front_shortened false count due front = rw front.is (any_run count front.elements front.marks front.run front.rest)
 front_shortened true count due front =
     let spelled = front.spelled refl in
-    rw front.is (strict_elements count front.elements front.marks ((titles count front.elements front.marks).0 record {
-      run = front.run;
-      same = spelled_alone front.elements front.marks spelled;
-      meant = spelled.meant;
-    }) front.rest)
+    let same = spelled_alone front.elements front.marks spelled in
+    let strict : IsStrictRun count front.elements front.marks = search in
+    let elements = (titles count front.elements front.marks).0 strict in
+    rw front.is (strict_elements count front.elements front.marks elements front.rest)
