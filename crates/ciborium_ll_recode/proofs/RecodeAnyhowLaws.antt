@@ -1,6 +1,6 @@
 -- A copy of elements where bytes are told, whichever side fails: how far it came, and what stopped it there.
 use Rattle.std.proofs.Common.{◌≡◌, ℕ, Bool, ◌+◌, ◌-◌, ◌≤◌, List, [], ◌∷◌, ◌++◌, length, take, drop, Some, refl, sym, ap}
-use Rattle.std.proofs.Common.{true, subst, ◌^◌, min, max, None, Result, Ok, Err, ◌∙◌, inl, inr, arith, append_assoc}
+use Rattle.std.proofs.Common.{true, subst, ◌^◌, max, None, Result, Ok, Err, ◌∙◌, inl, inr, arith, append_assoc}
 use Rattle.std.proofs.Common.{length-append}
 use Rattle.std.proofs.Math.Seq.{drop-append_seam}
 use Rattle.std.proofs.lemmas.Bool.{cases_lt}
@@ -24,8 +24,8 @@ use Rattle.ciborium_ll_grammar.specs.Strings.{Kind, Text, kind_header}
 use Rattle.ciborium_ll_text.specs.Text.{IsCharacters, BeginsNoText}
 use Rattle.ciborium_ll_grammar.specs.Elements.{Mark, spelling, IsStrictSpelling}
 use Rattle.ciborium_ll_grammar.specs.Items.{IsTakenTitle}
-use Rattle.ciborium_ll_grammar.specs.Faults.{Point, In, BodyDue, IsAtTitle, IsRefusedIn, Reaches, due_title, with_front}
-use Rattle.ciborium_ll_grammar.specs.Faults.{Answer, Syntax, FirstFault, NoTitle, LongTitle, OtherTitle, DamagedText}
+use Rattle.ciborium_ll_grammar.specs.Faults.{Point, BodyDue, IsRefusedIn, Reaches, due_title, with_front, Answer}
+use Rattle.ciborium_ll_grammar.specs.Faults.{Syntax, FirstFault, NoTitle, LongTitle, OtherTitle, DamagedText}
 use Rattle.ciborium_ll_grammar.specs.Faults.{CutDamagedText, HasFault, RunInFront}
 use Rattle.ciborium_ll_decoder.specs.Decoding.{Begins, view, Strictly, offset_limit, next_read}
 use Rattle.ciborium_ll_decoder.specs.Finishing.{IsNoText, BeginsRest}
@@ -204,11 +204,6 @@ module _ {R E W F : Type 0} {strict : Bool} (source : Reader R E) (sink : Writer
 
     -- ---- a stop that is no fault
 
-    -- at most a first byte of a title was consumed
-    at_title : (marks : List Mark) (point : Point) (ahead : List ℕ) (consumed : ℕ) → IsAtTitle point
-        → consumed ≤ min 1 (length ahead) → StopsAt marks point ahead (spelling marks) consumed
-    at_title marks point ahead consumed title few = grind arith
-
     -- of a body all that was read was consumed
     abbrev pub in_body : (marks : List Mark) {k : Kind} {len : ℕ} (start : ℕ) {between after : Decoder R}
         (part : BeginsRest source k [] len between after) (ahead behind : List ℕ) → ahead ≡ part.read ++ behind
@@ -232,8 +227,9 @@ module _ {R E W F : Type 0} {strict : Bool} (source : Reader R E) (sink : Writer
     short_title new stops read few offset begins =
         short stops.reaches stops.copied new read offset _ (came stops.copied).output
         (λ ahead is.
-        at_title stops.marks stops.point ahead (length read) stops.at_title
-        (omega (arith, few, ap length (begins ahead is).1, length-append {A = ℕ})))
+        let title = stops.at_title in
+        let first = begins ahead is in
+        grind (arith, ap length first.1, length-append {A = ℕ}))
 
     short_body : {error : Error E} (new : Sides R W) (stops : StopsInBody source sink count room old error new)
         → new.decoder.offset ≡ stops.stopped.ends.between.offset
@@ -269,8 +265,7 @@ module _ {R E W F : Type 0} {strict : Bool} (source : Reader R E) (sink : Writer
           short stops.reaches stops.copied new title stops.pulled.offset _
               (came stops.copied).output (λ ahead is.
               let gone = consumes_told _ _ ahead title is stops.pulled.bytes in
-              at_title stops.marks (In stops.kind) ahead (length title) tt
-              (omega (arith, lone, open_length stops.kind, ap length gone.2, length-append {A = ℕ}))),
+              (refl, omega (arith, lone, open_length stops.kind, ap length gone.2, length-append {A = ℕ}))),
           omega (arith, full, le-max_left 8 room),
         )
 

@@ -7,12 +7,12 @@ use Rattle.ciborium_ll_io.specs.declared.io.Write.{Ghosts as Writer}
 use Rattle.ciborium_ll_decoder.specs.declared.dec.Error.TheVariants as e
 use Rattle.ciborium_ll_decoder.specs.declared.copy.RecodeError.{RecodeError}
 use Rattle.ciborium_ll_decoder.specs.declared.copy.RecodeError.TheVariants as r
-use Rattle.ciborium_ll_grammar.specs.Elements.{Mark, spelling}
-use Rattle.ciborium_ll_grammar.specs.Faults.{Point, Short, FirstFault, CutTitle, CutBody, RunInFront}
+use Rattle.ciborium_ll_grammar.specs.Elements.{spelling}
+use Rattle.ciborium_ll_grammar.specs.Faults.{Short, FirstFault, CutTitle, CutBody, RunInFront}
 use Rattle.ciborium_ll_decoder.specs.Decoding.{view, IsSteady}
 use Rattle.ciborium_ll_decoder.specs.BodyCopies.{Sides}
 use Rattle.ciborium_ll_recode.specs.Recoding.{CopiesElements, StopsAtTitle, StopsInBody, StopsCopy, StopsWriting}
-use Rattle.ciborium_ll_recode.specs.RecodingTold.{RecodesAnyhow, IsReady, IsTold, StopsAt, MeetsFault, RecodesTold}
+use Rattle.ciborium_ll_recode.specs.RecodingTold.{RecodesAnyhow, IsReady, IsTold, MeetsFault, RecodesTold}
 use Rattle.ciborium_ll_grammar.proofs.StrictFaultLaws.{no_fault}
 use Rattle.ciborium_ll_decoder.proofs.BodyLaws.{view_none}
 use Rattle.ciborium_ll_decoder.proofs.ToldLaws.{consumes_told}

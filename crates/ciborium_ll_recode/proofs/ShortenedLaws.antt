@@ -11,12 +11,11 @@ use Rattle.ciborium_ll_grammar.specs.Strings.{Kind, Bytes, Text, kind_header, Is
 use Rattle.ciborium_ll_grammar.specs.Strings.{IsWritable}
 use Rattle.ciborium_ll_grammar.specs.Strings.IsString.{definite, indefinite}
 use Rattle.ciborium_ll_grammar.specs.Elements.{AreWritable, IsPlain, Mark, pieces, open_marks, spelling, body_spelling}
-use Rattle.ciborium_ll_grammar.specs.Elements.{IsElement, plain, string, IsRun, done, next}
+use Rattle.ciborium_ll_grammar.specs.Elements.{IsElement, plain, string, IsRun, done, next, IsStrictRun}
 use Rattle.ciborium_ll_grammar.specs.StrictElements.{AreFlat, none as no_flat, more as more_flat, IsStrictElement}
 use Rattle.ciborium_ll_grammar.specs.StrictElements.{plain as strict_plain, whole as strict_whole}
 use Rattle.ciborium_ll_grammar.specs.StrictElements.{parts as strict_parts, AreStrictElements, done as strict_done}
 use Rattle.ciborium_ll_grammar.specs.StrictElements.{next as strict_next}
-use Rattle.ciborium_ll_grammar.specs.Elements.{IsStrictRun}
 use Rattle.ciborium_ll_grammar.specs.Faults.{RunInFront}
 use Rattle.ciborium_ll_grammar.specs.Shortening.{IsBody, bytes, text, ShortensString, titled, ShortensStrings, no_more}
 use Rattle.ciborium_ll_grammar.specs.Shortening.{definite_more, open_more, ShortensElement, number, simple, float}
