@@ -58,7 +58,7 @@ pub run_still : {R E : Type 0} (source : Reader R E) (count : ℕ) (old new : De
     → count ≡ 0 → new.waiting ≡ old.waiting
 run_still source count old new bytes marks run passed is = grind (arith, shortest_some, length-append {A = ℕ})
 
--- ---- what is written
+-- ---- what is written, to an encoder as to its writer
 
 module _ {R E W F : Type 0} (source : Reader R E) (sink : Writer W F) where
   -- an encoder as a writer passes on to its own
