@@ -1,7 +1,7 @@
 -- A drain of a body, chunk by chunk: what the calls come to.
-use Rattle.std.proofs.Common.{◌≡◌, ℕ, ◌+◌, ◌-◌, ◌<◌, ◌≤◌, ◌⊎◌, min, All, List, [], ◌∷◌, ◌++◌, length, take, drop}
-use Rattle.std.proofs.Common.{get_or, Ok, refl, sym, ap, ◌∙◌, inl, inr, arith, append_assoc, append-nil, length-append}
-use Rattle.std.proofs.KnownBytes.{Appends-nil}
+use Rattle.std.proofs.Common.{◌≡◌, ℕ, ◌+◌, ◌-◌, ◌<◌, ◌≤◌, ◌⊎◌, All, List, [], ◌∷◌, ◌++◌, length, take, drop, get_or, Ok}
+use Rattle.std.proofs.Common.{refl, sym, ap, ◌∙◌, inl, inr, arith, append_assoc, append-nil, length-append}
+use Rattle.std.proofs.Common.{length-take-le}
 use Rattle.std.proofs.lemmas.Bool.{cases_lt}
 use Rattle.std.proofs.Math.Seq.{take-append_seam}
 use Rattle.std.proofs.lemmas.List.{drop_more, take-append-drop, take-append-le}
@@ -19,16 +19,24 @@ use Rattle.ciborium_ll_decoder.specs.Chunks.{IsSplit, GivesChunk, left_of}
 use Rattle.ciborium_ll.specs.Drains.{gains, DrainsEach, DrainsUpTo, DrainsSome, none, more}
 use Rattle.ciborium_ll_decoder.proofs.DecodingLaws.{Passes-none}
 use Rattle.ciborium_ll_text.proofs.Lists.{length_zero}
-use Rattle.ciborium_ll_io.proofs.WriteLaws.{WritesBytes-then, Shrinks-zero}
+use Rattle.ciborium_ll_io.proofs.WriteLaws.{WritesBytes-then}
+use Rattle.ciborium_ll.proofs.PiecesWritten.{writes_nothing}
 use Rattle.ciborium_ll_decoder.proofs.BodyLaws.{split_parts, writable_nil, writable_chunk, few_kept, Passes-read}
+
+-- the front of a buffer that takes each of the sizes
+pub front_long : (sizes buffer buffer' : List ℕ) (index : ℕ) → All (λ size. size ≤ length buffer) sizes
+    → length buffer' ≡ length buffer → index < length sizes
+    → length (take (get_or sizes index 0) buffer') ≡ get_or sizes index 0
+front_long sizes buffer buffer' index fit same less =
+    let fits = fit index 0 less in
+    length-take-le (get_or sizes index 0) buffer' (omega (arith, fits, same))
 
 module _ {R E P W F : Type 0} {parser : Parser P} (source : Reader R E) (sink : Writer W F) where
   -- so far each size brought a chunk, and this one is next
-  abbrev pub comes_at : (sizes : List ℕ) (index d : ℕ) → index < length sizes
-      → (old : Segment R P parser) (writer : W) (new : Segment R P parser) (writer' : W)
-      → DrainsEach source sink (take index sizes) old writer new writer'
+  abbrev pub comes_at : {old new : Segment R P parser} {writer writer' : W} (sizes : List ℕ) (index d : ℕ)
+      → index < length sizes → DrainsEach source sink (take index sizes) old writer new writer'
       → DrainsUpTo source sink sizes old writer (get_or sizes index d) new writer'
-  comes_at sizes index d less old writer new writer' each = record {
+  comes_at sizes index d less each = record {
     before = take index sizes;
     others = drop (index + 1) sizes;
     parts = sym (take-append-drop index sizes)
@@ -42,11 +50,7 @@ module _ {R E P W F : Type 0} {parser : Parser P} (source : Reader R E) (sink : 
     given = [];
     parts = append-nil (kept_bytes segment.kept);
     sound = writable_nil parser.kind;
-    written = record {
-      appended = Appends-nil (sink.written writer);
-      room = Shrinks-zero (sink.room writer);
-      failures = refl;
-    };
+    written = writes_nothing sink writer;
     passed = Passes-none source segment.decoder.now;
     unread = omega arith;
     place = refl;
@@ -57,83 +61,58 @@ module _ {R E P W F : Type 0} {parser : Parser P} (source : Reader R E) (sink : 
     filled = inl (All-nil (λ (size : ℕ). size ≤ length (kept_bytes segment.kept) + 0));
   }
 
-  -- a chunk is no longer than its buffer
-  module _ (size : ℕ) (chunk : List ℕ) (old new : Segment R P parser) (gives : GivesChunk source size old chunk new)
-    where
-      chunk_within : (kind : Kind) → parser.kind ≡ kind → IsSplit kind (kept_bytes old.kept ++ gives.read) chunk
-          (kept_bytes new.kept) → length chunk ≤ size
-      chunk_within Bytes is split =
-          let none = ap length (old.text_alone is) in
-          let all = ap length split.0 in
-          omega (arith, none, all, gives.reads.count, length-append (kept_bytes old.kept) gives.read)
-      chunk_within Text is split = elim (cases_lt (min size (left_of old)) (length (kept_bytes old.kept))) [
-        | inl less ↦
-            let nothing = length_zero gives.read (omega (arith, less, gives.reads.count)) in
-            let kept = kept_bytes old.kept in
-            let parts = sym (append-nil kept) ∙ ap (λ (z : List ℕ). kept ++ z) (sym nothing) ∙ split.parts in
-            let none = ap length (old.stuck chunk (kept_bytes new.kept) parts split.text) in
-            omega (arith, none)
-        | inr full ↦
-            let parts = ap length split.parts in
-            omega (
-              arith,
-              full,
-              parts,
-              gives.reads.count,
-              length-append (kept_bytes old.kept) gives.read,
-              length-append chunk (kept_bytes new.kept),
-            )
-      ]
+  module _ {sizes : List ℕ} {size : ℕ} {old between new : Segment R P parser} {writer now : W} {chunk : List ℕ}
+      (some : DrainsSome source sink sizes old writer between now)
+      (gives : GivesChunk source size between chunk new) where
+    -- a chunk is no longer than its buffer
+    chunk_within : (kind : Kind) → parser.kind ≡ kind → IsSplit kind (kept_bytes between.kept ++ gives.read) chunk
+        (kept_bytes new.kept) → length chunk ≤ size
+    chunk_within Bytes is split =
+        let none = ap length (between.text_alone is) in
+        let all = ap length split.0 in
+        omega (arith, none, all, gives.reads.count, length-append (kept_bytes between.kept) gives.read)
+    chunk_within Text is split =
+        let kept = kept_bytes between.kept in
+        let parts = ap length split.parts in
+        -- where the kept bytes fill the buffer nothing was read, and of those none is given
+        let none : length gives.read ≡ 0 → length chunk ≡ 0 = λ zero.
+        let nothing = length_zero gives.read zero in
+        ap length (between.stuck chunk _ (rw (nothing, append-nil kept) at split.parts) split.text) in
+        grind (arith, none, parts, gives.reads.count, length-append)
 
-  module _ (sizes : List ℕ) (size : ℕ) (old : Segment R P parser) (writer : W) (between : Segment R P parser)
-      (now : W) (some : DrainsSome source sink sizes old writer between now)
-      (chunk : List ℕ) (new : Segment R P parser) (gives : GivesChunk source size between chunk new) where
     -- what was read with one chunk more
-    chunk_parts : kept_bytes old.kept ++ (some.read ++ gives.read)
-        ≡ (some.given ++ chunk) ++ kept_bytes new.kept
+    chunk_parts : kept_bytes old.kept ++ (some.read ++ gives.read) ≡ (some.given ++ chunk) ++ kept_bytes new.kept
     chunk_parts =
         let kept = kept_bytes between.kept in
-        sym (append_assoc (kept_bytes old.kept) some.read gives.read)
-        ∙ ap (λ (z : List ℕ). z ++ gives.read) some.parts
-        ∙ append_assoc some.given kept gives.read
-        ∙ ap (λ (z : List ℕ). some.given ++ z) (split_parts parser.kind (kept ++ gives.read) chunk
-        (kept_bytes new.kept) gives.split)
-        ∙ sym (append_assoc some.given chunk (kept_bytes new.kept))
+        cc (
+          append_assoc (kept_bytes old.kept) some.read gives.read,
+          some.parts,
+          append_assoc some.given kept gives.read,
+          split_parts parser.kind (kept ++ gives.read) chunk (kept_bytes new.kept) gives.split,
+          append_assoc some.given chunk (kept_bytes new.kept),
+        )
 
     needed_more : (count : ℕ) → count < length (sizes ++ size ∷ [])
         → gains parser.kind (take count (sizes ++ size ∷ [])) < old.unread
     needed_more count less = elim (cases_lt count (length sizes)) [
-      | inl earlier ↦
-          let due = some.needed count earlier in
-          rw (sym (take-append-le count sizes (size ∷ []) (omega (arith, earlier)))) at due
+      | inl earlier ↦ rw (take-append-le count sizes (size ∷ []) (omega (arith, earlier))) (some.needed count earlier)
       | inr last ↦
           let at : count ≡ length sizes = omega (arith, last, less, length-append sizes (size ∷ [])) in
-          let all : take count (sizes ++ size ∷ []) ≡ sizes = ap (λ (n : ℕ). take n (sizes ++ size ∷ [])) at
-          ∙ take-append_seam sizes (size ∷ []) in
-          let due : gains parser.kind sizes < old.unread = elim some.least [
-            | inl least ↦ omega (arith, least, some.unread, gives.reads.some_unread)
-            | inr ended ↦ absurd (omega (arith, ended, gives.reads.some_unread))
-          ] in
-          rw (sym all) at due
+          rw (at, take-append_seam sizes (size ∷ []))
+          (grind (arith, some.least, some.unread, gives.reads.some_unread))
     ]
 
-    least_more : (gains parser.kind (sizes ++ size ∷ []) ≤ length (some.read ++ gives.read)) ⊎
-        (new.unread ≡ 0)
+    least_more : (gains parser.kind (sizes ++ size ∷ []) ≤ length (some.read ++ gives.read)) ⊎ (new.unread ≡ 0)
     least_more =
         let few = few_kept parser.kind between.kept between.text_alone in
         let added = sum_by_push (λ (n : ℕ). n - most_kept parser.kind) sizes size in
         let joined = length-append some.read gives.read in
-        elim some.least [
-          | inl least ↦ elim (cases_lt (left_of between) size) [
-            | inl less ↦ inr (omega (arith, less, gives.reads.count, gives.reads.unread))
-            | inr full ↦ inl (omega (arith, full, few, added, joined, least, gives.reads.count))
-          ]
-          | inr ended ↦ absurd (omega (arith, ended, gives.reads.some_unread))
-        ]
+        grind (arith, few, added, joined, some.least, gives.reads.count, gives.reads.unread, gives.reads.some_unread)
 
     filled_more : All (λ (size : ℕ). size ≤ length (kept_bytes old.kept) + length (some.read ++ gives.read))
         (sizes ++ size ∷ []) ⊎ (new.unread ≡ 0)
     filled_more =
+        let within = λ (n : ℕ). n ≤ length (kept_bytes old.kept) + length (some.read ++ gives.read) in
         let joined = length-append some.read gives.read in
         let parts = ap length some.parts in
         let before = length-append (kept_bytes old.kept) some.read in
@@ -141,20 +120,17 @@ module _ {R E P W F : Type 0} {parser : Parser P} (source : Reader R E) (sink : 
         elim some.filled [
           | inl filled ↦ elim (cases_lt (left_of between) size) [
             | inl less ↦ inr (omega (arith, less, gives.reads.count, gives.reads.unread))
-            | inr full ↦ inl (All-push (λ (n : ℕ). n ≤ length (kept_bytes old.kept) + length (some.read ++ gives.read))
-                sizes size
-                (All-weaker (λ (n : ℕ). n ≤ length (kept_bytes old.kept) + length some.read)
-                (λ (n : ℕ). n ≤ length (kept_bytes old.kept) + length (some.read ++ gives.read))
-                (λ n within. omega (arith, within, joined)) sizes filled)
+            | inr full ↦ inl (All-push within sizes size (All-weaker
+                (λ (n : ℕ). n ≤ length (kept_bytes old.kept) + length some.read) within
+                (λ n less. omega (arith, less, joined)) sizes filled)
                 (omega (arith, full, joined, parts, before, after, gives.reads.count)))
           ]
           | inr ended ↦ absurd (omega (arith, ended, gives.reads.some_unread))
         ]
 
-    drains_more : (writer' : W) → (IsSteady source between.decoder.now → IsSteady source new.decoder.now)
-        → WritesAll sink now chunk writer'
-        → DrainsSome source sink (sizes ++ size ∷ []) old writer new writer'
-    drains_more writer' steady written = record {
+    drains_more : {writer' : W} → (IsSteady source between.decoder.now → IsSteady source new.decoder.now)
+        → WritesAll sink now chunk writer' → DrainsSome source sink (sizes ++ size ∷ []) old writer new writer'
+    drains_more {writer'} steady written = record {
       read = some.read ++ gives.read;
       given = some.given ++ chunk;
       parts = chunk_parts;
@@ -171,17 +147,14 @@ module _ {R E P W F : Type 0} {parser : Parser P} (source : Reader R E) (sink : 
         some.most,
         length-append some.given chunk,
         sum_by_push (λ (n : ℕ). n) sizes size,
-        chunk_within size chunk between new gives parser.kind refl gives.split,
+        chunk_within parser.kind refl gives.split,
       );
       needed = needed_more;
       least = least_more;
       filled = filled_more;
     }
 
-  pub each_some : (sizes : List ℕ) (old : Segment R P parser) (writer : W) (new : Segment R P parser) (writer' : W)
+  pub each_some : {sizes : List ℕ} {old : Segment R P parser} {writer : W} {new : Segment R P parser} {writer' : W}
       → DrainsEach source sink sizes old writer new writer' → DrainsSome source sink sizes old writer new writer'
-  each_some sizes old writer new writer' none = drains_none old writer
-  each_some sizes old writer new writer'
-      (more {sizes = before} {size = size} {chunk = chunk} {between = between} {now = now} each gives moves written) =
-      drains_more before size old writer between now (each_some before old writer between now each) chunk new gives
-      writer' moves.steady written
+  each_some {old} {writer} none = drains_none old writer
+  each_some (more each gives moves written) = drains_more (each_some each) gives moves.steady written

@@ -1,6 +1,6 @@
 -- A string that is read body by body, by a caller's loop over `advance`: the bodies that were read, and the bytes.
-use Rattle.std.proofs.Common.{◌≡◌, Bool, ℕ, ◌⊎◌, List, [], ◌∷◌, ◌++◌, length, Option, Some, None, IsTrue, Ok}
-use Rattle.std.proofs.Common.{Result, refl, sym, ap, subst, ◌∙◌, inl, inr, arith, append_assoc}
+use Rattle.std.proofs.Common.{◌≡◌, Bool, ℕ, ◌⊎◌, List, [], ◌∷◌, ◌++◌, length, Option, Some, None, Ok, Result, refl, sym}
+use Rattle.std.proofs.Common.{ap, ◌∙◌, inl, inr, arith, append_assoc}
 use Rattle.ciborium_ll_io.specs.declared.io.Read.{Ghosts as Reader}
 use Rattle.ciborium_ll_grammar.specs.declared.hdr.Header.TheVariants as h
 use Rattle.ciborium_ll_decoder.specs.declared.dec.Decoder.{Decoder}
@@ -9,7 +9,7 @@ use Rattle.ciborium_ll_decoder.specs.declared.seg.Body.{Body}
 use Rattle.ciborium_ll_decoder.specs.declared.seg.Progress.{Progress}
 use Rattle.ciborium_ll_decoder.specs.declared.seg.Progress.TheVariants as p
 use Rattle.ciborium_ll_grammar.specs.Title.{IsTitle}
-use Rattle.ciborium_ll_grammar.specs.Strings.{Kind, kind_header, IsWritable, IsString, definite, none}
+use Rattle.ciborium_ll_grammar.specs.Strings.{Kind, kind_header, IsString, definite, none}
 use Rattle.ciborium_ll_grammar.specs.Elements.{AreWritable}
 use Rattle.ciborium_ll_decoder.specs.Decoding.{IsSteady, Passes, TakesBack}
 use Rattle.ciborium_ll_decoder.specs.Finishing.{ReadsRest}
@@ -33,14 +33,9 @@ module _ {R E : Type 0} (source : Reader R E) (k : Kind) where
     pub nothing : bodies ≡ []
 
   -- the one body of a string of a definite length was read
-  pub record HasReadBody (len : ℕ) (opened : Decoder R) (bodies : List (List ℕ)) (progress : Progress)
-      (now : Decoder R) : Type 0 where
-    pub body : List ℕ
-    pub one : bodies ≡ body ∷ []
-    pub all : length body ≡ len
-    pub sound : IsWritable k body
-    pub ended : progress ≡ p.Ended
-    pub passed : Passes source opened body now
+  pub record HasReadBody (len : ℕ) (opened : Decoder R) (bodies : List (List ℕ)) (now : Decoder R) : Type 0 where
+    pub reads : ReadsRest source k [] len opened now
+    pub one : bodies ≡ reads.read ∷ []
 
   -- behind the title so many opens aren't closed
   pub record HasOpens (title : List ℕ) (opens : ℕ) (opened : Decoder R) (bodies : List (List ℕ)) (now : Decoder R) :
@@ -50,15 +45,10 @@ module _ {R E : Type 0} (source : Reader R E) (k : Kind) where
     pub sound : AreWritable k bodies
     pub passed : Passes source opened strings now
 
-  pub record IsWithin (title : List ℕ) (opened : Decoder R) (bodies : List (List ℕ)) (progress : Progress)
-      (now : Decoder R) : Type 0 where
-    pub opens : ℕ
-    pub counts : progress ≡ p.Open opens
-    pub has : HasOpens title opens opened bodies now
-
   abbrev pub HasBegun : Option ℕ → List ℕ → Decoder R → List (List ℕ) → Progress → Decoder R → Type 0
-  HasBegun (Some len) title opened bodies progress now = HasReadBody len opened bodies progress now
-  HasBegun None title opened bodies progress now = IsWithin title opened bodies progress now
+  HasBegun (Some len) title opened bodies progress now = HasReadBody len opened bodies now × (progress ≡ p.Ended)
+  HasBegun None title opened bodies progress now =
+      (opens : ℕ) × (progress ≡ p.Open opens) × HasOpens title opens opened bodies now
 
   -- what a loop keeps behind the title of a string, whose header was given back: these bodies were read
   pub record ReadSoFar (len : Option ℕ) (title : List ℕ) (opened : Decoder R) (bodies : List (List ℕ))
@@ -75,6 +65,15 @@ module _ {R E : Type 0} (source : Reader R E) (k : Kind) where
       pub sound : AreWritable k bodies
       pub passed : Passes source opened behind new
 
+  -- `advance` behind opens that aren't closed
+  pub record Advanced (strict : Bool) (title : List ℕ) (opened : Decoder R) (bodies : List (List ℕ))
+      (result : Result (Option Body) (Error E)) (after : Progress) (new : Decoder R) : Type 0 where
+    pub left : ℕ
+    pub between : Decoder R
+    pub has : HasOpens title left opened bodies between
+    pub ends : EndsAdvance source k strict left between result after new
+    pub steady : IsSteady source opened → IsSteady source new
+
   pub read_start : (len : Option ℕ) (title : List ℕ) (opened now : Decoder R) → IsTitle title (kind_header k len)
       → opened.waiting ≡ None → TakesBack source opened (kind_header k len) now
       → ReadSoFar len title opened [] (p.Open 0) now
@@ -84,191 +83,149 @@ module _ {R E : Type 0} (source : Reader R E) (k : Kind) where
     far = inl (record { fresh = refl; back = back; nothing = refl });
   }
 
-  -- a steady reader stays steady where a header is given back
-  steady_back : (len : Option ℕ) (opened now : Decoder R) → TakesBack source opened (kind_header k len) now
-      → IsSteady source opened → IsSteady source now
-  steady_back len opened now back s = subst (λ (r : R). IsTrue (source.steady r)) (sym back.reader) s
-
-  -- ---- a string of a definite length
-
-  module _ (strict : Bool) (len : ℕ) (title : List ℕ) (opened now new : Decoder R) (bodies : List (List ℕ)) (last after
-      : Progress)
-      (is_title : IsTitle title (kind_header k (Some len))) (settled : opened.waiting ≡ None) where
-    only_one : (result : Result (Option Body) (Error E)) → IsAtHeader (Some len) opened bodies last now
-        → AdvancesTo source k strict last now result after new → FindsOnly source k len opened result after new
-    only_one result start advances =
-        let from : AdvancesFrom source k strict 0 now result after new = rw start.fresh at advances in
-        advance_definite source k strict len opened now new result after
-        (title_in_range title (kind_header k (Some len)) is_title) start.back from
-
-    lone_more : (body : Body) (ended : Decoder R)
-        → IsAtHeader (Some len) opened bodies last now ⊎ HasReadBody len opened bodies last now
-        → AdvancesTo source k strict last now (Ok (Some body)) after new
-        → (reads : ReadsRest source k [] body.length new ended)
-        → HasReadBody len opened (bodies ++ reads.read ∷ []) after ended
-    lone_more body ended (inl start) advances reads =
-        let only_first = only_one (Ok (Some body)) start advances in let only = only_first in
-        let found = only.found in
-        let same : body ≡ only.body = cc in
-        let lengths = ap (λ (b : Body). b.length) same ∙ only.length-is in
-        let passed = passes_same source opened opened new [] (Passes-none source opened) settled only.reader
-        only.offset only.none_waits only.mode in
-        record {
-          body = reads.read;
-          one = ap (λ (z : List (List ℕ)). z ++ reads.read ∷ []) start.nothing;
-          all = reads.all ∙ lengths;
-          sound = reads.sound;
-          ended = only.ended;
-          passed = Passes-then source opened new ended [] reads.read passed reads.passed;
-        }
-    lone_more body ended (inr done) advances reads =
-        absurd (let gone : (Ok (Some body) ≡ Ok None) × (after ≡ p.Ended) × (new ≡ now) = rw done.ended at advances in
-        let f = gone.0 in cc)
-
-    lone_whole : IsAtHeader (Some len) opened bodies last now ⊎ HasReadBody len opened bodies last now
-        → AdvancesTo source k strict last now (Ok None) after new → HasReadString title opened bodies new
-    lone_whole (inl start) advances = absurd (let f = (only_one (Ok None) start advances).found in cc)
-    lone_whole (inr done) advances =
-        let gone : (Ok None ≡ Ok None) × (after ≡ p.Ended) × (new ≡ now) = rw done.ended at advances in
-        record {
-          behind = done.body;
-          is_string = subst (λ (z : List (List ℕ)). IsString k (title ++ done.body) z) (sym done.one)
-              (definite (subst (λ (n : ℕ). IsTitle title (kind_header k (Some n))) (sym done.all) is_title));
-          sound = subst (λ (z : List (List ℕ)). AreWritable k z) (sym done.one) (sound_body k done.body done.sound);
-          passed = subst (λ (d : Decoder R). Passes source opened done.body d) (sym gone.2) done.passed;
-        }
-
-  -- ---- a string of indefinite length
-
-  module _ (strict : Bool) (title : List ℕ) (opened now new : Decoder R) (bodies : List (List ℕ))
-      (last after : Progress) (is_title : IsTitle title (kind_header k None)) (settled : opened.waiting ≡ None) where
-    -- `advance` behind opens that aren't closed
-    record Advanced (result : Result (Option Body) (Error E)) : Type 0 where
-      pub left : ℕ
-      pub between : Decoder R
-      pub has : HasOpens title left opened bodies between
-      pub ends : EndsAdvance source k strict left between result after new
-      pub steady : IsSteady source opened → IsSteady source new
-
-    -- opens and breaks further
-    has_nest : (opens : ℕ) (from : Decoder R) (result : Result (Option Body) (Error E))
-        → HasOpens title opens opened bodies from → (all : AdvancesFrom source k strict opens from result after new)
-        → HasOpens title all.left opened bodies all.between
-    has_nest opens from result has all = record {
-      strings = has.strings ++ all.nest;
-      within = subst (λ (z : List ℕ). IsInsideAt k all.left z bodies) (append_assoc title has.strings all.nest)
-          (nest_inside k opens all.left (title ++ has.strings) all.nest bodies has.within all.nests);
-      sound = has.sound;
-      passed = Passes-then source opened from all.between has.strings all.nest has.passed all.passed;
-    }
-
-    -- the first open alone
-    has_first : bodies ≡ [] → HasOpens title 1 opened bodies opened
-    has_first nothing = subst (λ (z : List (List ℕ)). HasOpens title 1 opened z opened) (sym nothing) (record {
-      strings = [];
-      within = one_open is_title none;
-      sound = tt;
-      passed = Passes-none source opened;
-    })
-
-    advanced : (result : Result (Option Body) (Error E))
-        → IsAtHeader None opened bodies last now ⊎ IsWithin title opened bodies last now
-        → AdvancesTo source k strict last now result after new → (IsSteady source now → IsSteady source new)
-        → Advanced result
-    advanced result (inl start) advances steady =
-        let from : AdvancesFrom source k strict 0 now result after new = rw start.fresh at advances in
-        let all = advance_opened source k strict opened now new result after settled start.back from in
-        record {
-          left = all.left;
-          between = all.between;
-          has = has_nest 1 opened result (has_first start.nothing) all;
-          ends = all.ends;
-          steady = λ s. steady (steady_back None opened now start.back s);
-        }
-    advanced result (inr way) advances steady =
-        let all : AdvancesFrom source k strict way.opens now result after new = rw way.counts at advances in
-        record {
-          left = all.left;
-          between = all.between;
-          has = has_nest way.opens now result way.has all;
-          ends = all.ends;
-          steady = λ s. steady (way.has.passed.steady s);
-        }
-
-    open_more : (body : Body) (ended : Decoder R) → Advanced (Ok (Some body))
-        → (reads : ReadsRest source k [] body.length new ended)
-        → IsWithin title opened (bodies ++ reads.read ∷ []) after ended
-    open_more body ended all reads =
-        let t = all.ends.pulled.title in
-        let b = reads.read in
-        let is_body = subst (λ (n : ℕ). IsTitle t (kind_header k (Some n))) (sym reads.all)
-        all.ends.pulled.is_title in
-        let pulled = Passes-pulled source opened all.between new all.has.strings (kind_header k (Some body.length))
-        all.ends.pulled all.has.passed all.steady in
-        record {
-          opens = all.left;
-          counts = elim all.ends.after [
-            | inl first ↦ absurd (let zero = first.0 in omega (arith, zero, some_open k all.left _ _ all.has.within))
-            | inr more ↦ more.1
-          ];
-          has = record {
-            strings = all.has.strings ++ (t ++ b);
-            within = subst (λ (z : List ℕ). IsInsideAt k all.left z (bodies ++ b ∷ []))
-                (append_assoc title all.has.strings (t ++ b))
-                (add_string k all.left (title ++ all.has.strings) (t ++ b) bodies (b ∷ []) all.has.within
-                (definite is_body));
-            sound = AreWritable-append k bodies (b ∷ []) all.has.sound (sound_body k b reads.sound);
-            passed = subst (λ (z : List ℕ). Passes source opened z ended) (append_assoc all.has.strings t b)
-                (Passes-then source opened new ended (all.has.strings ++ t) b pulled reads.passed);
-          };
-        }
-
-    open_whole : Advanced (Ok None) → HasReadString title opened bodies new
-    open_whole all =
-        let break = alone_bytes all.ends.pulled.title h.Break all.ends.pulled.is_title refl in
-        let last_open = subst (λ (n : ℕ). IsInsideAt k n (title ++ all.has.strings) bodies) all.ends.last
-        all.has.within in
-        record {
-          behind = all.has.strings ++ 0xff ∷ [];
-          is_string = subst (λ (z : List ℕ). IsString k z bodies) (append_assoc title all.has.strings (0xff ∷ []))
-              (close_string k (title ++ all.has.strings) bodies last_open);
-          sound = all.has.sound;
-          passed = subst (λ (z : List ℕ). Passes source opened (all.has.strings ++ z) new) break
-              (Passes-pulled source opened all.between new all.has.strings h.Break all.ends.pulled all.has.passed
-              all.steady);
-        }
-
-  -- ---- both
+  -- a title and its body
+  one_body : (title body : List ℕ) (len : ℕ) → length body ≡ len → IsTitle title (kind_header k (Some len))
+      → IsString k (title ++ body) (body ∷ [])
+  one_body title body len all is_title = definite (rw (sym all) at is_title)
 
   module _ (strict : Bool) (title : List ℕ) (opened now new : Decoder R) (bodies : List (List ℕ))
       (last after : Progress) (steady : IsSteady source now → IsSteady source new) where
+    -- of a string of a definite length `advance` finds the one body, and behind that the end
+    pub lone_advanced : (len : ℕ) (result : Result (Option Body) (Error E))
+        → ReadSoFar (Some len) title opened bodies last now → AdvancesTo source k strict last now result after new
+        → ((bodies ≡ []) × FindsOnly source k len opened result after new) ⊎
+        ((result ≡ Ok None) × HasReadBody len opened bodies new)
+    lone_advanced len result so_far advances = elim so_far.far [
+      | inl start ↦ inl (
+        start.nothing,
+        advance_definite source k strict len opened now new result after
+            (title_in_range title (kind_header k (Some len)) so_far.is_title) start.back (rw start.fresh at advances),
+      )
+      | inr done ↦ (let gone : (result ≡ Ok None) × (after ≡ p.Ended) × (new ≡ now) = rw done.1 at advances in
+          inr (gone.0, rw gone.2 done.0))
+    ]
+
+    -- so the body's title comes first
+    pub lone_titled : (len : ℕ) (body : Body) → ReadSoFar (Some len) title opened bodies last now
+        → AdvancesTo source k strict last now (Ok (Some body)) after new
+        → (bodies ≡ []) × (body.length ≡ len) × (after ≡ p.Ended) × Passes source opened [] new
+    lone_titled len body so_far advances = elim (lone_advanced len (Ok (Some body)) so_far advances) [
+      | inl only ↦ (
+          let o = only.1 in (
+            only.0,
+            cc (o.found, o.length-is),
+            o.ended,
+            passes_same source opened opened new [] (Passes-none source opened) so_far.settled o.reader o.offset
+                o.none_waits o.mode,
+          )
+          )
+      | inr done ↦ absurd (cc done.0)
+    ]
+
+    -- opens and breaks further
+    nested : (opens : ℕ) (from : Decoder R) (result : Result (Option Body) (Error E))
+        → HasOpens title opens opened bodies from → AdvancesFrom source k strict opens from result after new
+        → (IsSteady source from → IsSteady source new) → Advanced strict title opened bodies result after new
+    nested opens from result has all steady = record {
+      left = all.left;
+      between = all.between;
+      has = record {
+        strings = has.strings ++ all.nest;
+        within = rw (← append_assoc title has.strings all.nest)
+            (nest_inside k opens all.left (title ++ has.strings) all.nest bodies has.within all.nests);
+        sound = has.sound;
+        passed = Passes-then source opened from all.between has.strings all.nest has.passed all.passed;
+      };
+      ends = all.ends;
+      steady = λ s. steady (has.passed.steady s);
+    }
+
+    -- of a string of indefinite length `advance` goes on behind the opens that aren't closed
+    pub advanced : (result : Result (Option Body) (Error E)) → ReadSoFar None title opened bodies last now
+        → AdvancesTo source k strict last now result after new → Advanced strict title opened bodies result after new
+    advanced result so_far advances = elim so_far.far [
+      | inl start ↦ nested 1 opened result (rw start.nothing (record {
+        strings = [];
+        within = one_open so_far.is_title none;
+        sound = tt;
+        passed = Passes-none source opened;
+      })) (advance_opened source k strict opened now new result after so_far.settled start.back
+          (rw start.fresh at advances)) (λ s. steady (rw start.back.reader s))
+      | inr way ↦ nested way.0 now result way.2 (rw way.1 at advances) steady
+    ]
+
+    -- ---- both
+
+    begun_more : (len : Option ℕ) (body : Body) (ended : Decoder R) → ReadSoFar len title opened bodies last now
+        → AdvancesTo source k strict last now (Ok (Some body)) after new
+        → (reads : ReadsRest source k [] body.length new ended)
+        → HasBegun len title opened (bodies ++ reads.read ∷ []) after ended
+    begun_more (Some len) body ended so_far advances reads =
+        let lone = lone_titled len body so_far advances in (
+          record {
+            reads = record {
+              read = reads.read;
+              all = reads.all ∙ lone.1;
+              sound = reads.sound;
+              passed = Passes-then source opened new ended [] reads.read lone.3 reads.passed;
+            };
+            one = ap (λ (z : List (List ℕ)). z ++ reads.read ∷ []) lone.0;
+          },
+          lone.2,
+        )
+    begun_more None body ended so_far advances reads =
+        let all = advanced (Ok (Some body)) so_far advances in
+        let t = all.ends.pulled.title in
+        let b = reads.read in (
+          all.left,
+          elim all.ends.after [
+            | inl first ↦ absurd (let zero = first.0 in omega (arith, zero, some_open k all.left _ _ all.has.within))
+            | inr more ↦ more.1
+          ],
+          record {
+            strings = all.has.strings ++ (t ++ b);
+            within = rw (← append_assoc title all.has.strings (t ++ b))
+                (add_string k all.left (title ++ all.has.strings) (t ++ b) bodies (b ∷ []) all.has.within
+                (one_body t b body.length reads.all all.ends.pulled.is_title));
+            sound = AreWritable-append k bodies (b ∷ []) all.has.sound (sound_body k b reads.sound);
+            passed = rw (← append_assoc all.has.strings t b)
+                (Passes-then source opened new ended (all.has.strings ++ t) b (Passes-pulled source opened all.between
+                new all.has.strings _ all.ends.pulled all.has.passed all.steady) reads.passed);
+          },
+        )
+
     -- one body more
     pub read_more : (len : Option ℕ) (body : Body) (ended : Decoder R)
         → ReadSoFar len title opened bodies last now → AdvancesTo source k strict last now (Ok (Some body)) after new
         → (reads : ReadsRest source k [] body.length new ended)
         → ReadSoFar len title opened (bodies ++ reads.read ∷ []) after ended
-    read_more (Some len) body ended so_far advances reads = record {
+    read_more len body ended so_far advances reads = record {
       is_title = so_far.is_title;
       settled = so_far.settled;
-      far = inr (lone_more strict len title opened now new bodies last after so_far.is_title so_far.settled body ended
-          so_far.far advances reads);
-    }
-    read_more None body ended so_far advances reads = record {
-      is_title = so_far.is_title;
-      settled = so_far.settled;
-      far = inr (open_more strict title opened now new bodies last after so_far.is_title so_far.settled body ended
-          (advanced strict title opened now new bodies last after so_far.is_title so_far.settled (Ok (Some body))
-          so_far.far
-          advances steady) reads);
+      far = inr (begun_more len body ended so_far advances reads);
     }
 
     -- the end of the string
     pub read_whole : (len : Option ℕ) → ReadSoFar len title opened bodies last now
         → AdvancesTo source k strict last now (Ok None) after new → HasReadString title opened bodies new
-    read_whole (Some len) so_far advances =
-        lone_whole strict len title opened now new bodies last after so_far.is_title so_far.settled so_far.far advances
+    read_whole (Some len) so_far advances = elim (lone_advanced len (Ok None) so_far advances) [
+      | inl only ↦ absurd (cc only.1.found)
+      | inr (same, done) ↦ record {
+        behind = done.reads.read;
+        is_string = rw done.one (one_body title done.reads.read len done.reads.all so_far.is_title);
+        sound = rw done.one (sound_body k done.reads.read done.reads.sound);
+        passed = done.reads.passed;
+      }
+    ]
     read_whole None so_far advances =
-        open_whole strict title opened now new bodies last after so_far.is_title so_far.settled
-        (advanced strict title opened now new bodies last after so_far.is_title so_far.settled (Ok None) so_far.far
-        advances
-        steady)
+        let all = advanced (Ok None) so_far advances in
+        let strings = all.has.strings in
+        let break = alone_bytes all.ends.pulled.title h.Break all.ends.pulled.is_title refl in
+        record {
+          behind = strings ++ 0xff ∷ [];
+          is_string = rw (← append_assoc title strings (0xff ∷ []))
+              (close_string k (title ++ strings) bodies (rw all.ends.last at all.has.within));
+          sound = all.has.sound;
+          passed = rw break at (Passes-pulled source opened all.between new strings h.Break all.ends.pulled
+              all.has.passed all.steady);
+        }

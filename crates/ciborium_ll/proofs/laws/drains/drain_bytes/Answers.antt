@@ -7,14 +7,14 @@ returns-clause-drains g c = search rules
 
 pub returns-clause-told : goal.returns-clause-told
 returns-clause-told g c = λ body written ready.
-    drains_told g.R.Read g.W.Write c.args.sizes.now _ _ body written ready c.drain.result _ _ c.drain.ensures.drains
+    drains_told c.args.sizes.now ready _ _ c.drain.result c.drain.ensures.drains
 
 pub returns-clause-exactly : goal.returns-clause-exactly
 returns-clause-exactly g c = λ body written ready.
-    bytes_exactly g.R.Read g.W.Write c.args.sizes.now _ _ body written ready c.drain.result _ _ refl
-    (drains_told g.R.Read g.W.Write c.args.sizes.now _ _ body written ready c.drain.result _ _ c.drain.ensures.drains)
+    bytes_exactly c.args.sizes.now ready _ _ c.drain.result refl
+    (drains_told c.args.sizes.now ready _ _ c.drain.result c.drain.ensures.drains)
 
 pub returns-clause-soonest : goal.returns-clause-soonest
 returns-clause-soonest g c = λ body written count ready enough.
-    bytes_soonest g.R.Read g.W.Write c.args.sizes.now _ _ body written ready c.drain.result _ _ count refl enough
-    (drains_told g.R.Read g.W.Write c.args.sizes.now _ _ body written ready c.drain.result _ _ c.drain.ensures.drains)
+    bytes_soonest c.args.sizes.now ready _ _ c.drain.result count refl enough
+    (drains_told c.args.sizes.now ready _ _ c.drain.result c.drain.ensures.drains)

@@ -7,9 +7,9 @@ returns-clause-drains g c = search rules
 
 pub returns-clause-told : goal.returns-clause-told
 returns-clause-told g c = λ body written ready.
-    drains_told g.R.Read g.W.Write c.args.sizes.now _ _ body written ready c.drain.result _ _ c.drain.ensures.drains
+    drains_told c.args.sizes.now ready _ _ c.drain.result c.drain.ensures.drains
 
 pub returns-clause-any_sizes : goal.returns-clause-any_sizes
 returns-clause-any_sizes g c = λ body written count ready enough.
-    text_exactly g.R.Read g.W.Write c.args.sizes.now _ _ body written ready c.drain.result _ _ count refl enough
-    (drains_told g.R.Read g.W.Write c.args.sizes.now _ _ body written ready c.drain.result _ _ c.drain.ensures.drains)
+    text_exactly c.args.sizes.now ready _ _ c.drain.result count refl enough
+    (drains_told c.args.sizes.now ready _ _ c.drain.result c.drain.ensures.drains)

@@ -14,8 +14,8 @@ returns-in_err-write_piece g c =
     let all = c.args.pieces.now in
     let wrote = c.in_err-write_piece.ensures in
     record {
-      elements = midway_stops g.W.Write all _ _ _ _ _ _ wrote.marks c.from_residual.result c.from_residual.ensures.0
-          (drop_more all c.pieces.piece-index _ (omega arith)) c.pieces.invariant.midway wrote.are wrote.bytes;
+      elements = midway_stops g.W.Write wrote.marks (drop_more all c.pieces.piece-index _ (omega arith))
+          c.pieces.invariant.midway wrote.are c.from_residual.result c.from_residual.ensures.0 wrote.bytes;
       target = wrote.target ∙ c.pieces.invariant.target;
     }
 
@@ -24,14 +24,14 @@ pieces-preserved g c =
     let all = c.args.pieces.now in
     let wrote = c.in_ok-write_piece.ensures in
     record {
-      midway = midway_more g.W.Write all _ _ _ _ _ _ wrote.marks (drop_more all c.pieces.piece-index _ (omega arith))
+      midway = midway_more g.W.Write wrote.marks (drop_more all c.pieces.piece-index _ (omega arith))
           c.pieces.invariant.midway wrote.are wrote.element wrote.bytes;
       target = wrote.target ∙ c.pieces.invariant.target;
     }
 
 pub returns : goal.returns
 returns g c = record {
-  elements = midway_last g.W.Write c.args.pieces.now _ _ _
-      (drop_all c.pieces.piece-index c.args.pieces.now (omega arith)) c.pieces.invariant.midway;
+  elements = midway_last g.W.Write (drop_all c.pieces.piece-index c.args.pieces.now (omega arith))
+      c.pieces.invariant.midway;
   target = c.pieces.invariant.target;
 }
