@@ -1,6 +1,6 @@
 -- The text of a float, written piece by piece.
-use Rattle.std.proofs.Common.{rules, ◌≡◌, ℕ, true, false, Some, is_nan, List, [], ◌∷◌, ◌++◌, length, arith, Result, Ok, IsErr}
-use Rattle.std.proofs.Common.{refl, sym, ap, subst, from_bits, codes}
+use Rattle.std.proofs.Common.{rules, ◌≡◌, ℕ, true, false, Some, is_nan, List, [], ◌∷◌, ◌++◌, length, arith, Result, Ok}
+use Rattle.std.proofs.Common.{IsErr, refl, sym, ap, subst, from_bits, codes}
 use Rattle.std.specs.Float.{Float, nan, inf, fin, binary64, float_is_finite, is_sign_negative}
 use Rattle.std.specs.Float as f
 use Rattle.ciborium_ll.specs.Types.Write.{Ghosts}
@@ -11,7 +11,7 @@ use Rattle.ryu.specs.Plain.{IsPlusNumber}
 use Rattle.ciborium_ll.specs.Types.Float.{Float as Raw}
 use Rattle.cbor_diag.specs.Floats.{float_mark, float_value, with_point, IsFloatText, IsNumberText}
 use Rattle.cbor_diag.specs.Writing.{ShowsMarked, ShowsOne}
-use Rattle.cbor_diag.proofs.QuoteLaws.{writes_nothing}
+use Rattle.ciborium_ll.proofs.PiecesWritten.{writes_nothing}
 
 pub bits_infinity : from_bits binary64 9218868437227405312 ≡ inf false
 unfolding f.Ieee.of_bits f.Ieee.of_fields

@@ -1,8 +1,7 @@
 -- The texts of items, as they are written one behind the other.
 use Rattle.std.proofs.Common.{◌≡◌, ◌∙◌, ℕ, zero, suc, ◌+◌, ◌-◌, ◌*◌, ◌<◌, ◌%◌, ◌==◌, Bool, true, false, List, [], ◌∷◌}
-use Rattle.std.proofs.Common.{◌++◌, codes, if◌then◌else◌}
-use Rattle.std.proofs.Common.{Option, Some, None, Result, Ok, Err, IsErr, OnOk, arith, refl, sym, ap, subst}
-use Rattle.std.proofs.Common.{append-nil}
+use Rattle.std.proofs.Common.{◌++◌, codes, if◌then◌else◌, Option, Some, None, Result, Ok, Err, IsErr, OnOk, arith, refl}
+use Rattle.std.proofs.Common.{sym, ap, subst, append-nil}
 use Rattle.std.proofs.Math.Nat.{mul-mod_right, mul-add-mod_self_left}
 use Rattle.ciborium_ll.specs.Types.Read.{Ghosts as Reader}
 use Rattle.ciborium_ll.specs.Types.Decoder.{Decoder}
@@ -28,17 +27,15 @@ use Rattle.cbor_diag.specs.Notation.{header_notation}
 use Rattle.cbor_diag.specs.Showing.{ShowsHeader, said_of}
 use Rattle.cbor_diag.specs.StringShows.{ShowsString}
 use Rattle.cbor_diag.specs.Writing.{ShowsOne}
-use Rattle.cbor_diag.proofs.QuoteLaws.{writes_nothing}
+use Rattle.ciborium_ll.proofs.PiecesWritten.{writes_nothing}
 use Rattle.ciborium_ll.specs.Types.Write.{Ghosts as Writer}
 use Rattle.ciborium_ll.specs.Encoding.{WritesAll, WritesBytes, WritesFront}
 use Rattle.ciborium_ll.proofs.EncodingLaws.{WritesBytes-stopped, WritesBytes-then}
 use Rattle.cbor_diag.specs.ItemTexts.{indent, new_line, nest_opening, nest_closing, nest_last, nest_end, level_within}
 use Rattle.cbor_diag.specs.ItemTexts.{item_lead, is_value_at, is_first_at, kind_quotes, IsAll, scalar, float, string}
-use Rattle.cbor_diag.specs.ItemTexts.{nest}
-use Rattle.cbor_diag.specs.ItemTexts.{AreShown, none, more, RestShown, WithinShown}
+use Rattle.cbor_diag.specs.ItemTexts.{nest, AreShown, none, more, RestShown, WithinShown}
 use Rattle.cbor_diag.specs.ItemStops.{WithinBegun, RestStops, plain, opening, within, closing, WithinStops, title, lead}
-use Rattle.cbor_diag.specs.ItemStops.{item}
-use Rattle.cbor_diag.specs.ItemStops.{ComesNoItem, ItemStops, no_item, behind, ShowsRest, ShowsWithin, ShowsItem}
+use Rattle.cbor_diag.specs.ItemStops.{item, ComesNoItem, ItemStops, no_item, behind, ShowsRest, ShowsWithin, ShowsItem}
 
 -- ---- lines
 

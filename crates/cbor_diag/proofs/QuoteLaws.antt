@@ -1,24 +1,31 @@
 -- Bytes shown one by one.
-use Rattle.std.proofs.Common.{◌≡◌, ℕ, List, [], ◌∷◌, Option, Some, None, Result, Ok, IsErr, refl, sym, subst, arith}
-use Rattle.std.proofs.KnownBytes.{Appends-nil}
+use Rattle.std.proofs.Common.{◌≡◌, ℕ, List, [], ◌∷◌, ◌++◌, Some, Result, Ok, Err, IsErr, refl, sym, subst, arith}
 use Rattle.ciborium_ll.specs.Types.Write.{Ghosts}
-use Rattle.ciborium_ll.specs.Transfer.{Shrinks}
 use Rattle.ciborium_ll.specs.Encoding.{WritesAll, WritesBytes, WritesFront}
 use Rattle.ciborium_ll.proofs.EncodingLaws.{WritesBytes-stopped, WritesBytes-then}
+use Rattle.ciborium_ll.proofs.PiecesWritten.{writes_nothing}
+use Rattle.cbor_diag.specs.declared.DiagError.{DiagError}
+use Rattle.cbor_diag.specs.declared.DiagError.TheVariants as d
 use Rattle.cbor_diag.specs.declared.strings.quotes.Quotes.{Quotes}
+use Rattle.cbor_diag.specs.Showing.{ShowsText}
 use Rattle.cbor_diag.specs.Notation.{byte_text, body_text}
 
-Shrinks-nothing : (room : Option ℕ) → Shrinks room room 0
-Shrinks-nothing None = tt
-Shrinks-nothing (Some n) = omega arith
+module _ {W F : Type 0} {sink : Ghosts W F} {old mid : W} {xs : List ℕ} (first : WritesAll sink old xs mid) where
+  -- one text was written, and then another one
+  pub wrote_both : {new : W} {ys : List ℕ} → WritesAll sink mid ys new → WritesAll sink old (xs ++ ys) new
+  wrote_both {new} {ys} second = WritesBytes-then sink {T = Unit {0}} old mid new (Ok (tt {0})) xs ys first second
 
--- no byte was written
-pub writes_nothing : {W F : Type 0} (sink : Ghosts W F) (writer : W) → WritesAll sink writer [] writer
-writes_nothing sink writer = record {
-  appended = Appends-nil (sink.written writer);
-  room = Shrinks-nothing (sink.room writer);
-  failures = refl;
-}
+  -- or the writer failed at the other one
+  pub wrote_first : {new : W} {ys : List ℕ} → F → WritesFront sink mid ys new → WritesFront sink old (xs ++ ys) new
+  wrote_first {new} {ys} fault second =
+      WritesBytes-then sink {T = Unit {0}} old mid new (Err fault) xs ys first second
+
+  -- as the answer of a show
+  pub said_then : {E : Type 0} (ys : List ℕ) (new : W) (result : Result (Unit {0}) (DiagError E F))
+      → ShowsText sink (Some ys) mid result new → ShowsText sink (Some (xs ++ ys)) old result new
+  said_then ys new (Ok done) second = wrote_both second
+  said_then ys new (Err (d.Read error)) never = never
+  said_then ys new (Err (d.Write fault)) second = wrote_first fault second
 
 module _ {W F : Type 0} (sink : Ghosts W F) (quotes : Quotes) where
   -- the bytes in front of the rest were shown: what a show of the rest does now, one of all bytes does

@@ -88,40 +88,7 @@ module _ {R E : Type 0} (source : Reader R E) (k : Kind) where
       → IsString k (title ++ body) (body ∷ [])
   one_body title body len all is_title = definite (rw (sym all) at is_title)
 
-  module _ (strict : Bool) (title : List ℕ) (opened now new : Decoder R) (bodies : List (List ℕ))
-      (last after : Progress) (steady : IsSteady source now → IsSteady source new) where
-    -- of a string of a definite length `advance` finds the one body, and behind that the end
-    pub lone_advanced : (len : ℕ) (result : Result (Option Body) (Error E))
-        → ReadSoFar (Some len) title opened bodies last now → AdvancesTo source k strict last now result after new
-        → ((bodies ≡ []) × FindsOnly source k len opened result after new) ⊎
-        ((result ≡ Ok None) × HasReadBody len opened bodies new)
-    lone_advanced len result so_far advances = elim so_far.far [
-      | inl start ↦ inl (
-        start.nothing,
-        advance_definite source k strict len opened now new result after
-            (title_in_range title (kind_header k (Some len)) so_far.is_title) start.back (rw start.fresh at advances),
-      )
-      | inr done ↦ (let gone : (result ≡ Ok None) × (after ≡ p.Ended) × (new ≡ now) = rw done.1 at advances in
-          inr (gone.0, rw gone.2 done.0))
-    ]
-
-    -- so the body's title comes first
-    pub lone_titled : (len : ℕ) (body : Body) → ReadSoFar (Some len) title opened bodies last now
-        → AdvancesTo source k strict last now (Ok (Some body)) after new
-        → (bodies ≡ []) × (body.length ≡ len) × (after ≡ p.Ended) × Passes source opened [] new
-    lone_titled len body so_far advances = elim (lone_advanced len (Ok (Some body)) so_far advances) [
-      | inl only ↦ (
-          let o = only.1 in (
-            only.0,
-            cc (o.found, o.length-is),
-            o.ended,
-            passes_same source opened opened new [] (Passes-none source opened) so_far.settled o.reader o.offset
-                o.none_waits o.mode,
-          )
-          )
-      | inr done ↦ absurd (cc done.0)
-    ]
-
+  module _ (strict : Bool) {title : List ℕ} {opened new : Decoder R} {bodies : List (List ℕ)} {after : Progress} where
     -- opens and breaks further
     nested : (opens : ℕ) (from : Decoder R) (result : Result (Option Body) (Error E))
         → HasOpens title opens opened bodies from → AdvancesFrom source k strict opens from result after new
@@ -140,28 +107,62 @@ module _ {R E : Type 0} (source : Reader R E) (k : Kind) where
       steady = λ s. steady (has.passed.steady s);
     }
 
-    -- of a string of indefinite length `advance` goes on behind the opens that aren't closed
-    pub advanced : (result : Result (Option Body) (Error E)) → ReadSoFar None title opened bodies last now
-        → AdvancesTo source k strict last now result after new → Advanced strict title opened bodies result after new
-    advanced result so_far advances = elim so_far.far [
-      | inl start ↦ nested 1 opened result (rw start.nothing (record {
-        strings = [];
-        within = one_open so_far.is_title none;
-        sound = tt;
-        passed = Passes-none source opened;
-      })) (advance_opened source k strict opened now new result after so_far.settled start.back
-          (rw start.fresh at advances)) (λ s. steady (rw start.back.reader s))
-      | inr way ↦ nested way.0 now result way.2 (rw way.1 at advances) steady
-    ]
+    module _ {now : Decoder R} {last : Progress} where
+      -- of a string of a definite length `advance` finds the one body, and behind that the end
+      pub lone_advanced : (len : ℕ) (result : Result (Option Body) (Error E))
+          → ReadSoFar (Some len) title opened bodies last now → AdvancesTo source k strict last now result after new
+          → ((bodies ≡ []) × FindsOnly source k len opened result after new) ⊎
+          ((result ≡ Ok None) × HasReadBody len opened bodies new)
+      lone_advanced len result so_far advances = elim so_far.far [
+        | inl start ↦ inl (
+          start.nothing,
+          advance_definite source k strict len opened now new result after
+              (title_in_range title (kind_header k (Some len)) so_far.is_title) start.back (rw start.fresh at advances),
+        )
+        | inr done ↦ (let gone : (result ≡ Ok None) × (after ≡ p.Ended) × (new ≡ now) = rw done.1 at advances in
+            inr (gone.0, rw gone.2 done.0))
+      ]
 
-    -- ---- both
+      -- so the body's title comes first
+      pub lone_titled : (len : ℕ) (body : Body) → ReadSoFar (Some len) title opened bodies last now
+          → AdvancesTo source k strict last now (Ok (Some body)) after new
+          → (bodies ≡ []) × (body.length ≡ len) × (after ≡ p.Ended) × Passes source opened [] new
+      lone_titled len body so_far advances = elim (lone_advanced len (Ok (Some body)) so_far advances) [
+        | inl (nothing, only) ↦ (
+          nothing,
+          cc (only.found, only.length-is),
+          only.ended,
+          passes_same source opened opened new [] (Passes-none source opened) so_far.settled only.reader only.offset
+              only.none_waits only.mode,
+        )
+        | inr done ↦ absurd (cc done.0)
+      ]
 
+      -- of a string of indefinite length `advance` goes on behind the opens that aren't closed
+      pub advanced : (IsSteady source now → IsSteady source new) → (result : Result (Option Body) (Error E))
+          → ReadSoFar None title opened bodies last now → AdvancesTo source k strict last now result after new
+          → Advanced strict title opened bodies result after new
+      advanced steady result so_far advances = elim so_far.far [
+        | inl start ↦ nested 1 opened result (rw start.nothing (record {
+          strings = [];
+          within = one_open so_far.is_title none;
+          sound = tt;
+          passed = Passes-none source opened;
+        })) (advance_opened source k strict opened now new result after so_far.settled start.back
+            (rw start.fresh at advances)) (λ s. steady (rw start.back.reader s))
+        | inr way ↦ nested way.0 now result way.2 (rw way.1 at advances) steady
+      ]
+
+  -- ---- both
+
+  module _ (strict : Bool) (title : List ℕ) (opened now new : Decoder R) (bodies : List (List ℕ))
+      (last after : Progress) (steady : IsSteady source now → IsSteady source new) where
     begun_more : (len : Option ℕ) (body : Body) (ended : Decoder R) → ReadSoFar len title opened bodies last now
         → AdvancesTo source k strict last now (Ok (Some body)) after new
         → (reads : ReadsRest source k [] body.length new ended)
         → HasBegun len title opened (bodies ++ reads.read ∷ []) after ended
     begun_more (Some len) body ended so_far advances reads =
-        let lone = lone_titled len body so_far advances in (
+        let lone = lone_titled strict len body so_far advances in (
           record {
             reads = record {
               read = reads.read;
@@ -174,7 +175,7 @@ module _ {R E : Type 0} (source : Reader R E) (k : Kind) where
           lone.2,
         )
     begun_more None body ended so_far advances reads =
-        let all = advanced (Ok (Some body)) so_far advances in
+        let all = advanced strict steady (Ok (Some body)) so_far advances in
         let t = all.ends.pulled.title in
         let b = reads.read in (
           all.left,
@@ -208,7 +209,7 @@ module _ {R E : Type 0} (source : Reader R E) (k : Kind) where
     -- the end of the string
     pub read_whole : (len : Option ℕ) → ReadSoFar len title opened bodies last now
         → AdvancesTo source k strict last now (Ok None) after new → HasReadString title opened bodies new
-    read_whole (Some len) so_far advances = elim (lone_advanced len (Ok None) so_far advances) [
+    read_whole (Some len) so_far advances = elim (lone_advanced strict len (Ok None) so_far advances) [
       | inl only ↦ absurd (cc only.1.found)
       | inr (same, done) ↦ record {
         behind = done.reads.read;
@@ -218,7 +219,7 @@ module _ {R E : Type 0} (source : Reader R E) (k : Kind) where
       }
     ]
     read_whole None so_far advances =
-        let all = advanced (Ok None) so_far advances in
+        let all = advanced strict steady (Ok None) so_far advances in
         let strings = all.has.strings in
         let break = alone_bytes all.ends.pulled.title h.Break all.ends.pulled.is_title refl in
         record {

@@ -1,5 +1,4 @@
-use Rattle.std.proofs.Common.{◌≡◌, ◌-◌, ◌<◌, suc, Bool, true, false, Result, Err, sym, subst, refl}
-use Rattle.std.proofs.Common.{arith}
+use Rattle.std.proofs.Common.{◌≡◌, ◌-◌, ◌<◌, suc, Bool, true, false, Result, Err, sym, subst, refl, arith}
 use Rattle.ciborium_ll.proofs.DecodingLaws.{exit_is, MovesOn-none, MovesOn-then, nearer}
 use Rattle.ciborium_ll_decoder.proofs.NestLaws.{title_some}
 use Rattle.cbor_skip.specs.declared.SkipError.{SkipError}

@@ -39,14 +39,11 @@ segments-preserved g c =
           c.advance.ensures.moves_on.steady c.show_body.ensures.moves_on.steady
           (rw (sym c.show_body.ensures.progress) at advances) c.in_ok-show_body.ensures.reads;
       text = λ opened len range settled back form.
-          text_more g.R.Read g.W.Write g.P.Parser.kind c.args.quotes len opened c.args.writer.now c.segments.is_first
-          c.segments.segments.decoder.now c.advance.new.self.decoder.now c.segments.writer c.segments.segments.strict
-          c.segments.segments.progress c.show_body.new.segments.progress settled range
-          (c.segments.invariant.text opened len range settled back form) c.advance.ensures.moves_on.steady
-          c.in-Some.body (rw (sym c.show_body.ensures.progress) at advances) c.open.new.writer
-          (subst (λ (b : Bool). WritesAll g.W.Write c.segments.writer (lead_text b c.segments.is_first)
-          c.open.new.writer) form c.in_ok-open.ensures.written) 64 false c.show_body.new.segments.decoder.now
-          c.show_body.new.writer refl c.show_body.ensures.moves_on.steady c.in_ok-show_body.ensures.text;
+          text_more c.segments.segments.strict (c.segments.invariant.text opened len range settled back form)
+          c.advance.new.self.decoder.now c.advance.ensures.moves_on.steady c.show_body.new.segments.progress
+          c.args.is_open form c.in-Some.body (rw (sym c.show_body.ensures.progress) at advances) c.open.new.writer
+          c.in_ok-open.ensures.written 64 c.show_body.new.segments.decoder.now c.show_body.new.writer
+          c.in_ok-show_body.ensures.text;
       moves_on = MovesOn-then g.R.Read _ _ _ c.segments.invariant.moves_on
           (MovesOn-then g.R.Read _ _ _ c.advance.ensures.moves_on c.show_body.ensures.moves_on);
     }
@@ -122,48 +119,27 @@ returns-in_default-clause-moves_on g c = λ opened len range settled back meant 
 pub returns-in_default-clause-text : goal.returns-in_default-clause-text
 returns-in_default-clause-text g c = λ opened len range settled back form.
     let none : c.in_ok-body.field-0 ≡ None = search rules in
-    let advances = rw none at c.in_ok-body.ensures.advances in
-    text_closed g.R.Read g.W.Write g.P.Parser.kind c.args.quotes len opened c.args.writer.now c.segments.is_first
-    c.segments.segments.decoder.now c.advance.new.self.decoder.now c.segments.writer c.segments.segments.strict
-    c.segments.segments.progress c.advance.new.self.progress settled range
-    (c.segments.invariant.text opened len range settled back form) c.advance.ensures.moves_on.steady 64 c.close.result
-    c.close.new.writer advances
-    (subst (λ (b : Bool). ShowsText g.W.Write (Some (end_text b c.args.quotes c.segments.is_first)) c.segments.writer
-    c.close.result c.close.new.writer) form c.close.ensures.written)
+    text_closed c.segments.segments.strict (c.segments.invariant.text opened len range settled back form)
+    c.advance.new.self.decoder.now c.advance.ensures.moves_on.steady c.advance.new.self.progress c.args.is_open form 64
+    c.close.result c.close.new.writer (rw none at c.in_ok-body.ensures.advances) c.close.ensures.written
 
 pub returns-in_err-body-clause-text : goal.returns-in_err-body-clause-text
 returns-in_err-body-clause-text g c = λ opened len range settled back form.
-    let error = c.in_err-body.field-0.0 in
-    let same = exit_is c.from_residual.result (d.Read (s.Read error)) c.from_residual.ensures.1 in
-    rw same (text_fails g.R.Read g.W.Write g.P.Parser.kind c.args.quotes opened c.args.writer.now 64 c.segments.is_first
-    c.segments.segments.decoder.now c.advance.new.self.decoder.now c.segments.writer c.segments.segments.strict
-    c.segments.segments.progress c.advance.new.self.progress settled len error range
-    (c.segments.invariant.text opened len range settled back form) c.in_err-body.ensures.advances)
+    rw (exit_is _ _ c.from_residual.ensures.1) (text_fails c.segments.segments.strict
+    (c.segments.invariant.text opened len range settled back form) c.advance.new.self.decoder.now
+    c.advance.ensures.moves_on.steady c.advance.new.self.progress c.args.is_open form 64 _ c.in_err-body.ensures.advances)
 
 pub returns-in_err-open-clause-text : goal.returns-in_err-open-clause-text
 returns-in_err-open-clause-text g c = λ opened len range settled back form.
-    let residual = c.from_residual-in_err-open in
-    let error = c.in_err-open.field-0.0 in
-    let same = exit_is residual.result error residual.ensures.1 in
-    let advances = rw c.in-Some.is at c.in_ok-body.ensures.advances in
-    rw same (text_unled g.R.Read g.W.Write g.P.Parser.kind c.args.quotes len opened c.args.writer.now
-    c.segments.is_first c.segments.segments.decoder.now c.advance.new.self.decoder.now c.segments.writer
-    c.segments.segments.strict c.segments.segments.progress c.advance.new.self.progress settled range
-    (c.segments.invariant.text opened len range settled back form) c.advance.ensures.moves_on.steady
-    c.in-Some.body advances 64 error c.open.new.writer
-    (subst (λ (b : Bool). ShowsText g.W.Write (Some (lead_text b c.segments.is_first)) c.segments.writer (Err error)
-    c.open.new.writer) form c.in_err-open.ensures.written))
+    rw (exit_is _ _ c.from_residual-in_err-open.ensures.1) (text_unled c.segments.segments.strict
+    (c.segments.invariant.text opened len range settled back form) c.advance.new.self.decoder.now
+    c.advance.ensures.moves_on.steady c.advance.new.self.progress c.args.is_open form c.in-Some.body
+    (rw c.in-Some.is at c.in_ok-body.ensures.advances) 64 _ c.open.new.writer c.in_err-open.ensures.written)
 
 pub returns-in_err-show_body-clause-text : goal.returns-in_err-show_body-clause-text
 returns-in_err-show_body-clause-text g c = λ opened len range settled back form.
-    let residual = c.from_residual-in_err-show_body in
-    let error = c.in_err-show_body.field-0.0 in
-    let same = exit_is residual.result error residual.ensures.1 in
-    let advances = rw c.in-Some.is at c.in_ok-body.ensures.advances in
-    rw same (text_stops g.R.Read g.W.Write g.P.Parser.kind c.args.quotes len opened c.args.writer.now
-    c.segments.is_first c.segments.segments.decoder.now c.advance.new.self.decoder.now c.segments.writer
-    c.segments.segments.strict c.segments.segments.progress c.advance.new.self.progress settled range
-    (c.segments.invariant.text opened len range settled back form) c.advance.ensures.moves_on.steady
-    c.in-Some.body advances c.open.new.writer
-    (subst (λ (b : Bool). WritesAll g.W.Write c.segments.writer (lead_text b c.segments.is_first) c.open.new.writer)
-    form c.in_ok-open.ensures.written) 64 error _ c.in_err-show_body.ensures.text)
+    rw (exit_is _ _ c.from_residual-in_err-show_body.ensures.1) (text_stops c.segments.segments.strict
+    (c.segments.invariant.text opened len range settled back form) c.advance.new.self.decoder.now
+    c.advance.ensures.moves_on.steady c.advance.new.self.progress c.args.is_open form c.in-Some.body
+    (rw c.in-Some.is at c.in_ok-body.ensures.advances) c.open.new.writer c.in_ok-open.ensures.written 64 _ _
+    c.in_err-show_body.ensures.text)
