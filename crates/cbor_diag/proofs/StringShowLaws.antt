@@ -1,34 +1,26 @@
 -- The show of a string, segment by segment.
-use Rattle.std.proofs.Common.{◌≡◌, ◌∙◌, ℕ, ◌⊎◌, Bool, true, false, List, [], ◌∷◌, ◌++◌, length, Option, Some, None}
-use Rattle.std.proofs.Common.{IsTrue, Result, Ok, Err, refl, sym, ap, subst, inl, inr, append_assoc, append-nil}
+use Rattle.std.proofs.Common.{◌≡◌, ◌∙◌, ℕ, Bool, true, false, List, [], ◌∷◌, ◌++◌, Option, Some, None, Result, Ok, Err}
+use Rattle.std.proofs.Common.{refl, sym, inl, inr, append_assoc, append-nil}
 use Rattle.ciborium_ll.specs.Types.Read.{Ghosts as Reader}
 use Rattle.ciborium_ll.specs.Types.Write.{Ghosts as Writer}
 use Rattle.ciborium_ll.specs.Types.Header.{Header}
-use Rattle.ciborium_ll.specs.Types.Header.TheVariants as h
 use Rattle.ciborium_ll.specs.Types.Decoder.{Decoder}
 use Rattle.ciborium_ll.specs.Types.Error.{Error}
 use Rattle.ciborium_ll.specs.Types.Error.TheVariants as e
 use Rattle.ciborium_ll.specs.Types.Body.{Body}
 use Rattle.ciborium_ll.specs.Types.Progress.{Progress}
 use Rattle.ciborium_ll.specs.Types.Progress.TheVariants as p
-use Rattle.ciborium_ll.specs.Title.{IsTitle, IsInRange, shortest_title}
-use Rattle.ciborium_ll.specs.Strings.{Kind, kind_header, IsString, IsMisplaced}
-use Rattle.ciborium_ll.specs.Strings.IsString.{definite}
-use Rattle.ciborium_ll.specs.Strings.AreStrings.{none}
+use Rattle.ciborium_ll.specs.Title.{IsInRange, shortest_title}
+use Rattle.ciborium_ll.specs.Strings.{Kind, kind_header}
 use Rattle.ciborium_ll.specs.Decoding.{IsSteady, Passes, TakesBack}
-use Rattle.ciborium_ll.specs.Encoding.{WritesAll, WritesFront}
-use Rattle.ciborium_ll.specs.Segments.{AdvancesFrom, AdvancesTo, EndsAdvance, IsRefusedAt}
+use Rattle.ciborium_ll.specs.Encoding.{WritesAll}
+use Rattle.ciborium_ll.specs.Segments.{AdvancesTo, EndsAdvance, IsRefusedAt}
 use Rattle.ciborium_ll.specs.Sides.{Sides, sides}
-use Rattle.ciborium_ll_grammar.proofs.OpenStrings.{IsInsideAt, one_open}
-use Rattle.ciborium_ll.proofs.DecodingLaws.{Passes-none, Passes-pulled, Passes-then}
-use Rattle.ciborium_ll.proofs.EncodingLaws.{WritesBytes-then}
+use Rattle.ciborium_ll.proofs.DecodingLaws.{Passes-pulled}
 use Rattle.ciborium_ll.proofs.HaltLaws.{kind_not_misplaced}
 use Rattle.ciborium_ll.proofs.StringLaws.{mixed, not_break, same_len}
-use Rattle.ciborium_ll.proofs.NestLaws.{advance_definite, advance_opened, alone_bytes, nest_inside, open_in_range}
-use Rattle.ciborium_ll.proofs.SkipLaws.{close_string}
-use Rattle.ciborium_ll.proofs.StepLaws.{add_string, counted, never}
+use Rattle.ciborium_ll.proofs.StepLaws.{counted}
 use Rattle.ciborium_ll.proofs.TitleLaws.{IsTitle-shortest}
-use Rattle.ciborium_ll_decoder.proofs.DecodingLaws.{passes_same}
 use Rattle.cbor_skip.specs.declared.SkipError.TheVariants as s
 use Rattle.cbor_diag.specs.declared.DiagError.{DiagError}
 use Rattle.cbor_diag.specs.declared.DiagError.TheVariants as d

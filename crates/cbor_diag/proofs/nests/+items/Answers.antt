@@ -1,10 +1,9 @@
-use Rattle.std.proofs.Common.{◌≡◌, ◌-◌, ◌<◌, suc, Bool, true, false, Result, Err, sym, subst, refl, arith}
+use Rattle.std.proofs.Common.{◌≡◌, ◌-◌, suc, Bool, false, Result, Err, sym, subst, refl, arith}
 use Rattle.ciborium_ll.proofs.DecodingLaws.{exit_is, MovesOn-none, MovesOn-then, nearer}
 use Rattle.ciborium_ll_decoder.proofs.NestLaws.{title_some}
 use Rattle.cbor_skip.specs.declared.SkipError.{SkipError}
 use Rattle.cbor_skip.specs.declared.SkipError.TheVariants as s
-use Rattle.cbor_diag.specs.declared.DiagError.TheVariants as d
-use Rattle.cbor_skip.specs.Remaining.{is_done, closes}
+use Rattle.cbor_skip.specs.Remaining.{closes}
 use Rattle.cbor_skip.specs.Skipping.{SkipsWithin}
 use Rattle.cbor_skip.proofs.ItemSteps.{none_read, one_more, stops_here, pull_stops, stops_within, ended, closed}
 use Rattle.cbor_diag.specs.Showing.{ReadsFrom}
@@ -26,12 +25,10 @@ show_item-returns-then-depth-eq0-clause-reads g t c = λ before outer at pulled 
 
 pub show_item-returns-in_err-is_empty-in-Tag-clause-reads : goal.show_item-returns-in_err-is_empty-in-Tag-clause-reads
 show_item-returns-in_err-is_empty-in-Tag-clause-reads g t c = λ before outer at pulled steady.
-    let residual = c.from_residual-in_err-is_empty-in-Tag in
-    let error = c.in_err-is_empty-in-Tag.field-0.0 in
-    let same = exit_is residual.result error residual.ensures.1 in
     let level : suc (c.args.depth - 1) ≡ c.args.depth = omega (arith, c.if-depth-eq0.false) in
-    rw same (nest_stops g.R.Read outer c.args.depth before c.args.decoder.now steady (c.args.depth - 1) c.args.header
-    c.show_within.new.decoder error level pulled c.in_err-is_empty-in-Tag.ensures.reads)
+    rw (exit_is _ _ c.from_residual-in_err-is_empty-in-Tag.ensures.1) (nest_stops g.R.Read outer c.args.depth before
+    c.args.decoder.now steady (c.args.depth - 1) c.args.header c.show_within.new.decoder _ level pulled
+    c.in_err-is_empty-in-Tag.ensures.reads)
 
 pub show_item-returns-in_ok-is_empty-in-Tag-clause-reads : goal.show_item-returns-in_ok-is_empty-in-Tag-clause-reads
 show_item-returns-in_ok-is_empty-in-Tag-clause-reads g t c = λ before outer at pulled steady.
@@ -42,20 +39,17 @@ show_item-returns-in_ok-is_empty-in-Tag-clause-reads g t c = λ before outer at 
 
 pub show_item-returns-in_err-said-in-Tag-clause-moves_on : goal.show_item-returns-in_err-said-in-Tag-clause-moves_on
 show_item-returns-in_err-said-in-Tag-clause-moves_on g t c =
-    let residual = c.from_residual in
-    when_err _ residual.result residual.ensures.0
+    when_err _ c.from_residual.result c.from_residual.ensures.0
 
-pub show_item-returns-in_err-is_empty-in-Tag-clause-moves_on : goal.show_item-returns-in_err-is_empty-in-Tag-clause-moves_on
+pub show_item-returns-in_err-is_empty-in-Tag-clause-moves_on :
+    goal.show_item-returns-in_err-is_empty-in-Tag-clause-moves_on
 show_item-returns-in_err-is_empty-in-Tag-clause-moves_on g t c =
-    let residual = c.from_residual-in_err-is_empty-in-Tag in
-    when_err _ residual.result residual.ensures.0
+    when_err _ c.from_residual-in_err-is_empty-in-Tag.result c.from_residual-in_err-is_empty-in-Tag.ensures.0
 
 pub show_item-returns-in_err-said-in-Tag-clause-reads : goal.show_item-returns-in_err-said-in-Tag-clause-reads
 show_item-returns-in_err-said-in-Tag-clause-reads g t c = λ before outer at pulled steady.
-    let error = c.in_err-said-in-Tag.field-0.0 in
-    let same = exit_is c.from_residual.result error c.from_residual.ensures.1 in
-    rw same (reading_unread (Unit {0}) (ItemRead g.R.Read outer c.args.depth before c.args.decoder.now) error
-    c.in_err-said-in-Tag.ensures.writing)
+    rw (exit_is _ _ c.from_residual.ensures.1) (reading_unread (Unit {0})
+    (ItemRead g.R.Read outer c.args.depth before c.args.decoder.now) _ c.in_err-said-in-Tag.ensures.writing)
 
 -- ---- the items within a nest
 
@@ -67,28 +61,22 @@ show_within-items-init g t c = record {
 }
 
 pub show_within-returns-clause-reads : goal.show_within-returns-clause-reads
-show_within-returns-clause-reads g t c =
-    let done : is_done c.items.remaining ≡ true = sym c.items-test.ensures in
-    ended g.R.Read c.items.invariant.so_far done
+show_within-returns-clause-reads g t c = ended g.R.Read c.items.invariant.so_far (sym c.items-test.ensures)
 
 pub show_within-returns-in_err-next-clause-reads : goal.show_within-returns-in_err-next-clause-reads
 show_within-returns-in_err-next-clause-reads g t c =
-    let error = c.in_err-next.field-0.0 in
-    let same = exit_is c.from_residual.result (d.Read (s.Read error)) c.from_residual.ensures.1 in
-    let some : is_done c.items.remaining ≡ false = sym c.items-test.ensures in
-    rw same (stops_within g.R.Read c.items.invariant.so_far some refl
-    (pull_stops g.R.Read c.offset-place.ensures.same c.in_err-next.ensures.header))
+    rw (exit_is _ _ c.from_residual.ensures.1) (stops_within g.R.Read c.items.invariant.so_far
+    (sym c.items-test.ensures) refl (pull_stops g.R.Read c.offset-place.ensures.same c.in_err-next.ensures.header))
 
 pub show_within-returns-in-Break-clause-reads : goal.show_within-returns-in-Break-clause-reads
 show_within-returns-in-Break-clause-reads g t c =
-    let some : is_done c.items.remaining ≡ false = sym c.items-test.ensures in
     let pulled = rw (c.offset-place.ensures.same, c.in-Break.is) at c.in_ok-next.ensures.header in
     let steady = rw c.offset-place.ensures.same at c.in_ok-next.ensures.moves_on.steady in
     let Holds : Result (Unit {0}) (SkipError g.row.R-Error.Denot) → Type 0 =
     λ answer. SkipsWithin g.R.Read c.args.header c.args.depth 64 c.args.decoder.now answer c.pull.new.self in
     break_said (closes c.items.remaining) Holds c.at_break.result c.items.is_first c.offset-place.result
     c.at_break.ensures (λ may. closed g.R.Read c.items.invariant.so_far may pulled steady)
-    (λ may. stops_within g.R.Read c.items.invariant.so_far some refl (stops_here g.R.Read (record {
+    (λ may. stops_within g.R.Read c.items.invariant.so_far (sym c.items-test.ensures) refl (stops_here g.R.Read (record {
       not_closable = may;
       place = c.offset-place.ensures.value;
       pulled = pulled;
@@ -101,10 +89,6 @@ show_within-returns-in-Break-clause-moves_on g t c =
 
 pub show_within-returns-in_err-show_item-clause-reads : goal.show_within-returns-in_err-show_item-clause-reads
 show_within-returns-in_err-show_item-clause-reads g t c =
-    let residual = c.from_residual-in_err-show_item in
-    let error = c.in_err-show_item.field-0.0 in
-    let same = exit_is residual.result error residual.ensures.1 in
-    let some : is_done c.items.remaining ≡ false = sym c.items-test.ensures in
     let pulled = rw c.offset-place.ensures.same at c.in_ok-next.ensures.header in
     let steady = rw c.offset-place.ensures.same at c.in_ok-next.ensures.moves_on.steady in
     let now = c.items.decoder in
@@ -114,8 +98,8 @@ show_within-returns-in_err-show_item-clause-reads g t c =
     λ answer. ReadsFrom g.R.Read outer c.args.depth 64 now answer new in
     let Other : Result (Unit {0}) (SkipError g.row.R-Error.Denot) → Type 0 =
     λ answer. SkipsWithin g.R.Read c.args.header c.args.depth 64 c.args.decoder.now answer new in
-    rw same (reading_stops (Unit {0}) Bool One Other error
-    (λ stop stops. stops_within g.R.Read c.items.invariant.so_far some refl stops)
+    rw (exit_is _ _ c.from_residual-in_err-show_item.ensures.1) (reading_stops (Unit {0}) Bool One Other _
+    (λ stop stops. stops_within g.R.Read c.items.invariant.so_far (sym c.items-test.ensures) refl stops)
     (c.in_err-show_item.ensures.reads now outer c.offset-place.ensures.value pulled steady))
 
 pub show_within-items-preserved : goal.show_within-items-preserved
@@ -123,40 +107,32 @@ show_within-items-preserved g t c =
     let pulled = rw c.offset-place.ensures.same at c.in_ok-next.ensures.header in
     let first = rw c.offset-place.ensures.same at c.in_ok-next.ensures.moves_on in
     let item = c.in_ok-show_item.ensures.reads c.items.decoder false c.offset-place.ensures.value pulled first.steady in
-    let led = said_wrote g.W.Write _ _ c.before-in-items.result c.said.result _ _ c.said.ensures.same c.in_ok-said.was
+    let led = said_wrote g.W.Write c.before-in-items.result c.said.ensures.same c.in_ok-said.was
     c.before-in-items.ensures in
     record {
       so_far = one_more g.R.Read c.items.invariant.so_far (c.after_item-remaining.ensures c.args.header) item;
-      items = items_more g.R.Read g.W.Write _ _ c.args.header _ _ _ c.items.is_first c.is_value.result _ _ c.in_ok-next.next
-          _ _ c.items.invariant.items (c.after_item-remaining.ensures c.args.header) c.is_value.ensures pulled first.steady
-          led c.in_ok-show_item.ensures.shown;
+      items = items_more c.items.invariant.items c.is_value.ensures pulled led
+          (c.after_item-remaining.ensures c.args.header) first.steady c.in_ok-show_item.ensures.shown;
       moves_on = MovesOn-then g.R.Read _ _ _ c.items.invariant.moves_on
           (MovesOn-then g.R.Read _ _ _ first c.in_ok-show_item.ensures.moves_on);
     }
 
 pub show_within-returns-in_err-next-clause-moves_on : goal.show_within-returns-in_err-next-clause-moves_on
-show_within-returns-in_err-next-clause-moves_on g t c =
-    let residual = c.from_residual in
-    when_err _ residual.result residual.ensures.0
+show_within-returns-in_err-next-clause-moves_on g t c = when_err _ c.from_residual.result c.from_residual.ensures.0
 
 pub show_within-returns-in_err-said-clause-moves_on : goal.show_within-returns-in_err-said-clause-moves_on
 show_within-returns-in_err-said-clause-moves_on g t c =
-    let residual = c.from_residual-in_err-said in
-    when_err _ residual.result residual.ensures.0
+    when_err _ c.from_residual-in_err-said.result c.from_residual-in_err-said.ensures.0
 
 pub show_within-returns-in_err-show_item-clause-moves_on : goal.show_within-returns-in_err-show_item-clause-moves_on
 show_within-returns-in_err-show_item-clause-moves_on g t c =
-    let residual = c.from_residual-in_err-show_item in
-    when_err _ residual.result residual.ensures.0
+    when_err _ c.from_residual-in_err-show_item.result c.from_residual-in_err-show_item.ensures.0
 
 pub show_within-returns-in_err-said-clause-reads : goal.show_within-returns-in_err-said-clause-reads
 show_within-returns-in_err-said-clause-reads g t c =
-    let residual = c.from_residual-in_err-said in
-    let error = c.in_err-said.field-0.0 in
-    let same = exit_is residual.result error residual.ensures.1 in
     let Holds : Result (Unit {0}) (SkipError g.row.R-Error.Denot) → Type 0 =
     λ answer. SkipsWithin g.R.Read c.args.header c.args.depth 64 c.args.decoder.now answer c.pull.new.self in
-    rw same (reading_unread Bool Holds error c.in_err-said.ensures.writing)
+    rw (exit_is _ _ c.from_residual-in_err-said.ensures.1) (reading_unread Bool Holds _ c.in_err-said.ensures.writing)
 
 pub show_within-returns-clause-moves_on : goal.show_within-returns-clause-moves_on
 show_within-returns-clause-moves_on g t c = c.items.invariant.moves_on
@@ -175,28 +151,19 @@ show_item-returns-then-depth-eq0-clause-shown g t c = deep
 
 pub show_item-returns-in_err-said-in-Tag-clause-shown : goal.show_item-returns-in_err-said-in-Tag-clause-shown
 show_item-returns-in_err-said-in-Tag-clause-shown g t c =
-    let error = c.in_err-said-in-Tag.field-0.0 in
-    let same = exit_is c.from_residual.result error c.from_residual.ensures.1 in
-    rw same (opening_stops g.R.Read g.W.Write c.args.header _ _ _ _ _ error
-    (said_failed g.W.Write _ _ c.open.result c.said.result error _ c.said.ensures.same c.in_err-said-in-Tag.was
-    c.open.ensures))
+    rw (exit_is _ _ c.from_residual.ensures.1) (opening_stops g.R.Read g.W.Write (said_failed g.W.Write c.open.result
+    c.said.ensures.same c.in_err-said-in-Tag.was c.open.ensures))
 
 pub show_item-returns-in_err-is_empty-in-Tag-clause-shown : goal.show_item-returns-in_err-is_empty-in-Tag-clause-shown
 show_item-returns-in_err-is_empty-in-Tag-clause-shown g t c =
-    let residual = c.from_residual-in_err-is_empty-in-Tag in
-    let error = c.in_err-is_empty-in-Tag.field-0.0 in
-    let same = exit_is residual.result error residual.ensures.1 in
-    let opened = said_wrote g.W.Write _ _ c.open.result c.said.result _ _ c.said.ensures.same c.in_ok-said-in-Tag.was
-    c.open.ensures in
-    rw same (within_stops g.R.Read g.W.Write c.args.header _ _ _ _ _ _ _ _ error c.within-inner.ensures.layout
+    let opened = said_wrote g.W.Write c.open.result c.said.ensures.same c.in_ok-said-in-Tag.was c.open.ensures in
+    rw (exit_is _ _ c.from_residual-in_err-is_empty-in-Tag.ensures.1) (within_stops _ c.within-inner.ensures.layout
     c.within-inner.ensures.level opened c.in_err-is_empty-in-Tag.ensures.shown)
 
 pub show_item-returns-in_ok-is_empty-in-Tag-clause-shown : goal.show_item-returns-in_ok-is_empty-in-Tag-clause-shown
 show_item-returns-in_ok-is_empty-in-Tag-clause-shown g t c =
-    let opened = said_wrote g.W.Write _ _ c.open.result c.said.result _ _ c.said.ensures.same c.in_ok-said-in-Tag.was
-    c.open.ensures in
-    nest_shown g.R.Read g.W.Write c.args.header _ _ _ _ c.in_ok-is_empty-in-Tag.is_empty _ _ _ _ _ _ c.close.result
-    c.said-in-Tag.result c.within-inner.ensures.layout c.within-inner.ensures.level opened
+    let opened = said_wrote g.W.Write c.open.result c.said.ensures.same c.in_ok-said-in-Tag.was c.open.ensures in
+    nest_shown _ c.within-inner.ensures.layout c.within-inner.ensures.level opened _ c.close.result c.said-in-Tag.result
     c.in_ok-is_empty-in-Tag.ensures.shown c.said-in-Tag.ensures.same c.close.ensures
 
 pub show_item-returns-in_default-clause-shown : goal.show_item-returns-in_default-clause-shown
@@ -207,51 +174,39 @@ show_item-returns-in_default-clause-shown g t c =
 pub show_within-returns-in_err-next-clause-shown : goal.show_within-returns-in_err-next-clause-shown
 show_within-returns-in_err-next-clause-shown g t c =
     let error = c.in_err-next.field-0.0 in
-    let same = exit_is c.from_residual.result (d.Read (s.Read error)) c.from_residual.ensures.1 in
-    let fails = subst (λ x. PullsHeader g.R.Read x (Err error) c.pull.new.self) c.offset-place.ensures.same
-    c.in_err-next.ensures.header in
-    rw same (title_stops g.R.Read g.W.Write _ _ c.args.header _ _ _ _ (s.Read error) _ c.items.invariant.items fails)
+    rw (exit_is _ _ c.from_residual.ensures.1) (title_stops c.items.invariant.items (s.Read error) _
+    (subst (λ x. PullsHeader g.R.Read x (Err error) c.pull.new.self) c.offset-place.ensures.same
+    c.in_err-next.ensures.header))
 
 pub show_within-returns-in-Break-clause-shown : goal.show_within-returns-in-Break-clause-shown
 show_within-returns-in-Break-clause-shown g t c =
     let pulled = rw (c.offset-place.ensures.same, c.in-Break.is) at c.in_ok-next.ensures.header in
     let steady = rw c.offset-place.ensures.same at c.in_ok-next.ensures.moves_on.steady in
-    break_shown g.R.Read g.W.Write _ _ c.args.header (closes c.items.remaining) _ _ _ _ c.at_break.result
-    c.items.is_first c.offset-place.result c.items.invariant.items pulled c.at_break.ensures
-    (λ may. items_closed g.R.Read g.W.Write _ _ c.args.header _ _ _ _ _ c.items.invariant.items may pulled steady)
+    break_shown c.items.invariant.items (closes c.items.remaining) _ c.at_break.result c.offset-place.result pulled
+    c.at_break.ensures (λ may. items_closed c.items.invariant.items _ may pulled steady)
 
 pub show_within-returns-in_err-said-clause-shown : goal.show_within-returns-in_err-said-clause-shown
 show_within-returns-in_err-said-clause-shown g t c =
-    let residual = c.from_residual-in_err-said in
-    let error = c.in_err-said.field-0.0 in
-    let same = exit_is residual.result error residual.ensures.1 in
-    let pulled = rw c.offset-place.ensures.same at c.in_ok-next.ensures.header in
-    rw same (lead_stops g.R.Read g.W.Write _ _ c.args.header _ _ _ c.is_value.result _ c.in_ok-next.next _ error _
-    c.items.invariant.items c.is_value.ensures pulled (said_failed g.W.Write _ _ c.before-in-items.result c.said.result
-    error _ c.said.ensures.same c.in_err-said.was c.before-in-items.ensures))
+    rw (exit_is _ _ c.from_residual-in_err-said.ensures.1) (lead_stops c.items.invariant.items c.is_value.ensures
+    (rw c.offset-place.ensures.same at c.in_ok-next.ensures.header) _ (said_failed g.W.Write c.before-in-items.result
+    c.said.ensures.same c.in_err-said.was c.before-in-items.ensures))
 
 pub show_within-returns-in_err-show_item-clause-shown : goal.show_within-returns-in_err-show_item-clause-shown
 show_within-returns-in_err-show_item-clause-shown g t c =
-    let residual = c.from_residual-in_err-show_item in
-    let error = c.in_err-show_item.field-0.0 in
-    let same = exit_is residual.result error residual.ensures.1 in
-    let pulled = rw c.offset-place.ensures.same at c.in_ok-next.ensures.header in
-    let led = said_wrote g.W.Write _ _ c.before-in-items.result c.said.result _ _ c.said.ensures.same c.in_ok-said.was
+    let led = said_wrote g.W.Write c.before-in-items.result c.said.ensures.same c.in_ok-said.was
     c.before-in-items.ensures in
-    rw same (item_stops g.R.Read g.W.Write _ _ c.args.header _ _ _ c.is_value.result _ _ c.in_ok-next.next _ _ error
-    c.items.invariant.items c.is_value.ensures pulled led c.in_err-show_item.ensures.shown)
+    rw (exit_is _ _ c.from_residual-in_err-show_item.ensures.1) (item_stops c.items.invariant.items c.is_value.ensures
+    (rw c.offset-place.ensures.same at c.in_ok-next.ensures.header) led c.in_err-show_item.ensures.shown)
 
 pub show_within-returns-clause-shown : goal.show_within-returns-clause-shown
-show_within-returns-clause-shown g t c =
-    let done : is_done c.items.remaining ≡ true = sym c.items-test.ensures in
-    items_done g.R.Read g.W.Write _ _ c.args.header _ _ _ _ c.items.invariant.items done
+show_within-returns-clause-shown g t c = items_done c.items.invariant.items (sym c.items-test.ensures)
 
 pub show_within-items-smaller : goal.show_within-items-smaller
 show_within-items-smaller g t c =
     let pulled = rw c.offset-place.ensures.same at c.in_ok-next.ensures.header in
     let some = title_some pulled.title c.in_ok-next.next pulled.is_title in
-    let risen : c.items.decoder.offset < c.pull.new.self.offset = omega (arith, pulled.offset, some) in
-    nearer c.items.decoder c.pull.new.self c.show_item.new.decoder risen c.in_ok-show_item.ensures.moves_on.rises
+    nearer c.items.decoder c.pull.new.self c.show_item.new.decoder (omega (arith, pulled.offset, some))
+    c.in_ok-show_item.ensures.moves_on.rises
 
 -- ---- what the calls require
 

@@ -1,5 +1,4 @@
-use Rattle.std.proofs.Common.{rules, refl, subst, sym, ◌≡◌, ◌∙◌, ◌<◌, ◌^◌, [], Bool, false, Some, None, Result, Err}
-use Rattle.std.proofs.Common.{arith}
+use Rattle.std.proofs.Common.{rules, sym, ◌≡◌, ◌∙◌, ◌<◌, ◌^◌, [], None, Result, arith}
 use Rattle.ciborium_ll.specs.Types.Error.{Error}
 use Rattle.cbor_skip.specs.declared.SkipError.TheVariants as s
 use Rattle.cbor_diag.specs.declared.DiagError.TheVariants as d
@@ -7,9 +6,6 @@ use Rattle.ciborium_ll.specs.Finishing.{EndsBody}
 use Rattle.ciborium_ll.specs.Skipping.{SkipsString}
 use Rattle.ciborium_ll.proofs.DecodingLaws.{exit_is, MovesOn-then}
 use Rattle.ciborium_ll.proofs.SkipLaws.{skips_end, skips_error, skips_body, skips_stop, found_rises}
-use Rattle.ciborium_ll.specs.Encoding.{WritesAll}
-use Rattle.cbor_diag.specs.Showing.{ShowsText}
-use Rattle.cbor_diag.specs.StringShows.{end_text, lead_text}
 use Rattle.cbor_diag.proofs.ShowLaws.{string_unread, string_whole, string_stops, when_ok, whole_moves}
 use Rattle.cbor_diag.proofs.StringShowLaws.{text_closed, text_fails, text_more, text_stops, text_unled}
 use Rattle.cbor_diag.proofs.strings.show_segments.Goals as goal

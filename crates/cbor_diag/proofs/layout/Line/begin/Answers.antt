@@ -1,16 +1,16 @@
-use Rattle.std.proofs.Common.{codes, arith}
+use Rattle.std.proofs.Common.{◌≡◌, codes, arith}
 use Rattle.ciborium_ll.proofs.EncodingLaws.{WritesBytes-stopped}
 use Rattle.cbor_diag.specs.ItemTexts.{indent}
-use Rattle.cbor_diag.proofs.ItemTextLaws.{line_begun, line_ends, line_more, line_stops}
+use Rattle.cbor_diag.proofs.ItemTextLaws.{line_more, line_stops}
 use Rattle.cbor_diag.proofs.layout.Line.begin.Goals as goal
 
 pub returns-in_err-put-2 : goal.returns-in_err-put-2
 returns-in_err-put-2 g c =
-    line_stops g.W.Write c.args.self.level c.levels._level _ _ _ c.from_residual-in_err-put-2.result c.levels-test.true
-    c.levels.invariant c.from_residual-in_err-put-2.ensures.0 c.in_err-put-2.ensures
+    line_stops c.levels._level c.levels.invariant c.args.self.level _ c.from_residual-in_err-put-2.result
+    c.levels-test.true c.from_residual-in_err-put-2.ensures.0 c.in_err-put-2.ensures
 
 pub levels-preserved : goal.levels-preserved
-levels-preserved g c = line_more g.W.Write c.levels._level _ _ _ c.levels.invariant c.in_ok-put-2.ensures
+levels-preserved g c = line_more c.levels._level c.levels.invariant c.in_ok-put-2.ensures
 
 pub returns-in_err-put : goal.returns-in_err-put
 returns-in_err-put g c =
@@ -18,10 +18,9 @@ returns-in_err-put g c =
     c.from_residual.ensures.0 c.in_err-put.ensures
 
 pub levels-init : goal.levels-init
-levels-init g c = line_begun g.W.Write _ _ c.in_ok-put.ensures
+levels-init g c = c.in_ok-put.ensures
 
 pub returns : goal.returns
 returns g c =
-    let far = c.levels-test.false in
-    let most = c.levels.auto._level-end in
-    line_ends g.W.Write c.args.self.level c.levels._level _ _ (omega (arith, far, most)) c.levels.invariant
+    let all : c.levels._level ≡ c.args.self.level = omega (arith, c.levels-test.false, c.levels.auto._level-end) in
+    rw all at c.levels.invariant
