@@ -1,4 +1,4 @@
--- Bytes shown one by one.
+-- Texts that are written one behind the other.
 use Rattle.std.proofs.Common.{◌≡◌, ℕ, List, [], ◌∷◌, ◌++◌, Some, Result, Ok, Err, IsErr, sym, subst}
 use Rattle.ciborium_ll.specs.Types.Write.{Ghosts}
 use Rattle.ciborium_ll.specs.Encoding.{WritesAll, WritesBytes, WritesFront}
@@ -27,37 +27,27 @@ module _ {W F : Type 0} {sink : Ghosts W F} {old mid : W} {xs : List ℕ} (first
   said_then ys new (Err (d.Read error)) never = never
   said_then ys new (Err (d.Write fault)) second = wrote_first fault second
 
-module _ {W F : Type 0} (sink : Ghosts W F) (quotes : Quotes) where
-  -- the bytes in front of the rest were shown: what a show of the rest does now, one of all bytes does
-  pub record Midway (bytes rest : List ℕ) (old now : W) : Type 0 where
-    pub goes_on : (result : Result (Unit {0}) F) (new : W) → WritesBytes sink now result (body_text quotes rest) new
-        → WritesBytes sink old result (body_text quotes bytes) new
+module _ {W F : Type 0} (sink : Ghosts W F) where
+  -- the pieces in front of the rest were written: what a write of the rest does now, one of all does
+  pub record GoesOn (all rest : List ℕ) (old now : W) : Type 0 where
+    pub goes_on : (result : Result (Unit {0}) F) (new : W) → WritesBytes sink now result rest new
+        → WritesBytes sink old result all new
 
-  pub midway_first : (bytes : List ℕ) (old : W) → Midway bytes bytes old old
-  midway_first bytes old = record { goes_on = λ result new w. w }
-
-  -- one byte more was shown
-  pub midway_more : (bytes rest behind : List ℕ) (byte : ℕ) (old now new : W) → rest ≡ byte ∷ behind
-      → Midway bytes rest old now → WritesAll sink now (byte_text quotes byte) new → Midway bytes behind old new
-  midway_more bytes rest behind byte old now new split m wrote = record {
+module _ {W F : Type 0} {sink : Ghosts W F} {all rest : List ℕ} {old now : W} (far : GoesOn sink all rest old now) where
+  -- one piece more was written
+  pub piece_more : {piece behind : List ℕ} {new : W} → rest ≡ piece ++ behind → WritesAll sink now piece new
+      → GoesOn sink all behind old new
+  piece_more {piece} {behind} {new} split wrote = record {
     goes_on = λ result last w.
-        m.goes_on result last
-        (subst (λ (z : List ℕ). WritesBytes sink now result (body_text quotes z) last) (sym split)
-        (WritesBytes-then sink now new last result (byte_text quotes byte) (body_text quotes behind) wrote w));
+        far.goes_on result last (rw split (WritesBytes-then sink now new last result piece behind wrote w));
   }
 
-  -- one byte more was not shown
-  pub midway_stops : (bytes rest behind : List ℕ) (byte : ℕ) (old now new : W) (result : Result (Unit {0}) F)
-      → IsErr result → rest ≡ byte ∷ behind → Midway bytes rest old now
-      → WritesFront sink now (byte_text quotes byte) new → WritesBytes sink old result (body_text quotes bytes) new
-  midway_stops bytes rest behind byte old now new result fails split m wrote =
-      m.goes_on result new
-      (subst (λ (z : List ℕ). WritesBytes sink now result (body_text quotes z) new) (sym split)
-      (WritesBytes-stopped sink now new result (byte_text quotes byte) (body_text quotes behind) fails wrote))
+  -- it was not
+  pub piece_stops : (piece behind : List ℕ) (new : W) (result : Result (Unit {0}) F) → rest ≡ piece ++ behind
+      → IsErr result → WritesFront sink now piece new → WritesBytes sink old result all new
+  piece_stops piece behind new result split fails wrote =
+      far.goes_on result new (rw split (WritesBytes-stopped sink now new result piece behind fails wrote))
 
-  -- all bytes were shown
-  pub midway_last : (bytes rest : List ℕ) (old now : W) → rest ≡ [] → Midway bytes rest old now
-      → WritesAll sink old (body_text quotes bytes) now
-  midway_last bytes rest old now none m =
-      m.goes_on (Ok (tt {0})) now (subst (λ (z : List ℕ). WritesAll sink now (body_text quotes z) now) (sym none)
-      (writes_nothing sink now))
+  -- all were
+  pub pieces_end : rest ≡ [] → WritesAll sink old all now
+  pieces_end none = far.goes_on (Ok (tt {0})) now (rw none (writes_nothing sink now))

@@ -14,23 +14,19 @@ use Rattle.ciborium_ll.proofs.EncodingLaws.{AppendsFront-longer, WritesBytes-the
 use Rattle.cbor_diag.specs.declared.strings.quotes.Quotes.{Quotes}
 use Rattle.cbor_diag.specs.declared.strings.quotes.Quotes.TheVariants as q
 use Rattle.cbor_diag.specs.Notation.{byte_text, body_text}
+use Rattle.cbor_diag.proofs.QuoteLaws.{wrote_both, wrote_first}
 use Rattle.cbor_diag.specs.Quoting.{IsQuoted, WritesUntil, quotes_code, writer_code}
 
 -- ---- the text of joined bytes
 
-pub body_text-append : (quotes : Quotes) (xs ys : List ℕ) → body_text quotes (xs ++ ys)
-    ≡ body_text quotes xs ++ body_text quotes ys
+pub body_text-append : (quotes : Quotes) (xs ys : List ℕ)
+    → body_text quotes (xs ++ ys) ≡ body_text quotes xs ++ body_text quotes ys
 body_text-append quotes [] ys = refl
-body_text-append quotes (x ∷ xs) ys =
-    ap (λ (z : List ℕ). byte_text quotes x ++ z) (body_text-append quotes xs ys)
-    ∙ sym (append_assoc (byte_text quotes x) (body_text quotes xs) (body_text quotes ys))
+body_text-append quotes (x ∷ xs) ys = rw (body_text-append quotes xs ys, append_assoc)
 
 -- quotes that have one number are the same
 pub same_quotes : (quotes quotes' : Quotes) → quotes_code quotes ≡ quotes_code quotes' → quotes ≡ quotes'
-same_quotes q.Hex q.Hex p = refl
-same_quotes q.Hex q.Text p = absurd (omega (arith, p))
-same_quotes q.Text q.Hex p = absurd (omega (arith, p))
-same_quotes q.Text q.Text p = refl
+same_quotes quotes quotes' p = grind arith
 
 -- ---- facts that have one proof at most
 
@@ -51,8 +47,7 @@ full-prop (Some m) n = search props
 -- a room too small for xs is too small for xs and ys
 full_longer : (room : Option ℕ) (xs ys : List ℕ) → IfSome room (λ n. n < length xs)
     → IfSome room (λ n. n < length (xs ++ ys))
-full_longer None xs ys full = tt
-full_longer (Some n) xs ys full = omega (arith, length-append xs ys)
+full_longer room xs ys full = grind (arith, length-append)
 
 -- how many bytes of a beginning were appended, by what the writer tells
 front_count : Option (List ℕ) → Option (List ℕ) → Option ℕ → Option ℕ → ℕ
@@ -120,38 +115,29 @@ module _ {W F : Type 0} (sink : Ghosts W F) where
 
   module _ (began : List ℕ) (quotes : Quotes) (failed : Bool) (given more all : List ℕ) (now : W)
       (joined : all ≡ given ++ more) (so_far : ∥ IsQuoted sink began quotes failed given now ∥₁) where
-    texts : body_text quotes given ++ body_text quotes more ≡ body_text quotes all
-    texts = sym (ap (body_text quotes) joined ∙ body_text-append quotes given more)
+    -- what more leads to
+    quoted_step : (before after : Bool) (new : W) → failed ≡ before
+        → ((old : W) → WritesUntil sink before old (body_text quotes given) now
+        → WritesUntil sink after old (body_text quotes given ++ body_text quotes more) new)
+        → ∥ IsQuoted sink began quotes after all new ∥₁
+    quoted_step before after new same step = ∥∥₁_map
+        (subst (λ (b : Bool). ∥ IsQuoted sink began quotes b given now ∥₁) same so_far)
+        (λ quoted old is. rw (joined, body_text-append quotes given more) (step old (quoted old is)))
 
     -- more was given, and written
     pub quoted_more : (new : W) → failed ≡ false → WritesAll sink now (body_text quotes more) new
         → ∥ IsQuoted sink began quotes failed all new ∥₁
-    quoted_more new sound wrote =
-        let before_it : ∥ IsQuoted sink began quotes false given now ∥₁ =
-        subst (λ (b : Bool). ∥ IsQuoted sink began quotes b given now ∥₁) sound so_far in
-        subst (λ (b : Bool). ∥ IsQuoted sink began quotes b all new ∥₁) (sym sound)
-        (∥∥₁_map before_it (λ quoted before same. subst (λ (z : List ℕ). WritesAll sink before z new) texts
-        (WritesBytes-then sink {T = Unit {0}} before now new (Ok (tt {0})) (body_text quotes given)
-        (body_text quotes more) (quoted before same) wrote)))
+    quoted_more new sound wrote = rw sound (quoted_step false false new sound (λ old told. wrote_both told wrote))
 
     -- more was given, and the writer failed at it
     pub quoted_fails : (new : W) (fault : F) → failed ≡ false → WritesFront sink now (body_text quotes more) new
         → ∥ IsQuoted sink began quotes true all new ∥₁
     quoted_fails new fault sound stopped =
-        let before_it : ∥ IsQuoted sink began quotes false given now ∥₁ =
-        subst (λ (b : Bool). ∥ IsQuoted sink began quotes b given now ∥₁) sound so_far in
-        ∥∥₁_map before_it (λ quoted before same. subst (λ (z : List ℕ). WritesFront sink before z new) texts
-        (WritesBytes-then sink {T = Unit {0}} before now new (Err fault) (body_text quotes given)
-        (body_text quotes more) (quoted before same) stopped))
+        quoted_step false true new sound (λ old told. wrote_first told fault stopped)
 
     -- more was given behind a failure, and nothing written
     pub quoted_behind : failed ≡ true → ∥ IsQuoted sink began quotes failed all now ∥₁
-    quoted_behind broken =
-        let before_it : ∥ IsQuoted sink began quotes true given now ∥₁ =
-        subst (λ (b : Bool). ∥ IsQuoted sink began quotes b given now ∥₁) broken so_far in
-        subst (λ (b : Bool). ∥ IsQuoted sink began quotes b all now ∥₁) (sym broken)
-        (∥∥₁_map before_it (λ quoted before same. subst (λ (z : List ℕ). WritesFront sink before z now) texts
-        (front_longer before now (body_text quotes given) (body_text quotes more) (quoted before same))))
+    quoted_behind broken = rw broken (quoted_step true true now broken (λ old told. front_longer old now _ _ told))
 
   -- ---- in the end
 
@@ -159,8 +145,7 @@ module _ {W F : Type 0} (sink : Ghosts W F) where
       (is : began ≡ writer_code sink old) (kind : quotes' ≡ quotes)
       (quoted : ∥ IsQuoted sink began quotes' failed given now ∥₁) where
     in_all : (b : Bool) → failed ≡ b → ∥ WritesUntil sink b old (body_text quotes given) now ∥₁
-    in_all b same = ∥∥₁_map (subst (λ (z : Bool). ∥ IsQuoted sink began quotes z given now ∥₁) same
-        (subst (λ (z : Quotes). ∥ IsQuoted sink began z failed given now ∥₁) kind quoted)) (λ since. since old (sym is))
+    in_all b same = ∥∥₁_map quoted (λ since. rw (same, kind) at (since old (sym is)))
 
     -- all was written
     pub quoted_all : failed ≡ false → WritesAll sink old (body_text quotes given) now

@@ -1,32 +1,32 @@
-use Rattle.std.proofs.Common.{rules, ◌≡◌, ◌∷◌, length}
-use Rattle.cbor_diag.proofs.FloatLaws.{digits_exponent, digits_last, digits_more, digits_point, digits_stop}
+use Rattle.std.proofs.Common.{rules, ap, ◌≡◌, ◌∷◌, length}
+use Rattle.ciborium_ll.proofs.Lists.{length_zero}
+use Rattle.cbor_diag.specs.Floats.{with_point}
+use Rattle.cbor_diag.proofs.FloatLaws.{exponent_here, point_here, point_later}
+use Rattle.cbor_diag.proofs.QuoteLaws.{piece_more, piece_stops, pieces_end}
 use Rattle.cbor_diag.proofs.scalars.show_digits.Goals as goal
 
 pub returns-then-first-eq46 : goal.returns-then-first-eq46
 returns-then-first-eq46 g c =
     let split : c.digits.rest.now ≡ c.in-Some.first.now ∷ c.in-Some.behind.now = search rules in
-    digits_point g.W.Write c.args.digits.now _ _ _ _ _ _ _ split c.digits.invariant c.if-first-eq46.true
-    c.put.ensures
+    c.digits.invariant.goes_on c.put.result _ (rw (point_here split c.if-first-eq46.true) c.put.ensures)
 
 pub returns-then-first-eq101 : goal.returns-then-first-eq101
 returns-then-first-eq101 g c =
     let split : c.digits.rest.now ≡ c.in-Some.first.now ∷ c.in-Some.behind.now = search rules in
-    digits_exponent g.W.Write c.args.digits.now _ _ _ _ _ _ _ split c.digits.invariant c.if-first-eq101.true
-    c.put_two.ensures
+    c.digits.invariant.goes_on c.put_two.result _ (rw (exponent_here split c.if-first-eq101.true) c.put_two.ensures)
 
 pub returns-in_err-put : goal.returns-in_err-put
 returns-in_err-put g c =
     let split : c.digits.rest.now ≡ c.in-Some.first.now ∷ c.in-Some.behind.now = search rules in
-    digits_stop g.W.Write c.args.digits.now _ _ _ _ _ _ split c.if-first-eq46.false c.if-first-eq101.false
-    c.digits.invariant c.from_residual.result c.from_residual.ensures.0 c.in_err-put.ensures
+    piece_stops c.digits.invariant _ _ _ c.from_residual.result (point_later split c.if-first-eq46.false
+    c.if-first-eq101.false) c.from_residual.ensures.0 c.in_err-put.ensures
 
 pub digits-preserved : goal.digits-preserved
 digits-preserved g c =
     let split : c.digits.rest.now ≡ c.in-Some.first.now ∷ c.in-Some.behind.now = search rules in
-    digits_more g.W.Write c.args.digits.now _ _ _ _ _ _ split c.if-first-eq46.false c.if-first-eq101.false
-    c.digits.invariant c.in_ok-put.ensures
+    piece_more c.digits.invariant (point_later split c.if-first-eq46.false c.if-first-eq101.false) c.in_ok-put.ensures
 
 pub returns : goal.returns
 returns g c =
     let none : length c.digits.rest.now ≡ 0 = search rules in
-    digits_last g.W.Write c.args.digits.now _ _ _ none c.digits.invariant
+    pieces_end c.digits.invariant (ap with_point (length_zero _ none))

@@ -1,24 +1,23 @@
-use Rattle.std.proofs.Common.{arith}
+use Rattle.std.proofs.Common.{ap, arith}
 use Rattle.std.proofs.lemmas.List.{drop_more, drop_all}
-use Rattle.cbor_diag.proofs.QuoteLaws.{midway_first, midway_more, midway_stops, midway_last}
+use Rattle.cbor_diag.specs.Notation.{body_text}
+use Rattle.cbor_diag.proofs.QuoteLaws.{piece_more, piece_stops, pieces_end}
 use Rattle.cbor_diag.proofs.strings.quotes.show_quoted.Goals as goal
 
 pub bytes-init : goal.bytes-init
-bytes-init g c = midway_first g.W.Write c.args.quotes c.args.bytes.now c.args.writer.now
+bytes-init g c = record { goes_on = λ result new w. w }
 
 pub returns-in_err-show_byte : goal.returns-in_err-show_byte
 returns-in_err-show_byte g c =
-    let all = c.args.bytes.now in
-    midway_stops g.W.Write c.args.quotes all _ _ _ _ _ _ c.from_residual.result c.from_residual.ensures.0
-    (drop_more all c.bytes.byte-index _ (omega arith)) c.bytes.invariant c.in_err-show_byte.ensures
+    piece_stops c.bytes.invariant _ _ _ c.from_residual.result (ap (body_text c.args.quotes)
+    (drop_more c.args.bytes.now c.bytes.byte-index _ (omega arith))) c.from_residual.ensures.0 c.in_err-show_byte.ensures
 
 pub bytes-preserved : goal.bytes-preserved
 bytes-preserved g c =
-    let all = c.args.bytes.now in
-    midway_more g.W.Write c.args.quotes all _ _ _ _ _ _ (drop_more all c.bytes.byte-index _ (omega arith))
-    c.bytes.invariant c.in_ok-show_byte.ensures
+    piece_more c.bytes.invariant (ap (body_text c.args.quotes)
+    (drop_more c.args.bytes.now c.bytes.byte-index _ (omega arith))) c.in_ok-show_byte.ensures
 
 pub returns : goal.returns
 returns g c =
-    midway_last g.W.Write c.args.quotes c.args.bytes.now _ _ _
-    (drop_all c.bytes.byte-index c.args.bytes.now (omega arith)) c.bytes.invariant
+    pieces_end c.bytes.invariant (ap (body_text c.args.quotes)
+    (drop_all c.bytes.byte-index c.args.bytes.now (omega arith)))
