@@ -1,6 +1,6 @@
 -- A body that is copied to a writer of what stands between quotes, and shown in them.
 use Rattle.std.proofs.Common.{◌≡◌, ◌∙◌, ℕ, ◌+◌, Bool, true, false, List, [], ◌++◌, take, drop, Option, Some, None}
-use Rattle.std.proofs.Common.{Result, Ok, Err, refl, ap, sym, subst, arith, append_assoc, append-nil, length-append}
+use Rattle.std.proofs.Common.{Result, Ok, Err, ap, arith, append_assoc, append-nil, length-append}
 use Rattle.std.proofs.lemmas.List.{take-append-drop}
 use Rattle.ciborium_ll.specs.Types.Read.{Ghosts as Reader}
 use Rattle.ciborium_ll.specs.Types.Write.{Ghosts as Writer}
@@ -10,7 +10,6 @@ use Rattle.ciborium_ll.specs.Types.RecodeError.{RecodeError}
 use Rattle.ciborium_ll.specs.Types.RecodeError.TheVariants as r
 use Rattle.ciborium_ll.specs.Transfer.{Target}
 use Rattle.ciborium_ll.specs.Strings.{Kind}
-use Rattle.ciborium_ll.specs.Decoding.{Passes}
 use Rattle.ciborium_ll.specs.Encoding.{WritesAll, WritesFront}
 use Rattle.ciborium_ll.specs.Recoding.{BodyUnwritten, CopiesBody}
 use Rattle.ciborium_ll.specs.Sides.{sides}
@@ -18,22 +17,20 @@ use Rattle.cbor_diag.specs.declared.strings.quotes.Quotes.{Quotes}
 use Rattle.cbor_diag.specs.Notation.{body_text}
 use Rattle.cbor_diag.specs.Quoting.{failure_count}
 use Rattle.ciborium_ll.proofs.DecodingLaws.{Passes-none}
-use Rattle.ciborium_ll.proofs.EncodingLaws.{WritesBytes-then}
+use Rattle.cbor_diag.proofs.QuoteLaws.{wrote_both, wrote_first}
 use Rattle.cbor_skip.specs.declared.SkipError.TheVariants as s
 use Rattle.cbor_diag.specs.declared.DiagError.{DiagError}
 use Rattle.cbor_diag.specs.declared.DiagError.TheVariants as d
 use Rattle.cbor_diag.specs.Showing.{ShowsText}
-use Rattle.cbor_diag.specs.StringShows.{BodyUnshown, CopiesQuoted, ShowsBody, begun_text, closing, opening}
+use Rattle.cbor_diag.specs.StringShows.{BodyUnshown, CopiesQuoted, ShowsBody, closing, opening}
 use Rattle.cbor_diag.proofs.QuotedLaws.{body_text-append, front_longer}
 
 -- no failure, and one
 pub none_failed : (failed : Bool) → failure_count failed ≡ 0 → failed ≡ false
-none_failed false none = refl
-none_failed true none = absurd (omega (arith, none))
+none_failed failed none = grind arith
 
 pub one_failed : (failed : Bool) → failure_count failed ≡ 1 → failed ≡ true
-one_failed false one = absurd (omega (arith, one))
-one_failed true one = refl
+one_failed failed one = grind arith
 
 -- a target that is told has just that one
 pub same_target : {one other : Target} → Some one ≡ Some other → one ≡ other
@@ -57,30 +54,29 @@ module _ {R E W F V : Type 0} (source : Reader R E) (sink : Writer W F) (given :
       (front : count v' ≡ count v + 1 → WritesFront sink w (body_text quotes (given v')) w') where
     quoted_front : (bytes : List ℕ) → WritesAll quoting v bytes v' → WritesAll sink w (body_text quotes bytes) w'
     quoted_front bytes written =
-        let is : given v' ≡ bytes = written.appended ∙ ap (λ (z : List ℕ). z ++ bytes) none in
-        subst (λ (z : List ℕ). WritesAll sink w (body_text quotes z) w') is (all written.failures)
+        let is : given v' ≡ bytes = cc (written.appended, none) in
+        rw is at (all written.failures)
 
     quoted_part : BodyUnwritten source quoting kind len room (sides old v) (sides new v')
         → BodyUnshown source sink kind len (body_text quotes) (sides old w) (sides new w')
     quoted_part stops =
-        let n = stops.stopped.front.0 in
-        let given_is : given v' ≡ stops.front ++ take n stops.chunk =
-        stops.stopped.front.1.0 ∙ ap (λ (z : List ℕ). z ++ take n stops.chunk)
-        (stops.written.appended ∙ ap (λ (z : List ℕ). z ++ stops.front) none) in
-        let whole : given v' ++ drop n stops.chunk ≡ stops.front ++ stops.chunk =
-        ap (λ (z : List ℕ). z ++ drop n stops.chunk) given_is
-        ∙ append_assoc stops.front (take n stops.chunk) (drop n stops.chunk)
-        ∙ ap (λ (z : List ℕ). stops.front ++ z) (take-append-drop n stops.chunk) in
-        let text = sym (body_text-append quotes (given v') (drop n stops.chunk)) ∙ ap (body_text quotes) whole in
+        let begun = take stops.stopped.front.0 stops.chunk in
+        let behind = drop stops.stopped.front.0 stops.chunk in
+        let whole : given v' ++ behind ≡ stops.front ++ stops.chunk =
+        cc (
+          stops.stopped.front.1.0,
+          stops.written.appended,
+          none,
+          append_assoc stops.front begun behind,
+          take-append-drop stops.stopped.front.0 stops.chunk,
+        ) in
         record {
           bytes = stops.front ++ stops.chunk;
           kept = stops.kept;
-          passed = subst (λ (z : List ℕ). Passes source old z new)
-              (sym (append_assoc stops.front stops.chunk stops.kept)) stops.passed;
+          passed = rw append_assoc stops.passed;
           within = omega (arith, stops.within, stops.filled, length-append stops.front stops.chunk);
           few = stops.few;
-          stopped = subst (λ (z : List ℕ). WritesFront sink w z w') text
-              (front_longer sink w w' (body_text quotes (given v')) (body_text quotes (drop n stops.chunk))
+          stopped = rw (← whole, body_text-append quotes (given v') behind) (front_longer sink w w' _ _
               (front (stops.stopped.failures ∙ ap (λ (m : ℕ). m + 1) stops.written.failures)));
         }
 
@@ -105,23 +101,16 @@ module _ {R E W F : Type 0} (source : Reader R E) (sink : Writer W F) (kind : Ki
     passed = Passes-none source old;
     within = omega arith;
     few = omega arith;
-    stopped = front_longer sink w w' (opening quotes ++ []) (closing quotes)
-        (subst (λ (z : List ℕ). WritesFront sink w z w') (sym (append-nil (opening quotes))) said);
+    stopped = front_longer sink w w' _ (closing quotes) (rw append-nil said);
   }
 
-  module _ (opened : W) (begun : WritesAll sink w (opening quotes) opened) (new : Decoder R) (behind : W) where
-    -- what was written by then
-    so_far : (bytes : List ℕ) → WritesAll sink opened (body_text quotes bytes) behind
-        → WritesAll sink w (begun_text quotes bytes) behind
-    so_far bytes wrote = WritesBytes-then sink {T = Unit {0}} w opened behind (Ok (tt {0})) (opening quotes)
-        (body_text quotes bytes) begun wrote
-
+  module _ {opened : W} (begun : WritesAll sink w (opening quotes) opened) (new : Decoder R) (behind : W) where
     -- the read of the body stopped
     pub body_stops : (error : Error E)
         → CopiesQuoted source sink kind len room place quotes (sides old opened) (Err (r.Read error)) (sides new behind)
         → ShowsBody source sink kind len room place quotes (sides old w) (Err (d.Read (s.Read error)))
         (sides new behind)
-    body_stops error copied = record { ends = copied.ends; written = so_far _ copied.written }
+    body_stops error copied = record { ends = copied.ends; written = wrote_both begun copied.written }
 
     -- the writer failed within the body
     pub body_unshown : (fault : F)
@@ -134,9 +123,7 @@ module _ {R E W F : Type 0} (source : Reader R E) (sink : Writer W F) (kind : Ki
       passed = stops.passed;
       within = stops.within;
       few = stops.few;
-      stopped = front_longer sink w behind (begun_text quotes stops.bytes) (closing quotes)
-          (WritesBytes-then sink {T = Unit {0}} w opened behind (Err fault) (opening quotes)
-          (body_text quotes stops.bytes) begun stops.stopped);
+      stopped = front_longer sink w behind _ (closing quotes) (wrote_first begun fault stops.stopped);
     }
 
     -- the body was written, and the closing quote, or the writer failed at that
@@ -146,16 +133,14 @@ module _ {R E W F : Type 0} (source : Reader R E) (sink : Writer W F) (kind : Ki
         → ShowsBody source sink kind len room place quotes (sides old w) result (sides new last)
     body_closed (Ok done) last copied said = record {
       ends = copied.ends;
-      written = WritesBytes-then sink {T = Unit {0}} w behind last (Ok (tt {0})) (begun_text quotes copied.ends.read)
-          (closing quotes) (so_far _ copied.written) said;
+      written = wrote_both (wrote_both begun copied.written) said;
     }
     body_closed (Err (d.Read error)) last copied said = absurd said
     body_closed (Err (d.Write fault)) last copied said = record {
       bytes = copied.ends.read;
       kept = [];
-      passed = subst (λ (z : List ℕ). Passes source old z new) (sym (append-nil copied.ends.read)) copied.ends.passed;
+      passed = rw append-nil copied.ends.passed;
       within = omega (arith, copied.ends.all);
       few = omega arith;
-      stopped = WritesBytes-then sink {T = Unit {0}} w behind last (Err fault) (begun_text quotes copied.ends.read)
-          (closing quotes) (so_far _ copied.written) said;
+      stopped = wrote_first (wrote_both begun copied.written) fault said;
     }

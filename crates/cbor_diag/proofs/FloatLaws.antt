@@ -1,17 +1,14 @@
 -- The text of a float, written piece by piece.
-use Rattle.std.proofs.Common.{rules, ◌≡◌, ℕ, true, false, Some, is_nan, List, [], ◌∷◌, ◌++◌, length, arith, Result, Ok}
-use Rattle.std.proofs.Common.{IsErr, refl, sym, ap, subst, from_bits, codes}
+use Rattle.std.proofs.Common.{rules, ◌≡◌, ℕ, true, false, Some, is_nan, List, [], ◌∷◌, ◌++◌, arith, Result, refl, ap}
+use Rattle.std.proofs.Common.{from_bits, codes}
 use Rattle.std.specs.Float.{Float, nan, inf, fin, binary64, float_is_finite, is_sign_negative}
 use Rattle.std.specs.Float as f
 use Rattle.ciborium_ll.specs.Types.Write.{Ghosts}
-use Rattle.ciborium_ll.specs.Encoding.{WritesAll, WritesBytes, WritesFront}
-use Rattle.ciborium_ll.proofs.EncodingLaws.{WritesBytes-stopped, WritesBytes-then}
 use Rattle.ryu.specs.Parse.{parse_float}
 use Rattle.ryu.specs.Plain.{IsPlusNumber}
 use Rattle.ciborium_ll.specs.Types.Float.{Float as Raw}
 use Rattle.cbor_diag.specs.Floats.{float_mark, float_value, with_point, IsFloatText, IsNumberText}
 use Rattle.cbor_diag.specs.Writing.{ShowsMarked, ShowsOne}
-use Rattle.ciborium_ll.proofs.PiecesWritten.{writes_nothing}
 
 pub bits_infinity : from_bits binary64 9218868437227405312 ≡ inf false
 unfolding f.Ieee.of_bits f.Ieee.of_fields

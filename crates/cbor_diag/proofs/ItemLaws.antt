@@ -1,5 +1,5 @@
 -- The show of an item behind its header, which was pulled, as a read of the item.
-use Rattle.std.proofs.Common.{◌≡◌, ◌⊎◌, ℕ, suc, Bool, [], Option, Result, Err, IfErr, inl, inr, subst, sym}
+use Rattle.std.proofs.Common.{◌≡◌, ◌⊎◌, ℕ, suc, Bool, [], Option, Result, Err, IfErr, inr, arith}
 use Rattle.ciborium_ll.specs.Types.Read.{Ghosts}
 use Rattle.ciborium_ll.specs.Types.Header.{Header}
 use Rattle.ciborium_ll.specs.Types.Header.TheVariants as h
@@ -26,13 +26,8 @@ module _ {R E : Type 0} (source : Ghosts R E) (outer : Bool) (depth : ℕ) (befo
   -- a tag, an array or a map for which no level is left
   pub nest_deep : (titled : Decoder R) (header : Header) (place : ℕ) → depth ≡ 0 → place ≡ before.offset → IsNest header
       → PullsTitle source before header titled → StopsItem source outer depth 64 before (s.Deep place) titled
-  nest_deep titled header place none at nest pulled = stops_here source (record {
-    none_left = none;
-    place = at;
-    header = header;
-    is_nest = nest;
-    pulled = pulled;
-  })
+  nest_deep titled header place none at nest pulled =
+      stops_here source (record { none_left = none; place = at; header = header; is_nest = nest; pulled = pulled })
 
 module _ {R E F : Type 0} (source : Ghosts R E) (outer : Bool) (depth : ℕ) (before titled : Decoder R)
     (steady : IsSteady source before → IsSteady source titled) where
@@ -82,8 +77,6 @@ module _ {R E F : Type 0} (source : Ghosts R E) (outer : Bool) (depth : ℕ) (be
       (λ stop stops. stops_nest source level pulled steady stops) reads
 
 -- what contains others is a nest
-pub nest_of : (header : Header) → ((number : ℕ) × (header ≡ h.Tag number)) ⊎ (((len : Option ℕ) × (header ≡ h.Array len))
-    ⊎ ((len : Option ℕ) × (header ≡ h.Map len))) → IsNest header
-nest_of header (inl is) = subst IsNest (sym is.1) tt
-nest_of header (inr (inl is)) = subst IsNest (sym is.1) tt
-nest_of header (inr (inr is)) = subst IsNest (sym is.1) tt
+pub nest_of : (header : Header) → ((number : ℕ) × (header ≡ h.Tag number))
+    ⊎ (((len : Option ℕ) × (header ≡ h.Array len)) ⊎ ((len : Option ℕ) × (header ≡ h.Map len))) → IsNest header
+nest_of header is = grind arith

@@ -1,7 +1,6 @@
 -- What a writer of quoted bytes has written to the writer within, step by step.
 use Rattle.std.proofs.Common.{◌≡◌, ◌∙◌, ℕ, ◌+◌, ◌-◌, ◌<◌, ◌≤◌, Bool, true, false, List, [], ◌∷◌, ◌++◌, length, take}
-use Rattle.std.proofs.Common.{Option, Some, None, Ok, Err, IfSome, refl, sym, ap, subst, arith, append_assoc}
-use Rattle.std.proofs.Common.{length-append}
+use Rattle.std.proofs.Common.{Option, Some, None, IfSome, refl, sym, ap, subst, arith, append_assoc, length-append}
 use Rattle.std.proofs.Math.Logic.{∥∥₁_elim, ∥∥₁_map}
 use Rattle.std.proofs.lemmas.List.{length-take-le}
 use Rattle.std.proofs.Props.{props}
@@ -10,10 +9,9 @@ use Rattle.std.specs.Io.KnownBytes.{Appends}
 use Rattle.ciborium_ll.specs.Types.Write.{Ghosts}
 use Rattle.ciborium_ll.specs.Transfer.{Shrinks, AppendsFirst, AppendsFront}
 use Rattle.ciborium_ll.specs.Encoding.{WritesAll, WritesFront}
-use Rattle.ciborium_ll.proofs.EncodingLaws.{AppendsFront-longer, WritesBytes-then}
+use Rattle.ciborium_ll.proofs.EncodingLaws.{AppendsFront-longer}
 use Rattle.cbor_diag.specs.declared.strings.quotes.Quotes.{Quotes}
-use Rattle.cbor_diag.specs.declared.strings.quotes.Quotes.TheVariants as q
-use Rattle.cbor_diag.specs.Notation.{byte_text, body_text}
+use Rattle.cbor_diag.specs.Notation.{body_text}
 use Rattle.cbor_diag.proofs.QuoteLaws.{wrote_both, wrote_first}
 use Rattle.cbor_diag.specs.Quoting.{IsQuoted, WritesUntil, quotes_code, writer_code}
 

@@ -26,13 +26,11 @@ module _ {E F : Type 0} where
   -- where the writer failed, anything holds of the read
   pub reading_unread : (T : Type 0) (Holds : Result (Unit {0}) (SkipError E) → Type 0) (error : DiagError E F)
       → IsWriting error → OnReading {T = T} Holds (Err error)
-  reading_unread T Holds (d.Read error) writing = absurd writing
-  reading_unread T Holds (d.Write fault) writing = tt
+  reading_unread T Holds error writing = grind arith
 
   pub string_unread : (Holds : Result (Unit {0}) (Error E) → Type 0) (error : DiagError E F) → IsWriting error
       → OnString Holds (Err error)
-  string_unread Holds (d.Read error) writing = absurd writing
-  string_unread Holds (d.Write fault) writing = tt
+  string_unread Holds error writing = grind arith
 
   -- where it is the writer alone that may fail, what holds of a whole read holds
   pub reading_whole : (Holds : Result (Unit {0}) (SkipError E) → Type 0) (result : Result (Unit {0}) (DiagError E F))
@@ -56,13 +54,12 @@ module _ {E F : Type 0} where
       → ((fault : Error E) → One (Err fault) → Other (Err fault)) → OnString One (Err error)
       → OnString Other (Err error)
   string_stops One Other (d.Read (s.Read fault)) goes holds = goes fault holds
-  string_stops One Other (d.Read (s.Break at)) goes holds = holds
-  string_stops One Other (d.Read (s.Deep at)) goes holds = holds
   string_stops One Other (d.Write fault) goes holds = tt
+  string_stops One Other error goes never = absurd never
 
   -- what is said of a read where a break stands in place of an item, which may close or may not
-  pub break_said : (may : Bool) (Holds : Result (Unit {0}) (SkipError E) → Type 0) (result : Result Bool (DiagError E F))
-      (is_first : Bool) (place : ℕ) → result ≡ (if may then Ok is_first else Err (d.Read (s.Break place)))
+  pub break_said : (may : Bool) (Holds : Result (Unit {0}) (SkipError E) → Type 0)
+      (result : Result Bool (DiagError E F)) (is_first : Bool) (place : ℕ) → result ≡ (if may then Ok is_first else Err (d.Read (s.Break place)))
       → (may ≡ true → Holds (Ok (tt {0}))) → (may ≡ false → Holds (Err (s.Break place)))
       → OnReading {T = Bool} Holds result
   break_said true Holds result is_first place same closed stops = rw same (closed refl)
@@ -75,19 +72,16 @@ module _ {E F : Type 0} where
       → OnReading Other result
   reading_string One Other (Ok done) whole stops holds = whole holds
   reading_string One Other (Err (d.Read (s.Read fault))) whole stops holds = stops fault holds
-  reading_string One Other (Err (d.Read (s.Break at))) whole stops holds = absurd holds
-  reading_string One Other (Err (d.Read (s.Deep at))) whole stops holds = absurd holds
   reading_string One Other (Err (d.Write fault)) whole stops holds = tt
+  reading_string One Other (Err error) whole stops never = absurd never
 
 -- a fact where the answer is Ok
 pub when_ok : {T F : Type 0} (P : Type 0) (result : Result T F) → P → OnOk result P
-when_ok P (Ok done) holds = holds
-when_ok P (Err error) holds = tt
+when_ok P result holds = grind arith
 
 -- a fact of Ok alone where the answer is an error
 pub when_err : {T F : Type 0} (P : Type 0) (result : Result T F) → IsErr result → OnOk result P
-when_err P (Ok done) fails = absurd cc
-when_err P (Err error) fails = tt
+when_err P result fails = grind arith
 
 module _ {R E : Type 0} (source : Ghosts R E) where
   -- behind a whole string the decoder moved on, whose header was pushed back
