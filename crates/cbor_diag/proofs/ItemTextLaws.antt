@@ -1,4 +1,5 @@
 -- The texts of items, as they are written one behind the other.
+use Rattle.std.proofs.lemmas.Bool.Decides.{nat_tests}
 use native.Mathlib.Nat.{zero-add, suc-add}
 use Rattle.std.proofs.Common.{◌≡◌, ◌∙◌, ℕ, zero, suc, ◌+◌, ◌-◌, ◌*◌, ◌<◌, Bool, true, false, List, [], ◌∷◌, ◌++◌, codes}
 use Rattle.std.proofs.Common.{if◌then◌else◌, Option, Some, None, Result, Ok, Err, IsErr, OnOk, arith, refl, ap, subst}
@@ -64,14 +65,12 @@ module _ {E W F : Type 0} (sink : Writer W F) {old new : W} {text : List ℕ} {s
   -- a write that went through, by what was said of it
   pub said_wrote : (answer : Result (Unit {0}) F) {done : Unit {0}} → said ≡ said_of answer → said ≡ Ok done
       → WritesBytes sink old answer text new → WritesAll sink old text new
-  said_wrote (Ok so) same is wrote = wrote
-  said_wrote (Err fault) same is wrote = absurd cc
+  said_wrote answer same is wrote = grind arith
 
   -- and one that failed
   pub said_failed : (answer : Result (Unit {0}) F) {error : DiagError E F} → said ≡ said_of answer → said ≡ Err error
       → WritesBytes sink old answer text new → (fault : F) × (error ≡ d.Write fault) × WritesFront sink old text new
-  said_failed (Ok so) same is wrote = absurd cc
-  said_failed (Err fault) same is wrote = (fault, cc, wrote)
+  said_failed answer same is wrote = grind arith
 
 -- ---- items that contain no others
 
@@ -109,33 +108,17 @@ module _ {R E W F : Type 0} (source : Reader R E) (sink : Writer W F) (layout : 
 -- what remains says whether the next item is a value: pairs are an even number of items, and with a key an odd one
 value_next : (header : Header) (count : ℕ) (remaining : Remaining) → IsRemaining header count remaining
     → is_value remaining ≡ is_value_at header count
-value_next (h.Tag n) count (r.Items m) is = refl
-value_next (h.Array (Some n)) count (r.Items m) is = refl
-value_next (h.Array None) count r.OpenItems is = refl
-value_next (h.Map (Some n)) count (r.Pairs m) is =
-    let pairs : count ≡ 2 * (n - m) = omega (arith, is) in
-    rw (pairs, mul-mod_right 2 (n - m))
-value_next (h.Map (Some n)) count (r.Value m) is =
-    let pairs : count ≡ 2 * (n - suc m) + 1 = omega (arith, is) in
-    rw (pairs, mul-add-mod_self_left 2 (n - suc m) 1)
-value_next (h.Map None) count r.OpenPairs is = rw (is.1, mul-mod_right 2 is.0)
-value_next (h.Map None) count r.OpenValue is = rw (is.1, mul-add-mod_self_left 2 is.0 1)
-value_next header count remaining is = absurd is
+value_next header count remaining is = grind (arith, nat_tests, mul-mod_right, mul-add-mod_self_left)
 
 -- where nothing remains the items are all, and nothing ends them
 all_done : (header : Header) (count : ℕ) (remaining : Remaining) → IsRemaining header count remaining
     → is_done remaining ≡ true → IsAll header count × (nest_end header ≡ [])
-all_done (h.Tag n) count (r.Items zero) is done = (omega (arith, is), refl)
-all_done (h.Array (Some n)) count (r.Items zero) is done = (omega (arith, is), refl)
-all_done (h.Map (Some n)) count (r.Pairs zero) is done = (omega (arith, is), refl)
-all_done header count remaining is done = absurd (grind arith)
+all_done header count remaining is done = grind arith
 
 -- where a break may stand, it ends them
 all_closed : (header : Header) (count : ℕ) (remaining : Remaining) → IsRemaining header count remaining
     → closes remaining ≡ true → IsAll header count × (nest_end header ≡ 0xff ∷ [])
-all_closed (h.Array None) count r.OpenItems is may = (tt, refl)
-all_closed (h.Map None) count r.OpenPairs is may = (is, refl)
-all_closed header count remaining is may = absurd (grind arith)
+all_closed header count remaining is may = grind arith
 
 module _ {R E W F : Type 0} (source : Reader R E) (sink : Writer W F) (layout : Layout) (level : ℕ)
     (header : Header) where

@@ -59,19 +59,7 @@ front_count None w' None r' = 0
 front_told : (w w' : Option (List ℕ)) (r r' : Option ℕ) (bytes : List ℕ) → AppendsFront w w' r r' bytes
     → AppendsFirst w w' r r' bytes (front_count w w' r r')
 unfolding front_count
-front_told (Some x) (Some y) r r' bytes f =
-    let count = f.0 in
-    let within : count ≤ length bytes = f.1.2 in
-    let long : length y ≡ length x + length (take count bytes) =
-    ap length f.1.0 ∙ length-append x (take count bytes) in
-    let is : count ≡ length y - length x = omega (arith, long, within, length-take-le count bytes within) in
-    subst (λ (n : ℕ). AppendsFirst (Some x) (Some y) r r' bytes n) is f.1
-front_told (Some x) None r r' bytes f = absurd f.1.0
-front_told None w' (Some x) (Some y) bytes f =
-    let is : f.0 ≡ x - y = omega (arith, f.1.1) in
-    subst (λ (n : ℕ). AppendsFirst None w' (Some x) (Some y) bytes n) is f.1
-front_told None w' (Some x) None bytes f = absurd f.1.1
-front_told None w' None r' bytes f = (tt, tt, omega arith)
+front_told w w' r r' bytes f = grind (arith, length-append, length-take-le)
 
 module _ {W F : Type 0} (sink : Ghosts W F) where
   -- a write that failed was seen to fail, so it did

@@ -35,45 +35,36 @@ module _ {E F : Type 0} where
   -- where it is the writer alone that may fail, what holds of a whole read holds
   pub reading_whole : (Holds : Result (Unit {0}) (SkipError E) → Type 0) (result : Result (Unit {0}) (DiagError E F))
       → Holds (Ok (tt {0})) → IfErr result IsWriting → OnReading Holds result
-  reading_whole Holds (Ok done) holds writing = holds
-  reading_whole Holds (Err error) holds writing = reading_unread (Unit {0}) Holds error writing
+  reading_whole Holds result holds writing = grind arith
 
   pub string_whole : (Holds : Result (Unit {0}) (Error E) → Type 0) (result : Result (Unit {0}) (DiagError E F))
       → Holds (Ok (tt {0})) → IfErr result IsWriting → OnString Holds result
-  string_whole Holds (Ok done) holds writing = holds
-  string_whole Holds (Err error) holds writing = string_unread Holds error writing
+  string_whole Holds result holds writing = grind arith
 
   -- what an error of one read says of another one
   pub reading_stops : (T U : Type 0) (One Other : Result (Unit {0}) (SkipError E) → Type 0) (error : DiagError E F)
       → ((stop : SkipError E) → One (Err stop) → Other (Err stop)) → OnReading {T = T} One (Err error)
       → OnReading {T = U} Other (Err error)
-  reading_stops T U One Other (d.Read stop) goes holds = goes stop holds
-  reading_stops T U One Other (d.Write fault) goes holds = tt
+  reading_stops T U One Other error goes holds = grind arith
 
   pub string_stops : (One Other : Result (Unit {0}) (Error E) → Type 0) (error : DiagError E F)
       → ((fault : Error E) → One (Err fault) → Other (Err fault)) → OnString One (Err error)
       → OnString Other (Err error)
-  string_stops One Other (d.Read (s.Read fault)) goes holds = goes fault holds
-  string_stops One Other (d.Write fault) goes holds = tt
-  string_stops One Other error goes never = absurd never
+  string_stops One Other error goes holds = grind arith
 
   -- what is said of a read where a break stands in place of an item, which may close or may not
   pub break_said : (may : Bool) (Holds : Result (Unit {0}) (SkipError E) → Type 0)
       (result : Result Bool (DiagError E F)) (is_first : Bool) (place : ℕ) → result ≡ (if may then Ok is_first else Err (d.Read (s.Break place)))
       → (may ≡ true → Holds (Ok (tt {0}))) → (may ≡ false → Holds (Err (s.Break place)))
       → OnReading {T = Bool} Holds result
-  break_said true Holds result is_first place same closed stops = rw same (closed refl)
-  break_said false Holds result is_first place same closed stops = rw same (stops refl)
+  break_said may Holds result is_first place same closed stops = grind arith
 
   -- what the read of a string says of that of an item
   pub reading_string : (One : Result (Unit {0}) (Error E) → Type 0) (Other : Result (Unit {0}) (SkipError E) → Type 0)
       (result : Result (Unit {0}) (DiagError E F)) → (One (Ok (tt {0})) → Other (Ok (tt {0})))
       → ((fault : Error E) → One (Err fault) → Other (Err (s.Read fault))) → OnString One result
       → OnReading Other result
-  reading_string One Other (Ok done) whole stops holds = whole holds
-  reading_string One Other (Err (d.Read (s.Read fault))) whole stops holds = stops fault holds
-  reading_string One Other (Err (d.Write fault)) whole stops holds = tt
-  reading_string One Other (Err error) whole stops never = absurd never
+  reading_string One Other result whole stops holds = grind arith
 
 -- a fact where the answer is Ok
 pub when_ok : {T F : Type 0} (P : Type 0) (result : Result T F) → P → OnOk result P
@@ -98,15 +89,13 @@ module _ {R E : Type 0} (source : Ghosts R E) where
   -- a decoder that moved on, and where the answer is Ok once more
   pub moved_then : {T F : Type 0} (old mid new : Decoder R) (result : Result T F) → MovesOn source old mid
       → OnOk result (MovesOn source mid new) → OnOk result (MovesOn source old new)
-  moved_then old mid new (Ok done) first next = MovesOn-then source old mid new first next
-  moved_then old mid new (Err error) first next = tt
+  moved_then old mid new result first next = grind (arith, MovesOn-then)
 
 -- what a write of a text answered, as the answer of a show
 pub said_text : {E W F : Type 0} (sink : Sink W F) (old new : W) (answer : Result (Unit {0}) F)
     (result : Result (Unit {0}) (DiagError E F)) (text : List ℕ) → result ≡ said_of answer
     → WritesBytes sink old answer text new → ShowsText sink (Some text) old result new
-said_text sink old new (Ok done) result text same wrote = rw same wrote
-said_text sink old new (Err fault) result text same wrote = rw same wrote
+said_text sink old new answer result text same wrote = grind arith
 
 module _ {R E W F : Type 0} (source : Ghosts R E) (sink : Sink W F) where
   -- what a write of a float's text answered, as the answer of a show
@@ -114,7 +103,4 @@ module _ {R E W F : Type 0} (source : Ghosts R E) (sink : Sink W F) where
       (result : Result (Unit {0}) (DiagError E F)) → header ≡ h.Float float → result ≡ said_of answer
       → ShowsOne sink (IsFloatText float) old.writer answer new.writer
       → ShowsHeader source sink header old result new
-  float_said header float old new (Ok done) result is same shown = rw (is, same)
-      (shown.text, shown.is_text, shown.written)
-  float_said header float old new (Err fault) result is same shown = rw (is, same)
-      (shown.text, shown.is_text, shown.written)
+  float_said header float old new answer result is same shown = grind arith
