@@ -28,9 +28,7 @@ pub finite_text : (value : Float) (digits bytes : List ℕ) → float_is_finite 
     → parse_float binary64 digits ≡ Some value → IsPlusNumber 16 4 digits → bytes ≡ digits
     → IsNumberText value (with_point bytes)
 unfolding float_is_finite
-finite_text (fin sign number exponent) digits bytes is parses layout same =
-    (digits, parses, layout, ap with_point same)
-finite_text value digits bytes is parses layout same = absurd cc
+finite_text value digits bytes is parses layout same = grind arith
 
 pub minus_text : (value : Float) → is_nan value ≡ false → float_is_finite value ≡ false
     → is_sign_negative value ≡ true → IsNumberText value (codes "-Infinity")

@@ -80,28 +80,14 @@ module _ {R E W F : Type 0} (source : Reader R E) (sink : Writer W F) (layout : 
       (result : Result (Unit {0}) (DiagError E F)) → IsShown layout level header [] text → result ≡ said_of answer
       → WritesBytes sink old answer text new
       → OnOk result (RestShown source sink layout level header (sides decoder old) (sides decoder new))
-  plain_said header text decoder old new (Ok done) result shown same wrote = rw same (record {
-    rest = [];
-    text = text;
-    shown = shown;
-    passed = Passes-none source decoder;
-    written = wrote;
-  })
-  plain_said header text decoder old new (Err fault) result shown same wrote = rw same tt
+  plain_said header text decoder old new answer result shown same wrote = grind (arith, Passes-none)
 
   -- a string
   pub string_shown : (kind : Kind) (len : Option ℕ) (room : ℕ) (old new : Sides R W)
       (result : Result (Unit {0}) (DiagError E F))
       → ShowsString source sink kind (kind_quotes kind) len room old result new
       → OnOk result (RestShown source sink layout level (kind_header kind len) old new)
-  string_shown kind len room old new (Ok done) shows = record {
-    rest = shows.reads.behind;
-    text = _;
-    shown = string kind len shows.reads.is_string;
-    passed = shows.reads.passed;
-    written = shows.written;
-  }
-  string_shown kind len room old new (Err error) shows = tt
+  string_shown kind len room old new result shows = grind (arith, string)
 
 -- ---- the items of a tag, an array or a map
 
@@ -234,8 +220,7 @@ module _ {R E W F : Type 0} {source : Reader R E} {sink : Writer W F} {layout : 
       → result ≡ (if may then Ok first else Err (d.Read (s.Break place)))
       → (may ≡ true → WithinShown source sink layout level header old first (sides new now.writer))
       → ShowsWithin source sink layout level header old result (sides new now.writer)
-  break_shown true new result place pulled same closed = rw same (closed refl)
-  break_shown false new result place pulled same closed = rw same (title_stops (s.Break place) new pulled)
+  break_shown may new result place pulled same closed = grind (arith, title_stops)
 
 -- ---- a tag, an array or a map
 
@@ -279,8 +264,7 @@ module _ {R E W F : Type 0} (source : Reader R E) (sink : Writer W F) where
       (result : Result (Unit {0}) (DiagError E F)) → ShowsHeader source sink header old result new
       → OnOk result (RestShown source sink layout level header old new)
       → ShowsRest source sink layout level header old result new
-  plain_shown layout level header old new (Ok done) shows shown = shown
-  plain_shown layout level header old new (Err error) shows shown = plain shows
+  plain_shown layout level header old new result shows shown = grind (arith, plain)
 
   -- a title, and the rest of its item
   pub item_shown : (layout : Layout) {header : Header} {before titled : Decoder R} (writer : W) (new : Sides R W)

@@ -1,4 +1,5 @@
 -- Texts that are written one behind the other.
+use Rattle.std.proofs.Common.{arith}
 use Rattle.std.proofs.Common.{◌≡◌, ℕ, List, [], ◌++◌, Some, Result, Ok, Err, IsErr}
 use Rattle.ciborium_ll.specs.Types.Write.{Ghosts}
 use Rattle.ciborium_ll.specs.Encoding.{WritesAll, WritesBytes, WritesFront}
@@ -21,9 +22,7 @@ module _ {W F : Type 0} {sink : Ghosts W F} {old mid : W} {xs : List ℕ} (first
   -- as the answer of a show
   pub said_then : {E : Type 0} (ys : List ℕ) (new : W) (result : Result (Unit {0}) (DiagError E F))
       → ShowsText sink (Some ys) mid result new → ShowsText sink (Some (xs ++ ys)) old result new
-  said_then ys new (Ok done) second = wrote_both second
-  said_then ys new (Err (d.Read error)) never = never
-  said_then ys new (Err (d.Write fault)) second = wrote_first fault second
+  said_then ys new result second = grind (arith, wrote_both, wrote_first)
 
 module _ {W F : Type 0} (sink : Ghosts W F) where
   -- the pieces in front of the rest were written: what a write of the rest does now, one of all does

@@ -79,12 +79,7 @@ module _ {R E : Type 0} (source : Ghosts R E) where
   pub whole_moves : (kind : Kind) (len : Option ℕ) (opened pushed new : Decoder R)
       → SkipsWhole source kind len opened new → MovesOn source pushed new → refusals_of pushed ≡ refusals_of opened
       → MovesOn source opened new
-  whole_moves kind len opened pushed new whole moves same = record {
-    steady = whole.passed.steady;
-    mode = whole.passed.mode;
-    refusals = moves.refusals ∙ same;
-    rises = omega (arith, whole.passed.offset);
-  }
+  whole_moves kind len opened pushed new whole moves same = grind arith
 
   -- a decoder that moved on, and where the answer is Ok once more
   pub moved_then : {T F : Type 0} (old mid new : Decoder R) (result : Result T F) → MovesOn source old mid

@@ -1,4 +1,5 @@
 -- The show of a string, segment by segment.
+use Rattle.std.proofs.Common.{arith}
 use Rattle.std.proofs.Common.{◌≡◌, ◌∙◌, ℕ, Bool, true, false, List, [], ◌∷◌, ◌++◌, Option, Some, None, Result, Ok, Err}
 use Rattle.std.proofs.Common.{refl, sym, inl, inr, append_assoc, append-nil}
 use Rattle.ciborium_ll.specs.Types.Read.{Ghosts as Reader}
@@ -65,21 +66,12 @@ push_some (b ∷ bs) body = refl
 -- a header that a string refuses is that of no body
 no_body : (k : Kind) (strict : Bool) (opens : ℕ) (header : Header) → IsRefusedAt strict k opens header → (count : ℕ)
     → header ≡ kind_header k (Some count) → ⊥
-no_body k strict opens header (inl (inl first)) count is = not_break k (Some count) (sym is ∙ first.1)
-no_body k strict opens header (inl (inr other)) count is = kind_not_misplaced k (Some count) (rw is at other)
-no_body k strict opens header (inr nested) count is = mixed count (same_len k (Some count) None (sym is ∙ nested.2))
+no_body k strict opens header refused count is = grind (arith, not_break, kind_not_misplaced, mixed, same_len)
 
 module _ {R E : Type 0} {source : Reader R E} (k : Kind) (strict : Bool) where
   meets : (left : ℕ) (between new : Decoder R) (error : Error E) (progress : Progress)
       → EndsAdvance source k strict left between (Err error) progress new → MeetsNoBody source k between error new
-  meets left between new (e.Io fault) progress ends = inl ends.0
-  meets left between new (e.Syntax at) progress (inl refused) = inl refused.0
-  meets left between new (e.Syntax at) progress (inr found) =
-      inr (found.other.header, found.other.pulled, no_body k strict left found.other.header found.other.refused)
-  meets left between new e.TooLong progress (inl passes) = inl passes.0
-  meets left between new e.TooLong progress (inr deep) =
-      inr (kind_header k None, deep.pulled, λ count is. mixed count (sym (same_len k None (Some count) is)))
-  meets left between new e.Waiting progress ends = absurd ends
+  meets left between new error progress ends = grind (arith, no_body, mixed, same_len)
 
   module _ {opened now new : Decoder R} {bodies : List (List ℕ)} {progress : Progress} (progress' : Progress)
       (steady : IsSteady source now → IsSteady source new) where
