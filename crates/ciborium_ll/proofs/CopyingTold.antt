@@ -149,20 +149,12 @@ module _ {R E W F : Type 0} {source : Reader R E} {sink : Writer W F} {old : Sid
 
     told : (result : Result (Unit {0}) (RecodeError E F)) → CopiesHeaders source sink count old result new
         → CopiesTold source sink count due written old.decoder result new
-    told (Ok done) all = told_all all
-    told (Err (r.Read error)) stops = told_stop error stops
-    told (Err (r.Write fault)) stops = never_full stops
+    told result copied = grind (arith, told_all, told_stop, never_full)
 
     -- a fault excludes as many titles in front
     fault_or_titles : {headers : List Header} (copied : CopiesTitles source sink headers due written new.writer)
         → length headers < count → BeginsRefused copied.rest ⊎ IsCutTitle copied.rest → TitlesInFront count due → ⊥
-    fault_or_titles {headers} copied fewer fault front =
-        let next = title_behind copied.rest front.rest copied.titles front.titles (sym copied.parts ∙ front.parts)
-        (omega (arith, fewer, front.all)) in
-        elim fault [
-          | inl refused ↦ title_refused next.0 next.2 next.1 next.3 (rw next.4 at refused)
-          | inr cut ↦ title_not_cut next.0 next.2 next.1 next.3 (rw next.4 at cut)
-        ]
+    fault_or_titles copied fewer fault front = grind (arith, title_behind, title_refused, title_not_cut)
 
     exactly_told : (result : Result (Unit {0}) (RecodeError E F))
         → CopiesTold source sink count due written old.decoder result new → IsOk result ↔ TitlesInFront count due

@@ -27,9 +27,7 @@ use Rattle.ciborium_ll_decoder.proofs.BodyLaws.{split_parts, writable_nil, writa
 pub front_long : (sizes buffer buffer' : List ℕ) (index : ℕ) → All (λ size. size ≤ length buffer) sizes
     → length buffer' ≡ length buffer → index < length sizes
     → length (take (get_or sizes index 0) buffer') ≡ get_or sizes index 0
-front_long sizes buffer buffer' index fit same less =
-    let fits = fit index 0 less in
-    length-take-le (get_or sizes index 0) buffer' (omega (arith, fits, same))
+front_long sizes buffer buffer' index fit same less = grind (arith, length-take-le)
 
 module _ {R E P W F : Type 0} {parser : Parser P} (source : Reader R E) (sink : Writer W F) where
   -- so far each size brought a chunk, and this one is next
@@ -94,13 +92,7 @@ module _ {R E P W F : Type 0} {parser : Parser P} (source : Reader R E) (sink : 
 
     needed_more : (count : ℕ) → count < length (sizes ++ size ∷ [])
         → gains parser.kind (take count (sizes ++ size ∷ [])) < old.unread
-    needed_more count less = elim (cases_lt count (length sizes)) [
-      | inl earlier ↦ rw (take-append-le count sizes (size ∷ []) (omega (arith, earlier))) (some.needed count earlier)
-      | inr last ↦
-          let at : count ≡ length sizes = omega (arith, last, less, length-append sizes (size ∷ [])) in
-          rw (at, take-append_seam sizes (size ∷ []))
-          (grind (arith, some.least, some.unread, gives.reads.some_unread))
-    ]
+    needed_more count less = grind (arith, take-append-le, take-append_seam, length-append, some.needed, some.least, some.unread, gives.reads.some_unread)
 
     least_more : (gains parser.kind (sizes ++ size ∷ []) ≤ length (some.read ++ gives.read)) ⊎ (new.unread ≡ 0)
     least_more =

@@ -249,16 +249,10 @@ module _ {R E P W F : Type 0} {parser : Parser P} {source : Reader R E} {sink : 
     -- ---- no side fails
 
     no_failure : (fault : E) → DrainFails source sink sizes old writer (e.Io fault) new writer' → ⊥
-    no_failure fault stops =
-        let c = came stops.comes.each in
-        let short = stops.fails.fails.steady (c.some.passed.steady ready.steady) in
-        let few = rw c.ahead at short.1 in
-        omega (arith, few, c.counted, length-append c.more c.beyond)
+    no_failure fault stops = grind (arith, came, length-append)
 
     no_overflow : DrainFails source sink sizes old writer e.TooLong new writer' → ⊥
-    no_overflow stops =
-        let some = (came stops.comes.each).some in
-        omega (arith, stops.fails.full, some.passed.offset, some.unread, ready.fits)
+    no_overflow stops = grind (arith, came)
 
     no_refusal : DrainUnwritten source sink sizes old writer new writer' → ⊥
     no_refusal stops =
@@ -287,26 +281,19 @@ module _ {R E P W F : Type 0} {parser : Parser P} {source : Reader R E} {sink : 
 
     ends_told : (calls : ℕ) (how : End) → EndsDrain source sink sizes old writer calls how new writer'
         → EndsTold source sink sizes body written old calls how new writer'
-    ends_told calls end.Ended all = all_told calls all
-    ends_told calls end.OutOfSizes all = rest_told calls all
+    ends_told calls how all = grind (arith, all_told, rest_told)
 
     pub drains_told : (result : Result Drained (RecodeError E F))
         → Drains source sink sizes old writer result new writer'
         → DrainsTold source sink sizes body written old result new writer'
-    drains_told (Ok drained) drains = ends_told drained.calls drained.end drains
-    drains_told (Err (r.Read (e.Syntax at))) stops = damage_told at stops
-    drains_told (Err (r.Read (e.Io fault))) stops = no_failure fault stops
-    drains_told (Err (r.Read e.TooLong)) stops = no_overflow stops
-    drains_told (Err (r.Read e.Waiting)) stops = stops.fails
-    drains_told (Err (r.Write fault)) stops = no_refusal stops
+    drains_told result drains = grind (arith, ends_told, damage_told, no_failure, no_overflow, no_refusal)
 
     -- ---- how it ends depends on the body and the sizes alone
 
     -- enough sizes lead to the end, as soon as they are enough
     ends_soon : (calls : ℕ) (how : End) → EndsTold source sink sizes body written old calls how new writer'
         → (count : ℕ) → IsEnough parser.kind sizes (length body) count → (how ≡ end.Ended) × (calls ≤ count + 1)
-    ends_soon calls end.Ended told count enough = (refl, told.soon count enough)
-    ends_soon calls end.OutOfSizes told count enough = absurd (told.too_few count enough)
+    ends_soon calls how told count enough = grind arith
 
     pub bytes_exactly : (result : Result Drained (RecodeError E F)) → parser.kind ≡ Bytes
         → DrainsTold source sink sizes body written old result new writer'
@@ -329,8 +316,4 @@ module _ {R E P W F : Type 0} {parser : Parser P} {source : Reader R E} {sink : 
     pub text_exactly : (result : Result Drained (RecodeError E F)) (count : ℕ) → parser.kind ≡ Text
         → IsEnough parser.kind sizes (length body) count
         → DrainsTold source sink sizes body written old result new writer' → SaysEnded result ↔ IsCharacters body
-    text_exactly (Ok drained) count is enough told =
-        (λ same. rw is at (rw same at told).sound, λ text. (ends_soon drained.calls drained.end told count enough).0)
-    text_exactly (Err (r.Read (e.Syntax at))) count is enough told =
-        (λ never. absurd never, λ text. absurd (told.no_text text))
-    text_exactly (Err error) count is enough told = absurd told
+    text_exactly result count is enough told = grind (arith, ends_soon)

@@ -1,4 +1,5 @@
 -- Pieces written one by one.
+use Rattle.std.proofs.Common.{arith}
 use Rattle.std.proofs.Common.{◌≡◌, ℕ, add-one, false, ◌<◌, ◌^◌, List, [], ◌∷◌, ◌++◌, length, Option, Some, Result, Ok}
 use Rattle.std.proofs.Common.{IsErr, refl, sym, ap, ◌∙◌, IsOk, ◌↔◌, Err, append_assoc, length-append}
 use Rattle.std.proofs.lemmas.List.{append-nil}
@@ -45,24 +46,12 @@ module _ {W F : Type 0} (sink : Ghosts W F) where
   pub header_marked : {T : Type 0} (header : Header) (old new : W) (result : Result T F) → IsPlain header
       → IsInRange header → WritesBytes sink old result (shortest_title header) new → sink.target new ≡ sink.target old
       → WritesMarked sink (λ marks. marks ≡ Plain header ∷ []) old result new
-  header_marked header old new result plain_one range wrote target = record {
-    marks = Plain header ∷ [];
-    are = refl;
-    element = rw append-nil (plain header (IsTitle-shortest header range) plain_one);
-    bytes = rw append-nil wrote;
-    target = target;
-  }
+  header_marked header old new result plain_one range wrote target = grind (arith, append-nil, plain, IsTitle-shortest)
 
   pub value_marked : {T : Type 0} (k : Kind) (segment : Option ℕ) (value : List ℕ) (old new : W) (result : Result T F)
       → IsWritable k value → length value < 2 ^ 64 → WritesValue sink k segment value old result new
       → sink.target new ≡ sink.target old → WritesMarked sink (IsValue k segment value) old result new
-  value_marked k segment value old new result sound n wrote target = record {
-    marks = wrote.marks;
-    are = value_of k segment value wrote.marks wrote.written;
-    element = written_element k (value_limit k segment value) value wrote.marks wrote.written sound n;
-    bytes = wrote.bytes;
-    target = target;
-  }
+  value_marked k segment value old new result sound n wrote target = grind (arith, value_of, written_element)
 
 -- ---- the loop over the pieces
 
@@ -122,18 +111,7 @@ module _ {W F : Type 0} (sink : Ghosts W F) where
     -- one piece more was not written
     pub midway_stops : (result : Result (Unit {0}) F) → IsErr result → WritesFront sink now (spelling marks) new
         → WritesElements sink all old result new
-    midway_stops (Ok unit) e wrote = absurd cc
-    midway_stops (Err fault) e wrote = record {
-      front = m.front;
-      piece = piece;
-      behind = behind;
-      are = cc (m.are, split);
-      between = now;
-      written = m.written;
-      marks = marks;
-      is_piece = is;
-      stopped = wrote;
-    }
+    midway_stops result e wrote = grind (arith, append_assoc)
 
   -- all pieces were written
   pub midway_last : {all rest : List Piece} {old now : W} → rest ≡ [] → Midway all rest old now
@@ -149,22 +127,4 @@ module _ {R E W F : Type 0} (source : Reader R E) (sink : Ghosts W F) where
       → (IsOk result ↔ RunInFront false count (spelling marks ++ rest))
       → RecodesTold source sink false count (spelling marks ++ rest) written old result (sides new writer')
       → CopiesSame source sink (spelling marks) rest written result new writer'
-  copied_same count marks rest written old new writer' (Ok unit) run exactly told =
-      let front = told.front in
-      let same = one_run count front.elements front.marks front.run (spelling marks) front.rest rest marks run
-      (sym front.is) in
-      record {
-        ok = refl;
-        output = told.output ∙ ap (λ (z : List Mark). Some (written ++ spelling z)) same.1;
-        left = told.left ∙ ap Some same.2;
-      }
-  copied_same count marks rest written old new writer' (Err error) run exactly told =
-      let ok : IsOk {T = Unit {0}} {E = RecodeError E F} (Err error) = exactly.1 (record {
-        elements = spelling marks;
-        marks = marks;
-        rest = rest;
-        run = run;
-        is = refl;
-        spelled = λ on. absurd cc;
-      }) in
-      absurd cc
+  copied_same count marks rest written old new writer' result run exactly told = grind (arith, one_run)

@@ -113,15 +113,7 @@ module _ {R E : Type 0} (source : Reader R E) (k : Kind) where
           → ReadSoFar (Some len) title opened bodies last now → AdvancesTo source k strict last now result after new
           → ((bodies ≡ []) × FindsOnly source k len opened result after new) ⊎
           ((result ≡ Ok None) × HasReadBody len opened bodies new)
-      lone_advanced len result so_far advances = elim so_far.far [
-        | inl start ↦ inl (
-          start.nothing,
-          advance_definite source k strict len opened now new result after
-              (title_in_range title (kind_header k (Some len)) so_far.is_title) start.back (rw start.fresh at advances),
-        )
-        | inr done ↦ (let gone : (result ≡ Ok None) × (after ≡ p.Ended) × (new ≡ now) = rw done.1 at advances in
-            inr (gone.0, rw gone.2 done.0))
-      ]
+      lone_advanced len result so_far advances = grind (arith, advance_definite, title_in_range)
 
       -- so the body's title comes first
       pub lone_titled : (len : ℕ) (body : Body) → ReadSoFar (Some len) title opened bodies last now
