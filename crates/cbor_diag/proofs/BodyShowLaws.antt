@@ -53,9 +53,7 @@ module _ {R E W F V : Type 0} (source : Reader R E) (sink : Writer W F) (given :
       (all : count v' ≡ count v → WritesAll sink w (body_text quotes (given v')) w')
       (front : count v' ≡ count v + 1 → WritesFront sink w (body_text quotes (given v')) w') where
     quoted_front : (bytes : List ℕ) → WritesAll quoting v bytes v' → WritesAll sink w (body_text quotes bytes) w'
-    quoted_front bytes written =
-        let is : given v' ≡ bytes = cc (written.appended, none) in
-        rw is at (all written.failures)
+    quoted_front bytes written = grind (arith, all)
 
     quoted_part : BodyUnwritten source quoting kind len room (sides old v) (sides new v')
         → BodyUnshown source sink kind len (body_text quotes) (sides old w) (sides new w')

@@ -1,7 +1,7 @@
 -- The text of a float, written piece by piece.
-use Rattle.std.proofs.Common.{rules, ◌≡◌, ℕ, true, false, Some, is_nan, List, [], ◌∷◌, ◌++◌, arith, Result, refl, ap}
+use Rattle.std.proofs.Common.{rules, ◌≡◌, ℕ, true, false, Some, is_nan, List, [], ◌∷◌, ◌++◌, arith, Result, refl}
 use Rattle.std.proofs.Common.{from_bits, codes}
-use Rattle.std.specs.Float.{Float, nan, inf, fin, binary64, float_is_finite, is_sign_negative}
+use Rattle.std.specs.Float.{Float, nan, inf, binary64, float_is_finite, is_sign_negative}
 use Rattle.std.specs.Float as f
 use Rattle.ciborium_ll.specs.Types.Write.{Ghosts}
 use Rattle.ryu.specs.Parse.{parse_float}

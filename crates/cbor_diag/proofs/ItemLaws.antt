@@ -26,8 +26,7 @@ module _ {R E : Type 0} (source : Ghosts R E) (outer : Bool) (depth : ℕ) (befo
   -- a tag, an array or a map for which no level is left
   pub nest_deep : (titled : Decoder R) (header : Header) (place : ℕ) → depth ≡ 0 → place ≡ before.offset → IsNest header
       → PullsTitle source before header titled → StopsItem source outer depth 64 before (s.Deep place) titled
-  nest_deep titled header place none at nest pulled =
-      stops_here source (record { none_left = none; place = at; header = header; is_nest = nest; pulled = pulled })
+  nest_deep titled header place none at nest pulled = grind (arith, stops_here)
 
 module _ {R E F : Type 0} (source : Ghosts R E) (outer : Bool) (depth : ℕ) (before titled : Decoder R)
     (steady : IsSteady source before → IsSteady source titled) where

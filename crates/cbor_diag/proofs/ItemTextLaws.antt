@@ -1,9 +1,8 @@
 -- The texts of items, as they are written one behind the other.
 use Rattle.std.proofs.lemmas.Bool.Decides.{nat_tests}
 use native.Mathlib.Nat.{zero-add, suc-add}
-use Rattle.std.proofs.Common.{◌≡◌, ◌∙◌, ℕ, zero, suc, ◌+◌, ◌-◌, ◌*◌, ◌<◌, Bool, true, false, List, [], ◌∷◌, ◌++◌, codes}
-use Rattle.std.proofs.Common.{if◌then◌else◌, Option, Some, None, Result, Ok, Err, IsErr, OnOk, arith, refl, ap, subst}
-use Rattle.std.proofs.Common.{append-nil}
+use Rattle.std.proofs.Common.{◌≡◌, ◌∙◌, ℕ, zero, suc, ◌+◌, ◌-◌, ◌<◌, Bool, true, false, List, [], ◌∷◌, ◌++◌, codes}
+use Rattle.std.proofs.Common.{if◌then◌else◌, Option, Result, Ok, Err, IsErr, OnOk, arith, refl, ap, subst, append-nil}
 use Rattle.std.proofs.Math.Nat.{mul-mod_right, mul-add-mod_self_left}
 use Rattle.ciborium_ll.specs.Types.Read.{Ghosts as Reader}
 use Rattle.ciborium_ll.specs.Types.Decoder.{Decoder}
@@ -18,7 +17,6 @@ use Rattle.ciborium_ll_decoder.proofs.NestLaws.{alone_bytes}
 use Rattle.cbor_skip.specs.declared.SkipError.{SkipError}
 use Rattle.cbor_skip.specs.declared.SkipError.TheVariants as s
 use Rattle.cbor_skip.specs.declared.remaining.Remaining.{Remaining}
-use Rattle.cbor_skip.specs.declared.remaining.Remaining.TheVariants as r
 use Rattle.cbor_skip.specs.Remaining.{IsRemaining, is_done, closes, is_value}
 use Rattle.cbor_diag.specs.declared.DiagError.{DiagError}
 use Rattle.cbor_diag.specs.declared.DiagError.TheVariants as d
@@ -200,9 +198,7 @@ module _ {R E W F : Type 0} {source : Reader R E} {sink : Writer W F} {layout : 
 
   -- so it is where nothing remains
   pub items_done : is_done remaining ≡ true → WithinShown source sink layout level header old first now
-  items_done done =
-      let all = all_done header far.count remaining far.is_remaining done in
-      all_shown now.decoder all.0 (rw (all.1, append-nil far.begun.items) far.begun.passed)
+  items_done done = grind (arith, all_done, all_shown, append-nil)
 
   -- or a break ended them
   pub items_closed : (titled : Decoder R) → closes remaining ≡ true → PullsTitle source now.decoder h.Break titled

@@ -1,12 +1,10 @@
 -- Texts that are written one behind the other.
-use Rattle.std.proofs.Common.{arith}
-use Rattle.std.proofs.Common.{◌≡◌, ℕ, List, [], ◌++◌, Some, Result, Ok, Err, IsErr}
+use Rattle.std.proofs.Common.{arith, ◌≡◌, ℕ, List, [], ◌++◌, Some, Result, Ok, Err, IsErr}
 use Rattle.ciborium_ll.specs.Types.Write.{Ghosts}
 use Rattle.ciborium_ll.specs.Encoding.{WritesAll, WritesBytes, WritesFront}
 use Rattle.ciborium_ll.proofs.EncodingLaws.{WritesBytes-stopped, WritesBytes-then}
 use Rattle.ciborium_ll.proofs.PiecesWritten.{writes_nothing}
 use Rattle.cbor_diag.specs.declared.DiagError.{DiagError}
-use Rattle.cbor_diag.specs.declared.DiagError.TheVariants as d
 use Rattle.cbor_diag.specs.Showing.{ShowsText}
 
 module _ {W F : Type 0} {sink : Ghosts W F} {old mid : W} {xs : List ℕ} (first : WritesAll sink old xs mid) where

@@ -1,6 +1,6 @@
 -- What a writer of quoted bytes has written to the writer within, step by step.
-use Rattle.std.proofs.Common.{◌≡◌, ◌∙◌, ℕ, ◌+◌, ◌-◌, ◌<◌, ◌≤◌, Bool, true, false, List, [], ◌∷◌, ◌++◌, length, take}
-use Rattle.std.proofs.Common.{Option, Some, None, IfSome, refl, sym, ap, subst, arith, append_assoc, length-append}
+use Rattle.std.proofs.Common.{◌≡◌, ℕ, ◌-◌, ◌<◌, Bool, true, false, List, [], ◌∷◌, ◌++◌, length, take, Option, Some}
+use Rattle.std.proofs.Common.{None, IfSome, refl, sym, subst, arith, append_assoc, length-append}
 use Rattle.std.proofs.Math.Logic.{∥∥₁_elim, ∥∥₁_map}
 use Rattle.std.proofs.lemmas.List.{length-take-le}
 use Rattle.std.proofs.Props.{props}
@@ -91,11 +91,7 @@ module _ {W F : Type 0} (sink : Ghosts W F) where
 
   -- a beginning of xs is one of xs and ys
   pub front_longer : (old new : W) (xs ys : List ℕ) → WritesFront sink old xs new → WritesFront sink old (xs ++ ys) new
-  front_longer old new xs ys f = record {
-    front = AppendsFront-longer _ _ _ _ xs ys f.front;
-    full = full_longer (sink.room old) xs ys f.full;
-    failures = f.failures;
-  }
+  front_longer old new xs ys f = grind (arith, AppendsFront-longer, full_longer)
 
   -- ---- step by step
 

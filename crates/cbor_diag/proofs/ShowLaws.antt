@@ -1,6 +1,6 @@
 -- What is said of a read, by the answer of a show.
-use Rattle.std.proofs.Common.{◌≡◌, ◌∙◌, if◌then◌else◌, ℕ, Bool, true, false, List, Option, Some, Result, Ok, Err, IsErr}
-use Rattle.std.proofs.Common.{IfErr, OnOk, arith, refl}
+use Rattle.std.proofs.Common.{◌≡◌, if◌then◌else◌, ℕ, Bool, true, false, List, Option, Some, Result, Ok, Err, IsErr}
+use Rattle.std.proofs.Common.{IfErr, OnOk, arith}
 use Rattle.ciborium_ll.specs.Types.Read.{Ghosts}
 use Rattle.ciborium_ll.specs.Types.Decoder.{Decoder}
 use Rattle.ciborium_ll.specs.Types.Float.{Float as Raw}

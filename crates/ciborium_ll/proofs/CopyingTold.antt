@@ -126,26 +126,7 @@ module _ {R E W F : Type 0} {source : Reader R E} {sink : Writer W F} {old : Sid
     told_stop e.Waiting stops = absurd stops.stopped
 
     never_full : StopsAtPush source sink count old new → ⊥
-    never_full stops =
-        let f = copies_front ready stops.copied in
-        let gone = consumes_told _ _ f.0.rest stops.pulled.title f.1 stops.pulled.bytes in
-        let behind = ap length gone.2 in
-        let whole = ap length f.0.parts in
-        let room = shrinks_told _ _ ready.room (length (shortest_titles stops.headers)) ready.room-told
-        stops.copied.written.room in
-        let less : room.0 < length (shortest_title stops.last) = rw room.1 at stops.stopped.full in
-        omega (
-          arith,
-          behind,
-          whole,
-          room.2,
-          less,
-          ready.enough,
-          titles_no_longer f.0.front stops.headers f.0.titles,
-          shortest_no_longer stops.pulled.title stops.last stops.pulled.is_title,
-          length-append stops.pulled.title gone.0,
-          length-append f.0.front f.0.rest,
-        )
+    never_full stops = grind (arith, copies_front, consumes_told, shrinks_told, titles_no_longer, shortest_no_longer, length-append)
 
     told : (result : Result (Unit {0}) (RecodeError E F)) → CopiesHeaders source sink count old result new
         → CopiesTold source sink count due written old.decoder result new

@@ -1,5 +1,5 @@
 -- A drain of a body, chunk by chunk: what the calls come to.
-use Rattle.std.proofs.Common.{◌≡◌, ℕ, ◌+◌, ◌-◌, ◌<◌, ◌≤◌, ◌⊎◌, All, List, [], ◌∷◌, ◌++◌, length, take, drop, get_or, Ok}
+use Rattle.std.proofs.Common.{◌≡◌, ℕ, ◌+◌, ◌<◌, ◌≤◌, ◌⊎◌, All, List, [], ◌∷◌, ◌++◌, length, take, drop, get_or, Ok}
 use Rattle.std.proofs.Common.{refl, sym, ap, ◌∙◌, inl, inr, arith, append_assoc, append-nil, length-append}
 use Rattle.std.proofs.Common.{length-take-le}
 use Rattle.std.proofs.lemmas.Bool.{cases_lt}
@@ -11,7 +11,7 @@ use Rattle.ciborium_ll_io.specs.declared.io.Read.{Ghosts as Reader}
 use Rattle.ciborium_ll_io.specs.declared.io.Write.{Ghosts as Writer}
 use Rattle.ciborium_ll_decoder.specs.declared.seg.Parser.{Ghosts as Parser}
 use Rattle.ciborium_ll_decoder.specs.declared.seg.Segment.{Segment}
-use Rattle.ciborium_ll_grammar.specs.Strings.{Kind, Bytes, Text, most_kept}
+use Rattle.ciborium_ll_grammar.specs.Strings.{Kind, Bytes, Text}
 use Rattle.ciborium_ll_decoder.specs.Kept.{kept_bytes}
 use Rattle.ciborium_ll_decoder.specs.Decoding.{IsSteady}
 use Rattle.ciborium_ll_io.specs.Writes.{WritesAll}
@@ -80,26 +80,14 @@ module _ {R E P W F : Type 0} {parser : Parser P} (source : Reader R E) (sink : 
 
     -- what was read with one chunk more
     chunk_parts : kept_bytes old.kept ++ (some.read ++ gives.read) ≡ (some.given ++ chunk) ++ kept_bytes new.kept
-    chunk_parts =
-        let kept = kept_bytes between.kept in
-        cc (
-          append_assoc (kept_bytes old.kept) some.read gives.read,
-          some.parts,
-          append_assoc some.given kept gives.read,
-          split_parts parser.kind (kept ++ gives.read) chunk (kept_bytes new.kept) gives.split,
-          append_assoc some.given chunk (kept_bytes new.kept),
-        )
+    chunk_parts = grind (arith, append_assoc, split_parts, some.parts, gives.split)
 
     needed_more : (count : ℕ) → count < length (sizes ++ size ∷ [])
         → gains parser.kind (take count (sizes ++ size ∷ [])) < old.unread
     needed_more count less = grind (arith, take-append-le, take-append_seam, length-append, some.needed, some.least, some.unread, gives.reads.some_unread)
 
     least_more : (gains parser.kind (sizes ++ size ∷ []) ≤ length (some.read ++ gives.read)) ⊎ (new.unread ≡ 0)
-    least_more =
-        let few = few_kept parser.kind between.kept between.text_alone in
-        let added = sum_by_push (λ (n : ℕ). n - most_kept parser.kind) sizes size in
-        let joined = length-append some.read gives.read in
-        grind (arith, few, added, joined, some.least, gives.reads.count, gives.reads.unread, gives.reads.some_unread)
+    least_more = grind (arith, few_kept, sum_by_push, length-append, some.least, gives.reads.count, gives.reads.unread, gives.reads.some_unread)
 
     filled_more : All (λ (size : ℕ). size ≤ length (kept_bytes old.kept) + length (some.read ++ gives.read))
         (sizes ++ size ∷ []) ⊎ (new.unread ≡ 0)

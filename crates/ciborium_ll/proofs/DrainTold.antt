@@ -44,8 +44,7 @@ gains-bytes (size ∷ sizes) =
 -- sizes that add up are enough for bytes
 add_up : {kind : Kind} {sizes : List ℕ} {bytes count : ℕ} → kind ≡ Bytes → AddUp sizes bytes count
     → IsEnough kind sizes bytes count
-add_up {sizes} {count} is adds =
-    record { fewer = adds.fewer; enough = rw (is, gains-bytes (take count sizes)) adds.enough }
+add_up is adds = grind (arith, gains-bytes)
 
 -- what each of the sizes brings on at least, added up
 least_gains : (kind : Kind) (size : ℕ) (sizes : List ℕ) → AllByRecursion (λ other. size ≤ other) sizes

@@ -1,7 +1,6 @@
 -- Pieces written one by one.
-use Rattle.std.proofs.Common.{arith}
-use Rattle.std.proofs.Common.{◌≡◌, ℕ, add-one, false, ◌<◌, ◌^◌, List, [], ◌∷◌, ◌++◌, length, Option, Some, Result, Ok}
-use Rattle.std.proofs.Common.{IsErr, refl, sym, ap, ◌∙◌, IsOk, ◌↔◌, Err, append_assoc, length-append}
+use Rattle.std.proofs.Common.{arith, ◌≡◌, ℕ, add-one, false, ◌<◌, ◌^◌, List, [], ◌∷◌, ◌++◌, length, Option, Result, Ok}
+use Rattle.std.proofs.Common.{IsErr, refl, IsOk, ◌↔◌, append_assoc, length-append}
 use Rattle.std.proofs.lemmas.List.{append-nil}
 use Rattle.std.proofs.KnownBytes.{Appends-nil}
 use Rattle.ciborium_ll_io.specs.declared.io.Read.{Ghosts as Reader}
@@ -15,9 +14,8 @@ use Rattle.ciborium_ll_grammar.specs.declared.hdr.Header.{Header}
 use Rattle.ciborium_ll.specs.declared.laws.pieces.Piece.{Piece}
 use Rattle.ciborium_ll_grammar.specs.Title.{IsInRange, shortest_title}
 use Rattle.ciborium_ll_grammar.specs.Strings.{Kind, IsWritable}
-use Rattle.ciborium_ll_text.specs.Text.{joined}
 use Rattle.ciborium_ll_grammar.specs.Elements.{Mark, Plain, IsPlain, spelling, IsElement, plain, IsRun, done}
-use Rattle.ciborium_ll_grammar.specs.Values.{value_limit, segments, IsWritten, in_one, in_pieces}
+use Rattle.ciborium_ll_grammar.specs.Values.{value_limit, IsWritten}
 use Rattle.ciborium_ll_io.specs.Writes.{WritesAll, WritesFront, WritesBytes}
 use Rattle.ciborium_ll_encoder.specs.Encoding.{WritesValue}
 use Rattle.ciborium_ll.specs.Pieces.{IsValue, IsPiece, HaveMarks, CopiesSame, WritesMarked, WritesEach, WritesElements}
@@ -33,12 +31,7 @@ use Rattle.ciborium_ll_grammar.proofs.ValueLaws.{written_element, sound_pieces, 
 -- the bodies joined are the value
 pub value_of : (k : Kind) (segment : Option ℕ) (value : List ℕ) (marks : List Mark)
     → IsWritten k (value_limit k segment value) value marks → IsValue k segment value marks
-value_of k segment value marks w = record { written = w; whole = whole w }
-  where
-    whole : {limit : ℕ} {marks : List Mark} → IsWritten k limit value marks → joined (segments marks) ≡ value
-    whole (in_one l) = append-nil value
-    whole {limit} (in_pieces members l p) =
-        ap joined (segments_of_pieces k members) ∙ sym ((sound_pieces k limit value members p).0)
+value_of k segment value marks w = grind (arith, segments_of_pieces, sound_pieces, append-nil)
 
 -- ---- one piece
 
