@@ -1,6 +1,6 @@
 -- A body that is copied to a writer of what stands between quotes, and shown in them.
-use Rattle.std.proofs.Common.{◌≡◌, ◌∙◌, ℕ, ◌+◌, Bool, true, false, List, [], ◌++◌, take, drop, Option, Some, None}
-use Rattle.std.proofs.Common.{Result, Ok, Err, ap, arith, append_assoc, append-nil, length-append}
+use Rattle.std.proofs.Common.{◌≡◌, ◌∙◌, ℕ, ◌+◌, List, [], ◌++◌, take, drop, Option, Some, None, Result, Ok, Err, ap}
+use Rattle.std.proofs.Common.{arith, append_assoc, append-nil, length-append}
 use Rattle.std.proofs.lemmas.List.{take-append-drop}
 use Rattle.ciborium_ll.specs.Types.Read.{Ghosts as Reader}
 use Rattle.ciborium_ll.specs.Types.Write.{Ghosts as Writer}
@@ -15,7 +15,6 @@ use Rattle.ciborium_ll.specs.Recoding.{BodyUnwritten, CopiesBody}
 use Rattle.ciborium_ll.specs.Sides.{sides}
 use Rattle.cbor_diag.specs.declared.strings.quotes.Quotes.{Quotes}
 use Rattle.cbor_diag.specs.Notation.{body_text}
-use Rattle.cbor_diag.specs.Quoting.{failure_count}
 use Rattle.ciborium_ll.proofs.DecodingLaws.{Passes-none}
 use Rattle.cbor_diag.proofs.QuoteLaws.{wrote_both, wrote_first}
 use Rattle.cbor_skip.specs.declared.SkipError.TheVariants as s
@@ -24,13 +23,6 @@ use Rattle.cbor_diag.specs.declared.DiagError.TheVariants as d
 use Rattle.cbor_diag.specs.Showing.{ShowsText}
 use Rattle.cbor_diag.specs.StringShows.{BodyUnshown, CopiesQuoted, ShowsBody, closing, opening}
 use Rattle.cbor_diag.proofs.QuotedLaws.{body_text-append, front_longer}
-
--- no failure, and one
-pub none_failed : (failed : Bool) → failure_count failed ≡ 0 → failed ≡ false
-none_failed failed none = grind arith
-
-pub one_failed : (failed : Bool) → failure_count failed ≡ 1 → failed ≡ true
-one_failed failed one = grind arith
 
 -- a target that is told has just that one
 pub same_target : {one other : Target} → Some one ≡ Some other → one ≡ other

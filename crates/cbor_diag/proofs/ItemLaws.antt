@@ -4,7 +4,6 @@ use Rattle.ciborium_ll.specs.Types.Read.{Ghosts}
 use Rattle.ciborium_ll.specs.Types.Header.{Header}
 use Rattle.ciborium_ll.specs.Types.Header.TheVariants as h
 use Rattle.ciborium_ll.specs.Types.Decoder.{Decoder}
-use Rattle.ciborium_ll.specs.Types.Error.{Error}
 use Rattle.ciborium_ll.specs.Strings.{Kind, kind_header}
 use Rattle.ciborium_ll.specs.Items.{Completes}
 use Rattle.ciborium_ll.specs.Decoding.{IsSteady, PullsTitle}
@@ -44,17 +43,9 @@ module _ {R E F : Type 0} (source : Ghosts R E) (outer : Bool) (depth : ℕ) (be
       → OnString (λ answer. SkipsString source kind len 64 titled answer new) result
       → OnReading (ItemRead source outer depth before new) result
   string_read kind len new result pulled reads =
-      let One : Result (Unit {0}) (Error E) → Type 0 = λ answer. SkipsString source kind len 64 titled answer new in
-      reading_string One (ItemRead source outer depth before new) result (λ whole. reads_string source kind len
-      pulled steady whole)
-      (λ fault fails. stops_here source (inr (record {
-        kind = kind;
-        len = len;
-        titled = titled;
-        pulled = pulled;
-        steady = steady;
-        fails = fails;
-      }))) reads
+      reading_string (λ answer. SkipsString source kind len 64 titled answer new) (ItemRead source outer depth before new)
+      result (λ whole. reads_string source kind len pulled steady whole) (λ fault fails. stops_here source (inr
+      (record { kind = kind; len = len; titled = titled; pulled = pulled; steady = steady; fails = fails }))) reads
 
   -- one of which all that it contains was read
   pub nest_read : (levels : ℕ) (header : Header) (new : Decoder R) (result : Result (Unit {0}) (DiagError E F))
@@ -70,10 +61,8 @@ module _ {R E F : Type 0} (source : Ghosts R E) (outer : Bool) (depth : ℕ) (be
       → OnReading {T = Bool} (λ answer. SkipsWithin source header levels 64 titled answer new) (Err error)
       → OnReading {T = Unit {0}} (ItemRead source outer depth before new) (Err error)
   nest_stops levels header new error level pulled reads =
-      let One : Result (Unit {0}) (SkipError E) → Type 0 =
-      λ answer. SkipsWithin source header levels 64 titled answer new in
-      reading_stops Bool (Unit {0}) One (ItemRead source outer depth before new) error
-      (λ stop stops. stops_nest source level pulled steady stops) reads
+      reading_stops Bool (Unit {0}) (λ answer. SkipsWithin source header levels 64 titled answer new)
+      (ItemRead source outer depth before new) error (λ stop stops. stops_nest source level pulled steady stops) reads
 
 -- what contains others is a nest
 pub nest_of : (header : Header) → ((number : ℕ) × (header ≡ h.Tag number))

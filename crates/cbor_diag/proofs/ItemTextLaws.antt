@@ -41,7 +41,8 @@ indent_parts : (far deeper : ℕ) → indent far ++ indent deeper ≡ indent (fa
 indent_parts zero deeper = rw zero-add
 indent_parts (suc far) deeper = simp (suc-add, indent_parts far deeper)
 
-module _ {W F : Type 0} {sink : Writer W F} {old now : W} (far : ℕ) (begun : WritesAll sink old (new_line far) now) where
+module _ {W F : Type 0} {sink : Writer W F} {old now : W} (far : ℕ)
+    (begun : WritesAll sink old (new_line far) now) where
   -- of a new line two spaces more were written
   pub line_more : {new : W} → WritesAll sink now (codes "  ") new → WritesAll sink old (new_line (far + 1)) new
   line_more all = rw (indent_parts far 1) at (wrote_both begun all)
@@ -59,7 +60,8 @@ module _ {W F : Type 0} {sink : Writer W F} {old now : W} (far : ℕ) (begun : W
 
 -- ---- what was said of a write
 
-module _ {E W F : Type 0} (sink : Writer W F) {old new : W} {text : List ℕ} {said : Result (Unit {0}) (DiagError E F)} where
+module _ {E W F : Type 0} (sink : Writer W F) {old new : W} {text : List ℕ}
+    {said : Result (Unit {0}) (DiagError E F)} where
   -- a write that went through, by what was said of it
   pub said_wrote : (answer : Result (Unit {0}) F) {done : Unit {0}} → said ≡ said_of answer → said ≡ Ok done
       → WritesBytes sink old answer text new → WritesAll sink old text new

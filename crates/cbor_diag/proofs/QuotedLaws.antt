@@ -1,5 +1,5 @@
 -- What a writer of quoted bytes has written to the writer within, step by step.
-use Rattle.std.proofs.Common.{◌≡◌, ℕ, ◌-◌, ◌<◌, Bool, true, false, List, [], ◌∷◌, ◌++◌, length, take, Option, Some}
+use Rattle.std.proofs.Common.{◌+◌, ◌≡◌, ℕ, ◌-◌, ◌<◌, Bool, true, false, List, [], ◌∷◌, ◌++◌, length, take, Option, Some}
 use Rattle.std.proofs.Common.{None, IfSome, refl, sym, subst, arith, append_assoc, length-append}
 use Rattle.std.proofs.Math.Logic.{∥∥₁_elim, ∥∥₁_map}
 use Rattle.std.proofs.lemmas.List.{length-take-le}
@@ -13,7 +13,7 @@ use Rattle.ciborium_ll.proofs.EncodingLaws.{AppendsFront-longer}
 use Rattle.cbor_diag.specs.declared.strings.quotes.Quotes.{Quotes}
 use Rattle.cbor_diag.specs.Notation.{body_text}
 use Rattle.cbor_diag.proofs.QuoteLaws.{wrote_both, wrote_first}
-use Rattle.cbor_diag.specs.Quoting.{IsQuoted, WritesUntil, quotes_code, writer_code}
+use Rattle.cbor_diag.specs.Quoting.{failure_count, IsQuoted, WritesUntil, quotes_code, writer_code}
 
 -- ---- the text of joined bytes
 
@@ -25,6 +25,13 @@ body_text-append quotes (x ∷ xs) ys = rw (body_text-append quotes xs ys, appen
 -- quotes that have one number are the same
 pub same_quotes : (quotes quotes' : Quotes) → quotes_code quotes ≡ quotes_code quotes' → quotes ≡ quotes'
 same_quotes quotes quotes' p = grind arith
+
+-- no failure, and one
+none_failed : (failed : Bool) → failure_count failed ≡ 0 → failed ≡ false
+none_failed failed none = grind arith
+
+one_failed : (failed : Bool) → failure_count failed ≡ 1 → failed ≡ true
+one_failed failed one = grind arith
 
 -- ---- facts that have one proof at most
 
@@ -123,16 +130,15 @@ module _ {W F : Type 0} (sink : Ghosts W F) where
 
   -- ---- in the end
 
-  module _ (began : List ℕ) (quotes quotes' : Quotes) (failed : Bool) (given : List ℕ) (old now : W)
-      (is : began ≡ writer_code sink old) (kind : quotes' ≡ quotes)
-      (quoted : ∥ IsQuoted sink began quotes' failed given now ∥₁) where
-    in_all : (b : Bool) → failed ≡ b → ∥ WritesUntil sink b old (body_text quotes given) now ∥₁
-    in_all b same = ∥∥₁_map quoted (λ since. rw (same, kind) at (since old (sym is)))
-
-    -- all was written
-    pub quoted_all : failed ≡ false → WritesAll sink old (body_text quotes given) now
-    quoted_all same = merely_all old (body_text quotes given) now (in_all false same)
-
-    -- the writer failed
-    pub quoted_front : failed ≡ true → WritesFront sink old (body_text quotes given) now
-    quoted_front same = merely_front old (body_text quotes given) now (in_all true same)
+  -- where no failure was counted all was written, and else the writer failed
+  pub quoted_ends : (began : List ℕ) (quotes quotes' : Quotes) (failed : Bool) (given : List ℕ) (old now : W)
+      (count count' : ℕ) → began ≡ writer_code sink old → quotes' ≡ quotes
+      → ∥ IsQuoted sink began quotes' failed given now ∥₁ → count ≡ 0 → count' ≡ failure_count failed
+      → (count' ≡ count → WritesAll sink old (body_text quotes given) now)
+      × (count' ≡ count + 1 → WritesFront sink old (body_text quotes given) now)
+  quoted_ends began quotes quotes' failed given old now count count' is kind quoted none counted =
+      let in_all : (b : Bool) → failed ≡ b → ∥ WritesUntil sink b old (body_text quotes given) now ∥₁ =
+      λ b same. ∥∥₁_map quoted (λ since. rw (same, kind) at (since old (sym is))) in (
+        λ same. merely_all old _ now (in_all false (none_failed failed (omega arith))),
+        λ more. merely_front old _ now (in_all true (one_failed failed (omega arith))),
+      )

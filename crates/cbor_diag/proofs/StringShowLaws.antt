@@ -94,8 +94,8 @@ module _ {R E : Type 0} {source : Reader R E} (k : Kind) (strict : Bool) where
     untitled : (len : Option ℕ) (error : Error E)
         → ReadSoFar source k len (shortest_title (kind_header k len)) opened bodies progress now
         → AdvancesTo source k strict progress now (Err error) progress' new
-        → (between : Decoder R) × (behind : List ℕ) × BeginsBodies k len behind bodies × Passes source opened behind between
-        × MeetsNoBody source k between error new
+        → (between : Decoder R) × (behind : List ℕ) × BeginsBodies k len behind bodies
+        × Passes source opened behind between × MeetsNoBody source k between error new
     untitled None error so_far advances =
         let all = advanced source k strict steady (Err error) so_far advances in (
           all.between,

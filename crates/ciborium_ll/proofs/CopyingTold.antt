@@ -126,7 +126,8 @@ module _ {R E W F : Type 0} {source : Reader R E} {sink : Writer W F} {old : Sid
     told_stop e.Waiting stops = absurd stops.stopped
 
     never_full : StopsAtPush source sink count old new → ⊥
-    never_full stops = grind (arith, copies_front, consumes_told, shrinks_told, titles_no_longer, shortest_no_longer, length-append)
+    never_full stops =
+        grind (arith, copies_front, consumes_told, shrinks_told, titles_no_longer, shortest_no_longer, length-append)
 
     told : (result : Result (Unit {0}) (RecodeError E F)) → CopiesHeaders source sink count old result new
         → CopiesTold source sink count due written old.decoder result new

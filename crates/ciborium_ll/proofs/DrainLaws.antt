@@ -84,10 +84,12 @@ module _ {R E P W F : Type 0} {parser : Parser P} (source : Reader R E) (sink : 
 
     needed_more : (count : ℕ) → count < length (sizes ++ size ∷ [])
         → gains parser.kind (take count (sizes ++ size ∷ [])) < old.unread
-    needed_more count less = grind (arith, take-append-le, take-append_seam, length-append, some.needed, some.least, some.unread, gives.reads.some_unread)
+    needed_more count less = grind (arith, take-append-le, take-append_seam, length-append, some.needed, some.least,
+    some.unread, gives.reads.some_unread)
 
     least_more : (gains parser.kind (sizes ++ size ∷ []) ≤ length (some.read ++ gives.read)) ⊎ (new.unread ≡ 0)
-    least_more = grind (arith, few_kept, sum_by_push, length-append, some.least, gives.reads.count, gives.reads.unread, gives.reads.some_unread)
+    least_more = grind (arith, few_kept, sum_by_push, length-append, some.least, gives.reads.count, gives.reads.unread,
+    gives.reads.some_unread)
 
     filled_more : All (λ (size : ℕ). size ≤ length (kept_bytes old.kept) + length (some.read ++ gives.read))
         (sizes ++ size ∷ []) ⊎ (new.unread ≡ 0)

@@ -1,7 +1,6 @@
-use Rattle.std.proofs.Common.{◌≡◌, ◌-◌, suc, Bool, false, Result, Err, sym, subst, refl, arith}
+use Rattle.std.proofs.Common.{◌≡◌, ◌-◌, suc, Bool, false, Err, sym, subst, refl, arith}
 use Rattle.ciborium_ll.proofs.DecodingLaws.{exit_is, MovesOn-none, MovesOn-then, nearer}
 use Rattle.ciborium_ll_decoder.proofs.NestLaws.{title_some}
-use Rattle.cbor_skip.specs.declared.SkipError.{SkipError}
 use Rattle.cbor_skip.specs.declared.SkipError.TheVariants as s
 use Rattle.cbor_skip.specs.Remaining.{closes}
 use Rattle.cbor_skip.specs.Skipping.{SkipsWithin}
@@ -71,16 +70,13 @@ show_within-returns-in_err-next-clause-reads g t c =
 pub show_within-returns-in-Break-clause-reads : goal.show_within-returns-in-Break-clause-reads
 show_within-returns-in-Break-clause-reads g t c =
     let pulled = rw (c.offset-place.ensures.same, c.in-Break.is) at c.in_ok-next.ensures.header in
-    let steady = rw c.offset-place.ensures.same at c.in_ok-next.ensures.moves_on.steady in
-    let Holds : Result (Unit {0}) (SkipError g.row.R-Error.Denot) → Type 0 =
-    λ answer. SkipsWithin g.R.Read c.args.header c.args.depth 64 c.args.decoder.now answer c.pull.new.self in
-    break_said (closes c.items.remaining) Holds c.at_break.result c.items.is_first c.offset-place.result
-    c.at_break.ensures (λ may. closed g.R.Read c.items.invariant.so_far may pulled steady)
-    (λ may. stops_within g.R.Read c.items.invariant.so_far (sym c.items-test.ensures) refl (stops_here g.R.Read (record {
-      not_closable = may;
-      place = c.offset-place.ensures.value;
-      pulled = pulled;
-    })))
+    let so_far = c.items.invariant.so_far in
+    break_said (closes c.items.remaining)
+    (λ answer. SkipsWithin g.R.Read c.args.header c.args.depth 64 c.args.decoder.now answer c.pull.new.self)
+    c.at_break.result c.items.is_first c.offset-place.result c.at_break.ensures
+    (λ may. closed g.R.Read so_far may pulled (rw c.offset-place.ensures.same at c.in_ok-next.ensures.moves_on.steady))
+    (λ may. stops_within g.R.Read so_far (sym c.items-test.ensures) refl
+    (stops_here g.R.Read (record { not_closable = may; place = c.offset-place.ensures.value; pulled = pulled })))
 
 pub show_within-returns-in-Break-clause-moves_on : goal.show_within-returns-in-Break-clause-moves_on
 show_within-returns-in-Break-clause-moves_on g t c =
@@ -89,18 +85,15 @@ show_within-returns-in-Break-clause-moves_on g t c =
 
 pub show_within-returns-in_err-show_item-clause-reads : goal.show_within-returns-in_err-show_item-clause-reads
 show_within-returns-in_err-show_item-clause-reads g t c =
-    let pulled = rw c.offset-place.ensures.same at c.in_ok-next.ensures.header in
-    let steady = rw c.offset-place.ensures.same at c.in_ok-next.ensures.moves_on.steady in
-    let now = c.items.decoder in
     let new = c.show_item.new.decoder in
     let outer = closes c.items.remaining in
-    let One : Result (Unit {0}) (SkipError g.row.R-Error.Denot) → Type 0 =
-    λ answer. ReadsFrom g.R.Read outer c.args.depth 64 now answer new in
-    let Other : Result (Unit {0}) (SkipError g.row.R-Error.Denot) → Type 0 =
-    λ answer. SkipsWithin g.R.Read c.args.header c.args.depth 64 c.args.decoder.now answer new in
-    rw (exit_is _ _ c.from_residual-in_err-show_item.ensures.1) (reading_stops (Unit {0}) Bool One Other _
+    rw (exit_is _ _ c.from_residual-in_err-show_item.ensures.1) (reading_stops (Unit {0}) Bool
+    (λ answer. ReadsFrom g.R.Read outer c.args.depth 64 c.items.decoder answer new)
+    (λ answer. SkipsWithin g.R.Read c.args.header c.args.depth 64 c.args.decoder.now answer new) _
     (λ stop stops. stops_within g.R.Read c.items.invariant.so_far (sym c.items-test.ensures) refl stops)
-    (c.in_err-show_item.ensures.reads now outer c.offset-place.ensures.value pulled steady))
+    (c.in_err-show_item.ensures.reads c.items.decoder outer c.offset-place.ensures.value
+    (rw c.offset-place.ensures.same at c.in_ok-next.ensures.header)
+    (rw c.offset-place.ensures.same at c.in_ok-next.ensures.moves_on.steady)))
 
 pub show_within-items-preserved : goal.show_within-items-preserved
 show_within-items-preserved g t c =
@@ -130,9 +123,8 @@ show_within-returns-in_err-show_item-clause-moves_on g t c =
 
 pub show_within-returns-in_err-said-clause-reads : goal.show_within-returns-in_err-said-clause-reads
 show_within-returns-in_err-said-clause-reads g t c =
-    let Holds : Result (Unit {0}) (SkipError g.row.R-Error.Denot) → Type 0 =
-    λ answer. SkipsWithin g.R.Read c.args.header c.args.depth 64 c.args.decoder.now answer c.pull.new.self in
-    rw (exit_is _ _ c.from_residual-in_err-said.ensures.1) (reading_unread Bool Holds _ c.in_err-said.ensures.writing)
+    rw (exit_is _ _ c.from_residual-in_err-said.ensures.1) (reading_unread Bool (λ answer. SkipsWithin g.R.Read
+    c.args.header c.args.depth 64 c.args.decoder.now answer c.pull.new.self) _ c.in_err-said.ensures.writing)
 
 pub show_within-returns-clause-moves_on : goal.show_within-returns-clause-moves_on
 show_within-returns-clause-moves_on g t c = c.items.invariant.moves_on
@@ -181,9 +173,9 @@ show_within-returns-in_err-next-clause-shown g t c =
 pub show_within-returns-in-Break-clause-shown : goal.show_within-returns-in-Break-clause-shown
 show_within-returns-in-Break-clause-shown g t c =
     let pulled = rw (c.offset-place.ensures.same, c.in-Break.is) at c.in_ok-next.ensures.header in
-    let steady = rw c.offset-place.ensures.same at c.in_ok-next.ensures.moves_on.steady in
     break_shown c.items.invariant.items (closes c.items.remaining) _ c.at_break.result c.offset-place.result pulled
-    c.at_break.ensures (λ may. items_closed c.items.invariant.items _ may pulled steady)
+    c.at_break.ensures (λ may. items_closed c.items.invariant.items _ may pulled
+    (rw c.offset-place.ensures.same at c.in_ok-next.ensures.moves_on.steady))
 
 pub show_within-returns-in_err-said-clause-shown : goal.show_within-returns-in_err-said-clause-shown
 show_within-returns-in_err-said-clause-shown g t c =

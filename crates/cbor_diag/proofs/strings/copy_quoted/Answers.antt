@@ -1,10 +1,10 @@
-use Rattle.std.proofs.Common.{◌≡◌, ◌∙◌, ◌+◌, ◌∷◌, ℕ, ap, sym, subst}
+use Rattle.std.proofs.Common.{◌≡◌, ◌∙◌, ◌∷◌, ap, sym, subst}
 use Rattle.ciborium_ll.specs.Sides.{sides}
 use Rattle.ciborium_ll.specs.Transfer.{Target}
 use Rattle.cbor_diag.specs.Quoting.{failure_count, quotes_code}
 use Rattle.cbor_diag.specs.StringShows.{CopiesQuoted}
-use Rattle.cbor_diag.proofs.BodyShowLaws.{none_failed, one_failed, same_target, through_quotes}
-use Rattle.cbor_diag.proofs.QuotedLaws.{quoted_all, quoted_front, same_quotes}
+use Rattle.cbor_diag.proofs.BodyShowLaws.{same_target, through_quotes}
+use Rattle.cbor_diag.proofs.QuotedLaws.{quoted_ends, same_quotes}
 use Rattle.cbor_diag.proofs.strings.copy_quoted.Goals as goal
 
 pub returns-clause-copied : goal.returns-clause-copied
@@ -20,20 +20,14 @@ returns-clause-copied g c =
     let loan = ap (λ (t : Target). t.loan) target in
     let before : quotes_code behind.quotes ∷ behind.began.bytes ≡ quotes_code begun.quotes ∷ begun.began.bytes =
     ap (λ (t : Target). t.before) target in
-    let code : quotes_code behind.quotes ≡ quotes_code begun.quotes = cc in
+    let kind = same_quotes behind.quotes begun.quotes (cc) ∙ made.quotes in
     let told : behind.began.bytes ≡ begun.began.bytes = cc in
-    let kind = same_quotes _ _ code ∙ made.quotes in
-    let began = told ∙ made.began in
-    let sound = begun.counted ∙ ap failure_count made.failed in
+    let ends = quoted_ends g.W.Write behind.began.bytes c.args.quotes behind.quotes behind.failed behind.given.bytes
+    writer behind.writer.now begun.failures.count _ (told ∙ made.began) kind behind.quoted
+    (begun.counted ∙ ap failure_count made.failed) behind.counted in
     let ended = c.writer-1.given.1 (sym made.same_reference ∙ sym loan) in
     subst (λ w. CopiesQuoted g.R.Read g.W.Write g.P.Parser.kind c.args.body.length 64 c.args.body.place c.args.quotes
     (sides old writer) c.copy.result (sides new w)) (sym ended)
     (through_quotes g.R.Read g.W.Write (λ q. q.given.bytes) (λ q. q.failures.count) _ _ g.P.Parser.kind c.args.quotes
-    c.args.body.length 64 c.args.body.place old new begun behind writer behind.writer.now made.given
-    (λ same. quoted_all g.W.Write behind.began.bytes c.args.quotes behind.quotes behind.failed behind.given.bytes
-    writer behind.writer.now began kind behind.quoted (none_failed behind.failed
-    (sym behind.counted ∙ same ∙ sound)))
-    (λ more. quoted_front g.W.Write behind.began.bytes c.args.quotes behind.quotes behind.failed behind.given.bytes
-    writer behind.writer.now began kind behind.quoted (one_failed behind.failed
-    (sym behind.counted ∙ more ∙ ap (λ (n : ℕ). n + 1) sound)))
+    c.args.body.length 64 c.args.body.place old new begun behind writer behind.writer.now made.given ends.0 ends.1
     c.copy.result c.copy.ensures.copied)

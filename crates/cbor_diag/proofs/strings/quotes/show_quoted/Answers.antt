@@ -10,7 +10,8 @@ bytes-init g c = record { goes_on = λ result new w. w }
 pub returns-in_err-show_byte : goal.returns-in_err-show_byte
 returns-in_err-show_byte g c =
     piece_stops c.bytes.invariant _ _ _ c.from_residual.result (ap (body_text c.args.quotes)
-    (drop_more c.args.bytes.now c.bytes.byte-index _ (omega arith))) c.from_residual.ensures.0 c.in_err-show_byte.ensures
+    (drop_more c.args.bytes.now c.bytes.byte-index _ (omega arith)))
+    c.from_residual.ensures.0 c.in_err-show_byte.ensures
 
 pub bytes-preserved : goal.bytes-preserved
 bytes-preserved g c =
