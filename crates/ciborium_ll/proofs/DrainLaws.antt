@@ -85,11 +85,11 @@ module _ {R E P W F : Type 0} {parser : Parser P} (source : Reader R E) (sink : 
     needed_more : (count : ℕ) → count < length (sizes ++ size ∷ [])
         → gains parser.kind (take count (sizes ++ size ∷ [])) < old.unread
     needed_more count less = grind (arith, take-append-le, take-append_seam, length-append, some.needed, some.least,
-    some.unread, gives.reads.some_unread)
+        some.unread, gives.reads.some_unread)
 
     least_more : (gains parser.kind (sizes ++ size ∷ []) ≤ length (some.read ++ gives.read)) ⊎ (new.unread ≡ 0)
     least_more = grind (arith, few_kept, sum_by_push, length-append, some.least, gives.reads.count, gives.reads.unread,
-    gives.reads.some_unread)
+        gives.reads.some_unread)
 
     filled_more : All (λ (size : ℕ). size ≤ length (kept_bytes old.kept) + length (some.read ++ gives.read))
         (sizes ++ size ∷ []) ⊎ (new.unread ≡ 0)
@@ -124,13 +124,9 @@ module _ {R E P W F : Type 0} {parser : Parser P} (source : Reader R E) (sink : 
       unread = omega (arith, some.unread, gives.reads.unread, length-append some.read gives.read);
       place = gives.reads.place ∙ some.place;
       damaged = gives.still_sound ∙ sym gives.reads.sound ∙ some.damaged;
-      most = omega (
-        arith,
-        some.most,
-        length-append some.given chunk,
-        sum_by_push (λ (n : ℕ). n) sizes size,
-        chunk_within parser.kind refl gives.split,
-      );
+      most =
+          let within = chunk_within parser.kind refl gives.split in
+          omega (arith, some.most, within, length-append some.given chunk, sum_by_push (λ (n : ℕ). n) sizes size);
       needed = needed_more;
       least = least_more;
       filled = filled_more;

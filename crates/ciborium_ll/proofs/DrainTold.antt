@@ -109,29 +109,13 @@ module _ {R E P W F : Type 0} {parser : Parser P} {source : Reader R E} {sink : 
       let more = take new.unread others in
       let sum : old.unread ≡ length read + new.unread = omega (arith, some.unread) in
       let front : take old.unread due ≡ read ++ more = cc (behind.2, sum, take-append-add read others new.unread) in
-      let long = ap length told.2 in
-      let parts = ap length front in
       record {
         some = some;
         more = more;
         beyond = drop new.unread others;
         ahead = known ∙ ap Some (sym (take-append-drop new.unread others));
-        counted = omega (
-          arith,
-          long,
-          parts,
-          sum,
-          ready.whole,
-          length-append kept (take old.unread due),
-          length-append read more,
-        );
-        parts = cc (
-          told.2,
-          front,
-          append_assoc kept read more,
-          some.parts,
-          append_assoc some.given (kept_bytes new.kept) more,
-        );
+        counted = grind (arith, told.2, front, sum, ready.whole, length-append);
+        parts = grind (arith, told.2, front, append_assoc, some.parts);
         left = cc known;
         output = appends_told _ _ written some.given ready.written-told some.written.appended;
       }
@@ -148,28 +132,18 @@ module _ {R E P W F : Type 0} {parser : Parser P} {source : Reader R E} {sink : 
         let none = length_zero c.more (omega (arith, c.counted, all.ends.none_unread)) in
         let nothing : kept_bytes all.between.kept ++ c.more ≡ [] = rw (all.ends.none_kept, none) in
         let whole : body ≡ c.some.given = rw (nothing, append-nil) at c.parts in
-        let parts = ap length all.comes.parts in
-        let counted = length-append before others in
         let same = all.ends.same in
         let front : take (calls - 1) sizes ≡ before =
-        let at : calls - 1 ≡ length before = omega (arith, all.counted) in
-        rw (at, all.comes.parts) (take-append_seam before others) in
+        grind (arith, all.counted, all.comes.parts, take-append_seam before others) in
         record {
           sound = rw whole c.some.sound;
           output = rw whole c.output;
           left = rw (same.kept, same.unread, all.ends.decoder) (c.left ∙ ap Some nothing);
           some_calls = omega (arith, all.counted);
           no_more = grind (arith, all.counted, all.comes.parts, length-append);
-          needed = let long = ap length whole in let added = ap sum front in omega (arith, long, added, c.some.most);
-          soon = λ count enough. elim (cases_lt count (length before)) [
-            | inl less ↦
-                let due = c.some.needed count less in
-                let taken : take count sizes ≡ take count before = rw all.comes.parts
-                (take-append-le count before others (omega (arith, less))) in
-                let gained = ap (gains parser.kind) taken in
-                absurd (omega (arith, due, gained, enough.enough, ready.whole))
-            | inr more ↦ omega (arith, more, all.counted)
-          ];
+          needed = grind (arith, whole, front, c.some.most);
+          soon = λ count enough. grind (arith, c.some.needed count, all.comes.parts, take-append-le count before others,
+              enough.enough, ready.whole, all.counted);
         }
 
     -- ---- the sizes are used up
@@ -261,20 +235,7 @@ module _ {R E P W F : Type 0} {parser : Parser P} {source : Reader R E} {sink : 
         let kept = kept_bytes stops.between.kept in
         let split = ap length (split_parts parser.kind (kept ++ stops.gives.read) stops.chunk _ stops.gives.split) in
         let whole = ap length c.parts in
-        omega (
-          arith,
-          full,
-          told.2,
-          split,
-          whole,
-          ready.enough,
-          c.counted,
-          stops.gives.reads.unread,
-          length-append c.some.given (kept ++ c.more),
-          length-append kept c.more,
-          length-append kept stops.gives.read,
-          length-append stops.chunk (kept_bytes new.kept),
-        )
+        grind (arith, full, told.2, split, whole, ready.enough, c.counted, stops.gives.reads.unread, length-append)
 
     -- ---- a drain, by its answer
 
