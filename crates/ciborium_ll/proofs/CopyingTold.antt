@@ -40,9 +40,7 @@ title_behind r r' (next {title = t} {rest = q} p ps) (next {title = t'} {rest = 
 titles_no_longer : (ts : List ℕ) (hs : List Header) → AreTitles ts hs → length (shortest_titles hs) ≤ length ts
 titles_no_longer ts hs none = omega arith
 titles_no_longer ts hs (next {title = t} {rest = q} {header = h} {headers = gs} p ps) =
-    let a = shortest_no_longer t h p in
-    let b = titles_no_longer q gs ps in
-    omega (arith, a, b, length-append (shortest_title h) (shortest_titles gs), length-append t q)
+    grind (arith, shortest_no_longer t h p, titles_no_longer q gs ps, length-append)
 
 -- ---- the general statement under the premises
 
@@ -89,8 +87,7 @@ module _ {R E W F : Type 0} {source : Reader R E} {sink : Writer W F} {old : Sid
           copied = f.0;
           cut = ends.0;
           left = gone.1 ∙ ap Some (first_gone f.0.rest stops.stopped.read gone.0 gone.2 ends.1);
-          offset = let counted = ap length ends.1 in
-              omega (arith, counted, stops.stopped.offset, stops.copied.passed.offset);
+          offset = grind (arith, ends.1, stops.stopped.offset, stops.copied.passed.offset);
         }
     told_stop (e.Syntax place) stops =
         let f = copies_front ready stops.copied in
@@ -109,19 +106,16 @@ module _ {R E W F : Type 0} {source : Reader R E} {sink : Writer W F} {old : Sid
     told_stop e.TooLong stops =
         let f = copies_front ready stops.copied in
         let gone = consumes_told _ _ f.0.rest stops.stopped.read f.1 stops.stopped.bytes in
-        let behind = ap length gone.2 in
-        let whole = ap length f.0.parts in
-        absurd (omega (
+        absurd (grind (
           arith,
-          behind,
-          whole,
+          gone.2,
+          f.0.parts,
           ready.fits,
           stops.stopped.full,
           next_read_small stops.stopped.read,
           stops.stopped.offset,
           stops.copied.passed.offset,
-          length-append stops.stopped.read gone.0,
-          length-append f.0.front f.0.rest,
+          length-append,
         ))
     told_stop e.Waiting stops = absurd stops.stopped
 

@@ -65,10 +65,7 @@ module _ {R E P W F : Type 0} {parser : Parser P} (source : Reader R E) (sink : 
     -- a chunk is no longer than its buffer
     chunk_within : (kind : Kind) → parser.kind ≡ kind → IsSplit kind (kept_bytes between.kept ++ gives.read) chunk
         (kept_bytes new.kept) → length chunk ≤ size
-    chunk_within Bytes is split =
-        let none = ap length (between.text_alone is) in
-        let all = ap length split.0 in
-        omega (arith, none, all, gives.reads.count, length-append (kept_bytes between.kept) gives.read)
+    chunk_within Bytes is split = grind (arith, between.text_alone is, split, gives.reads.count, length-append)
     chunk_within Text is split =
         let kept = kept_bytes between.kept in
         let parts = ap length split.parts in
@@ -78,34 +75,18 @@ module _ {R E P W F : Type 0} {parser : Parser P} (source : Reader R E) (sink : 
         ap length (between.stuck chunk _ (rw (nothing, append-nil kept) at split.parts) split.text) in
         grind (arith, none, parts, gives.reads.count, length-append)
 
-    -- what was read with one chunk more
-    chunk_parts : kept_bytes old.kept ++ (some.read ++ gives.read) ≡ (some.given ++ chunk) ++ kept_bytes new.kept
-    chunk_parts = grind (arith, append_assoc, split_parts, some.parts, gives.split)
-
-    needed_more : (count : ℕ) → count < length (sizes ++ size ∷ [])
-        → gains parser.kind (take count (sizes ++ size ∷ [])) < old.unread
-    needed_more count less = grind (arith, take-append-le, take-append_seam, length-append, some.needed, some.least,
-        some.unread, gives.reads.some_unread)
-
-    least_more : (gains parser.kind (sizes ++ size ∷ []) ≤ length (some.read ++ gives.read)) ⊎ (new.unread ≡ 0)
-    least_more = grind (arith, few_kept, sum_by_push, length-append, some.least, gives.reads.count, gives.reads.unread,
-        gives.reads.some_unread)
-
     filled_more : All (λ (size : ℕ). size ≤ length (kept_bytes old.kept) + length (some.read ++ gives.read))
         (sizes ++ size ∷ []) ⊎ (new.unread ≡ 0)
     filled_more =
         let within = λ (n : ℕ). n ≤ length (kept_bytes old.kept) + length (some.read ++ gives.read) in
-        let joined = length-append some.read gives.read in
         let parts = ap length some.parts in
-        let before = length-append (kept_bytes old.kept) some.read in
-        let after = length-append some.given (kept_bytes between.kept) in
         elim some.filled [
           | inl filled ↦ elim (cases_lt (left_of between) size) [
             | inl less ↦ inr (omega (arith, less, gives.reads.count, gives.reads.unread))
             | inr full ↦ inl (All-push within sizes size (All-weaker
                 (λ (n : ℕ). n ≤ length (kept_bytes old.kept) + length some.read) within
-                (λ n less. omega (arith, less, joined)) sizes filled)
-                (omega (arith, full, joined, parts, before, after, gives.reads.count)))
+                (λ n less. omega (arith, less, length-append some.read gives.read)) sizes filled)
+                (omega (arith, full, parts, gives.reads.count, length-append {A = ℕ})))
           ]
           | inr ended ↦ absurd (omega (arith, ended, gives.reads.some_unread))
         ]
@@ -115,7 +96,7 @@ module _ {R E P W F : Type 0} {parser : Parser P} (source : Reader R E) (sink : 
     drains_more {writer'} steady written = record {
       read = some.read ++ gives.read;
       given = some.given ++ chunk;
-      parts = chunk_parts;
+      parts = grind (arith, append_assoc, split_parts, some.parts, gives.split);
       sound = writable_chunk parser.kind some.given _ chunk _ some.sound gives.split;
       written = WritesBytes-then sink {T = Unit {0}} writer now writer' (Ok (tt {0})) some.given chunk some.written
           written;
@@ -127,8 +108,27 @@ module _ {R E P W F : Type 0} {parser : Parser P} (source : Reader R E) (sink : 
       most =
           let within = chunk_within parser.kind refl gives.split in
           omega (arith, some.most, within, length-append some.given chunk, sum_by_push (λ (n : ℕ). n) sizes size);
-      needed = needed_more;
-      least = least_more;
+      needed = λ count less. grind (
+        arith,
+        less,
+        take-append-le,
+        take-append_seam,
+        length-append,
+        some.needed,
+        some.least,
+        some.unread,
+        gives.reads.some_unread,
+      );
+      least = grind (
+        arith,
+        few_kept,
+        sum_by_push,
+        length-append,
+        some.least,
+        gives.reads.count,
+        gives.reads.unread,
+        gives.reads.some_unread,
+      );
       filled = filled_more;
     }
 

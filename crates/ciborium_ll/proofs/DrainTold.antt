@@ -37,9 +37,7 @@ use Rattle.ciborium_ll.proofs.DrainLaws.{each_some}
 
 gains-bytes : (sizes : List ℕ) → gains Bytes sizes ≡ sum sizes
 gains-bytes [] = refl
-gains-bytes (size ∷ sizes) =
-    let rest = gains-bytes sizes in
-    omega (arith, rest, sum_by-cons (λ (n : ℕ). n - 0) size sizes, sum_by-cons (λ (n : ℕ). n) size sizes)
+gains-bytes (size ∷ sizes) = grind (arith, gains-bytes sizes, sum_by-cons)
 
 -- sizes that add up are enough for bytes
 add_up : {kind : Kind} {sizes : List ℕ} {bytes count : ℕ} → kind ≡ Bytes → AddUp sizes bytes count
@@ -129,8 +127,8 @@ module _ {R E P W F : Type 0} {parser : Parser P} {source : Reader R E} {sink : 
         let before = all.comes.before in
         let others = all.size ∷ all.comes.others in
         let c = came all.comes.each in
-        let none = length_zero c.more (omega (arith, c.counted, all.ends.none_unread)) in
-        let nothing : kept_bytes all.between.kept ++ c.more ≡ [] = rw (all.ends.none_kept, none) in
+        let nothing : kept_bytes all.between.kept ++ c.more ≡ [] =
+        grind (arith, length_zero c.more, c.counted, all.ends.none_unread, all.ends.none_kept) in
         let whole : body ≡ c.some.given = rw (nothing, append-nil) at c.parts in
         let same = all.ends.same in
         let front : take (calls - 1) sizes ≡ before =
@@ -142,8 +140,15 @@ module _ {R E P W F : Type 0} {parser : Parser P} {source : Reader R E} {sink : 
           some_calls = omega (arith, all.counted);
           no_more = grind (arith, all.counted, all.comes.parts, length-append);
           needed = grind (arith, whole, front, c.some.most);
-          soon = λ count enough. grind (arith, c.some.needed count, all.comes.parts, take-append-le count before others,
-              enough.enough, ready.whole, all.counted);
+          soon = λ count enough. grind (
+            arith,
+            c.some.needed count,
+            all.comes.parts,
+            take-append-le count before others,
+            enough.enough,
+            ready.whole,
+            all.counted,
+          );
         }
 
     -- ---- the sizes are used up
@@ -171,20 +176,12 @@ module _ {R E P W F : Type 0} {parser : Parser P} {source : Reader R E} {sink : 
         → parser.kind ≡ kind → IsWritable kind c.some.given
         → EndsInCharacter source between new ⊎ KeepsTooMuch source room between new
         → (kind ≡ Text) × IsCharacters c.some.given × (IsCharacters body → ⊥)
-    damaged {between} room c Bytes is sound cause =
-        let none = ap length (between.text_alone is) in
-        absurd (elim cause [
-          | inl ends ↦ omega (arith, none, ends.some_kept)
-          | inr keeps ↦ (
-              let split = rw is at keeps.split in
-              let nothing = ap length split.1 in
-              omega (arith, nothing, keeps.too_much)
-              )
-        ])
+    damaged {between} room c Bytes is sound cause = absurd (grind (arith, between.text_alone is, cause, is))
     damaged {between} room c Text is sound (inl ends) =
-        let none = length_zero c.more (omega (arith, c.counted, ends.none_unread)) in
-        let parts = rw (none, append-nil (kept_bytes between.kept)) at c.parts in
-        (refl, sound, stuck_is_no_text body c.some.given _ parts sound between.stuck ends.some_kept)
+        let kept = kept_bytes between.kept in
+        let parts : body ≡ c.some.given ++ kept =
+        grind (arith, length_zero c.more, c.counted, ends.none_unread, c.parts, append-nil kept) in
+        (refl, sound, stuck_is_no_text body c.some.given kept parts sound between.stuck ends.some_kept)
     damaged {between} room c Text is sound (inr keeps) =
         let kept = kept_bytes between.kept in
         let read = keeps.read in
