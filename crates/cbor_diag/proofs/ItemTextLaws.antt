@@ -152,36 +152,36 @@ module _ {R E W F : Type 0} {source : Reader R E} {sink : Writer W F} {layout : 
         → WithinStops source sink layout level header old error (sides titled new)
     lead_stops new (fault, is, stopped) = rw is (lead far.begun pulled (rw (lead_is is_value) at stopped))
 
-    module _ {led : W} {new : Sides R W} (leads : WritesAll sink now.writer (item_lead header layout level value first) led)
-      where
-        -- the show of the next item ended
-        pub item_stops : {error : DiagError E F} → RestStops source sink layout level next (sides titled led) error new
-            → WithinStops source sink layout level header old error new
-        item_stops stops = item far.begun pulled (rw (lead_is is_value) at leads) stops
+    module _ {led : W} (leads : WritesAll sink now.writer (item_lead header layout level value first) led) where
+      -- the show of the next item ended
+      pub item_stops : {new : Sides R W} {error : DiagError E F}
+          → RestStops source sink layout level next (sides titled led) error new
+          → WithinStops source sink layout level header old error new
+      item_stops stops = item far.begun pulled (rw (lead_is is_value) at leads) stops
 
-        -- one item more
-        pub items_more : {after : Remaining}
-            → ((count : ℕ) → IsRemaining header count remaining → IsRemaining header (suc count) after)
-            → (IsSteady source now.decoder → IsSteady source titled)
-            → RestShown source sink layout level next (sides titled led) new
-            → ItemsFar source sink layout level header old after false new
-        items_more goes_on steady shown =
-            let first_part = Passes-pulled source now.decoder now.decoder titled [] next pulled
-            (Passes-none source now.decoder) steady in
-            record {
-              count = suc far.count;
-              is_remaining = goes_on far.count far.is_remaining;
-              begun = record {
-                items = far.begun.items ++ (pulled.title ++ shown.rest);
-                text = _;
-                shown = more far.begun.shown pulled.is_title shown.shown;
-                passed = Passes-then source old.decoder now.decoder new.decoder far.begun.items
-                    (pulled.title ++ shown.rest) far.begun.passed
-                    (Passes-then source now.decoder titled new.decoder pulled.title shown.rest first_part shown.passed);
-                written = wrote_both far.begun.written (wrote_both (rw (lead_is is_value) at leads) shown.written);
-              };
-              counted = refl;
-            }
+      -- one item more
+      pub items_more : {after : Remaining} {new : Sides R W}
+          → ((count : ℕ) → IsRemaining header count remaining → IsRemaining header (suc count) after)
+          → (IsSteady source now.decoder → IsSteady source titled)
+          → RestShown source sink layout level next (sides titled led) new
+          → ItemsFar source sink layout level header old after false new
+      items_more {new} goes_on steady shown =
+          let first_part = Passes-pulled source now.decoder now.decoder titled [] next pulled
+          (Passes-none source now.decoder) steady in
+          record {
+            count = suc far.count;
+            is_remaining = goes_on far.count far.is_remaining;
+            begun = record {
+              items = far.begun.items ++ (pulled.title ++ shown.rest);
+              text = _;
+              shown = more far.begun.shown pulled.is_title shown.shown;
+              passed = Passes-then source old.decoder now.decoder new.decoder far.begun.items
+                  (pulled.title ++ shown.rest) far.begun.passed
+                  (Passes-then source now.decoder titled new.decoder pulled.title shown.rest first_part shown.passed);
+              written = wrote_both far.begun.written (wrote_both (rw (lead_is is_value) at leads) shown.written);
+            };
+            counted = refl;
+          }
 
   -- the items are all
   all_shown : (new : Decoder R) → IsAll header far.count

@@ -55,7 +55,8 @@ module _ {E F : Type 0} where
   -- what is said of a read where a break stands in place of an item, which may close or may not
   pub break_said : (may : Bool) (Holds : Result (Unit {0}) (SkipError E) → Type 0)
       (result : Result Bool (DiagError E F)) (is_first : Bool) (place : ℕ)
-      → result ≡ (if may then Ok is_first else Err (d.Read (s.Break place))) → (may ≡ true → Holds (Ok (tt {0}))) → (may ≡ false → Holds (Err (s.Break place)))
+      → result ≡ (if may then Ok is_first else Err (d.Read (s.Break place)))
+      → (may ≡ true → Holds (Ok (tt {0}))) → (may ≡ false → Holds (Err (s.Break place)))
       → OnReading {T = Bool} Holds result
   break_said may Holds result is_first place same closed stops = grind arith
 

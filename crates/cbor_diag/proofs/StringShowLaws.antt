@@ -1,6 +1,6 @@
 -- The show of a string, segment by segment.
-use Rattle.std.proofs.Common.{arith, ◌≡◌, ◌∙◌, ℕ, Bool, true, false, List, [], ◌∷◌, ◌++◌, Option, Some, None, Result}
-use Rattle.std.proofs.Common.{Ok, Err, refl, sym, inl, inr, append_assoc, append-nil}
+use Rattle.std.proofs.Common.{arith, ◌≡◌, ℕ, Bool, true, false, List, [], ◌∷◌, ◌++◌, Option, Some, None, Result, Ok}
+use Rattle.std.proofs.Common.{Err, refl, sym, append_assoc, append-nil}
 use Rattle.ciborium_ll.specs.Types.Read.{Ghosts as Reader}
 use Rattle.ciborium_ll.specs.Types.Write.{Ghosts as Writer}
 use Rattle.ciborium_ll.specs.Types.Header.{Header}
@@ -41,19 +41,13 @@ more_bodies-push : (opens : Bool) (quotes : Quotes) (bodies : List (List ℕ)) (
     → more_bodies opens quotes (bodies ++ body ∷ [])
     ≡ more_bodies opens quotes bodies ++ (lead_text opens false ++ quoted_body quotes body)
 more_bodies-push opens quotes [] body = append-nil (lead_text opens false ++ quoted_body quotes body)
-more_bodies-push opens quotes (b ∷ bs) body = rw (more_bodies-push opens quotes bs body)
-    (sym (append_assoc (lead_text opens false ++ quoted_body quotes b) (more_bodies opens quotes bs) _))
+more_bodies-push opens quotes (b ∷ bs) body = grind (arith, more_bodies-push opens quotes bs body, append_assoc)
 
 bodies_text-push : (opens : Bool) (quotes : Quotes) (bodies : List (List ℕ)) (body : List ℕ)
     → bodies_text opens quotes (bodies ++ body ∷ [])
     ≡ (bodies_text opens quotes bodies ++ lead_text opens (is_none bodies)) ++ quoted_body quotes body
 bodies_text-push opens quotes [] body = append-nil (lead_text opens true ++ quoted_body quotes body)
-bodies_text-push opens quotes (b ∷ bs) body =
-    let first = lead_text opens true ++ quoted_body quotes b in
-    let more = more_bodies opens quotes bs in
-    let lead = lead_text opens false in
-    rw (more_bodies-push opens quotes bs body) (sym (append_assoc first more (lead ++ quoted_body quotes body))
-    ∙ sym (append_assoc (first ++ more) lead (quoted_body quotes body)))
+bodies_text-push opens quotes (b ∷ bs) body = grind (arith, more_bodies-push, append_assoc)
 
 push_some : (bodies : List (List ℕ)) (body : List ℕ) → is_none (bodies ++ body ∷ []) ≡ false
 push_some [] body = refl
@@ -105,10 +99,7 @@ module _ {R E : Type 0} {source : Reader R E} (k : Kind) (strict : Bool) where
           meets all.left all.between new error progress' all.ends,
         )
     untitled (Some len) error so_far advances =
-        absurd (elim (lone_advanced source k strict len (Err error) so_far advances) [
-          | inl only ↦ cc only.1.found
-          | inr done ↦ cc done.0
-        ])
+        absurd (grind (arith, lone_advanced source k strict len (Err error) so_far advances))
 
 -- ---- the loop over segments
 

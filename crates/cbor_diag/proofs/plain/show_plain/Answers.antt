@@ -16,8 +16,8 @@ returns-in-Positive-clause-reads g c = λ before outer depth pulled steady.
 
 pub returns-in-Positive-clause-text : goal.returns-in-Positive-clause-text
 returns-in-Positive-clause-text g c =
-    rw c.in-Positive.is (said_text g.W.Write _ _ c.show_positive.result c.said.result _ c.said.ensures.same
-    c.show_positive.ensures)
+    rw c.in-Positive.is (said_text g.W.Write _ _ c.show_positive.result c.said.result _
+    c.said.ensures.same c.show_positive.ensures)
 
 pub returns-in-Positive-clause-moves_on : goal.returns-in-Positive-clause-moves_on
 returns-in-Positive-clause-moves_on g c = when_ok _ c.said.result (MovesOn-none g.R.Read c.args.decoder.now)
@@ -34,8 +34,8 @@ returns-in-Negative-clause-reads g c = λ before outer depth pulled steady.
 
 pub returns-in-Negative-clause-text : goal.returns-in-Negative-clause-text
 returns-in-Negative-clause-text g c =
-    rw c.in-Negative.is (said_text g.W.Write _ _ c.show_negative.result c.said-in-Negative.result _ c.said-in-Negative.ensures.same
-    c.show_negative.ensures)
+    rw c.in-Negative.is (said_text g.W.Write _ _ c.show_negative.result c.said-in-Negative.result _
+    c.said-in-Negative.ensures.same c.show_negative.ensures)
 
 pub returns-in-Negative-clause-moves_on : goal.returns-in-Negative-clause-moves_on
 returns-in-Negative-clause-moves_on g c = when_ok _ c.said-in-Negative.result (MovesOn-none g.R.Read c.args.decoder.now)
@@ -52,8 +52,8 @@ returns-in-Simple-clause-reads g c = λ before outer depth pulled steady.
 
 pub returns-in-Simple-clause-text : goal.returns-in-Simple-clause-text
 returns-in-Simple-clause-text g c =
-    rw c.in-Simple.is (said_text g.W.Write _ _ c.show_simple.result c.said-in-Simple.result _ c.said-in-Simple.ensures.same
-    c.show_simple.ensures)
+    rw c.in-Simple.is (said_text g.W.Write _ _ c.show_simple.result c.said-in-Simple.result _
+    c.said-in-Simple.ensures.same c.show_simple.ensures)
 
 pub returns-in-Simple-clause-moves_on : goal.returns-in-Simple-clause-moves_on
 returns-in-Simple-clause-moves_on g c = when_ok _ c.said-in-Simple.result (MovesOn-none g.R.Read c.args.decoder.now)
