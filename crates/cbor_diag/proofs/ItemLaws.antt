@@ -44,8 +44,15 @@ module _ {R E F : Type 0} (source : Ghosts R E) (outer : Bool) (depth : ℕ) (be
       → OnReading (ItemRead source outer depth before new) result
   string_read kind len new result pulled reads =
       reading_string (λ answer. SkipsString source kind len 64 titled answer new)
-      (ItemRead source outer depth before new) result (λ whole. reads_string source kind len pulled steady whole) (λ fault fails. stops_here source (inr
-      (record { kind = kind; len = len; titled = titled; pulled = pulled; steady = steady; fails = fails }))) reads
+      (ItemRead source outer depth before new) result (λ whole. reads_string source kind len pulled steady whole)
+      (λ fault fails. stops_here source (inr (record {
+        kind = kind;
+        len = len;
+        titled = titled;
+        pulled = pulled;
+        steady = steady;
+        fails = fails;
+      }))) reads
 
   -- one of which all that it contains was read
   pub nest_read : (levels : ℕ) (header : Header) (new : Decoder R) (result : Result (Unit {0}) (DiagError E F))

@@ -37,13 +37,12 @@ show_item-returns-in_ok-is_empty-in-Tag-clause-reads g t c = λ before outer at 
     c.said-in-Tag.ensures.writing
 
 pub show_item-returns-in_err-said-in-Tag-clause-moves_on : goal.show_item-returns-in_err-said-in-Tag-clause-moves_on
-show_item-returns-in_err-said-in-Tag-clause-moves_on g t c =
-    when_err _ c.from_residual.result c.from_residual.ensures.0
+show_item-returns-in_err-said-in-Tag-clause-moves_on g t c = when_err _ _ c.from_residual.ensures.0
 
 pub show_item-returns-in_err-is_empty-in-Tag-clause-moves_on :
     goal.show_item-returns-in_err-is_empty-in-Tag-clause-moves_on
 show_item-returns-in_err-is_empty-in-Tag-clause-moves_on g t c =
-    when_err _ c.from_residual-in_err-is_empty-in-Tag.result c.from_residual-in_err-is_empty-in-Tag.ensures.0
+    when_err _ _ c.from_residual-in_err-is_empty-in-Tag.ensures.0
 
 pub show_item-returns-in_err-said-in-Tag-clause-reads : goal.show_item-returns-in_err-said-in-Tag-clause-reads
 show_item-returns-in_err-said-in-Tag-clause-reads g t c = λ before outer at pulled steady.
@@ -111,15 +110,13 @@ show_within-items-preserved g t c =
     }
 
 pub show_within-returns-in_err-next-clause-moves_on : goal.show_within-returns-in_err-next-clause-moves_on
-show_within-returns-in_err-next-clause-moves_on g t c = when_err _ c.from_residual.result c.from_residual.ensures.0
+show_within-returns-in_err-next-clause-moves_on g t c = when_err _ _ c.from_residual.ensures.0
 
 pub show_within-returns-in_err-said-clause-moves_on : goal.show_within-returns-in_err-said-clause-moves_on
-show_within-returns-in_err-said-clause-moves_on g t c =
-    when_err _ c.from_residual-in_err-said.result c.from_residual-in_err-said.ensures.0
+show_within-returns-in_err-said-clause-moves_on g t c = when_err _ _ c.from_residual-in_err-said.ensures.0
 
 pub show_within-returns-in_err-show_item-clause-moves_on : goal.show_within-returns-in_err-show_item-clause-moves_on
-show_within-returns-in_err-show_item-clause-moves_on g t c =
-    when_err _ c.from_residual-in_err-show_item.result c.from_residual-in_err-show_item.ensures.0
+show_within-returns-in_err-show_item-clause-moves_on g t c = when_err _ _ c.from_residual-in_err-show_item.ensures.0
 
 pub show_within-returns-in_err-said-clause-reads : goal.show_within-returns-in_err-said-clause-reads
 show_within-returns-in_err-said-clause-reads g t c =

@@ -1,17 +1,14 @@
-use Rattle.std.proofs.Common.{◌≡◌, ap, codes}
 use Rattle.ciborium_ll.proofs.EncodingLaws.{WritesBytes-stopped, WritesBytes-then}
 use Rattle.cbor_diag.specs.ItemTexts.{nest_closing}
 use Rattle.cbor_diag.proofs.nests.close.Goals as goal
 
 pub returns-in-Array : goal.returns-in-Array
 returns-in-Array g c =
-    let closing : nest_closing c.args.header ≡ codes "]" = ap nest_closing c.in-Array.is in
-    WritesBytes-then g.W.Write _ _ _ _ _ _ c.in_ok-behind.ensures (rw closing c.put-in-Array.ensures)
+    WritesBytes-then g.W.Write _ _ _ _ _ _ c.in_ok-behind.ensures (rw c.in-Array.is c.put-in-Array.ensures)
 
 pub returns-in-Map : goal.returns-in-Map
 returns-in-Map g c =
-    let closing : nest_closing c.args.header ≡ codes "}" = ap nest_closing c.in-Map.is in
-    WritesBytes-then g.W.Write _ _ _ _ _ _ c.in_ok-behind.ensures (rw closing c.put-in-Map.ensures)
+    WritesBytes-then g.W.Write _ _ _ _ _ _ c.in_ok-behind.ensures (rw c.in-Map.is c.put-in-Map.ensures)
 
 pub returns-in_err-behind : goal.returns-in_err-behind
 returns-in_err-behind g c =
@@ -20,5 +17,4 @@ returns-in_err-behind g c =
 
 pub returns-in-Tag : goal.returns-in-Tag
 returns-in-Tag g c =
-    let closing : nest_closing c.args.header ≡ codes ")" = ap nest_closing c.in-Tag.is in
-    WritesBytes-then g.W.Write _ _ _ _ _ _ c.in_ok-behind.ensures (rw closing c.put.ensures)
+    WritesBytes-then g.W.Write _ _ _ _ _ _ c.in_ok-behind.ensures (rw c.in-Tag.is c.put.ensures)
