@@ -1,6 +1,6 @@
 -- A body that is copied to a writer of what stands between quotes, and shown in them.
-use Rattle.std.proofs.Common.{◌≡◌, ◌∙◌, ℕ, ◌+◌, List, [], ◌++◌, take, drop, Option, Some, None, Result, Ok, Err, ap}
-use Rattle.std.proofs.Common.{arith, append_assoc, append-nil, length-append}
+use Rattle.std.proofs.Common.{◌≡◌, ◌∙◌, ℕ, ◌+◌, List, [], ◌++◌, drop, Option, Some, None, Result, Ok, Err, ap, arith}
+use Rattle.std.proofs.Common.{append_assoc, append-nil, length-append}
 use Rattle.std.proofs.lemmas.List.{take-append-drop}
 use Rattle.ciborium_ll.specs.Types.Read.{Ghosts as Reader}
 use Rattle.ciborium_ll.specs.Types.Write.{Ghosts as Writer}
@@ -50,16 +50,9 @@ module _ {R E W F V : Type 0} (source : Reader R E) (sink : Writer W F) (given :
     quoted_part : BodyUnwritten source quoting kind len room (sides old v) (sides new v')
         → BodyUnshown source sink kind len (body_text quotes) (sides old w) (sides new w')
     quoted_part stops =
-        let begun = take stops.stopped.front.0 stops.chunk in
         let behind = drop stops.stopped.front.0 stops.chunk in
         let whole : given v' ++ behind ≡ stops.front ++ stops.chunk =
-        cc (
-          stops.stopped.front.1.0,
-          stops.written.appended,
-          none,
-          append_assoc stops.front begun behind,
-          take-append-drop stops.stopped.front.0 stops.chunk,
-        ) in
+        grind (arith, stops.stopped.front.1.0, stops.written.appended, none, append_assoc, take-append-drop) in
         record {
           bytes = stops.front ++ stops.chunk;
           kept = stops.kept;

@@ -2,7 +2,7 @@
 use Rattle.std.proofs.lemmas.Bool.Decides.{nat_tests}
 use native.Mathlib.Nat.{zero-add, suc-add}
 use Rattle.std.proofs.Common.{◌≡◌, ◌∙◌, ℕ, zero, suc, ◌+◌, ◌-◌, ◌<◌, Bool, true, false, List, [], ◌∷◌, ◌++◌, codes}
-use Rattle.std.proofs.Common.{if◌then◌else◌, Option, Result, Ok, Err, IsErr, OnOk, arith, refl, ap, subst, append-nil}
+use Rattle.std.proofs.Common.{if◌then◌else◌, Option, Result, Ok, Err, IsErr, OnOk, arith, refl, subst, append-nil}
 use Rattle.std.proofs.Math.Nat.{mul-mod_right, mul-add-mod_self_left}
 use Rattle.ciborium_ll.specs.Types.Read.{Ghosts as Reader}
 use Rattle.ciborium_ll.specs.Types.Decoder.{Decoder}
@@ -52,9 +52,8 @@ module _ {W F : Type 0} {sink : Writer W F} {old now : W} (far : ℕ)
       → WritesFront sink now (codes "  ") new → WritesBytes sink old result (new_line level) new
   line_stops level new result less fails stopped =
       let deeper = level - suc far in
-      let all : far + suc deeper ≡ level = omega (arith, less) in
       let text : new_line far ++ indent (suc deeper) ≡ new_line level =
-      ap (λ (z : List ℕ). 10 ∷ z) (indent_parts far (suc deeper) ∙ ap indent all) in
+      grind (arith, indent_parts far (suc deeper), less) in
       rw text at (WritesBytes-then sink old now new result (new_line far) (indent (suc deeper)) begun
       (WritesBytes-stopped sink now new result (codes "  ") (indent deeper) fails stopped))
 

@@ -145,15 +145,15 @@ show_item-returns-in_err-said-in-Tag-clause-shown g t c =
 
 pub show_item-returns-in_err-is_empty-in-Tag-clause-shown : goal.show_item-returns-in_err-is_empty-in-Tag-clause-shown
 show_item-returns-in_err-is_empty-in-Tag-clause-shown g t c =
-    let opened = said_wrote g.W.Write c.open.result c.said.ensures.same c.in_ok-said-in-Tag.was c.open.ensures in
     rw (exit_is _ _ c.from_residual-in_err-is_empty-in-Tag.ensures.1) (within_stops _ c.within-inner.ensures.layout
-    c.within-inner.ensures.level opened c.in_err-is_empty-in-Tag.ensures.shown)
+    c.within-inner.ensures.level (said_wrote g.W.Write c.open.result c.said.ensures.same c.in_ok-said-in-Tag.was
+    c.open.ensures) c.in_err-is_empty-in-Tag.ensures.shown)
 
 pub show_item-returns-in_ok-is_empty-in-Tag-clause-shown : goal.show_item-returns-in_ok-is_empty-in-Tag-clause-shown
 show_item-returns-in_ok-is_empty-in-Tag-clause-shown g t c =
-    let opened = said_wrote g.W.Write c.open.result c.said.ensures.same c.in_ok-said-in-Tag.was c.open.ensures in
-    nest_shown _ c.within-inner.ensures.layout c.within-inner.ensures.level opened _ c.close.result c.said-in-Tag.result
-    c.in_ok-is_empty-in-Tag.ensures.shown c.said-in-Tag.ensures.same c.close.ensures
+    nest_shown _ c.within-inner.ensures.layout c.within-inner.ensures.level
+    (said_wrote g.W.Write c.open.result c.said.ensures.same c.in_ok-said-in-Tag.was c.open.ensures) _ c.close.result
+    c.said-in-Tag.result c.in_ok-is_empty-in-Tag.ensures.shown c.said-in-Tag.ensures.same c.close.ensures
 
 pub show_item-returns-in_default-clause-shown : goal.show_item-returns-in_default-clause-shown
 show_item-returns-in_default-clause-shown g t c =
@@ -182,10 +182,9 @@ show_within-returns-in_err-said-clause-shown g t c =
 
 pub show_within-returns-in_err-show_item-clause-shown : goal.show_within-returns-in_err-show_item-clause-shown
 show_within-returns-in_err-show_item-clause-shown g t c =
-    let led = said_wrote g.W.Write c.before-in-items.result c.said.ensures.same c.in_ok-said.was
-    c.before-in-items.ensures in
     rw (exit_is _ _ c.from_residual-in_err-show_item.ensures.1) (item_stops c.items.invariant.items c.is_value.ensures
-    (rw c.offset-place.ensures.same at c.in_ok-next.ensures.header) led c.in_err-show_item.ensures.shown)
+    (rw c.offset-place.ensures.same at c.in_ok-next.ensures.header) (said_wrote g.W.Write c.before-in-items.result
+    c.said.ensures.same c.in_ok-said.was c.before-in-items.ensures) c.in_err-show_item.ensures.shown)
 
 pub show_within-returns-clause-shown : goal.show_within-returns-clause-shown
 show_within-returns-clause-shown g t c = items_done c.items.invariant.items (sym c.items-test.ensures)

@@ -13,26 +13,24 @@ returns-then-is_nan g c = record {
 
 pub returns-in_err-show_digits : goal.returns-in_err-show_digits
 returns-in_err-show_digits g c =
-    let bytes = c.as_bytes.result.now in
     let digits = c.format_finite_with_plus.ensures in
     record {
-      text = with_point bytes;
-      is_text = finite_text c.args.value _ bytes (sym c.is_finite.ensures.value ∙ c.if-is_finite.true) digits.parses
+      text = with_point c.as_bytes.result.now;
+      is_text = finite_text c.args.value _ _ (sym c.is_finite.ensures.value ∙ c.if-is_finite.true) digits.parses
           digits.layout c.as_bytes.ensures.value;
-      written = WritesBytes-stopped g.W.Write _ _ c.from_residual.result (with_point bytes) c.args.mark.now
+      written = WritesBytes-stopped g.W.Write _ _ c.from_residual.result _ c.args.mark.now
           c.from_residual.ensures.0 c.in_err-show_digits.ensures;
     }
 
 pub returns-then-is_finite : goal.returns-then-is_finite
 returns-then-is_finite g c =
-    let bytes = c.as_bytes.result.now in
     let digits = c.format_finite_with_plus.ensures in
     record {
-      text = with_point bytes;
-      is_text = finite_text c.args.value _ bytes (sym c.is_finite.ensures.value ∙ c.if-is_finite.true) digits.parses
+      text = with_point c.as_bytes.result.now;
+      is_text = finite_text c.args.value _ _ (sym c.is_finite.ensures.value ∙ c.if-is_finite.true) digits.parses
           digits.layout c.as_bytes.ensures.value;
-      written = WritesBytes-then g.W.Write _ _ _ c.put.result (with_point bytes) c.args.mark.now
-          c.in_ok-show_digits.ensures c.put.ensures;
+      written = WritesBytes-then g.W.Write _ _ _ c.put.result _ c.args.mark.now c.in_ok-show_digits.ensures
+          c.put.ensures;
     }
 
 pub returns-then-is_sign_negative : goal.returns-then-is_sign_negative
