@@ -17,7 +17,7 @@ use Rattle.ciborium_ll.specs.Segments.{AdvancesTo, EndsAdvance, IsRefusedAt}
 use Rattle.ciborium_ll.specs.Sides.{Sides, sides}
 use Rattle.ciborium_ll.proofs.DecodingLaws.{Passes-pulled}
 use Rattle.ciborium_ll.proofs.HaltLaws.{kind_not_misplaced}
-use Rattle.ciborium_ll.proofs.StringLaws.{mixed, not_break, same_len}
+use Rattle.ciborium_ll.proofs.StringLaws.{not_break}
 use Rattle.ciborium_ll.proofs.StepLaws.{counted}
 use Rattle.ciborium_ll.proofs.TitleLaws.{IsTitle-shortest}
 use Rattle.cbor_skip.specs.declared.SkipError.TheVariants as s
@@ -58,12 +58,12 @@ push_some (b ∷ bs) body = refl
 -- a header that a string refuses is that of no body
 no_body : (k : Kind) (strict : Bool) (opens : ℕ) (header : Header) → IsRefusedAt strict k opens header → (count : ℕ)
     → header ≡ kind_header k (Some count) → ⊥
-no_body k strict opens header refused count is = grind (arith, not_break, kind_not_misplaced, mixed, same_len)
+no_body k strict opens header refused count is = grind (arith, not_break, kind_not_misplaced)
 
 module _ {R E : Type 0} {source : Reader R E} (k : Kind) (strict : Bool) where
   meets : (left : ℕ) (between new : Decoder R) (error : Error E) (progress : Progress)
       → EndsAdvance source k strict left between (Err error) progress new → MeetsNoBody source k between error new
-  meets left between new error progress ends = grind (arith, no_body, mixed, same_len)
+  meets left between new error progress ends = grind (arith, no_body)
 
   module _ {opened now new : Decoder R} {bodies : List (List ℕ)} {progress : Progress} (progress' : Progress)
       (steady : IsSteady source now → IsSteady source new) where
