@@ -2,6 +2,7 @@ pub mod BlockedLaws
 pub mod EnterLaws
 pub mod ExactLaws
 pub mod HighBits
+pub mod ItemLeads
 pub mod KeptLaws
 pub mod LeadLaws
 pub mod LevelLaws
@@ -12,12 +13,10 @@ pub mod OneSpot
 pub mod PlainLaws
 pub mod RunLaws
 pub mod SettledLaws
-pub mod ShortLeads
 pub mod SnapshotLaws
 pub mod StackLaws
 pub mod StepLaws
 pub mod StringLaws
-pub mod StringRuns
 pub mod TellLaws
 pub mod TitleDueLaws
 pub mod TitleLeads

@@ -1,8 +1,9 @@
 -- Where a title of one byte leads that is a nest's, with the plain items behind it.
-use Rattle.std.proofs.Common.{◌≡◌, ℕ, zero, suc, ◌+◌, ◌-◌, ◌*◌, ◌<◌, ◌≤◌, List, [], ◌∷◌, length, length-drop, take}
-use Rattle.std.proofs.Common.{drop, slice_index, refl, sym, ap, subst, ◌∙◌, arith, Some}
+use Rattle.std.proofs.Common.{◌≡◌, ℕ, zero, suc, ◌+◌, ◌-◌, ◌*◌, ◌<◌, ◌≤◌, List, [], ◌∷◌, length, take}
+use Rattle.std.proofs.Common.{drop, slice_index, refl, sym, subst, ◌∙◌, arith, Some}
 use Rattle.std.proofs.lemmas.List.{length-take-le, take_rest}
-use Rattle.ciborium_ll_text.proofs.Lists.{Below}
+use Rattle.std.proofs.Math.Seq.{take-add}
+use Rattle.ciborium_ll_text.proofs.Lists.{Below, rest_long}
 use Rattle.ciborium_ll_grammar.specs.Title.{Array, Major, Map, Small, major_code, numbered_header}
 use Rattle.cbor_feed.specs.declared.level.Level.{Level}
 use Rattle.cbor_feed.specs.declared.level.Level.TheVariants as l
@@ -12,10 +13,12 @@ use Rattle.cbor_feed.specs.Levels.{next}
 use Rattle.cbor_feed.specs.Plain.{ArePlain, IsNestTitle, counted_behind, lowered, passed}
 use Rattle.cbor_feed.specs.Spots.{Spot, item_done, item_due, item_entered, nested}
 use Rattle.cbor_feed.specs.Steps.{Leads}
-use Rattle.cbor_feed.proofs.PlainLaws.{one_taken, one_title, unfronted}
-use Rattle.cbor_feed.proofs.RunLaws.{run_ends, run_goes, written}
+use Rattle.cbor_feed.proofs.ItemLeads.{due, from_due}
+use Rattle.cbor_feed.proofs.LeadLaws.{leads_more}
+use Rattle.cbor_feed.proofs.PlainLaws.{one_taken}
+use Rattle.cbor_feed.proofs.RunLaws.{run_ends, run_goes}
 use Rattle.cbor_feed.proofs.SettledLaws.{nested_goes}
-use Rattle.cbor_feed.proofs.ShortLeads.{both_lead, short_leads}
+use Rattle.cbor_feed.proofs.TitleLeads.{title_leads}
 
 -- ---- the title
 
@@ -25,16 +28,15 @@ below_one b byte (suc i) less = absurd (omega (arith, less))
 
 title_enters : (b n : ℕ) (major : Major) (inner level : Level) → b ≡ 32 * major_code major + n → n < 24 → b < 256
     → next inner ≡ Some level
-    → ((spot : Spot) → item_entered (numbered_header major Small n) spot ≡ nested spot.depth inner spot)
-    → IsNestTitle b level
-title_enters b n major inner level e small byte left enters = λ spot at clear due deep.
-    let u : Spot = record spot { place = spot.offset; offset = spot.offset + 1 } in
-    let new : Spot = item_due (spot.depth - 1) (level ∷ spot.levels) (passed 1 spot) in
-    let same : new ≡ item_due (u.depth - 1) (level ∷ u.levels) u =
-    ap (λ (z : Spot). item_due (spot.depth - 1) (level ∷ spot.levels) z) (unfronted spot 1 clear) in
-    short_leads (b ∷ []) spot new (numbered_header major Small n) (below_one b byte) at clear due (omega arith)
-    (one_title b n major e small) (one_taken spot.strict b n major e small)
-    (nested_goes u new inner level (λ none. omega (arith, none, deep)) left same ∙ sym (enters u))
+    → ((u : Spot) → item_entered (numbered_header major Small n) u ≡ nested u.depth inner u) → IsNestTitle b level
+title_enters b n major inner level e small byte left enters = λ s at clear none deep.
+    let header = numbered_header major Small n in
+    let title = one_taken s.strict b n major e small in
+    let u : Spot = record (due s) { place = s.offset; offset = s.offset + 1 } in
+    let new = nested_goes u _ inner level (λ zero. omega (arith, zero, deep)) left refl ∙ sym (enters u) in
+    from_due s at clear none (λ (z : Spot). item_due (z.depth - 1) (level ∷ z.levels) (passed 1 z)) (subst (Leads (due s) (b ∷ [])) (sym new)
+    (title_leads (b ∷ []) 1 (due s) header (λ i less. below_one b byte i less) refl refl (omega arith) (omega arith) title.0 title.1
+    (λ more. absurd (omega (arith, more)))))
 
 -- that of an array of one item more
 pub array_enters : (b k : ℕ) → b ≡ 129 + k → k < 23 → IsNestTitle b (l.Items k)
@@ -54,61 +56,46 @@ one_byte : (xs : List ℕ) → 0 < length xs → slice_index xs 0 ∷ [] ≡ tak
 one_byte [] some = absurd (omega arith)
 one_byte (x ∷ xs) some = refl
 
-module _ (s new : Spot) (level : Level) (left last len : ℕ) (xs : List ℕ) (at : s.phase ≡ p.Title)
-    (clear : length s.front ≡ 0) (due : s.within ≡ w.Nothing) (deep : 0 < s.depth) (some : 0 < length xs)
+module _ (s : Spot) (level : Level) (left last len : ℕ) (xs : List ℕ) (at : s.phase ≡ p.Title)
+    (clear : length s.front ≡ 0) (in_none : s.within ≡ w.Nothing) (deep : 0 < s.depth) (le : len ≤ length xs - 1)
     (enters : IsNestTitle (slice_index xs 0) level) (all : counted_behind level ≡ Some left) where
   -- behind the title
   abbrev m : Spot
-  m = item_due (s.depth - 1) (level ∷ s.levels) (passed 1 s)
+  m = item_due (s.depth - 1) (level ∷ s.levels) (passed 1 (due s))
 
-  abbrev bytes : List ℕ
-  bytes = take len (take (length xs - 1) (drop 1 xs))
+  abbrev items : List ℕ
+  items = take len (take (length xs - 1) (drop 1 xs))
 
-  leads_in : Leads m bytes new → Leads s (take (1 + len) xs) new
-  leads_in items =
-      both_lead xs len s m new
-      (subst (λ (z : List ℕ). Leads s z m) (one_byte xs some) (enters s at clear due deep))
-      (subst (λ (z : List ℕ). Leads m (take len z) new) (take_rest xs 1) items)
+  leads_in : 0 < length xs → (To : Spot → Spot) → Leads m items (To (due s)) → Leads s (take (1 + len) xs) (To s)
+  leads_in some To rest =
+      from_due s at clear in_none To (rw (take-add 1 len xs)
+      (leads_more (due s) m (To (due s)) (take 1 xs) (take len (drop 1 xs))
+      (rw (← one_byte xs some) (enters (due s) refl refl refl deep)) (rw (take_rest xs 1) at rest)))
 
-  long : len ≤ length xs - 1 → length bytes ≡ len
-  long within =
-      length-take-le len (take (length xs - 1) (drop 1 xs))
-      (let rest = ap length (take_rest xs 1) in let rests = length-drop 1 xs in omega (arith, rest, rests, within))
+  long : length items ≡ len
+  long = length-take-le len (take (length xs - 1) (drop 1 xs)) (omega (arith, rest_long xs 1, le))
 
   -- another item is due in the nest
-  pub nest_goes : (behind : ℕ) → 0 < behind → behind ≤ left + 1 → len ≤ length xs - 1
-      → ArePlain s.strict (s.offset + 1) s.offset (left + 1 - behind) last bytes
-      → new ≡ record s {
+  pub nest_goes : 0 < length xs → (behind : ℕ) → 0 < behind → behind ≤ left + 1
+      → ArePlain s.strict (s.offset + 1) s.offset (left + 1 - behind) last items
+      → Leads s (take (1 + len) xs) (record s {
         depth = s.depth - 1;
         levels = lowered (behind - 1) level ∷ s.levels;
         place = last;
         offset = s.offset + 1 + len;
-      }
-      → Leads s (take (1 + len) xs) new
-  nest_goes behind more fits within plain new_is =
-      let levels : List Level = lowered (behind - 1) level ∷ s.levels in
-      let to : new ≡ record m { levels = levels; place = last; offset = m.offset + length bytes } =
-      new_is
-      ∙ (written (record s {
-        depth = s.depth - 1;
-        levels = levels;
+      })
+  nest_goes some behind more fits plain =
+      leads_in some (λ (z : Spot). record z {
+        depth = z.depth - 1;
+        levels = lowered (behind - 1) level ∷ z.levels;
         place = last;
-        offset = s.offset + 1 + len;
-      }) levels at clear due refl
-      ∙ ap (λ (z : ℕ). record m { levels = levels; place = last; offset = m.offset + z }) (sym (long within))) in
-      leads_in (run_goes m new level left last bytes refl refl refl refl all (left + 1) behind refl more fits plain to)
+        offset = z.offset + 1 + len;
+      }) (rw long at (run_goes m level left refl refl refl refl all last items behind more fits plain))
 
   -- the last one has come
-  pub nest_ends : (count : ℕ) → count ≡ suc left → len ≤ length xs - 1
-      → ArePlain s.strict (s.offset + 1) s.offset count last bytes
-      → new ≡ item_done (record s { place = last; offset = s.offset + 1 + len }) → Leads s (take (1 + len) xs) new
-  nest_ends count counts within plain new_is =
-      let given_back : s.depth ≡ m.depth + 1 = omega (arith, deep) in
-      let u : Spot = record s { place = last; offset = s.offset + 1 + len } in
-      let to : u ≡ record m { depth = m.depth + 1; levels = s.levels; place = last; offset = m.offset + length bytes } =
-      written u s.levels at clear due refl
-      ∙ (ap (λ (z : ℕ). record m { depth = z; levels = s.levels; place = last; offset = m.offset + len }) given_back
-      ∙ ap (λ (z : ℕ).
-      record m { depth = m.depth + 1; levels = s.levels; place = last; offset = m.offset + z }) (sym (long within))) in
-      leads_in (run_ends m new level left last bytes refl refl refl refl all count counts plain
-      (new_is ∙ ap item_done to))
+  pub nest_ends : 0 < length xs → (count : ℕ) → count ≡ suc left → ArePlain s.strict (s.offset + 1) s.offset count last items
+      → Leads s (take (1 + len) xs) (item_done (record s { place = last; offset = s.offset + 1 + len }))
+  nest_ends some count counts plain =
+      let given_back : s.depth - 1 + 1 ≡ s.depth = omega (arith, deep) in
+      leads_in some (λ (z : Spot). item_done (record z { place = last; offset = z.offset + 1 + len }))
+      (rw (long, given_back) at (run_ends m level left refl refl refl refl all last items count counts plain))

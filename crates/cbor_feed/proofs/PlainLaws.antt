@@ -1,123 +1,55 @@
 -- Plain items: what the table says of first bytes, and where such items lead.
-use Rattle.std.proofs.Common.{◌≡◌, ℕ, suc, ◌+◌, ◌-◌, ◌*◌, ◌/◌, ◌%◌, ◌<◌, ◌≤◌, Bool, true, false, List}
-use Rattle.std.proofs.Common.{[], ◌∷◌, ◌++◌}
-use Rattle.std.proofs.Common.{◌&&◌, ◌||◌, eqb, ltb, eqb-true, ltb-true, get_or, length, take, drop, slice_index, refl}
-use Rattle.std.proofs.Common.{sym, ap}
-use Rattle.std.proofs.Common.{subst, ◌∙◌, arith, inl, inr}
-use Rattle.std.proofs.lemmas.Bool.{agree_below_at, and_parts, or_cases}
+use Rattle.std.proofs.Common.{◌≡◌, ℕ, zero, suc, ◌+◌, ◌-◌, ◌*◌, ◌/◌, ◌%◌, ◌<◌, ◌≤◌, ◌^◌, Bool, true, false, List, [], ◌∷◌, ◌++◌}
+use Rattle.std.proofs.Common.{◌&&◌, ◌||◌, eqb, ltb, get_or, length, take, drop, slice_index, refl, sym, ap, subst, ◌∙◌}
+use Rattle.std.proofs.Common.{arith, inl, inr, None}
+use borrow.Author.Tests.{le-ltb, lt-ltb}
+use Rattle.std.proofs.lemmas.Bool.{agree_below_at, and_parts}
+use Rattle.std.proofs.lemmas.Bool.Decides.{nat_tests}
 use Rattle.std.proofs.lemmas.List.{length-take-le}
 use Rattle.std.proofs.Math.Seq.{take-add}
 use Rattle.std.specs.Str.{IsAscii}
-use Rattle.ciborium_ll_text.proofs.Lists.{Below, length_zero}
+use Rattle.ciborium_ll_text.proofs.Lists.{Below}
 use Rattle.ciborium_ll_text.proofs.StateLaws.{ascii_stays}
-use Rattle.ciborium_ll_grammar.specs.declared.hdr.Header.TheVariants as h
-use Rattle.ciborium_ll_grammar.specs.declared.hdr.table.TitleKind.{TitleKind}
 use Rattle.ciborium_ll_grammar.specs.declared.hdr.table.TitleKind.TheVariants as k
-use Rattle.ciborium_ll_grammar.specs.Title.{IsTitle, Major, Unsigned, Negative, ByteString, TextString, Other, Small}
-use Rattle.ciborium_ll_grammar.specs.Title.{NamesNoTitle, affix_len, major_code, numbered, numbered_header}
+use Rattle.ciborium_ll_grammar.specs.Title.{IsTitle, Major, Unsigned, Negative, ByteString, TextString, Other, Size, Small}
+use Rattle.ciborium_ll_grammar.specs.Title.{One, NamesNoTitle, affix_len, major_code, numbered, numbered_header}
+use Rattle.ciborium_ll_grammar.specs.Title.{numbered_title, size_limit}
 use Rattle.ciborium_ll_grammar.specs.Items.{IsTakenTitle}
-use Rattle.ciborium_ll_grammar.specs.TitleRows.{IsTitleKind}
-use Rattle.ciborium_ll_grammar.proofs.LongerLaws.{taken}
+use Rattle.ciborium_ll_grammar.specs.Parts.{longer_parts}
+use Rattle.ciborium_ll_grammar.proofs.LongerLaws.{minor_as, taken}
+use Rattle.ciborium_ll_titles.proofs.TitleKinds.{kind_names, kind_of}
+use Rattle.cbor_feed.specs.declared.phase.Within.TheVariants as w
 use Rattle.cbor_feed.specs.declared.plain.TheConstants.{LENS, TEXT_LENS}
-use Rattle.cbor_feed.specs.Blocked.{is_value}
-use Rattle.cbor_feed.specs.Plain.{ArePlain, IsPlainItem, IsSpan, IsValueMajor, more, passed}
-use Rattle.cbor_feed.specs.Spots.{Spot, item_done}
-use Rattle.cbor_feed.specs.Steps.{counted_by}
-use Rattle.cbor_feed.proofs.ShortLeads.{short_bytes, short_leads, short_text, value_leads}
+use Rattle.cbor_feed.specs.Blocked.{blocked, is_value}
+use Rattle.cbor_feed.specs.Plain.{ArePlain, IsPlainItem, IsSpan, IsValueMajor, more}
+use Rattle.cbor_feed.specs.Spots.{Spot, item_done, item_entered}
+use Rattle.cbor_feed.proofs.ItemLeads.{bytes_item, one_long, text_item, title_item, value_item}
 
 -- ---- the table
 
-abbrev major_test : ℕ → Bool
-major_test major = eqb major 0 || (eqb major 1 || eqb major 7)
+abbrev value_test : ℕ → Bool
+value_test major = eqb major 0 || (eqb major 1 || eqb major 7)
 
-abbrev value_test : ℕ → ℕ → Bool
-value_test first len = eqb len 1 && (ltb (first % 32) 24 && major_test (first / 32))
-
-abbrev bytes_test : ℕ → ℕ → Bool
-bytes_test first len = eqb len (1 + first % 32) && (ltb (first % 32) 24 && eqb (first / 32) 2)
-
-abbrev long_test : ℕ → ℕ → Bool
-long_test first len =
-    eqb len (1 + affix_len (first % 32)) && (ltb 0 (affix_len (first % 32)) && (ltb 23 (first % 32)
-    && (ltb (first % 32) 28 && major_test (first / 32))))
-
-abbrev text_test : ℕ → ℕ → ℕ → Bool
-text_test first len text_len =
-    (eqb len (1 + first % 32) && (ltb (first % 32) 24 && eqb (first / 32) 3)) && eqb text_len (first % 32)
+abbrev item_test : ℕ → ℕ → ℕ → Bool
+item_test first len text_len =
+    eqb len 0
+    || ((eqb len 1 && (ltb (first % 32) 24 && value_test (first / 32)))
+    || ((eqb len (1 + first % 32) && (ltb (first % 32) 24 && eqb (first / 32) 2))
+    || ((eqb len (1 + affix_len (first % 32)) && (ltb 0 (affix_len (first % 32)) && (ltb 23 (first % 32)
+    && (ltb (first % 32) 28 && value_test (first / 32)))))
+    || ((eqb len (1 + first % 32) && (ltb (first % 32) 24 && eqb (first / 32) 3)) && eqb text_len (first % 32)))))
 
 abbrev span_test : ℕ → ℕ → ℕ → Bool
-span_test first len text_len =
-    (eqb len 0 || (value_test first len || (bytes_test first len || (long_test first len
-    || text_test first len text_len)))) && (eqb len 0 || ltb text_len len)
+span_test first len text_len = item_test first len text_len && (eqb len 0 || ltb text_len len)
 
-major_tells : (major : ℕ) → major_test major ≡ true → IsValueMajor major
-major_tells major e =
-    elim (or_cases (eqb major 0) (eqb major 1 || eqb major 7) e) [
-      | inl unsigned ↦ inl (eqb-true major 0 unsigned)
-      | inr others ↦ elim (or_cases (eqb major 1) (eqb major 7) others) [
-        | inl negative ↦ inr (inl (eqb-true major 1 negative))
-        | inr other ↦ inr (inr (eqb-true major 7 other))
-      ]
-    ]
-
-small_tells : (first span n code : ℕ) → (eqb span n && (ltb (first % 32) 24 && eqb (first / 32) code)) ≡ true
-    → (span ≡ n) × (first % 32 < 24) × (first / 32 ≡ code)
-small_tells first span n code e =
-    let one = and_parts (eqb span n) _ e in
-    let two = and_parts (ltb (first % 32) 24) _ one.1 in
-    (eqb-true span n one.0, ltb-true (first % 32) 24 two.0, eqb-true (first / 32) code two.1)
-
-value_tells : (first span : ℕ) → value_test first span ≡ true
-    → (span ≡ 1) × (first % 32 < 24) × IsValueMajor (first / 32)
-value_tells first span e =
-    let one = and_parts (eqb span 1) _ e in
-    let two = and_parts (ltb (first % 32) 24) _ one.1 in
-    (eqb-true span 1 one.0, ltb-true (first % 32) 24 two.0, major_tells (first / 32) two.1)
-
-long_tells : (first len : ℕ) → long_test first len ≡ true
-    → (len ≡ 1 + affix_len (first % 32)) × (0 < affix_len (first % 32)) × (24 ≤ first % 32) × (first % 32 < 28)
-    × IsValueMajor (first / 32)
-long_tells first len e =
-    let one = and_parts (eqb len (1 + affix_len (first % 32))) _ e in
-    let two = and_parts (ltb 0 (affix_len (first % 32))) _ one.1 in
-    let three = and_parts (ltb 23 (first % 32)) _ two.1 in
-    let four = and_parts (ltb (first % 32) 28) _ three.1 in (
-      eqb-true len _ one.0,
-      ltb-true 0 _ two.0,
-      ltb-true 23 (first % 32) three.0,
-      ltb-true (first % 32) 28 four.0,
-      major_tells (first / 32) four.1,
-    )
-
-text_tells : (first len text_len : ℕ) → text_test first len text_len ≡ true
-    → (len ≡ 1 + first % 32) × (first % 32 < 24) × (first / 32 ≡ 3) × (text_len ≡ first % 32)
-text_tells first len text_len e =
-    let one = and_parts (eqb len (1 + first % 32) && _) (eqb text_len (first % 32)) e in
-    let two = small_tells first len (1 + first % 32) 3 one.0 in
-    (two.0, two.1, two.2, eqb-true text_len (first % 32) one.1)
+item_tells : (first len text_len : ℕ) → item_test first len text_len ≡ true → IsSpan first len text_len
+item_tells first len text_len e = grind (arith, nat_tests)
 
 span_tells : (first len text_len : ℕ) → span_test first len text_len ≡ true
     → IsSpan first len text_len × (0 < len → text_len < len)
 span_tells first len text_len both =
-    let parts = and_parts (eqb len 0 || _) (eqb len 0 || ltb text_len len) both in (
-      elim (or_cases (eqb len 0) _ parts.0) [
-        | inl none ↦ inl (eqb-true len 0 none)
-        | inr a ↦ elim (or_cases (value_test first len) _ a) [
-          | inl value ↦ inr (inl (value_tells first len value))
-          | inr b ↦ elim (or_cases (bytes_test first len) _ b) [
-            | inl bytes ↦ inr (inr (inl (small_tells first len (1 + first % 32) 2 bytes)))
-            | inr c ↦ elim (or_cases (long_test first len) (text_test first len text_len) c) [
-              | inl long ↦ inr (inr (inr (inl (long_tells first len long))))
-              | inr text ↦ inr (inr (inr (inr (text_tells first len text_len text))))
-            ]
-          ]
-        ]
-      ],
-      λ more. elim (or_cases (eqb len 0) (ltb text_len len) parts.1) [
-        | inl none ↦ absurd (let e = eqb-true len 0 none in omega (arith, e, more))
-        | inr less ↦ ltb-true text_len len less
-      ],
-    )
+    let parts = and_parts (item_test first len text_len) _ both in
+    (item_tells first len text_len parts.0, let less = parts.1 in grind (arith, nat_tests))
 
 -- each of the 256 numbers passes its test
 pub span_says : (first len text_len : ℕ) → first < 256 → len ≡ get_or LENS first 0
@@ -128,95 +60,56 @@ span_says first len text_len l len_is text_len_is =
     ∙ (ap (λ (z : ℕ). span_test first (get_or LENS first 0) z) text_len_is
     ∙ agree_below_at (λ (b : ℕ). span_test b (get_or LENS b 0) (get_or TEXT_LENS b 0)) (λ (b : ℕ). true) 256 first refl l))
 
--- ---- a title of one byte
+-- ---- titles of one and of two bytes
 
-pub one_title : (b n : ℕ) (major : Major) → b ≡ 32 * major_code major + n → n < 24
-    → IsTitle (b ∷ []) (numbered_header major Small n)
-one_title b n major e small =
-    subst (λ (z : ℕ). IsTitle (z ∷ []) (numbered_header major Small n)) (sym e) (numbered major Small n small)
+-- where a number takes this size it is a title, and where it takes no smaller one it is taken
+numbered_taken : (strict : Bool) (t : List ℕ) (major : Major) (size : Size) (n : ℕ) → t ≡ numbered_title major size n
+    → n < size_limit size → longer_parts (major_code major) (minor_as size n) ≡ false
+    → IsTitle t (numbered_header major size n) × IsTakenTitle strict t (numbered_header major size n)
+numbered_taken false t major size n e fits short = rw e (numbered major size n fits, tt)
+numbered_taken true t major size n e fits short = rw e (numbered major size n fits, taken major size n fits short)
 
 pub one_taken : (strict : Bool) (b n : ℕ) (major : Major) → b ≡ 32 * major_code major + n → n < 24
-    → IsTakenTitle strict (b ∷ []) (numbered_header major Small n)
-one_taken false b n major e small = tt
-one_taken true b n major e small =
-    subst (λ (z : ℕ). IsTakenTitle true (z ∷ []) (numbered_header major Small n)) (sym e)
-    (taken major Small n small refl)
+    → IsTitle (b ∷ []) (numbered_header major Small n) × IsTakenTitle strict (b ∷ []) (numbered_header major Small n)
+one_taken strict b n major e small = numbered_taken strict (b ∷ []) major Small n (rw e refl) small refl
 
--- with nothing of a title in front
-pub unfronted : (spot : Spot) (len : ℕ) → length spot.front ≡ 0
-    → passed len spot ≡ record spot { place = spot.offset; offset = spot.offset + len }
-unfronted spot len clear =
-    ap (λ (z : List ℕ). record spot { front = z; place = spot.offset; offset = spot.offset + len })
-    (sym (length_zero spot.front clear))
+take_two : (xs : List ℕ) → 1 < length xs → take 2 xs ≡ slice_index xs 0 ∷ slice_index xs 1 ∷ []
+take_two [] some = absurd (omega arith)
+take_two (b ∷ []) some = absurd (omega arith)
+take_two (b ∷ c ∷ xs) some = refl
 
-small_value : (b : ℕ) (xs : List ℕ) (strict : Bool) → Below (b ∷ xs) → b % 32 < 24 → IsValueMajor (b / 32)
-    → IsPlainItem strict (take 1 (b ∷ xs))
-small_value b xs strict below small (inl none) = λ spot at clear due same.
-    let e : b ≡ 32 * major_code Unsigned + b % 32 = omega arith in
-    short_leads (b ∷ xs) spot _ (h.Positive (b % 32)) below at clear due (omega arith) (one_title b
-    (b % 32) Unsigned e small)
-    (one_taken spot.strict b (b % 32) Unsigned e small) (ap item_done (unfronted spot 1 clear))
-small_value b xs strict below small (inr (inl one)) = λ spot at clear due same.
-    let e : b ≡ 32 * major_code Negative + b % 32 = omega arith in
-    short_leads (b ∷ xs) spot _ (h.Negative (b % 32)) below at clear due (omega arith) (one_title b
-    (b % 32) Negative e small)
-    (one_taken spot.strict b (b % 32) Negative e small) (ap item_done (unfronted spot 1 clear))
-small_value b xs strict below small (inr (inr seven)) = λ spot at clear due same.
-    let e : b ≡ 32 * major_code Other + b % 32 = omega arith in
-    short_leads (b ∷ xs) spot _ (h.Simple (b % 32)) below at clear due (omega arith) (one_title b
-    (b % 32) Other e small)
-    (one_taken spot.strict b (b % 32) Other e small) (ap item_done (unfronted spot 1 clear))
+two_taken : (strict : Bool) (xs : List ℕ) (major : Major) → 1 < length xs
+    → slice_index xs 0 ≡ 32 * major_code major + 24 → slice_index xs 1 < 256
+    → longer_parts (major_code major) (minor_as One (slice_index xs 1)) ≡ false
+    → IsTitle (take 2 xs) (numbered_header major One (slice_index xs 1))
+    × IsTakenTitle strict (take 2 xs) (numbered_header major One (slice_index xs 1))
+two_taken strict xs major some e fits short =
+    let same : slice_index xs 1 % 256 ≡ slice_index xs 1 = omega (arith, fits) in
+    let parts : take 2 xs ≡ numbered_title major One (slice_index xs 1) = rw (take_two xs some, same, e) refl in
+    numbered_taken strict (take 2 xs) major One (slice_index xs 1) parts fits short
 
--- the title and so many bytes behind it
-passed_by : (spot : Spot) (n len : ℕ) → len ≡ 1 + n
-    → passed len spot ≡ counted_by n (record spot { place = spot.offset; offset = spot.offset + 1 })
-passed_by spot n len e =
-    let same : spot.offset + len ≡ spot.offset + 1 + n = omega (arith, e) in
-    ap (λ (z : ℕ). record spot { front = []; place = spot.offset; offset = z }) same
+-- ---- what the numbers of a first byte say of the item
 
-small_bytes : (b : ℕ) (xs : List ℕ) (strict : Bool) → Below (b ∷ xs) → b % 32 < 24 → b / 32 ≡ 2
-    → 1 + b % 32 ≤ length (b ∷ xs) → IsPlainItem strict (take (1 + b % 32) (b ∷ xs))
-small_bytes b xs strict below small two le = λ spot at clear due same.
-    let e : b ≡ 32 * major_code ByteString + b % 32 = omega arith in
-    let long = length-take-le (1 + b % 32) (b ∷ xs) le in
-    short_bytes (b ∷ xs) (b % 32) spot _ below at clear due (omega arith) (omega (arith, le))
-    (one_title b (b % 32) ByteString e small) (one_taken spot.strict b (b % 32) ByteString e small)
-    (ap item_done (passed_by spot (b % 32) _ long))
-
-small_text : (b : ℕ) (xs : List ℕ) (strict : Bool) → Below (b ∷ xs) → b % 32 < 24 → b / 32 ≡ 3
-    → 1 + b % 32 ≤ length (b ∷ xs) → IsAscii (take (b % 32) xs) → IsPlainItem strict (take (1 + b % 32) (b ∷ xs))
-small_text b xs strict below small three le ascii = λ spot at clear due same.
-    let e : b ≡ 32 * major_code TextString + b % 32 = omega arith in
-    let long = length-take-le (1 + b % 32) (b ∷ xs) le in
-    short_text (b ∷ xs) (b % 32) spot _ below at clear due (omega arith) (omega (arith, le))
-    (one_title b (b % 32) TextString e small) (one_taken spot.strict b (b % 32) TextString e small)
-    (ascii_stays _ ascii) (ap item_done (passed_by spot (b % 32) _ long))
-
--- ---- a longer title of a value
-
-record ValueKind (b : ℕ) : Type 0 where
-  kind : TitleKind
-  is : IsTitleKind kind (b / 32) (b % 32)
-  value : is_value kind ≡ true
-
+-- a byte before the reserved minors names a title
 named : (b : ℕ) → b % 32 < 28 → NamesNoTitle (b / 32) (b % 32) → ⊥
 named b less (inl reserved) = omega (arith, less, reserved.0)
 named b less (inr never) = omega (arith, less, never.0)
 
-kind_of : (b : ℕ) → b % 32 < 28 → IsValueMajor (b / 32) → ValueKind b
-kind_of b less (inl none) = record { kind = k.Positive; is = (none, named b less); value = refl }
-kind_of b less (inr (inl one)) = record { kind = k.Negative; is = (one, named b less); value = refl }
-kind_of b less (inr (inr seven)) = record { kind = k.Other; is = (seven, named b less); value = refl }
+strings_free : (d place : ℕ) → (blocked w.Nothing d place k.Bytes ≡ None) × (blocked w.Nothing d place k.Text ≡ None)
+strings_free zero place = (refl, refl)
+strings_free (suc d) place = (refl, refl)
 
-long_value : (b : ℕ) (xs : List ℕ) (n : ℕ) → Below (b ∷ xs) → n ≡ 1 + affix_len (b % 32) → 0 < affix_len (b % 32)
-    → b % 32 < 28 → IsValueMajor (b / 32) → n ≤ length (b ∷ xs) → IsPlainItem false (take n (b ∷ xs))
-long_value b xs n below counts some less major le = λ spot at clear due any.
-    let kind = kind_of b less major in
-    let long = length-take-le n (b ∷ xs) le in
-    value_leads (b ∷ xs) n spot _ kind.kind below at clear due any kind.value (omega (arith, counts, some)) le counts
-    kind.is (ap item_done (ap (λ (z : ℕ). passed z spot) long ∙ unfronted spot n clear))
+-- the major type of a value
+record ValueMajor (code : ℕ) : Type 0 where
+  major : Major
+  is : major_code major ≡ code
+  value : is_value (kind_of major) ≡ true
+  ends : (n : ℕ) (u : Spot) → item_entered (numbered_header major Small n) u ≡ item_done u
 
--- ---- what the numbers of a first byte say of the item
+major_of : (code : ℕ) → IsValueMajor code → ValueMajor code
+major_of code (inl e) = record { major = Unsigned; is = sym e; value = refl; ends = λ n u. refl }
+major_of code (inr (inl e)) = record { major = Negative; is = sym e; value = refl; ends = λ n u. refl }
+major_of code (inr (inr e)) = record { major = Other; is = sym e; value = refl; ends = λ n u. refl }
 
 -- of a longer title any spelling is taken, and of a text the body is ASCII
 pub span_plain : (xs : List ℕ) (len text_len : ℕ) (strict : Bool) → Below xs → 0 < length xs
@@ -226,17 +119,49 @@ pub span_plain : (xs : List ℕ) (len text_len : ℕ) (strict : Bool) → Below 
 span_plain [] len text_len strict below some is least le any ascii = absurd (omega arith)
 span_plain (b ∷ xs) len text_len strict below some (inl none) least le any ascii = absurd (omega (arith, none, least))
 span_plain (b ∷ xs) len text_len strict below some (inr (inl v)) least le any ascii =
-    subst (λ (z : ℕ). IsPlainItem strict (take z (b ∷ xs))) (sym v.0) (small_value b xs strict below v.1 v.2)
+    let m = major_of (b / 32) v.2 in
+    title_item (b ∷ xs) len strict (numbered_header m.major Small (b % 32)) below least le
+    (λ more. absurd (omega (arith, more, v.0))) (rw v.0 (one_taken strict b (b % 32) m.major (omega arith) v.1))
+    (m.ends (b % 32))
 span_plain (b ∷ xs) len text_len strict below some (inr (inr (inl v))) least le any ascii =
-    subst (λ (z : ℕ). IsPlainItem strict (take z (b ∷ xs))) (sym v.0)
-    (small_bytes b xs strict below v.1 v.2 (omega (arith, v.0, le)))
+    bytes_item (b ∷ xs) 1 (b % 32) len strict below (omega arith) v.0 le (λ more. absurd (omega (arith, more)))
+    (one_taken strict b (b % 32) ByteString (omega (arith, v.2)) v.1)
 span_plain (b ∷ xs) len text_len strict below some (inr (inr (inr (inl v)))) least le any ascii =
-    subst (λ (z : Bool). IsPlainItem z (take len (b ∷ xs))) (sym (any v.2))
-    (long_value b xs len below v.0 v.1 v.3 v.4 le)
+    let m = major_of (b / 32) v.4 in
+    rw (any v.2) (value_item (b ∷ xs) len (kind_of m.major) below m.value (omega (arith, v.0, v.1)) le v.0
+    (kind_names m.major (b / 32) (b % 32) m.is (named b v.3)))
 span_plain (b ∷ xs) len text_len strict below some (inr (inr (inr (inr v)))) least le any ascii =
-    subst (λ (z : ℕ). IsPlainItem strict (take z (b ∷ xs))) (sym v.0)
-    (small_text b xs strict below v.1 v.2 (omega (arith, v.0, le))
-    (subst (λ (z : ℕ). IsAscii (take z xs)) v.3 ascii))
+    let title = one_taken strict b (b % 32) TextString (omega (arith, v.2)) v.1 in
+    text_item (b ∷ xs) 1 (b % 32) len strict below (omega arith) v.0 le (λ more. absurd (omega (arith, more))) title
+    (one_long (b ∷ []) (b % 32) title.0 refl) (ascii_stays _ (rw v.3 at ascii))
+
+-- ---- a string of which one byte behind the first says how long it is
+
+module _ (xs : List ℕ) (len : ℕ) (strict : Bool) (below : Below xs) (some : 1 < length xs)
+    (least : 24 ≤ slice_index xs 1) (e : len ≡ 2 + slice_index xs 1) (le : len ≤ length xs) where
+  pub long_bytes : slice_index xs 0 ≡ 88 → IsPlainItem strict (take len xs)
+  long_bytes is =
+      bytes_item xs 2 (slice_index xs 1) len strict below (omega arith) e le
+      (λ more d place. record {
+        kind = k.Bytes;
+        is = (omega (arith, is), named (slice_index xs 0) (omega (arith, is)));
+        free = (strings_free d place).0;
+      })
+      (two_taken strict xs ByteString some is (below 1 some) (le-ltb (slice_index xs 1) 24 least))
+
+  pub long_text : slice_index xs 0 ≡ 120 → IsAscii (take (len - 2) (drop 2 xs)) → IsPlainItem strict (take len xs)
+  long_text is ascii =
+      let c = slice_index xs 1 in
+      let long : c < 2 ^ 8 = omega (arith, below 1 some) in
+      let less : len - 2 ≡ c = omega (arith, e) in
+      text_item xs 2 c len strict below (omega arith) e le
+      (λ more d place. record {
+        kind = k.Text;
+        is = (omega (arith, is), named (slice_index xs 0) (omega (arith, is)));
+        free = (strings_free d place).1;
+      })
+      (two_taken strict xs TextString some is (below 1 some) (le-ltb c 24 least))
+      (rw (le-ltb c 24 least, lt-ltb c (2 ^ 8) long) refl) (ascii_stays _ (rw less at ascii))
 
 -- ---- items one behind the other
 

@@ -1,8 +1,9 @@
-use Rattle.std.proofs.Common.{◌≡◌, ℕ, ◌+◌, ◌-◌, ◌≤◌, List, ◌∷◌, length, ap, ◌∙◌, arith}
+use Rattle.std.proofs.Common.{◌≡◌, ℕ, ◌+◌, ◌-◌, ◌≤◌, List, ◌∷◌, length, sym, ap, subst, take, ◌∙◌, arith}
 use Rattle.ciborium_ll_text.proofs.Lists.{rest_long}
 use Rattle.cbor_feed.specs.declared.level.Level.{Level}
 use Rattle.cbor_feed.specs.Plain.{lowered}
 use Rattle.cbor_feed.specs.Spots.{Spot}
+use Rattle.cbor_feed.specs.Steps.{Leads}
 use Rattle.cbor_feed.specs.Walking.{levels_at, spot_at}
 use Rattle.cbor_feed.proofs.NestLaws.{nest_ends, nest_goes}
 use Rattle.cbor_feed.proofs.walk.Walk.nest_taken.Goals as goal
@@ -13,15 +14,18 @@ returns-then-run-gt0-clause-leads c =
     let xs = c.args.bytes.now in
     let run = c.plain_run-run.result in
     let level : Level = c.args.nest.level in
-    let rest = rest_long xs 1 in
-    let within : run.len ≤ length xs - 1 = omega (arith, rest, c.plain_run-run.ensures.within) in
+    let within : run.len ≤ length xs - 1 = omega (arith, rest_long xs 1, c.plain_run-run.ensures.within) in
     let levels : levels_at c.push.new.self ≡ lowered (run.left - 1) level ∷ s.levels =
     c.push.ensures.pushed ∙ ap (λ (z : Level). z ∷ s.levels) c.lowered.ensures in
-    nest_goes s _ level c.args.nest.left c.plain_run-run.new.place run.len xs c.requires.phase c.requires.fresh c.requires.due
-    c.requires.deep c.requires.some c.requires.enters c.requires.left run.left c.if-run-gt0.true
-    c.plain_run-run.ensures.most within c.plain_run-run.ensures.plain
-    (ap (λ (z : List Level).
-    record s { depth = s.depth - 1; levels = z; place = c.plain_run-run.new.place; offset = s.offset + 1 + run.len }) levels)
+    subst (λ (z : List Level). Leads s (take (1 + run.len) xs) (record s {
+      depth = s.depth - 1;
+      levels = z;
+      place = c.plain_run-run.new.place;
+      offset = s.offset + 1 + run.len;
+    })) (sym levels)
+    (nest_goes s level c.args.nest.left c.plain_run-run.new.place run.len xs c.requires.phase c.requires.fresh
+    c.requires.due c.requires.deep within c.requires.enters c.requires.left c.requires.some run.left c.if-run-gt0.true
+    c.plain_run-run.ensures.most c.plain_run-run.ensures.plain)
 
 pub returns-clause-leads : goal.returns-clause-leads
 returns-clause-leads c =
@@ -29,9 +33,8 @@ returns-clause-leads c =
     let xs = c.args.bytes.now in
     let run = c.plain_run-run.result in
     let left : ℕ = c.args.nest.left in
-    let rest = rest_long xs 1 in
-    let within : run.len ≤ length xs - 1 = omega (arith, rest, c.plain_run-run.ensures.within) in
-    nest_ends s (spot_at c.item_over.new.self) c.args.nest.level left c.plain_run-run.new.place run.len xs c.requires.phase
-    c.requires.fresh c.requires.due c.requires.deep c.requires.some c.requires.enters c.requires.left
-    (left + 1 - run.left) (omega (arith, c.if-run-gt0.false)) within c.plain_run-run.ensures.plain
-    c.item_over.ensures.done
+    let within : run.len ≤ length xs - 1 = omega (arith, rest_long xs 1, c.plain_run-run.ensures.within) in
+    subst (Leads s (take (1 + run.len) xs)) (sym c.item_over.ensures.done)
+    (nest_ends s c.args.nest.level left c.plain_run-run.new.place run.len xs c.requires.phase c.requires.fresh
+    c.requires.due c.requires.deep within c.requires.enters c.requires.left c.requires.some (left + 1 - run.left)
+    (omega (arith, c.if-run-gt0.false)) c.plain_run-run.ensures.plain)
