@@ -1,7 +1,7 @@
 -- Where an item leads of which all bytes are there.
 use Rattle.std.proofs.Common.{◌≡◌, ℕ, zero, suc, ◌+◌, ◌-◌, ◌/◌, ◌%◌, ◌<◌, ◌≤◌, Bool, true, false, List, [], ◌∷◌, ◌++◌}
-use Rattle.std.proofs.Common.{length, length-drop, take, drop, slice_index, refl, sym, ap, subst, ◌∙◌, arith, Some, inl, inr}
-use Rattle.std.proofs.Common.{add-zero}
+use Rattle.std.proofs.Common.{length, length-drop, take, drop, slice_index, refl, sym, ap, subst, ◌∙◌, arith, Some, inl}
+use Rattle.std.proofs.Common.{inr, add-zero}
 use Rattle.std.proofs.lemmas.List.{get_or-drop, length-take-le}
 use Rattle.std.proofs.Math.Seq.{take-add}
 use Rattle.ciborium_ll_text.specs.declared.state.State.TheVariants as s
@@ -48,9 +48,11 @@ pub plain_leads : (xs front : List ℕ) (n offset : ℕ) (s new : Spot) → IsPl
     → s.phase ≡ p.Title → length s.front ≡ 0 → s.within ≡ w.Nothing → length front ≡ 0 → offset ≡ s.offset + n
     → new ≡ item_done (record s { front = front; place = s.offset; offset = offset }) → Leads s (take n xs) new
 plain_leads xs front n offset s new plain le at clear in_none none counts e =
-    let behind : offset ≡ s.offset + length (take n xs) = counts ∙ ap (λ (z : ℕ). s.offset + z) (sym (length-take-le n xs le)) in
+    let behind : offset ≡ s.offset + length (take n xs) =
+    counts ∙ ap (λ (z : ℕ). s.offset + z) (sym (length-take-le n xs le)) in
     subst (Leads s (take n xs))
-    (sym (e ∙ (ap (λ (z : List ℕ). item_done (record s { front = z; place = s.offset; offset = offset })) (length_zero front none)
+    (sym (e ∙ (ap (λ (z : List ℕ). item_done (record s { front = z; place = s.offset; offset = offset }))
+    (length_zero front none)
     ∙ ap (λ (z : ℕ). item_done (record s { front = []; place = s.offset; offset = z })) behind)))
     (plain s at clear in_none refl)
 
@@ -96,7 +98,8 @@ module _ (xs : List ℕ) (n len all : ℕ) (strict : Bool) (below : Below xs) (s
       let first = title_leads xs n from header below refl refl some (omega arith) title.0 (rw same title.1)
       (λ more. may more s.depth s.offset) in
       from_due s at clear in_none (λ (z : Spot). item_done (passed (length (take all xs)) z))
-      (rw (to, bytes) (leads_more from (item_entered header (passed n from)) _ (take n xs) (take len (drop n xs)) first (body s)))
+      (rw (to, bytes) (leads_more from (item_entered header (passed n from)) _ (take n xs) (take len (drop n xs)) first
+      (body s)))
 
   -- a byte string
   pub bytes_item : IsTitle (take n xs) (h.Bytes (Some len)) × IsTakenTitle strict (take n xs) (h.Bytes (Some len))

@@ -1,6 +1,6 @@
 -- Where a title of one byte leads that is a nest's, with the plain items behind it.
-use Rattle.std.proofs.Common.{◌≡◌, ℕ, zero, suc, ◌+◌, ◌-◌, ◌*◌, ◌<◌, ◌≤◌, List, [], ◌∷◌, length, take}
-use Rattle.std.proofs.Common.{drop, slice_index, refl, sym, subst, ◌∙◌, arith, Some}
+use Rattle.std.proofs.Common.{◌≡◌, ℕ, zero, suc, ◌+◌, ◌-◌, ◌*◌, ◌<◌, ◌≤◌, List, [], ◌∷◌, length, take, drop}
+use Rattle.std.proofs.Common.{slice_index, refl, sym, subst, ◌∙◌, arith, Some}
 use Rattle.std.proofs.lemmas.List.{length-take-le, take_rest}
 use Rattle.std.proofs.Math.Seq.{take-add}
 use Rattle.ciborium_ll_text.proofs.Lists.{Below, rest_long}
@@ -34,8 +34,10 @@ title_enters b n major inner level e small byte left enters = λ s at clear none
     let title = one_taken s.strict b n major e small in
     let u : Spot = record (due s) { place = s.offset; offset = s.offset + 1 } in
     let new = nested_goes u _ inner level (λ zero. omega (arith, zero, deep)) left refl ∙ sym (enters u) in
-    from_due s at clear none (λ (z : Spot). item_due (z.depth - 1) (level ∷ z.levels) (passed 1 z)) (subst (Leads (due s) (b ∷ [])) (sym new)
-    (title_leads (b ∷ []) 1 (due s) header (λ i less. below_one b byte i less) refl refl (omega arith) (omega arith) title.0 title.1
+    from_due s at clear none (λ (z : Spot). item_due (z.depth - 1) (level ∷ z.levels) (passed 1 z))
+    (subst (Leads (due s) (b ∷ [])) (sym new)
+    (title_leads (b ∷ []) 1 (due s) header (λ i less. below_one b byte i less) refl refl (omega arith) (omega arith)
+    title.0 title.1
     (λ more. absurd (omega (arith, more)))))
 
 -- that of an array of one item more
@@ -93,7 +95,8 @@ module _ (s : Spot) (level : Level) (left last len : ℕ) (xs : List ℕ) (at : 
       }) (rw long at (run_goes m level left refl refl refl refl all last items behind more fits plain))
 
   -- the last one has come
-  pub nest_ends : 0 < length xs → (count : ℕ) → count ≡ suc left → ArePlain s.strict (s.offset + 1) s.offset count last items
+  pub nest_ends : 0 < length xs → (count : ℕ) → count ≡ suc left
+      → ArePlain s.strict (s.offset + 1) s.offset count last items
       → Leads s (take (1 + len) xs) (item_done (record s { place = last; offset = s.offset + 1 + len }))
   nest_ends some count counts plain =
       let given_back : s.depth - 1 + 1 ≡ s.depth = omega (arith, deep) in

@@ -1,6 +1,5 @@
 -- The same bytes lead to one spot.
-use Rattle.std.proofs.Common.{◌≡◌, ℕ, zero, suc, Bool, List, [], ◌∷◌, ◌++◌, length, refl, sym, ap, subst, ◌∙◌}
-use Rattle.std.proofs.Common.{arith}
+use Rattle.std.proofs.Common.{◌≡◌, ℕ, zero, suc, Bool, List, [], ◌∷◌, ◌++◌, length, refl, sym, ap, subst, ◌∙◌, arith}
 use Rattle.std.proofs.Common.{append-nil, length-append}
 use Rattle.ciborium_ll_grammar.specs.declared.hdr.Header.{Header}
 use Rattle.ciborium_ll_grammar.specs.Title.{IsTitle, IsCutTitle}
@@ -12,8 +11,7 @@ use Rattle.cbor_feed.specs.declared.phase.Phase.TheVariants as p
 use Rattle.cbor_feed.specs.declared.phase.Fault.{Fault}
 use Rattle.cbor_feed.specs.Spots.{Spot, at_phase}
 use Rattle.cbor_feed.specs.Steps.{SomeTaken, NoneTaken, with_byte, titled, TitleStep, cut, early, whole, none, StepIn}
-use Rattle.cbor_feed.specs.Steps.{Step, IsFed, fresh}
-use Rattle.cbor_feed.specs.Steps.{more}
+use Rattle.cbor_feed.specs.Steps.{Step, IsFed, fresh, more}
 
 whole_cut : (spot : Spot) (x : Header) → IsTitle spot.front x → IsCutTitle spot.front → ⊥
 whole_cut spot x q c = title_not_cut spot.front [] x q (subst IsCutTitle (sym (append-nil spot.front)) c)

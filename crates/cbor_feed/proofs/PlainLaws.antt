@@ -1,7 +1,7 @@
 -- Plain items: what the table says of first bytes, and where such items lead.
-use Rattle.std.proofs.Common.{◌≡◌, ℕ, zero, suc, ◌+◌, ◌-◌, ◌*◌, ◌/◌, ◌%◌, ◌<◌, ◌≤◌, ◌^◌, Bool, true, false, List, [], ◌∷◌, ◌++◌}
-use Rattle.std.proofs.Common.{◌&&◌, ◌||◌, eqb, ltb, get_or, length, take, drop, slice_index, refl, sym, ap, subst, ◌∙◌}
-use Rattle.std.proofs.Common.{arith, inl, inr, None}
+use Rattle.std.proofs.Common.{◌≡◌, ℕ, zero, suc, ◌+◌, ◌-◌, ◌*◌, ◌/◌, ◌%◌, ◌<◌, ◌≤◌, ◌^◌, Bool, true, false, List, []}
+use Rattle.std.proofs.Common.{◌∷◌, ◌++◌, ◌&&◌, ◌||◌, eqb, ltb, get_or, length, take, drop, slice_index, refl, sym, ap}
+use Rattle.std.proofs.Common.{subst, ◌∙◌, arith, inl, inr, None}
 use borrow.Author.Tests.{le-ltb, lt-ltb}
 use Rattle.std.proofs.lemmas.Bool.{agree_below_at, and_parts}
 use Rattle.std.proofs.lemmas.Bool.Decides.{nat_tests}
@@ -11,8 +11,8 @@ use Rattle.std.specs.Str.{IsAscii}
 use Rattle.ciborium_ll_text.proofs.Lists.{Below}
 use Rattle.ciborium_ll_text.proofs.StateLaws.{ascii_stays}
 use Rattle.ciborium_ll_grammar.specs.declared.hdr.table.TitleKind.TheVariants as k
-use Rattle.ciborium_ll_grammar.specs.Title.{IsTitle, Major, Unsigned, Negative, ByteString, TextString, Other, Size, Small}
-use Rattle.ciborium_ll_grammar.specs.Title.{One, NamesNoTitle, affix_len, major_code, numbered, numbered_header}
+use Rattle.ciborium_ll_grammar.specs.Title.{IsTitle, Major, Unsigned, Negative, ByteString, TextString, Other, Size}
+use Rattle.ciborium_ll_grammar.specs.Title.{Small, One, NamesNoTitle, affix_len, major_code, numbered, numbered_header}
 use Rattle.ciborium_ll_grammar.specs.Title.{numbered_title, size_limit}
 use Rattle.ciborium_ll_grammar.specs.Items.{IsTakenTitle}
 use Rattle.ciborium_ll_grammar.specs.Parts.{longer_parts}
@@ -58,7 +58,8 @@ span_says first len text_len l len_is text_len_is =
     span_tells first len text_len
     (ap (λ (z : ℕ). span_test first z text_len) len_is
     ∙ (ap (λ (z : ℕ). span_test first (get_or LENS first 0) z) text_len_is
-    ∙ agree_below_at (λ (b : ℕ). span_test b (get_or LENS b 0) (get_or TEXT_LENS b 0)) (λ (b : ℕ). true) 256 first refl l))
+    ∙ agree_below_at (λ (b : ℕ). span_test b (get_or LENS b 0) (get_or TEXT_LENS b 0)) (λ (b : ℕ). true) 256 first refl
+    l))
 
 -- ---- titles of one and of two bytes
 

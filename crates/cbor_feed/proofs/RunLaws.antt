@@ -1,6 +1,6 @@
 -- Where plain items one behind the other lead, within a nest whose items are counted.
-use Rattle.std.proofs.Common.{◌≡◌, ℕ, zero, suc, ◌+◌, ◌-◌, ◌<◌, ◌≤◌, List, [], ◌∷◌, ◌++◌, length, refl, sym, ap, subst, ◌∙◌}
-use Rattle.std.proofs.Common.{arith, Some, None, length-append, zero-add, add-zero, add-one}
+use Rattle.std.proofs.Common.{◌≡◌, ℕ, zero, suc, ◌+◌, ◌-◌, ◌<◌, ◌≤◌, List, [], ◌∷◌, ◌++◌, length, refl, sym, ap, subst}
+use Rattle.std.proofs.Common.{◌∙◌, arith, Some, None, length-append, zero-add, add-zero, add-one}
 use Rattle.std.proofs.lemmas.Bool.Decides.{nat_tests}
 use Rattle.cbor_feed.specs.declared.level.Level.{Level}
 use Rattle.cbor_feed.specs.declared.phase.Phase.TheVariants as p
@@ -39,8 +39,14 @@ run_leads : (s : Spot) (rest : List Level) (level : Level) (all count left last 
 run_leads s rest level all zero left last bytes is none = rw (zero-add left, add-zero s.offset) stay
 run_leads s rest level all (suc count) left last bytes is (more {last = place} {bytes = xs} {item = item} so_far one) =
     let here : suc count + left ≡ count + suc left = omega arith in
-    let long : s.offset + length (xs ++ item) ≡ s.offset + length xs + length item = omega (arith, length-append xs item) in
-    let m : Spot = record (due s) { levels = lowered (suc left) level ∷ rest; place = place; offset = s.offset + length xs } in
+    let long : s.offset + length (xs ++ item) ≡ s.offset + length xs + length item =
+    omega (arith, length-append xs item) in
+    let m : Spot = record (due s) {
+      levels = lowered (suc left) level ∷ rest;
+      place = place;
+      offset =
+          s.offset + length xs;
+    } in
     let goes = rw (next_lowered level all left is, settled) at (one m refl refl refl refl) in
     rw (here, long) (leads_more _ m _ xs item (run_leads s rest level all count (suc left) place xs is so_far) goes)
 
@@ -78,7 +84,8 @@ module _ (s : Spot) (level : Level) (left : ℕ) (at : s.phase ≡ p.Title) (cle
       }) (omega arith) (run_leads s (others s.levels) level left (left + 1 - behind) (behind - 1) last bytes all plain)
 
   -- the last one has come
-  pub run_ends : (last : ℕ) (bytes : List ℕ) (count : ℕ) → count ≡ suc left → ArePlain s.strict s.offset s.place count last bytes
+  pub run_ends : (last : ℕ) (bytes : List ℕ) (count : ℕ) → count ≡ suc left
+      → ArePlain s.strict s.offset s.place count last bytes
       → Leads s bytes (item_done (record s {
         depth = s.depth + 1;
         levels = others s.levels;
@@ -90,7 +97,8 @@ module _ (s : Spot) (level : Level) (left : ℕ) (at : s.phase ≡ p.Title) (cle
       let rest : List Level = others s.levels in
       let m : Spot = record (due s) { levels = lowered 0 level ∷ rest; place = place; offset = s.offset + length xs } in
       let u : Spot = passed (length item) m in
-      let long : s.offset + length (xs ++ item) ≡ s.offset + length xs + length item = omega (arith, length-append xs item) in
+      let long : s.offset + length (xs ++ item) ≡ s.offset + length xs + length item =
+      omega (arith, length-append xs item) in
       let done : item_done u ≡ settled (suc s.depth) rest u = rw (last_lowered level left all, settled) refl in
       let to = done ∙ sym (settled_alike rest (suc s.depth) u (suc s.depth) rest) in
       from_stack (count + 0) (λ (z : Spot). item_done (record z {

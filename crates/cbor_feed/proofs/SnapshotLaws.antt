@@ -1,7 +1,6 @@
 -- Numbers of a state, and the spot that they are of.
 use Rattle.std.proofs.Common.{◌≡◌, ℕ, zero, suc, ◌+◌, ◌<◌, ◌≤◌, ◌≢◌, List, ◌∷◌, length, refl, ap, ◌∙◌, sym, arith}
-use Rattle.std.proofs.Common.{Option, Some, None, get_or, get_or-set_other, get_or-set_same, add-one}
-use Rattle.std.proofs.Common.{inl, inr}
+use Rattle.std.proofs.Common.{Option, Some, None, get_or, get_or-set_other, get_or-set_same, add-one, inl, inr}
 use Rattle.std.proofs.Math.ListN.{set}
 use Rattle.std.proofs.Math.Nat.{eq-or-lt_of_le}
 use Rattle.std.proofs.lemmas.Option.{same_Some}

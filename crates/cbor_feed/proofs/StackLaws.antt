@@ -1,6 +1,7 @@
 -- The nests around an item, by their numbers in two arrays.
 use Rattle.std.proofs.Common.{◌≡◌, ◌≢◌, ℕ, zero, suc, ◌+◌, ◌-◌, ◌<◌, ◌≤◌, List, ◌∷◌, ◌++◌, take, length, refl, sym, ap}
-use Rattle.std.proofs.Common.{◌∙◌, arith, subst, Option, Some, None, IsSome, get_or, get_or-set_other, get_or-set_same, add-one}
+use Rattle.std.proofs.Common.{◌∙◌, arith, subst, Option, Some, None, IsSome, get_or, get_or-set_other, get_or-set_same}
+use Rattle.std.proofs.Common.{add-one}
 use Rattle.std.proofs.Math.ListN.{get_or-append, set}
 use Rattle.std.proofs.lemmas.List.{get_or-take}
 use Rattle.std.proofs.lemmas.Option.{same_Some}

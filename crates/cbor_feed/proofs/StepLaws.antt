@@ -1,14 +1,11 @@
 -- What a byte leaves due.
-use Rattle.std.proofs.Common.{◌≡◌, ℕ, zero, suc, Bool, true, false, List, [], ◌∷◌, ◌++◌, length, Some}
-use Rattle.std.proofs.Common.{None, refl, sym, ap, subst, ◌∙◌, inl, inr, arith, append_assoc, append-nil}
+use Rattle.std.proofs.Common.{◌≡◌, ℕ, zero, suc, Bool, true, false, List, [], ◌∷◌, ◌++◌, length, Some, None, refl, sym}
+use Rattle.std.proofs.Common.{ap, subst, ◌∙◌, inl, inr, arith, append_assoc, append-nil}
 use Rattle.ciborium_ll_grammar.specs.declared.hdr.Header.{Header}
 use Rattle.ciborium_ll_grammar.specs.declared.hdr.Header.TheVariants as h
 use Rattle.ciborium_ll_grammar.specs.Title.{IsTitle, IsCutTitle}
 use Rattle.ciborium_ll_grammar.specs.Items.{IsItem, IsTakenTitle, more_items, no_items}
-use Rattle.ciborium_ll_grammar.specs.Strings.{Kind, Bytes, Text, kind_header, IsString, AreStrings}
-use Rattle.ciborium_ll_grammar.specs.Strings.{none as no_strings, more as more_strings}
-use Rattle.ciborium_ll_grammar.specs.Strings.IsString.{definite, indefinite}
-use Rattle.ciborium_ll_grammar.specs.StrictElements.{AreFlat, none as no_flat, more as more_flat}
+use Rattle.ciborium_ll_grammar.specs.Strings.{Kind, Bytes, Text, kind_header}
 use Rattle.ciborium_ll_grammar.proofs.AffixLaws.{title_not_cut}
 use Rattle.ciborium_ll_grammar.proofs.StringLaws.{break_title}
 use Rattle.ciborium_ll_text.specs.declared.state.State.{State}
@@ -22,14 +19,12 @@ use Rattle.cbor_feed.specs.declared.phase.Phase.TheVariants as p
 use Rattle.cbor_feed.specs.declared.phase.Within.{Within}
 use Rattle.cbor_feed.specs.declared.phase.Within.TheVariants as w
 use Rattle.cbor_feed.specs.declared.phase.Fault.{Fault}
-use Rattle.cbor_feed.specs.Spots.{Spot, bytes_due}
-use Rattle.cbor_feed.specs.Steps.{start, titled, with_byte, TitleStep, cut, early, whole, none}
-use Rattle.cbor_feed.specs.Steps.{text_left, counted, StepIn, IsFed, fresh, more}
-use Rattle.cbor_feed.proofs.Waiting.{Ends, Breaks, EndsString, EndsStrings, BodyThen, AnyBody, TextBody, TitleDue}
-use Rattle.cbor_feed.proofs.Waiting.{StringDone}
-use Rattle.cbor_feed.proofs.Waiting.{WaitsIn, Waits}
-use Rattle.cbor_feed.proofs.LevelLaws.{Same, string_ends}
-use Rattle.cbor_feed.proofs.StringLaws.{bytes_body, empty_body}
+use Rattle.cbor_feed.specs.Spots.{Spot}
+use Rattle.cbor_feed.specs.Steps.{start, titled, with_byte, TitleStep, cut, early, whole, none, text_left, counted}
+use Rattle.cbor_feed.specs.Steps.{StepIn, IsFed, fresh, more}
+use Rattle.cbor_feed.proofs.Waiting.{Breaks, BodyThen, AnyBody, TextBody, TitleDue, StringDone, WaitsIn, Waits}
+use Rattle.cbor_feed.proofs.LevelLaws.{Same}
+use Rattle.cbor_feed.proofs.StringLaws.{bytes_body, no_body, First, breaks, whole as whole_string, opens, first_of}
 use Rattle.cbor_feed.proofs.TitleDueLaws.{title_enters}
 
 -- ---- where a title is due, one comes
@@ -58,61 +53,22 @@ break_taken : (s : Bool) → IsTakenTitle s (0xff ∷ []) h.Break
 break_taken true = record { shortest = refl; meant = λ small. small }
 break_taken false = tt
 
-pub break_titled : (s : Bool) (rest y : List ℕ) → y ≡ 0xff ∷ rest → Titled s y
-break_titled s rest y e = record {
-  title = 0xff ∷ [];
-  header = h.Break;
-  rest = rest;
-  is_title = break_title;
-  taken = break_taken s;
-  is = e;
-}
+break_titled : (s : Bool) (rest y : List ℕ) → y ≡ 0xff ∷ rest → Titled s y
+break_titled s rest y e =
+    record { title = 0xff ∷ []; header = h.Break; rest = rest; is_title = break_title; taken = break_taken s; is = e }
 
-string_titled : (k : Kind) (u v rest y : List ℕ) (bs : List (List ℕ)) → IsString k u bs → y ≡ (u ++ v) ++ rest
-    → Titled false y
-string_titled k u v rest y bs (definite {title = t} {body = b} q) e = record {
+first_titled : (s : Bool) (k : Kind) (Then : List ℕ → Type 0) (y : List ℕ) → First s k Then y → Titled s y
+first_titled s k Then y (breaks rest behind e) = break_titled s rest y e
+first_titled s k Then y (whole_string t b far q g sound behind e) = record {
   title = t;
   header = kind_header k (Some (length b));
-  rest = b ++ (v ++ rest);
-  is_title = q;
-  taken = tt;
-  is = e ∙ (append_assoc (t ++ b) v rest ∙ append_assoc t b (v ++ rest));
-}
-string_titled k u v rest y bs (indefinite {title = t} {strings = z} q i) e = record {
-  title = t;
-  header = kind_header k None;
-  rest = (z ++ 0xff ∷ []) ++ (v ++ rest);
-  is_title = q;
-  taken = tt;
-  is = e ∙ (append_assoc (t ++ (z ++ 0xff ∷ [])) v rest ∙ append_assoc t (z ++ 0xff ∷ []) (v ++ rest));
-}
-
-strings_titled : (k : Kind) (u rest y : List ℕ) (bs : List (List ℕ)) → AreStrings k u bs → y ≡ u ++ 0xff ∷ rest
-    → Titled false y
-strings_titled k u rest y bs no_strings e = break_titled false rest y e
-strings_titled k u rest y bs (more_strings {first = f} {rest = v} {bodies = cs} i others) e =
-    string_titled k f v (0xff ∷ rest) y cs i e
-
-flat_titled : (k : Kind) (u rest y : List ℕ) (bs : List (List ℕ)) → AreFlat k u bs → y ≡ u ++ 0xff ∷ rest
-    → Titled true y
-flat_titled k u rest y bs no_flat e = break_titled true rest y e
-flat_titled k u rest y bs (more_flat {title = t} {body = b} {rest = v} q g f) e = record {
-  title = t;
-  header = kind_header k (Some (length b));
-  rest = b ++ (v ++ 0xff ∷ rest);
+  rest = b ++ far;
   is_title = q;
   taken = g;
-  is = e ∙ (append_assoc (t ++ b) v (0xff ∷ rest) ∙ append_assoc t b (v ++ 0xff ∷ rest));
+  is = e;
 }
-
-string_in_front : (s : Bool) (k : Kind) (Then : List ℕ → Type 0) (y : List ℕ) → EndsString s k Then y → Titled s y
-string_in_front true k Then y o = flat_titled k o.strings o.rest y o.bodies o.taken o.is
-string_in_front false k Then y o = strings_titled k o.strings o.rest y o.bodies o.are o.is
-
-open_titled : (s : Bool) (k : Kind) (n : ℕ) (Then : List ℕ → Type 0) (y : List ℕ) → EndsStrings s k n Then y
-    → Titled s y
-open_titled s k zero Then y o = string_in_front s k Then y o
-open_titled s k (suc n) Then y o = string_in_front s k (EndsStrings s k n Then) y o
+first_titled s k Then y (opens t far any q behind e) =
+    record { title = t; header = kind_header k None; rest = far; is_title = q; taken = rw any tt; is = e }
 
 breaks_titled : (s : Bool) (d : ℕ) (levels : List Level) (y : List ℕ) → Breaks s d levels y → Titled s y
 breaks_titled s d [] y o = absurd o
@@ -122,8 +78,8 @@ pub due_titled : (s : Bool) (i : Within) (d : ℕ) (levels : List Level) (y : Li
     → Titled s y
 due_titled s w.Nothing d levels y (inl o) = item_titled s d o.item o.rest y o.is_item o.is
 due_titled s w.Nothing d levels y (inr o) = breaks_titled s d levels y o
-due_titled s (w.Bytes n) d levels y o = open_titled s Bytes n (Ends s d levels) y o
-due_titled s (w.Text n) d levels y o = open_titled s Text n (Ends s d levels) y o
+due_titled s (w.Bytes n) d levels y o = first_titled s Bytes _ y (first_of s Bytes _ y o)
+due_titled s (w.Text n) d levels y o = first_titled s Text _ y (first_of s Text _ y o)
 
 -- ---- a byte of a title
 
@@ -159,10 +115,7 @@ module _ (spot : Spot) (fault : Fault) (is_cut : IsCutTitle spot.front)
 
 title_same : (spot new : Spot) → TitleStep spot new → spot.phase ≡ p.Title → (y : List ℕ)
     → Same (TitleDue spot.strict spot.within spot.depth spot.levels (spot.front ++ y)) (Waits new y)
-title_same spot new (cut c some may) at y =
-    subst (λ (z : Phase). Same (TitleDue spot.strict spot.within spot.depth spot.levels (spot.front ++ y))
-    (WaitsIn z spot y))
-    (sym at) (itself (TitleDue spot.strict spot.within spot.depth spot.levels (spot.front ++ y)))
+title_same spot new (cut c some may) at y = rw at (itself _)
 title_same spot new (early fault c some all) at y = (λ due. early_none spot fault c all y due, λ no. absurd no)
 title_same spot new (whole x q g) at y =
     title_enters spot.within (record spot { front = [] }) spot.front y x refl refl q g
@@ -176,20 +129,11 @@ title_same spot new (none never) at y = (
 -- ---- a byte of a body
 
 body_next : (left : ℕ) (Sound Then : List ℕ → Type 0) (b : ℕ) (y body rest : List ℕ) → length body ≡ suc left
-    → Sound body
-    → Then rest → b ∷ y ≡ body ++ rest → BodyThen left (λ z. Sound (b ∷ z)) Then y
+    → Sound body → Then rest → b ∷ y ≡ body ++ rest → BodyThen left (λ z. Sound (b ∷ z)) Then y
 body_next left Sound Then b y [] rest l sound behind e = absurd (omega arith)
 body_next left Sound Then b y (c ∷ body) rest l sound behind e =
-    let heads : c ≡ b = cc in
-    let tails : y ≡ body ++ rest = cc in
-    record {
-      body = body;
-      rest = rest;
-      long = omega arith;
-      sound = subst (λ (z : ℕ). Sound (z ∷ body)) heads sound;
-      behind = behind;
-      is = tails;
-    }
+    let heads : b ≡ c = cc in
+    record { body = body; rest = rest; long = omega arith; sound = rw heads sound; behind = behind; is = cc }
 
 body_same : (left : ℕ) (Sound Then : List ℕ → Type 0) (b : ℕ) (y : List ℕ)
     → Same (BodyThen (suc left) Sound Then (b ∷ y)) (BodyThen left (λ z. Sound (b ∷ z)) Then y)
@@ -216,48 +160,25 @@ text_left_same false left state spot y clear e = (
       absurd (let no = sym e ∙ (ap (may_end state) (sym long) ∙ may) in cc),
   λ no. absurd no,
 )
-text_left_same true zero state spot y clear e =
-    let Then : List ℕ → Type 0 = StringDone spot.strict spot.within spot.depth spot.levels in
-    let same = string_ends spot.within spot y clear refl in (
-      λ o. same.0 (empty_body (TextBody state) Then o.body o.rest y o.long o.behind o.is),
-      λ waits. record {
-        body = [];
-        rest = y;
-        long = refl;
-        sound = none_left state e;
-        behind = same.1 waits;
-        is = refl;
-      },
-    )
-text_left_same true (suc left) state spot y clear e =
-    itself (BodyThen (suc left) (TextBody state) (StringDone spot.strict spot.within spot.depth spot.levels) y)
+text_left_same true zero state spot y clear e = no_body (TextBody state) spot y clear (none_left state e)
+text_left_same true (suc left) state spot y clear e = itself _
 
 -- ---- any byte
 
-both : (A B C : Type 0) → Same A B → Same B C → Same A C
-both A B C f g = (λ a. g.0 (f.0 a), λ c. f.1 (g.1 c))
+both : {A B C : Type 0} → Same A B → Same B C → Same A C
+both f g = (λ a. g.0 (f.0 a), λ c. f.1 (g.1 c))
 
 step_same : (phase : Phase) (spot new : Spot) (b : ℕ) → phase ≡ spot.phase → StepIn phase spot b new → (y : List ℕ)
     → Same (WaitsIn phase spot (b ∷ y)) (Waits new y)
 step_same p.Title spot new b at step y =
-    let same = title_same (with_byte b spot) new step (sym at) y in
-    subst (λ (z : List ℕ). Same (TitleDue spot.strict spot.within spot.depth spot.levels z) (Waits new y))
-    (append_assoc spot.front (b ∷ []) y) same
+    rw (append_assoc spot.front (b ∷ []) y) at (title_same (with_byte b spot) new step (sym at) y)
 step_same (p.Bytes zero) spot new b at step y = absurd step
 step_same (p.Bytes (suc left)) spot new b at step y =
-    let Then : List ℕ → Type 0 = StringDone spot.strict spot.within spot.depth spot.levels in
-    subst (λ (z : Spot). Same (BodyThen (suc left) AnyBody Then (b ∷ y)) (Waits z y)) (sym step)
-    (both (BodyThen (suc left) AnyBody Then (b ∷ y)) (BodyThen left AnyBody Then y)
-    (Waits (bytes_due left (counted spot)) y)
-    (body_same left AnyBody Then b y) (bytes_body left (counted spot) y refl))
+    rw step (both (body_same left AnyBody _ b y) (bytes_body left (counted spot) y refl))
 step_same (p.Text zero state) spot new b at step y = absurd step
 step_same (p.Text (suc left) state) spot new b at step y =
-    let Then : List ℕ → Type 0 = StringDone spot.strict spot.within spot.depth spot.levels in
     let next = after_byte state b in
-    subst (λ (z : Spot). Same (BodyThen (suc left) (TextBody state) Then (b ∷ y)) (Waits z y)) (sym step)
-    (both (BodyThen (suc left) (TextBody state) Then (b ∷ y)) (BodyThen left (TextBody next) Then y)
-    (Waits (text_left (may_end next left) left next (counted spot)) y)
-    (body_same left (TextBody state) Then b y)
+    rw step (both (body_same left (TextBody state) _ b y)
     (text_left_same (may_end next left) left next (counted spot) y refl refl))
 step_same p.Ended spot new b at step y = absurd step
 step_same (p.Faulted fault) spot new b at step y = absurd step
@@ -268,9 +189,8 @@ fresh_same : (s : Bool) (d : ℕ) (y : List ℕ) → Same (IsItem s d y) (Waits 
 fresh_same s d y = (
   λ i. inl (record { item = y; rest = []; is_item = i; behind = refl; is = sym (append-nil y) }),
   λ due. elim due [
-    | inl o ↦ (
-        subst (IsItem s d) (sym (o.is ∙ (ap (λ (z : List ℕ). o.item ++ z) o.behind ∙ append-nil o.item))) o.is_item
-        )
+    | inl o ↦ (let is : y ≡ o.item =
+        o.is ∙ (ap (λ (z : List ℕ). o.item ++ z) o.behind ∙ append-nil o.item) in rw is o.is_item)
     | inr o ↦ absurd o
   ],
 )
@@ -280,7 +200,5 @@ pub fed_same : (s : Bool) (d : ℕ) (fed : List ℕ) (spot : Spot) → IsFed s d
     → Same (IsItem s d (fed ++ y)) (Waits spot y)
 fed_same s d fed spot fresh y = fresh_same s d y
 fed_same s d fed spot (more {bytes = a} {spot = before} b byte is step) y =
-    let goes = step_same before.phase before spot b refl step y in
-    let so_far = fed_same s d a before is (b ∷ y) in
-    subst (λ (z : List ℕ). Same (IsItem s d z) (Waits spot y)) (sym (append_assoc a (b ∷ []) y))
-    (both (IsItem s d (a ++ b ∷ y)) (Waits before (b ∷ y)) (Waits spot y) so_far goes)
+    rw (append_assoc a (b ∷ []) y)
+    (both (fed_same s d a before is (b ∷ y)) (step_same before.phase before spot b refl step y))

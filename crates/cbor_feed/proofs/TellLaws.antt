@@ -1,7 +1,7 @@
 -- What the answer of a checker says of the bytes so far.
-use Rattle.std.proofs.Common.{◌≡◌, ℕ, zero, suc, ◌+◌, ◌%◌, ◌<◌, ◌≤◌, Bool, true, List, [], ◌∷◌, ◌++◌}
-use Rattle.std.proofs.Common.{length, take, get_or, slice_index, refl, sym, ap, subst, ◌∙◌, arith}
-use Rattle.std.proofs.Common.{append_assoc, append-nil, length-append}
+use Rattle.std.proofs.Common.{◌≡◌, ℕ, zero, suc, ◌+◌, ◌%◌, ◌<◌, ◌≤◌, Bool, true, List, [], ◌∷◌, ◌++◌, length, take}
+use Rattle.std.proofs.Common.{get_or, slice_index, refl, sym, ap, subst, ◌∙◌, arith, append_assoc, append-nil}
+use Rattle.std.proofs.Common.{length-append}
 use Rattle.std.proofs.lemmas.List.{take_more}
 use Rattle.ciborium_ll_grammar.specs.Title.{affix_len}
 use Rattle.ciborium_ll_grammar.specs.Items.{IsItem}
@@ -10,9 +10,8 @@ use Rattle.ciborium_ll_text.specs.States.{after_byte, may_end}
 use Rattle.cbor_feed.specs.declared.phase.Phase.{Phase}
 use Rattle.cbor_feed.specs.declared.phase.Phase.TheVariants as p
 use Rattle.cbor_feed.specs.Spots.{Spot}
-use Rattle.cbor_feed.specs.Steps.{start, with_byte, TitleStep, cut, early, whole, none}
-use Rattle.cbor_feed.specs.Steps.{counted}
-use Rattle.cbor_feed.specs.Steps.{StepIn, Step, IsFed, fresh, more}
+use Rattle.cbor_feed.specs.Steps.{start, with_byte, TitleStep, cut, early, whole, none, counted, StepIn, Step, IsFed}
+use Rattle.cbor_feed.specs.Steps.{fresh, more}
 use Rattle.cbor_feed.specs.Telling.{has_left, is_due, title_due, progress_in, progress_of, Tells}
 use Rattle.cbor_feed.specs.declared.progress.Progress.{Progress}
 use Rattle.cbor_feed.specs.declared.progress.Progress.TheVariants as r

@@ -1,6 +1,6 @@
 -- Where all bytes of a title lead.
-use Rattle.std.proofs.Common.{◌≡◌, ℕ, ◌+◌, ◌/◌, ◌%◌, ◌<◌, ◌≤◌, List, [], ◌∷◌, ◌++◌, length, take, slice_index}
-use Rattle.std.proofs.Common.{refl, sym, ap, subst, ◌∙◌, arith, append_assoc, None, length-append}
+use Rattle.std.proofs.Common.{◌≡◌, ℕ, ◌+◌, ◌/◌, ◌%◌, ◌<◌, ◌≤◌, List, [], ◌∷◌, ◌++◌, length, take, slice_index, refl}
+use Rattle.std.proofs.Common.{sym, ap, subst, ◌∙◌, arith, append_assoc, None, length-append}
 use Rattle.std.proofs.lemmas.List.{get_or-take, length-take-le}
 use Rattle.ciborium_ll_text.proofs.Lists.{Below, below_rest, below_take, length_zero}
 use Rattle.ciborium_ll_grammar.specs.declared.hdr.Header.{Header}
@@ -63,11 +63,13 @@ module _ (u : Spot) (b : ℕ) (header : Header) (at : u.phase ≡ p.Title) (may 
 fresh_leads : (t : List ℕ) (n : ℕ) (s : Spot) (header : Header) → Below t → s.phase ≡ p.Title → n ≡ length t → 0 < n
     → IsTitle t header → IsTakenTitle s.strict t header
     → (1 < n → MayStand s.within s.depth s.offset (slice_index t 0))
-    → Leads (record s { front = [] }) t (entered s.within header (record s { front = []; place = s.offset; offset = s.offset + n }))
+    → Leads (record s { front = [] }) t
+    (entered s.within header (record s { front = []; place = s.offset; offset = s.offset + n }))
 fresh_leads [] n s header below at long some is taken may = absurd (omega arith)
 fresh_leads (b ∷ []) n s header below at long some is taken may =
     let empty : Spot = record s { front = [] } in
-    rw long (go b (below 0 (omega arith)) (title_one b empty _ at (step_whole (with_byte b empty) _ header is taken refl))
+    rw long (go b (below 0 (omega arith))
+    (title_one b empty _ at (step_whole (with_byte b empty) _ header is taken refl))
     stay)
 fresh_leads (b ∷ y ∷ ys) n s header below at long some is taken may =
     let u : Spot = record s { place = s.offset } in

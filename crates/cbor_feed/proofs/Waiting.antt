@@ -76,10 +76,14 @@ pub record EndsString (strict : Bool) (kind : Kind) (Then : List ℕ → Type 0)
   pub behind : Then rest
   pub is : bytes ≡ strings ++ 0xff ∷ rest
 
--- the bytes end so many open strings, and one more
+-- what stands behind the innermost of so many open strings, and one more
+abbrev pub Behind : Bool → Kind → ℕ → (List ℕ → Type 0) → List ℕ → Type 0
+Behind strict kind zero Then bytes = Then bytes
+Behind strict kind (suc more) Then bytes = EndsString strict kind (Behind strict kind more Then) bytes
+
+-- the bytes end them all
 abbrev pub EndsStrings : Bool → Kind → ℕ → (List ℕ → Type 0) → List ℕ → Type 0
-EndsStrings strict kind zero Then bytes = EndsString strict kind Then bytes
-EndsStrings strict kind (suc more) Then bytes = EndsString strict kind (EndsStrings strict kind more Then) bytes
+EndsStrings strict kind more Then bytes = EndsString strict kind (Behind strict kind more Then) bytes
 
 -- behind a title or a string, where a title is due
 abbrev pub TitleDue : Bool → Within → ℕ → List Level → List ℕ → Type 0

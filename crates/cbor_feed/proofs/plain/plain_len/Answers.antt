@@ -18,11 +18,13 @@ returns-then-is_ascii_from-clause-plain c = λ more.
     let long : length rest ≡ length xs - at = length-drop at xs in
     let below : Below rest = λ i less. (let there = get_or-drop at xs i 0 in
     let b = (c.type_inv.bytes (at + i)).fits in omega (arith, there, b)) in
-    let first : slice_index rest 0 ≡ slice_index xs at = get_or-drop at xs 0 0 ∙ (let same : at + 0 ≡ at = omega arith in
+    let first : slice_index rest 0 ≡ slice_index xs at =
+    get_or-drop at xs 0 0 ∙ (let same : at + 0 ≡ at = omega arith in
     ap (λ (z : ℕ). slice_index xs z) same) in
     let behind : drop 1 rest ≡ drop (at + 1) xs = ap (λ (z : List ℕ). drop 1 z) (drop_more xs at 0 c.requires.some) in
     let any : 24 ≤ slice_index rest 0 % 32 → c.args.strict ≡ false = λ high. elim c.else-strict.branch [
-      | else-strict-via-then-strict+else-bytes-at-ge-LONGER w ↦ absurd (omega (arith, high, first, w.if-bytes-at-ge-LONGER))
+      | else-strict-via-then-strict+else-bytes-at-ge-LONGER w ↦ absurd
+          (omega (arith, high, first, w.if-bytes-at-ge-LONGER))
       | else-strict-via-else-strict w ↦ w.if-strict.false
     ] in
     span_plain rest span.len span.text_len c.args.strict below (omega (arith, long, c.requires.some))

@@ -10,7 +10,8 @@ items-init c =
       within = omega arith;
       most = omega arith;
       some = λ less. absurd (omega (arith, less));
-      plain = subst (λ (z : ℕ). ArePlain c.args.strict c.args.offset c.args.place.now z c.args.place.now []) no_items none;
+      plain = subst (λ (z : ℕ). ArePlain c.args.strict c.args.offset c.args.place.now z c.args.place.now []) no_items
+          none;
     }
 
 pub items-preserved : goal.items-preserved

@@ -13,7 +13,8 @@ returns-then-self-eq0-clause-tells c = λ strict depth fed is.
 pub returns-in-Ended-clause-tells : goal.returns-in-Ended-clause-tells
 returns-in-Ended-clause-tells c = λ strict depth fed is.
     let checker = c.args.self.now in
-    inr (told strict depth fed (spot_of checker) (r.Ended c.in-Ended.field-0) (sym c.in-Ended.is ∙ c.progress.ensures.answers) is
+    inr (told strict depth fed (spot_of checker) (r.Ended c.in-Ended.field-0) (sym c.in-Ended.is
+    ∙ c.progress.ensures.answers) is
     checker.position.left checker.position.begun).0
 
 pub returns-in-Fault-clause-tells : goal.returns-in-Fault-clause-tells

@@ -18,12 +18,17 @@ returns-clause-fed c = λ old is.
     let new : Spot = spot_in c.take-taken.new.self kinds counts in (
       new,
       c.save.ensures.holds taken.known,
-      subst (λ (z : Spot). TakesPiece z c.args.bytes.now (record { taken = c.take-taken.result; progress = c.tell.result }) new)
+      subst (λ (z : Spot). TakesPiece z c.args.bytes.now (record {
+        taken = c.take-taken.result;
+        progress =
+            c.tell.result;
+      }) new)
           (c.load.ensures.same old is) (record {
             taken = taken.taken;
             all = all_taken _ _ taken.taken c.tell.ensures.all;
             fed = taken.fed;
-            tells = λ strict depth fed is. c.tell.ensures.tells kinds counts strict depth _ (taken.fed strict depth fed is);
+            tells = λ strict depth fed is. c.tell.ensures.tells kinds counts strict depth _
+                (taken.fed strict depth fed is);
             counted = λ strict depth fed is. omega (arith, taken.counted strict depth fed is);
             answers = c.tell.ensures.answers kinds counts;
             stays = taken.stays;

@@ -8,4 +8,5 @@ use Rattle.cbor_feed.proofs.walk.Walk.item_done.Goals as goal
 pub returns-clause-spot : goal.returns-clause-spot
 returns-clause-spot c =
     let checker = c.args.self.now in
-    c.item_over.ensures.done ∙ settled_anyhow (levels_at checker.levels) checker.depth (spot_at checker) p.Title w.Nothing
+    c.item_over.ensures.done
+    ∙ settled_anyhow (levels_at checker.levels) checker.depth (spot_at checker) p.Title w.Nothing

@@ -1,5 +1,4 @@
-use Rattle.std.proofs.Common.{◌≡◌, ℕ, ◌+◌, ◌-◌, List, [], ◌∷◌, take, sym, ap, subst, ◌∙◌, arith}
-use Rattle.std.proofs.Common.{rules}
+use Rattle.std.proofs.Common.{◌≡◌, ℕ, ◌+◌, ◌-◌, List, [], ◌∷◌, take, sym, ap, subst, ◌∙◌, arith, rules}
 use Rattle.std.proofs.lemmas.List.{length-take-le}
 use Rattle.cbor_feed.specs.declared.level.Level.{Level}
 use Rattle.cbor_feed.specs.Plain.{lowered}
@@ -54,4 +53,5 @@ returns-clause-leads c =
     ∙ (ap (λ (z : List Level). item_done (new z run.len)) levels
     ∙ ap (λ (z : ℕ). item_done (new (others s.levels) z)) (sym long))))
     (run_ends s c.in-Some.level left c.requires.phase c.requires.fresh c.requires.due (search rules) (search rules)
-    c.plain_run-run.new.place bytes (left + 1 - run.left) (omega (arith, c.if-run-gt0.false)) c.plain_run-run.ensures.plain)
+    c.plain_run-run.new.place bytes (left + 1 - run.left) (omega (arith, c.if-run-gt0.false))
+    c.plain_run-run.ensures.plain)

@@ -2,7 +2,8 @@ use Rattle.std.proofs.Common.{◌≡◌, ◌≤◌, take, length, length-take, r
 use Rattle.std.proofs.lemmas.List.{length-take-le}
 use Rattle.ciborium_ll_text.specs.declared.state.State.TheVariants as s
 use Rattle.cbor_feed.specs.Walking.{spot_at}
-use Rattle.cbor_feed.proofs.LeadLaws.{between_ends, front_long, front_state, one_leads, text_leads, text_one, whole_state}
+use Rattle.cbor_feed.proofs.LeadLaws.{between_ends, front_long, front_state, one_leads, text_leads, text_one}
+use Rattle.cbor_feed.proofs.LeadLaws.{whole_state}
 use Rattle.cbor_feed.proofs.walk.Walk.text_run.Goals as goal
 
 pub returns-then-may_end-clause-leads : goal.returns-then-may_end-clause-leads

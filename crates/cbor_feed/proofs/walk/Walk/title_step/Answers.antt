@@ -1,4 +1,5 @@
-use Rattle.std.proofs.Common.{◌≡◌, ℕ, ◌+◌, ◌%◌, ◌<◌, ◌≤◌, List, [], ◌∷◌, ◌++◌, length, length-append, slice_index, sym, subst, ◌∙◌, arith, rules}
+use Rattle.std.proofs.Common.{◌≡◌, ℕ, ◌+◌, ◌%◌, ◌<◌, ◌≤◌, List, [], ◌∷◌, ◌++◌, length, length-append, slice_index, sym}
+use Rattle.std.proofs.Common.{subst, ◌∙◌, arith, rules}
 use Rattle.ciborium_ll_grammar.specs.Title.{affix_len}
 use Rattle.cbor_feed.specs.Walking.{spot_at}
 use Rattle.cbor_feed.specs.Steps.{with_byte}

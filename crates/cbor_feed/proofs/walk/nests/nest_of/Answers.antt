@@ -11,5 +11,15 @@ returns-in-132-to-151-clause-enters c =
 pub returns-in-162-to-183-clause-enters : goal.returns-in-162-to-183-clause-enters
 returns-in-162-to-183-clause-enters c =
     map_enters c.args.first (c.from-count-in-162-to-183.result - 1)
-    (omega (arith, c.from-count-in-162-to-183.ensures, c.in-162-to-183.if-first-lt162-own, c.in-162-to-183.if-first-lt184-own))
-    (omega (arith, c.from-count-in-162-to-183.ensures, c.in-162-to-183.if-first-lt162-own, c.in-162-to-183.if-first-lt184-own))
+    (omega (
+      arith,
+      c.from-count-in-162-to-183.ensures,
+      c.in-162-to-183.if-first-lt162-own,
+      c.in-162-to-183.if-first-lt184-own,
+    ))
+    (omega (
+      arith,
+      c.from-count-in-162-to-183.ensures,
+      c.in-162-to-183.if-first-lt162-own,
+      c.in-162-to-183.if-first-lt184-own,
+    ))
