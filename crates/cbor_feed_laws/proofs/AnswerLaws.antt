@@ -1,7 +1,7 @@
 -- The fault that a checker names, and what a skip answers.
-use Rattle.std.proofs.Common.{◌≡◌, ℕ, ◌+◌, Bool, List, [], ◌++◌, length, take, drop, refl, sym, ap}
-use Rattle.std.proofs.Common.{subst, ◌∙◌, arith, append_assoc, append-nil, Result, Ok, Err, Option, Some, None, IsTrue, ◌<◌, ◌≤◌, ◌^◌}
-use Rattle.std.proofs.Common.{◌↔◌, length-append}
+use Rattle.std.proofs.Common.{◌≡◌, ℕ, ◌+◌, Bool, List, [], ◌++◌, length, take, drop, refl, sym, ap, subst, ◌∙◌, arith}
+use Rattle.std.proofs.Common.{append_assoc, append-nil, Result, Ok, Err, Option, Some, None, IsTrue, ◌<◌, ◌≤◌, ◌^◌, ◌↔◌}
+use Rattle.std.proofs.Common.{length-append}
 use Rattle.std.proofs.Math.Seq.{take-length, drop-length}
 use Rattle.ciborium_ll_grammar.proofs.ItemLaws.{one_item}
 use Rattle.std.proofs.lemmas.List.{take-append-drop}
@@ -26,17 +26,18 @@ use Rattle.cbor_feed.specs.declared.progress.Progress.TheVariants as r
 use Rattle.cbor_feed.specs.Spots.{Spot}
 use Rattle.cbor_feed.specs.Steps.{StepIn, IsFed}
 use Rattle.cbor_feed.specs.Telling.{progress_in, progress_of, IsAnswer, IsMore, Tells}
-use Rattle.cbor_feed_laws.specs.SameFaults.{Names, HasLongNest, NamesSyntax, AnswersFault}
-use Rattle.cbor_feed_laws.specs.SameFaults.{SaysEnd, IsFault, BeginsNoItem, FeedTells, SkipTells}
-use Rattle.cbor_feed_laws.proofs.Runs.{Runs, faulted, goes, fed_runs, at, behind}
-use Rattle.cbor_feed_laws.proofs.TitleRuns.{taken_run}
-use Rattle.cbor_feed_laws.proofs.ItemRuns.{completes_run}
+use Rattle.cbor_feed_laws.specs.SameFaults.{Names, HasLongNest, NamesSyntax, AnswersFault, SaysEnd, IsFault}
+use Rattle.cbor_feed_laws.specs.SameFaults.{BeginsNoItem, FeedTells, SkipTells}
+use Rattle.cbor_feed_laws.proofs.Runs.{Runs, faulted, goes, fed_runs, On, at, behind}
+use Rattle.cbor_feed_laws.proofs.TitleRuns.{taken_on}
+use Rattle.cbor_feed_laws.proofs.ItemRuns.{completes_on}
 use Rattle.cbor_feed_laws.proofs.ReachRuns.{FromStart}
 use Rattle.cbor_feed_laws.proofs.SameFaultLaws.{syntax_named, break_named, deep_named}
 use Rattle.cbor_feed_laws.proofs.LongNestLaws.{long_named}
 
 -- the answer at a spot is a fault where the spot is at one
-phase_is : (phase : Phase) (spot : Spot) (fault : Fault) → progress_in phase spot ≡ r.Fault fault → phase ≡ p.Faulted fault
+phase_is : (phase : Phase) (spot : Spot) (fault : Fault) → progress_in phase spot ≡ r.Fault fault
+    → phase ≡ p.Faulted fault
 phase_is p.Title spot fault e = absurd cc
 phase_is (p.Bytes left) spot fault e = absurd cc
 phase_is (p.Text left state) spot fault e = absurd cc
@@ -46,7 +47,8 @@ phase_is (p.Faulted other) spot fault e = cc
 module _ (s : Bool) (depth : ℕ) (fed more : List ℕ) (fault : Fault) (names : Names s depth fed fault) where
   runs_here : FromStart fault s depth (fed ++ more)
   runs_here =
-      fed_runs fault s depth fed more names.spot names.is_fed (faulted (phase_is names.spot.phase names.spot fault names.answers))
+      fed_runs fault s depth fed more names.spot names.is_fed
+      (faulted (phase_is names.spot.phase names.spot fault names.answers))
 
   pub same_syntax : (met : HasItemFault s depth (fed ++ more)) → (at : ℕ) → met.answer ≡ Syntax at
       → NamesSyntax s depth (fed ++ more) at fault
@@ -69,13 +71,17 @@ module _ (s : Bool) (depth : ℕ) (fed more : List ℕ) (fault : Fault) (names :
 
   pub item_none : (item rest : List ℕ) → IsItem s depth item → fed ++ more ≡ item ++ rest → ⊥
   item_none item rest (more_items {title = t} {rest = r} {header = x} q g completes no_items) e =
-      let far = r ++ rest in
-      let parts : fed ++ more ≡ t ++ far =
-      e ∙ (append_assoc t (r ++ []) rest ∙ ap (λ (z : List ℕ). t ++ (z ++ rest)) (append-nil r)) in
-      let n : ℕ = 0 + length t in
-      let titled = taken_run fault s w.Nothing depth [] 0 0 x t far (fed ++ more) q g runs_here parts in
-      let all = completes_run fault s depth x r completes [] 0 n rest far titled refl in
-      ended_none (behind s depth [] all.0 (n + length r)) rest refl all.1
+      let parts : fed ++ more ≡ t ++ (r ++ rest) = e ∙ simp (append-nil, append_assoc) in
+      let start : On fault (length (fed ++ more)) (at s w.Nothing depth []) (t ++ (r ++ rest)) =
+      record {
+        place = 0;
+        offset = 0;
+        counts = let l = ap length parts in omega (arith, l);
+        runs =
+            rw parts at runs_here;
+      } in
+      let all = completes_on fault (length (fed ++ more)) s completes [] rest (taken_on x t (r ++ rest) q g start) in
+      ended_none (behind s depth [] all.place all.offset) rest refl all.runs
 
   -- ---- what a skip answers
 

@@ -1,6 +1,6 @@
 -- A run over the body of a string.
 use Rattle.std.proofs.Common.{◌≡◌, ℕ, zero, suc, ◌+◌, ◌≤◌, Bool, true, false, List, [], ◌∷◌, ◌++◌, length, take, refl}
-use Rattle.std.proofs.Common.{sym, ap, subst, ◌∙◌, arith}
+use Rattle.std.proofs.Common.{ap, subst, ◌∙◌, arith}
 use Rattle.ciborium_ll_text.specs.declared.state.State.{State}
 use Rattle.ciborium_ll_text.specs.declared.state.State.TheVariants as st
 use Rattle.ciborium_ll_text.specs.States.{after, after_byte, may_end}
@@ -11,109 +11,82 @@ use Rattle.cbor_feed.specs.declared.phase.Fault.TheVariants as f
 use Rattle.cbor_feed.specs.declared.phase.Within.{Within}
 use Rattle.cbor_feed.specs.Spots.{Spot, string_done, bytes_due, text_due}
 use Rattle.cbor_feed.specs.Steps.{text_left}
-use Rattle.cbor_feed.proofs.LeadLaws.{due_alike, left_alike}
+use Rattle.cbor_feed.proofs.LeadLaws.{between_ends, due_alike, left_alike}
 use Rattle.cbor_feed_laws.proofs.Levels.{Level}
-use Rattle.cbor_feed_laws.proofs.Runs.{Runs, fault_of, next_of, with, at}
+use Rattle.cbor_feed_laws.proofs.Runs.{Runs, fault_of, next_of, some_due, On, on_to, at}
 
 -- no text of so many bytes is in front
 abbrev pub NoText : State → ℕ → List ℕ → Type 0
 NoText state len due = len ≤ length due → after state (take len due) ≡ st.Between → ⊥
 
-module _ (fault : Fault) (s : Bool) (i : Within) (d : ℕ) (gs : List Level) (a : ℕ) where
+text_begins : (len : ℕ) (spot : Spot) → text_due len spot ≡ text_left true len st.Between spot
+text_begins zero spot = refl
+text_begins (suc len) spot = refl
+
+-- one byte more came
+one_on : {fault : Fault} {all b : ℕ} {to : ℕ → ℕ → Spot} {rest : List ℕ} (to' : ℕ → ℕ → Spot)
+    → (o : On fault all to (b ∷ rest)) → Runs fault (to' o.place (o.offset + 1)) rest → On fault all to' rest
+one_on to' o runs = record { place = o.place; offset = o.offset + 1; counts = omega (arith, o.counts); runs = runs }
+
+module _ {fault : Fault} {all : ℕ} (s : Bool) (i : Within) (d : ℕ) (gs : List Level) where
   -- a body of bytes in front
-  pub bytes_run : (body rest due : List ℕ) (n : ℕ) → Runs fault (bytes_due (length body) (at s i d gs a n)) due
-      → due ≡ body ++ rest → Runs fault (string_done i (at s i d gs a (n + length body))) rest
-  bytes_run [] rest due n runs e =
-      let counts : n ≡ n + 0 = omega arith in
-      subst (λ (z : ℕ). Runs fault (string_done i (at s i d gs a z)) rest) counts
-      (subst (Runs fault (string_done i (at s i d gs a n))) e runs)
-  bytes_run (b ∷ body) rest due n runs e =
-      let len = length body in
-      let here = p.Bytes (suc len) in
-      let o = next_of fault here (with here s i d gs a n) due refl refl runs in
-      let both : o.byte ∷ o.rest ≡ b ∷ (body ++ rest) = sym o.is ∙ e in
-      let tails : o.rest ≡ body ++ rest = cc in
-      let same = o.step ∙ due_alike len (at s i d gs a (n + 1)) here in
-      let counts : (n + 1) + len ≡ n + suc len = omega arith in
-      subst (λ (z : ℕ). Runs fault (string_done i (at s i d gs a z)) rest) counts
-      (bytes_run body rest o.rest (n + 1) (subst (λ (z : Spot). Runs fault z o.rest) same o.runs) tails)
+  pub bytes_on : (body rest : List ℕ) → On fault all (λ a n. bytes_due (length body) (at s i d gs a n)) (body ++ rest)
+      → On fault all (λ a n. string_done i (at s i d gs a n)) rest
+  bytes_on [] rest o = o
+  bytes_on (b ∷ body) rest o =
+      let here = p.Bytes (suc (length body)) in
+      let g = next_of here refl refl o.runs in
+      let same = g.step ∙ due_alike (length body) (at s i d gs o.place (o.offset + 1)) here in
+      bytes_on body rest (one_on _ o (subst (λ (z : Spot). Runs fault z (body ++ rest)) same g.runs))
 
   -- the rest of a text in front
-  text_rest : (body rest due : List ℕ) (state : State) (n : ℕ)
-      → Runs fault (text_left true (length body) state (at s i d gs a n)) due → after state body ≡ st.Between
-      → due ≡ body ++ rest → Runs fault (string_done i (at s i d gs a (n + length body))) rest
-  text_rest [] rest due state n runs ends e =
-      let counts : n ≡ n + 0 = omega arith in
-      subst (λ (z : ℕ). Runs fault (string_done i (at s i d gs a z)) rest) counts
-      (subst (Runs fault (string_done i (at s i d gs a n))) e runs)
-  text_rest (b ∷ body) rest due state n runs ends e =
+  rest_on : (state : State) (body rest : List ℕ) → after state body ≡ st.Between
+      → On fault all (λ a n. text_left true (length body) state (at s i d gs a n)) (body ++ rest)
+      → On fault all (λ a n. string_done i (at s i d gs a n)) rest
+  rest_on state [] rest ends o = o
+  rest_on state (b ∷ body) rest ends o =
       let len = length body in
       let here = p.Text (suc len) state in
-      let o = next_of fault here (with here s i d gs a n) due refl refl runs in
-      let both : o.byte ∷ o.rest ≡ b ∷ (body ++ rest) = sym o.is ∙ e in
-      let heads : o.byte ≡ b = cc in
-      let tails : o.rest ≡ body ++ rest = cc in
+      let g = next_of here refl refl o.runs in
       let to = after_byte state b in
-      let may : may_end to len ≡ true = text_may_end to body ends in
-      let new = with here s i d gs a (n + 1) in
-      let step : o.next ≡ text_left (may_end to len) len to new =
-      subst (λ (z : ℕ). o.next ≡ text_left (may_end (after_byte state z) len) len (after_byte state z) new) heads
-      o.step in
-      let same : o.next ≡ text_left true len to (at s i d gs a (n + 1)) =
-      step ∙ (ap (λ (z : Bool). text_left z len to new) may
-      ∙ left_alike true len to (at s i d gs a (n + 1)) here) in
-      let counts : (n + 1) + len ≡ n + suc len = omega arith in
-      subst (λ (z : ℕ). Runs fault (string_done i (at s i d gs a z)) rest) counts
-      (text_rest body rest o.rest to (n + 1) (subst (λ (z : Spot). Runs fault z o.rest) same o.runs) ends tails)
-
-  text_begins : (len : ℕ) (spot : Spot) → text_due len spot ≡ text_left true len st.Between spot
-  text_begins zero spot = refl
-  text_begins (suc len) spot = refl
+      let u = at s i d gs o.place (o.offset + 1) in
+      let same = g.step ∙ (left_alike (may_end to len) len to u here
+      ∙ ap (λ (z : Bool). text_left z len to u) (text_may_end to body ends)) in
+      rest_on to body rest ends (one_on _ o (subst (λ (z : Spot). Runs fault z (body ++ rest)) same g.runs))
 
   -- a text in front
-  pub text_run : (body rest due : List ℕ) (n : ℕ) → Runs fault (text_due (length body) (at s i d gs a n)) due
-      → after st.Between body ≡ st.Between → due ≡ body ++ rest
-      → Runs fault (string_done i (at s i d gs a (n + length body))) rest
-  text_run body rest due n runs ends e =
-      text_rest body rest due st.Between n
-      (subst (λ (z : Spot). Runs fault z due) (text_begins (length body) (at s i d gs a n)) runs) ends e
+  pub text_on : (body rest : List ℕ) → after st.Between body ≡ st.Between
+      → On fault all (λ a n. text_due (length body) (at s i d gs a n)) (body ++ rest)
+      → On fault all (λ a n. string_done i (at s i d gs a n)) rest
+  text_on body rest ends o =
+      rest_on st.Between body rest ends (on_to _ (λ a n. text_begins (length body) (at s i d gs a n)) o)
 
-  -- ---- a text that is none
+-- ---- a text that is none
 
+module _ (fault : Fault) (s : Bool) (i : Within) (d : ℕ) (gs : List Level) (a : ℕ) where
   -- behind a byte: either a fault, or the text goes on
-  text_on : (may : Bool) (left : ℕ) (to : State) (n : ℕ) (new : Spot) (rest : List ℕ)
-      → new ≡ text_left may left to (at s i d gs a n) → Runs fault new rest
+  next_fails : (may : Bool) (left : ℕ) (to : State) (n : ℕ) (rest : List ℕ)
+      → Runs fault (text_left may left to (at s i d gs a n)) rest
       → (may ≡ true → Runs fault (text_left true left to (at s i d gs a n)) rest → fault ≡ f.Syntax a)
       → fault ≡ f.Syntax a
-  text_on false left to n new rest e runs on =
-      fault_of fault (f.Syntax a) (text_left false left to (at s i d gs a n)) rest refl
-      (subst (λ (z : Spot). Runs fault z rest) e runs)
-  text_on true left to n new rest e runs on = on refl (subst (λ (z : Spot). Runs fault z rest) e runs)
+  next_fails false left to n rest runs on = fault_of fault (f.Syntax a) _ rest refl runs
+  next_fails true left to n rest runs on = on refl runs
 
-  text_faults : (left : ℕ) (state : State) (due : List ℕ) (n : ℕ)
-      → Runs fault (with (p.Text (suc left) state) s i d gs a n) due → NoText state (suc left) due
-      → fault ≡ f.Syntax a
-  text_faults zero state due n runs never =
-      let here = p.Text 1 state in
-      let o = next_of fault here (with here s i d gs a n) due refl refl runs in
-      let to = after_byte state o.byte in
-      let on = subst (NoText state 1) o.is never in
-      let same : o.next ≡ text_left (may_end to 0) 0 to (at s i d gs a (n + 1)) =
-      o.step ∙ left_alike (may_end to 0) 0 to (at s i d gs a (n + 1)) here in
-      text_on (may_end to 0) 0 to (n + 1) o.next o.rest same o.runs
-      (λ may runs'. absurd (on (omega arith) (none_left to may)))
-  text_faults (suc k) state due n runs never =
-      let here = p.Text (suc (suc k)) state in
-      let o = next_of fault here (with here s i d gs a n) due refl refl runs in
-      let to = after_byte state o.byte in
-      let on = subst (NoText state (suc (suc k))) o.is never in
-      let same : o.next ≡ text_left (may_end to (suc k)) (suc k) to (at s i d gs a (n + 1)) =
-      o.step ∙ left_alike (may_end to (suc k)) (suc k) to (at s i d gs a (n + 1)) here in
-      text_on (may_end to (suc k)) (suc k) to (n + 1) o.next o.rest same o.runs
-      (λ may runs'. text_faults k to o.rest (n + 1) runs' (λ fits ends. on (omega (arith, fits)) ends))
+  text_fails : (left : ℕ) (state : State) (due : List ℕ) (n : ℕ) → may_end state left ≡ true
+      → Runs fault (text_left true left state (at s i d gs a n)) due → NoText state left due → fault ≡ f.Syntax a
+  text_fails zero state due n may runs never = absurd (never (omega arith) (none_left state may))
+  text_fails (suc k) state [] n may runs never = absurd (some_due (p.Text (suc k) state) refl refl runs)
+  text_fails (suc k) state (b ∷ due) n may runs never =
+      let here = p.Text (suc k) state in
+      let g = next_of here refl refl runs in
+      let to = after_byte state b in
+      let same = g.step ∙ left_alike (may_end to k) k to (at s i d gs a (n + 1)) here in
+      next_fails (may_end to k) k to (n + 1) due (subst (λ (z : Spot). Runs fault z due) same g.runs)
+      (λ may' runs'. text_fails k to due (n + 1) may' runs' (λ fits ends. never (omega (arith, fits)) ends))
 
   -- a fault in a text that is none names its place
   pub no_text : (len : ℕ) (due : List ℕ) (n : ℕ) → Runs fault (text_due len (at s i d gs a n)) due
       → NoText st.Between len due → fault ≡ f.Syntax a
-  no_text zero due n runs never = absurd (never (omega arith) refl)
-  no_text (suc left) due n runs never = text_faults left st.Between due n runs never
+  no_text len due n runs never =
+      text_fails len st.Between due n (between_ends len)
+      (subst (λ (z : Spot). Runs fault z due) (text_begins len (at s i d gs a n)) runs) never

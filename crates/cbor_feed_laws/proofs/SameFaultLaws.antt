@@ -1,7 +1,6 @@
 -- The fault that a checker names is what stops a skip of the same bytes.
-use Rattle.std.proofs.Common.{◌≡◌, ℕ, ◌+◌, ◌-◌, inl, inr, Bool, false, List, [], ◌∷◌}
-use Rattle.std.proofs.Common.{◌++◌, length, take, Some, refl, ap, subst, ◌∙◌, arith, append_assoc}
-use Rattle.std.proofs.Common.{length-append}
+use Rattle.std.proofs.Common.{◌≡◌, ℕ, ◌+◌, ◌-◌, inl, inr, Bool, false, List, [], ◌∷◌, ◌++◌, length, take, Some, refl}
+use Rattle.std.proofs.Common.{ap, subst, ◌∙◌, arith, append_assoc, length-append}
 use Rattle.ciborium_ll_grammar.specs.declared.hdr.Header.{Header}
 use Rattle.ciborium_ll_grammar.specs.declared.hdr.Header.TheVariants as h
 use Rattle.ciborium_ll_grammar.specs.Title.{IsTitle, BeginsRefused, title_len}
@@ -18,16 +17,13 @@ use Rattle.cbor_skip.specs.ItemFaults.{HasItemFault, HasEarlyBreak, HasDeepNest}
 use Rattle.cbor_feed.specs.declared.phase.Fault.{Fault}
 use Rattle.cbor_feed.specs.declared.phase.Fault.TheVariants as f
 use Rattle.cbor_feed.specs.declared.phase.Within.TheVariants as w
-use Rattle.cbor_feed.specs.Spots.{broken, item_entered}
 use Rattle.cbor_feed_laws.specs.SameFaults.{NamesSyntax}
 use Rattle.cbor_feed_laws.proofs.Runs.{fault_of, at, inside}
 use Rattle.cbor_feed_laws.proofs.TitleRuns.{title_run, taken_run}
 use Rattle.cbor_feed_laws.proofs.BodyRuns.{NoText, no_text}
 use Rattle.cbor_feed_laws.proofs.StringRuns.{break_taken}
-use Rattle.cbor_feed_laws.proofs.ReachRuns.{FromStart, item_reached}
-use Rattle.cbor_feed_laws.proofs.ReachRuns.{string_reached, due_reached}
-use Rattle.cbor_feed_laws.proofs.FaultRuns.{no_title, other_title, long_in_string, long_due, nest_deep}
-use Rattle.cbor_feed_laws.proofs.FaultRuns.{break_early}
+use Rattle.cbor_feed_laws.proofs.ReachRuns.{FromStart, item_reached, string_reached, due_reached}
+use Rattle.cbor_feed_laws.proofs.FaultRuns.{no_title, other_title, long_in_string, long_due, nest_deep, break_early}
 
 syntax_at : (a b : ℕ) → Syntax a ≡ Syntax b → a ≡ b
 syntax_at a b e = cc
@@ -45,18 +41,18 @@ module _ (fault : Fault) (s : Bool) (depth : ℕ) (due : List ℕ) (runs : FromS
       → IsAtTitle point → BeginsRefused ahead → fault ≡ f.Syntax (length before)
   refused_named before ahead Due reach e at_title refused =
       let o = due_reached fault s depth before ahead due reach runs e in
-      no_title fault s w.Nothing o.left o.at_item.levels o.at_item.place (length before) ahead o.at_item.runs refused
+      no_title fault s w.Nothing o.left o.levels o.reached.place (length before) ahead o.reached.runs refused
   refused_named before ahead (In k) reach e at_title refused =
       let o = string_reached fault s depth before ahead due k reach runs e in
-      no_title fault s (inside k o.2) o.0 o.1 o.3.0 (length before) ahead o.3.1 refused
+      no_title fault s (inside k o.more) o.left o.levels o.reached.place (length before) ahead o.reached.runs refused
   refused_named before ahead (BodyDue k len start) reach e at_title refused = absurd at_title
 
-  long_here : (before ahead t rest : List ℕ) (x : Header) → ReachesItem s depth before Due → due ≡ before ++ ahead
-      → IsTitle t x → (IsTakenTitle s t x → ⊥) → ahead ≡ t ++ rest → Named (length before)
-  long_here before ahead t rest x (at_item {levels = left} {closable = c} is) e q never parts =
-      let o = item_reached fault s depth before ahead due left c is runs e in
+  long_named : (before t rest : List ℕ) (x : Header) (point : Point) → ReachesItem s depth before point
+      → due ≡ before ++ (t ++ rest) → IsAtTitle point → IsTitle t x → (IsTakenTitle s t x → ⊥) → Named (length before)
+  long_named before t rest x Due (at_item {levels = left} {closable = c} is) e at_title q never =
+      let o = item_reached fault s depth before (t ++ rest) due left c is runs e in
       let n = length before in
-      let titled = title_run fault s w.Nothing left o.levels o.place n x t rest ahead q o.runs parts in
+      let titled = title_run fault s w.Nothing left o.levels o.reached.place n x t rest q o.reached.runs in
       elim (long_due fault s o.levels n (n + length t) left x t rest q never titled) [
         | inl named ↦ inl named
         | inr deep ↦ inr (
@@ -70,32 +66,26 @@ module _ (fault : Fault) (s : Bool) (depth : ℕ) (due : List ℕ) (runs : FromS
             is_title = q;
             untaken = never;
             is_nest = deep.is_nest;
-            is = e ∙ ap (λ (z : List ℕ). before ++ z) parts;
+            is = e;
           },
           refl,
           deep.deep,
         )
       ]
-
-  long_named : (before ahead t rest : List ℕ) (x : Header) (point : Point) → ReachesItem s depth before point
-      → due ≡ before ++ ahead → IsAtTitle point → IsTitle t x → (IsTakenTitle s t x → ⊥) → ahead ≡ t ++ rest
-      → Named (length before)
-  long_named before ahead t rest x Due reach e at_title q never parts =
-      long_here before ahead t rest x reach e q never parts
-  long_named before ahead t rest x (In k) reach e at_title q never parts =
-      let o = string_reached fault s depth before ahead due k reach runs e in
+  long_named before t rest x (In k) reach e at_title q never =
+      let o = string_reached fault s depth before (t ++ rest) due k reach runs e in
       let n = length before in
-      let titled = title_run fault s (inside k o.2) o.0 o.1 o.3.0 n x t rest ahead q o.3.1 parts in
-      inl (long_in_string fault s o.0 o.1 n (n + length t) k o.2 x t rest never titled)
-  long_named before ahead t rest x (BodyDue k len start) reach e at_title q never parts = absurd at_title
+      let titled = title_run fault s (inside k o.more) o.left o.levels o.reached.place n x t rest q o.reached.runs in
+      inl (long_in_string fault s o.left o.levels n (n + length t) k o.more x t rest never titled)
+  long_named before t rest x (BodyDue k len start) reach e at_title q never = absurd at_title
 
-  other_named : (before ahead t rest : List ℕ) (x : Header) (k : Kind) → ReachesItem s depth before (In k)
-      → due ≡ before ++ ahead → IsTitle t x → IsRefusedIn s k x → ahead ≡ t ++ rest → fault ≡ f.Syntax (length before)
-  other_named before ahead t rest x k reach e q refused parts =
-      let o = string_reached fault s depth before ahead due k reach runs e in
+  other_named : (before t rest : List ℕ) (x : Header) (k : Kind) → ReachesItem s depth before (In k)
+      → due ≡ before ++ (t ++ rest) → IsTitle t x → IsRefusedIn s k x → fault ≡ f.Syntax (length before)
+  other_named before t rest x k reach e q refused =
+      let o = string_reached fault s depth before (t ++ rest) due k reach runs e in
       let n = length before in
-      let titled = title_run fault s (inside k o.2) o.0 o.1 o.3.0 n x t rest ahead q o.3.1 parts in
-      other_title fault s o.0 o.1 n (n + length t) k o.2 x t rest refused titled
+      let titled = title_run fault s (inside k o.more) o.left o.levels o.reached.place n x t rest q o.reached.runs in
+      other_title fault s o.left o.levels n (n + length t) k o.more x t rest refused titled
 
   -- ---- the body of a text is due
 
@@ -105,20 +95,18 @@ module _ (fault : Fault) (s : Bool) (depth : ℕ) (due : List ℕ) (runs : FromS
   text_named before ahead Bytes len start is_text reach e none = absurd cc
   text_named before ahead Text len start is_text (at_body {bytes = b} {title = t} k reach q taken) e none =
       let o = due_reached fault s depth b (t ++ ahead) due reach runs (e ∙ append_assoc b t ahead) in
-      let n = length b in
-      let m = n + length t in
-      let on = taken_run fault s w.Nothing o.left o.at_item.levels o.at_item.place n (h.Text (Some len)) t ahead
-      (t ++ ahead) q taken o.at_item.runs refl in
-      let place = m - title_len (h.Text (Some len)) in
-      let named = no_text fault s w.Nothing o.left o.at_item.levels place len ahead m on none in
-      let long : m ≡ length (b ++ t) = let l = length-append b t in omega (arith, l) in
-      named ∙ ap (λ (z : ℕ). f.Syntax (z - title_len (h.Text (Some len)))) long
+      let m = length b + length t in
+      let on = taken_run fault s w.Nothing o.left o.levels o.reached.place (length b) (h.Text (Some len)) t ahead q
+      taken
+      o.reached.runs in
+      let named = no_text fault s w.Nothing o.left o.levels (m - title_len (h.Text (Some len))) len ahead m on none in
+      rw (length-append b t) named
   text_named before ahead Text len start is_text (at_piece {bytes = b} {title = t} reach q taken) e none =
       let o = string_reached fault s depth b (t ++ ahead) due Text reach runs (e ∙ append_assoc b t ahead) in
       let n = length b in
-      let on = taken_run fault s (w.Text o.2) o.0 o.1 o.3.0 n (h.Text (Some len)) t ahead (t ++ ahead) q taken o.3.1
-      refl in
-      no_text fault s (w.Text o.2) o.0 o.1 n len ahead (n + length t) on none
+      let on = taken_run fault s (w.Text o.more) o.left o.levels o.reached.place n (h.Text (Some len)) t ahead q taken
+      o.reached.runs in
+      no_text fault s (w.Text o.more) o.left o.levels n len ahead (n + length t) on none
 
   -- ---- a row of the faults
 
@@ -132,10 +120,10 @@ module _ (fault : Fault) (s : Bool) (depth : ℕ) (due : List ℕ) (runs : FromS
   row_named before ahead written point answer consumed at (LongTitle {title = t} x rest at_title q never parts)
       reach e a =
       subst Named (syntax_at (length before) at a)
-      (long_named before ahead t rest x point reach e at_title q never parts)
+      (long_named before t rest x point reach (rw parts at e) at_title q never)
   row_named before ahead written point answer consumed at (OtherTitle {kind = k} {title = t} x rest q refused parts)
       reach e a =
-      inl (other_named before ahead t rest x k reach e q refused parts
+      inl (other_named before t rest x k reach (rw parts at e) q refused
       ∙ ap f.Syntax (syntax_at (length before) at a))
   row_named before ahead written point answer consumed at
       (DamagedText {len = len} {start = start} front rest fits none parts sound some within) reach e a =
@@ -159,18 +147,15 @@ module _ (fault : Fault) (s : Bool) (depth : ℕ) (due : List ℕ) (runs : FromS
       let ahead = 0xff ∷ met.rest in
       let o = item_reached fault s depth met.before ahead due met.levels false met.item_due runs met.is in
       let n = length met.before in
-      let on = taken_run fault s w.Nothing met.levels o.levels o.place n h.Break (0xff ∷ []) met.rest ahead break_title
-      (break_taken s) o.runs refl in
-      fault_of fault (f.Break n) (broken o.levels (at s w.Nothing met.levels o.levels n (n + 1))) met.rest
-      (break_early fault s o.levels n (n + 1) met.levels o.levels o.same) on
+      fault_of fault (f.Break n) _ met.rest (break_early fault s o.levels n (n + 1) met.levels o.levels o.same)
+      (taken_run fault s w.Nothing met.levels o.levels o.reached.place n h.Break (0xff ∷ []) met.rest break_title
+      (break_taken s) o.reached.runs)
 
   pub deep_named : (met : HasDeepNest s depth due) → fault ≡ f.Deep (length met.before)
   deep_named met =
       let ahead = met.title ++ met.rest in
       let o = item_reached fault s depth met.before ahead due 0 met.closable met.item_due runs met.is in
       let n = length met.before in
-      let m = n + length met.title in
-      let on = taken_run fault s w.Nothing 0 o.levels o.place n met.header met.title met.rest ahead met.is_title
-      met.taken o.runs refl in
-      fault_of fault (f.Deep n) (item_entered met.header (at s w.Nothing 0 o.levels n m)) met.rest
-      (nest_deep fault s o.levels n m met.header met.is_nest) on
+      fault_of fault (f.Deep n) _ met.rest (nest_deep fault s o.levels n (n + length met.title) met.header met.is_nest)
+      (taken_run fault s w.Nothing 0 o.levels o.reached.place n met.header met.title met.rest met.is_title met.taken
+      o.reached.runs)
