@@ -1,67 +1,46 @@
 -- The fault that a checker names, and what a skip answers.
 use Rattle.std.proofs.Common.{◌≡◌, ℕ, ◌+◌, Bool, List, [], ◌++◌, length, take, drop, refl, sym, ap, subst, ◌∙◌, arith}
-use Rattle.std.proofs.Common.{append_assoc, append-nil, Result, Ok, Err, Option, Some, None, IsTrue, ◌<◌, ◌≤◌, ◌^◌, ◌↔◌}
+use Rattle.std.proofs.Common.{append_assoc, append-nil, Result, Ok, Err, Some, IsTrue, ◌<◌, ◌≤◌, ◌^◌, ◌↔◌}
 use Rattle.std.proofs.Common.{length-append}
+use Rattle.std.proofs.lemmas.Bool.Decides.{nat_tests}
 use Rattle.std.proofs.Math.Seq.{take-length, drop-length}
 use Rattle.ciborium_ll_grammar.proofs.ItemLaws.{one_item}
 use Rattle.std.proofs.lemmas.List.{take-append-drop}
 use Rattle.ciborium_ll_io.specs.declared.io.Read.{Ghosts}
 use Rattle.ciborium_ll_grammar.specs.Faults.{Syntax}
 use Rattle.ciborium_ll_grammar.specs.Items.{IsItem, no_items, more_items}
-use Rattle.ciborium_ll_grammar.specs.declared.hdr.Header.{Header}
-use Rattle.ciborium_ll_decoder.specs.Decoding.{IsFreshAs, behind_waiting, offset_limit, strict_of}
+use Rattle.ciborium_ll_decoder.specs.Decoding.{IsFreshAs, offset_limit, strict_of}
 use Rattle.ciborium_ll_decoder.specs.declared.dec.Decoder.{Decoder}
 use Rattle.ciborium_ll_decoder.specs.declared.dec.Error.TheVariants as e
 use Rattle.cbor_skip.specs.declared.SkipError.{SkipError}
 use Rattle.cbor_skip.specs.declared.SkipError.TheVariants as k
-use Rattle.cbor_skip.specs.ItemFaults.{ItemInFront, HasItemFault, HasEarlyBreak, HasDeepNest}
+use Rattle.cbor_skip.specs.ItemFaults.{ItemInFront}
 use Rattle.cbor_skip.specs.SkippingTold.{IsReadyToSkip, SkipsTold}
 use Rattle.cbor_feed.specs.declared.phase.Phase.{Phase}
 use Rattle.cbor_feed.specs.declared.phase.Phase.TheVariants as p
 use Rattle.cbor_feed.specs.declared.phase.Fault.{Fault}
-use Rattle.cbor_feed.specs.declared.phase.Fault.TheVariants as f
-use Rattle.cbor_feed.specs.declared.phase.Within.TheVariants as w
 use Rattle.cbor_feed.specs.declared.progress.Progress.{Progress}
 use Rattle.cbor_feed.specs.declared.progress.Progress.TheVariants as r
 use Rattle.cbor_feed.specs.Spots.{Spot}
 use Rattle.cbor_feed.specs.Steps.{StepIn, IsFed}
 use Rattle.cbor_feed.specs.Telling.{progress_in, progress_of, IsAnswer, IsMore, Tells}
-use Rattle.cbor_feed_laws.specs.SameFaults.{Names, HasLongNest, NamesSyntax, AnswersFault, SaysEnd, IsFault}
-use Rattle.cbor_feed_laws.specs.SameFaults.{BeginsNoItem, FeedTells, SkipTells}
-use Rattle.cbor_feed_laws.proofs.Runs.{Runs, faulted, goes, fed_runs, On, at, behind}
+use Rattle.cbor_feed_laws.specs.SameFaults.{Names, AnswersFault, SaysEnd, IsFault, BeginsNoItem, FeedTells, SkipTells}
+use Rattle.cbor_feed_laws.proofs.Runs.{Runs, faulted, goes, fed_runs, at, behind}
 use Rattle.cbor_feed_laws.proofs.TitleRuns.{taken_on}
 use Rattle.cbor_feed_laws.proofs.ItemRuns.{completes_on}
-use Rattle.cbor_feed_laws.proofs.ReachRuns.{FromStart}
+use Rattle.cbor_feed_laws.proofs.ReachRuns.{FromStart, start_on}
 use Rattle.cbor_feed_laws.proofs.SameFaultLaws.{syntax_named, break_named, deep_named}
-use Rattle.cbor_feed_laws.proofs.LongNestLaws.{long_named}
 
 -- the answer at a spot is a fault where the spot is at one
 phase_is : (phase : Phase) (spot : Spot) (fault : Fault) → progress_in phase spot ≡ r.Fault fault
     → phase ≡ p.Faulted fault
-phase_is p.Title spot fault e = absurd cc
-phase_is (p.Bytes left) spot fault e = absurd cc
-phase_is (p.Text left state) spot fault e = absurd cc
-phase_is p.Ended spot fault e = absurd cc
-phase_is (p.Faulted other) spot fault e = cc
+phase_is phase spot fault e = grind (arith, nat_tests)
 
 module _ (s : Bool) (depth : ℕ) (fed more : List ℕ) (fault : Fault) (names : Names s depth fed fault) where
-  runs_here : FromStart fault s depth (fed ++ more)
+  pub runs_here : FromStart fault s depth (fed ++ more)
   runs_here =
       fed_runs fault s depth fed more names.spot names.is_fed
       (faulted (phase_is names.spot.phase names.spot fault names.answers))
-
-  pub same_syntax : (met : HasItemFault s depth (fed ++ more)) → (at : ℕ) → met.answer ≡ Syntax at
-      → NamesSyntax s depth (fed ++ more) at fault
-  same_syntax met at e = syntax_named fault s depth (fed ++ more) runs_here met at e
-
-  pub same_break : (met : HasEarlyBreak s depth (fed ++ more)) → fault ≡ f.Break (length met.before)
-  same_break met = break_named fault s depth (fed ++ more) runs_here met
-
-  pub same_deep : (met : HasDeepNest s depth (fed ++ more)) → fault ≡ f.Deep (length met.before)
-  same_deep met = deep_named fault s depth (fed ++ more) runs_here met
-
-  pub same_long : (met : HasLongNest s depth (fed ++ more)) → fault ≡ f.Deep (length met.before)
-  same_long met = long_named fault s depth (fed ++ more) runs_here met
 
   -- ---- no item is in front
 
@@ -72,15 +51,8 @@ module _ (s : Bool) (depth : ℕ) (fed more : List ℕ) (fault : Fault) (names :
   pub item_none : (item rest : List ℕ) → IsItem s depth item → fed ++ more ≡ item ++ rest → ⊥
   item_none item rest (more_items {title = t} {rest = r} {header = x} q g completes no_items) e =
       let parts : fed ++ more ≡ t ++ (r ++ rest) = e ∙ simp (append-nil, append_assoc) in
-      let start : On fault (length (fed ++ more)) (at s w.Nothing depth []) (t ++ (r ++ rest)) =
-      record {
-        place = 0;
-        offset = 0;
-        counts = let l = ap length parts in omega (arith, l);
-        runs =
-            rw parts at runs_here;
-      } in
-      let all = completes_on fault (length (fed ++ more)) s completes [] rest (taken_on x t (r ++ rest) q g start) in
+      let all = completes_on fault (length (fed ++ more)) s completes [] rest (taken_on x t (r ++ rest) q g
+      (start_on fault s depth (fed ++ more) (t ++ (r ++ rest)) parts runs_here)) in
       ended_none (behind s depth [] all.place all.offset) rest refl all.runs
 
   -- ---- what a skip answers
@@ -91,20 +63,16 @@ module _ (s : Bool) (depth : ℕ) (fed more : List ℕ) (fault : Fault) (names :
         → AnswersFault s depth (fed ++ more) fault old.offset result
     skip_answers (Ok done) told = item_none told.front.item told.front.rest told.front.is_item told.front.is
     skip_answers (Err (k.Break place)) told =
-        (length told.fault.before, told.place, same_break told.fault)
-    skip_answers (Err (k.Deep place)) told = (length told.fault.before, told.place, same_deep told.fault)
+        (length told.fault.before, told.place, break_named fault s depth (fed ++ more) runs_here told.fault)
+    skip_answers (Err (k.Deep place)) told =
+        (length told.fault.before, told.place, deep_named fault s depth (fed ++ more) runs_here told.fault)
     skip_answers (Err (k.Read (e.Syntax place))) told =
-        (told.0, told.1, same_syntax told.2.fault told.0 told.2.answered)
+        (told.0, told.1, syntax_named fault s depth (fed ++ more) runs_here told.2.fault told.0 told.2.answered)
     skip_answers (Err (k.Read (e.Io error))) told = tt
     skip_answers (Err (k.Read e.TooLong)) told = told
     skip_answers (Err (k.Read e.Waiting)) told = told
 
 -- ---- both of the same bytes
-
-waits_none : (waiting : Option Header) (ahead : Option (List ℕ)) → waiting ≡ None
-    → behind_waiting waiting ahead ≡ ahead
-waits_none None ahead e = refl
-waits_none (Some header) ahead e = absurd cc
 
 -- a decoder of a steady reader that tells its bytes
 pub fresh_ready : {R E : Type 0} (source : Ghosts R E) (room : ℕ) (strict : Bool) (reader : R) (decoder : Decoder R)
@@ -112,9 +80,8 @@ pub fresh_ready : {R E : Type 0} (source : Ghosts R E) (room : ℕ) (strict : Bo
     → 8 ≤ room → length due + room < offset_limit → IsReadyToSkip source room decoder due
 fresh_ready source room strict reader decoder due fresh steady ahead wide fits = record {
   none_waits = λ on. fresh.none_waits;
-  steady = subst (λ z. IsTrue (source.steady z)) (sym fresh.reader) steady;
-  told = waits_none decoder.waiting (source.ahead decoder.reader) fresh.none_waits
-      ∙ (ap source.ahead fresh.reader ∙ ahead);
+  steady = rw fresh.reader steady;
+  told = rw (fresh.none_waits, fresh.reader) ahead;
   fits-title = omega (arith, fresh.offset, fits, wide);
   fits-chunk = omega (arith, fresh.offset, fits);
 }
@@ -126,17 +93,11 @@ module _ {R E : Type 0} (source : Ghosts R E) (old new : Decoder R) where
       → progress ≡ r.Fault fault
       → AnswersFault s depth bytes fault 0 result
   both_answer s depth taken bytes fault progress spot result is_fed answers start mode told e =
-      let names : Names s depth (take taken bytes) fault = record {
-        spot = spot;
-        is_fed = is_fed;
-        answers = sym (subst (λ (z : Progress). IsAnswer z spot) e answers);
-      } in
+      let names : Names s depth (take taken bytes) fault =
+      record { spot = spot; is_fed = is_fed; answers = sym (rw e at answers) } in
       let all : take taken bytes ++ drop taken bytes ≡ bytes = take-append-drop taken bytes in
-      let here = skip_answers s depth (take taken bytes) (drop taken bytes) fault names source old new result
-      (subst (λ (z : List ℕ). SkipsTold source s depth z old result new) (sym all)
-      (subst (λ (z : Bool). SkipsTold source z depth bytes old result new) mode told)) in
-      subst (λ (z : ℕ). AnswersFault s depth bytes fault z result) start
-      (subst (λ (z : List ℕ). AnswersFault s depth z fault old.offset result) all here)
+      rw (all, start) at (skip_answers s depth (take taken bytes) (drop taken bytes) fault names source old new result
+      (rw all (subst (λ (z : Bool). SkipsTold source z depth bytes old result new) mode told)))
 
   -- ---- the answer of a skip that began at the offset 0
 
@@ -213,41 +174,38 @@ module _ (s : Bool) (depth taken : ℕ) (bytes : List ℕ) (spot : Spot) (room :
       item_none s depth fed (drop taken bytes ++ more) fault names front.item front.rest front.is_item (all ∙ front.is)
 
   item_here : ItemInFront s depth bytes → BeginsNoItem s depth bytes → ⊥
-  item_here front none = none [] (subst (ItemInFront s depth) (sym (append-nil bytes)) front)
+  item_here front none = none [] (rw append-nil front)
 
   module _ (is_fed : IsFed s depth fed spot) where
-    told_by : (progress : Progress) → progress ≡ progress_of spot → (IsMore progress → taken ≡ length bytes)
+    -- what the checker answers, exactly
+    abbrev Exact : Progress → Type 0
+    Exact progress =
+        (progress ≡ progress_of spot) × (SaysEnd progress ↔ ItemInFront s depth bytes)
+        × (IsFault progress ↔ BeginsNoItem s depth bytes)
+
+    pub exactly : (progress : Progress) → IsAnswer progress spot → Tells s depth fed progress
+        → (IsMore progress → taken ≡ length bytes) → Exact progress
+    exactly (r.More due) answers tells all = (
+      answers,
+      (λ is. absurd is, more_none due tells (all tt)),
+      (λ is. absurd is, more_begins due tells (all tt)),
+    )
+    exactly (r.Ended len) answers tells all =
+        let front = ended_front tells.0 in
+        (answers, (λ is. front, λ front. tt), (λ is. absurd is, λ none. item_here front none))
+    exactly (r.Fault fault) answers tells all =
+        let none = fault_none fault is_fed answers in
+        (answers, (λ is. absurd is, λ front. item_here front none), (λ is. none, λ none. tt))
+    exactly r.TooLong answers tells all = absurd (not_long tells)
+
+    pub feed_tells : (progress : Progress) → Exact progress → (IsMore progress → taken ≡ length bytes)
         → FeedTells s depth bytes progress
-    told_by progress answers all = record {
+    feed_tells progress exact all = record {
       taken = fed;
       rest = drop taken bytes;
       is = sym all_bytes;
       all = λ more. none_left (all more);
       spot = spot;
       is_fed = is_fed;
-      answers = answers;
+      answers = exact.0;
     }
-
-    pub feed_tells : (progress : Progress) → IsAnswer progress spot → Tells s depth fed progress
-        → (IsMore progress → taken ≡ length bytes) → FeedTells s depth bytes progress
-    feed_tells (r.More due) answers tells all = told_by (r.More due) answers all
-    feed_tells (r.Ended len) answers tells all = told_by (r.Ended len) answers all
-    feed_tells (r.Fault fault) answers tells all = told_by (r.Fault fault) answers all
-    feed_tells r.TooLong answers tells all = absurd (not_long tells)
-
-    pub ended_exactly : (progress : Progress) → IsAnswer progress spot → Tells s depth fed progress
-        → (IsMore progress → taken ≡ length bytes) → SaysEnd progress ↔ ItemInFront s depth bytes
-    ended_exactly (r.More due) answers tells all =
-        (λ is. absurd is, λ front. more_none due tells (all tt) front)
-    ended_exactly (r.Ended len) answers tells all = (λ is. ended_front tells.0, λ front. tt)
-    ended_exactly (r.Fault fault) answers tells all =
-        (λ is. absurd is, λ front. item_here front (fault_none fault is_fed answers))
-    ended_exactly r.TooLong answers tells all = (λ is. absurd is, λ front. not_long tells)
-
-    pub fault_exactly : (progress : Progress) → IsAnswer progress spot → Tells s depth fed progress
-        → (IsMore progress → taken ≡ length bytes) → IsFault progress ↔ BeginsNoItem s depth bytes
-    fault_exactly (r.More due) answers tells all =
-        (λ is. absurd is, λ none. more_begins due tells (all tt) none)
-    fault_exactly (r.Ended len) answers tells all = (λ is. absurd is, λ none. item_here (ended_front tells.0) none)
-    fault_exactly (r.Fault fault) answers tells all = (λ is. fault_none fault is_fed answers, λ none. tt)
-    fault_exactly r.TooLong answers tells all = (λ is. absurd is, λ none. not_long tells)

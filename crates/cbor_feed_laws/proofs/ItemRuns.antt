@@ -104,14 +104,9 @@ module _ (fault : Fault) (all : ℕ) (s : Bool) where
         on_behind w.Nothing c c gs gs (bytes_on s w.Nothing c gs r rest
         (subst (λ (z : ℕ). On fault all (λ a n. bytes_due z (at s w.Nothing c gs a n)) (r ++ rest)) (sym long) o))
     completes_on {c} {r = r} (text_string {len = len} long sound) gs rest o =
+        let k = title_len (h.Text (Some len)) in
         let placed : On fault all (λ a n. text_due len (at s w.Nothing c gs a n)) (r ++ rest) =
-        record {
-          place = o.offset - title_len (h.Text (Some len));
-          offset = o.offset;
-          counts = o.counts;
-          runs =
-              o.runs;
-        } in
+        record { place = o.offset - k; offset = o.offset; counts = o.counts; runs = o.runs } in
         on_behind w.Nothing c c gs gs (text_on s w.Nothing c gs r rest (text_ends r sound)
         (subst (λ (z : ℕ). On fault all (λ a n. text_due z (at s w.Nothing c gs a n)) (r ++ rest)) (sym long) placed))
     completes_on {c} (open_bytes {strings = u} {bodies = bs} are taken) gs rest o =

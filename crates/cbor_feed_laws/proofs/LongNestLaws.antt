@@ -83,6 +83,6 @@ pub long_named : (fault : Fault) (s : Bool) (depth : ℕ) (due : List ℕ) → F
     → (met : HasLongNest s depth due) → fault ≡ f.Deep (length met.before)
 long_named fault s depth due runs met =
     let o = item_reached fault s depth met.before (met.title ++ met.rest) due 0 met.closable met.item_due runs met.is in
-    long_deep fault s o.levels o.reached.place (length met.before) met.title met.rest met.header met.is_title
+    long_deep fault s o.levels o.place (length met.before) met.title met.rest met.header met.is_title
     met.is_nest
-    met.untaken o.reached.runs
+    met.untaken o.runs

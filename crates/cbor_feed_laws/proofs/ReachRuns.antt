@@ -1,17 +1,18 @@
 -- A run over a beginning of an item, up to what is due behind it.
-use Rattle.std.proofs.Common.{◌≡◌, ℕ, suc, Bool, true, false, List, [], ◌∷◌, ◌++◌, length, None, refl, ap, subst, ◌∙◌}
-use Rattle.std.proofs.Common.{arith, append_assoc, length-append}
+use Rattle.std.proofs.Common.{◌≡◌, ℕ, suc, Bool, true, false, List, [], ◌∷◌, ◌++◌, length, None, refl, ap, ◌∙◌, arith}
+use Rattle.std.proofs.Common.{append_assoc, length-append}
 use Rattle.ciborium_ll_grammar.specs.declared.hdr.Header.TheVariants as h
 use Rattle.ciborium_ll_grammar.specs.Title.{IsTitle, shortest_title}
 use Rattle.ciborium_ll_grammar.specs.Strings.{Kind, Bytes, Text, kind_header}
 use Rattle.ciborium_ll_grammar.specs.Elements.{AreWritable}
 use Rattle.ciborium_ll_grammar.specs.Items.{IsTakenTitle}
-use Rattle.ciborium_ll_grammar.specs.Faults.{IsInside, opened, deeper, Due, In}
+use Rattle.ciborium_ll_grammar.specs.Faults.{IsAtTitle, IsInside, opened, deeper, Point, Due, In, BodyDue}
 use Rattle.ciborium_ll_grammar.proofs.ElementLaws.{AreWritable-left, AreWritable-right}
 use Rattle.ciborium_ll_grammar.proofs.TitleLaws.{IsTitle-shortest}
 use Rattle.ciborium_ll_grammar.proofs.AloneLaws.{open_in_range}
 use Rattle.cbor_skip.specs.Due.{ItemDue, here, within, IsTakenInside, ReachesItem, at_item, at_string}
 use Rattle.cbor_feed.specs.declared.phase.Fault.{Fault}
+use Rattle.cbor_feed.specs.declared.phase.Within.{Within}
 use Rattle.cbor_feed.specs.declared.phase.Within.TheVariants as w
 use Rattle.cbor_feed.specs.Levels.{closes}
 use Rattle.cbor_feed.specs.Spots.{Spot}
@@ -104,60 +105,63 @@ module _ (fault : Fault) (s : Bool) (depth : ℕ) where
   abbrev pub FromStart : List ℕ → Type 0
   FromStart due = Runs fault (at s w.Nothing depth [] 0 0) due
 
-  -- how many bytes came
-  pub record Reached (to : ℕ → ℕ → Spot) (n : ℕ) (due : List ℕ) : Type 0 where
-    pub place : ℕ
-    pub runs : Runs fault (to place n) due
-
+  -- what was counted is where the bytes are divided
   reach : {to : ℕ → ℕ → Spot} (before rest due : List ℕ) → due ≡ before ++ rest → On fault (length due) to rest
-      → Reached to (length before) rest
+      → (place : ℕ) × Runs fault (to place (length before)) rest
   reach {to} before rest due e o =
       let whole = ap length e in
       let counts : o.offset ≡ length before = omega (arith, o.counts, whole, length-append before rest) in
-      record { place = o.place; runs = subst (λ (n : ℕ). Runs fault (to o.place n) rest) counts o.runs }
+      (o.place, rw counts at o.runs)
+
+  pub start_on : (due ahead : List ℕ) → due ≡ ahead → FromStart due
+      → On fault (length due) (at s w.Nothing depth []) ahead
+  start_on due ahead e runs =
+      record { place = 0; offset = 0; counts = let l = ap length e in omega (arith, l); runs = rw e at runs }
 
   item_on : (before rest due : List ℕ) {left : ℕ} {closable : Bool} → ItemDue s false depth before left closable
       → FromStart due → due ≡ before ++ rest → ItemOn fault (length due) s left closable rest
-  item_on before rest due is runs e =
-      due_on fault (length due) s is [] rest refl
-      (record { place = 0; offset = 0; counts = let l = ap length e in omega (arith, l); runs = rw e at runs })
+  item_on before rest due is runs e = due_on fault (length due) s is [] rest refl (start_on due (before ++ rest) e runs)
 
   -- an item to so many levels is due, behind so many bytes
   pub record AtItem (left : ℕ) (closable : Bool) (n : ℕ) (due : List ℕ) : Type 0 where
     pub levels : List Level
     pub same : can_close levels ≡ closable
-    pub reached : Reached (at s w.Nothing left levels) n due
+    pub place : ℕ
+    pub runs : Runs fault (at s w.Nothing left levels place n) due
 
   pub item_reached : (before rest due : List ℕ) (left : ℕ) (closable : Bool)
       → ItemDue s false depth before left closable
       → FromStart due → due ≡ before ++ rest → AtItem left closable (length before) rest
   item_reached before rest due left closable is runs e =
       let o = item_on before rest due is runs e in
-      record { levels = o.levels; same = o.same; reached = reach before rest due e o.on }
+      let r = reach before rest due e o.on in
+      record { levels = o.levels; same = o.same; place = r.0; runs = r.1 }
 
-  -- an item is due to some level
-  pub record DueSome (n : ℕ) (due : List ℕ) : Type 0 where
+  -- a title is due, where such strings are open
+  pub record AtTitle (i : Within) (n : ℕ) (due : List ℕ) : Type 0 where
     pub left : ℕ
     pub levels : List Level
-    pub reached : Reached (at s w.Nothing left levels) n due
+    pub place : ℕ
+    pub runs : Runs fault (at s i left levels place n) due
 
-  pub due_reached : (before rest due : List ℕ) → ReachesItem s depth before Due → FromStart due
-      → due ≡ before ++ rest → DueSome (length before) rest
-  due_reached before rest due (at_item {levels = left} {closable = c} is) runs e =
+  pub due_reached : {before : List ℕ} (rest due : List ℕ) → ReachesItem s depth before Due → FromStart due
+      → due ≡ before ++ rest → AtTitle w.Nothing (length before) rest
+  due_reached {before} rest due (at_item {levels = left} {closable = c} is) runs e =
       let o = item_reached before rest due left c is runs e in
-      record { left = left; levels = o.levels; reached = o.reached }
+      record { left = left; levels = o.levels; place = o.place; runs = o.runs }
 
-  -- so many strings of the kind are open, and one more
-  pub record AtString (k : Kind) (n : ℕ) (due : List ℕ) : Type 0 where
-    pub left : ℕ
-    pub levels : List Level
-    pub more : ℕ
-    pub reached : Reached (at s (inside k more) left levels) n due
-
-  pub string_reached : (before rest due : List ℕ) (k : Kind) → ReachesItem s depth before (In k) → FromStart due
-      → due ≡ before ++ rest → AtString k (length before) rest
-  string_reached before rest due k
+  pub string_reached : {before : List ℕ} {k : Kind} (rest due : List ℕ) → ReachesItem s depth before (In k)
+      → FromStart due → due ≡ before ++ rest → (j : ℕ) × AtTitle (inside k j) (length before) rest
+  string_reached {k = k} rest due
       (at_string {bytes = b} {opens = u} {levels = left} {bodies = bs} is inner taken sound) runs e =
       let o = item_on b (u ++ rest) due is runs (e ∙ append_assoc b u rest) in
       let all = inside_on s fault (length due) k left o.levels u rest bs inner taken sound o.on in
-      record { left = left; levels = o.levels; more = all.0; reached = reach (b ++ u) rest due e all.1 }
+      let r = reach (b ++ u) rest due e all.1 in
+      (all.0, record { left = left; levels = o.levels; place = r.0; runs = r.1 })
+
+  pub title_reached : {before : List ℕ} {point : Point} (rest due : List ℕ) → ReachesItem s depth before point
+      → IsAtTitle point → FromStart due → due ≡ before ++ rest → (i : Within) × AtTitle i (length before) rest
+  title_reached {point = Due} rest due reach at_title runs e = (w.Nothing, due_reached rest due reach runs e)
+  title_reached {point = In k} rest due reach at_title runs e =
+      let o = string_reached rest due reach runs e in (inside k o.0, o.1)
+  title_reached {point = BodyDue k len start} rest due reach at_title runs e = absurd at_title

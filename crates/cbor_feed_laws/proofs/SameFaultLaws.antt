@@ -1,9 +1,9 @@
 -- The fault that a checker names is what stops a skip of the same bytes.
 use Rattle.std.proofs.Common.{◌≡◌, ℕ, ◌+◌, ◌-◌, inl, inr, Bool, false, List, [], ◌∷◌, ◌++◌, length, take, Some, refl}
-use Rattle.std.proofs.Common.{ap, subst, ◌∙◌, arith, append_assoc, length-append}
+use Rattle.std.proofs.Common.{subst, ◌∙◌, arith, append_assoc, length-append}
 use Rattle.ciborium_ll_grammar.specs.declared.hdr.Header.{Header}
 use Rattle.ciborium_ll_grammar.specs.declared.hdr.Header.TheVariants as h
-use Rattle.ciborium_ll_grammar.specs.Title.{IsTitle, BeginsRefused, title_len}
+use Rattle.ciborium_ll_grammar.specs.Title.{IsTitle, title_len}
 use Rattle.ciborium_ll_grammar.specs.Strings.{Kind, Bytes, Text}
 use Rattle.ciborium_ll_grammar.specs.Items.{IsTakenTitle}
 use Rattle.ciborium_ll_grammar.specs.Faults.{Point, Due, In, BodyDue, IsAtTitle, IsRefusedIn, Answer, Short, Syntax}
@@ -12,7 +12,7 @@ use Rattle.ciborium_ll_grammar.specs.Faults.{CutDamagedText}
 use Rattle.ciborium_ll_grammar.proofs.StringLaws.{break_title}
 use Rattle.ciborium_ll_text.specs.declared.state.State.TheVariants as st
 use Rattle.ciborium_ll_text.proofs.StateLaws.{text_from}
-use Rattle.cbor_skip.specs.Due.{ItemDue, ReachesItem, at_item, at_body, at_piece}
+use Rattle.cbor_skip.specs.Due.{ReachesItem, at_item, at_body, at_piece}
 use Rattle.cbor_skip.specs.ItemFaults.{HasItemFault, HasEarlyBreak, HasDeepNest}
 use Rattle.cbor_feed.specs.declared.phase.Fault.{Fault}
 use Rattle.cbor_feed.specs.declared.phase.Fault.TheVariants as f
@@ -22,37 +22,21 @@ use Rattle.cbor_feed_laws.proofs.Runs.{fault_of, at, inside}
 use Rattle.cbor_feed_laws.proofs.TitleRuns.{title_run, taken_run}
 use Rattle.cbor_feed_laws.proofs.BodyRuns.{NoText, no_text}
 use Rattle.cbor_feed_laws.proofs.StringRuns.{break_taken}
-use Rattle.cbor_feed_laws.proofs.ReachRuns.{FromStart, item_reached, string_reached, due_reached}
+use Rattle.cbor_feed_laws.proofs.ReachRuns.{FromStart, due_reached, item_reached, string_reached, title_reached}
 use Rattle.cbor_feed_laws.proofs.FaultRuns.{no_title, other_title, long_in_string, long_due, nest_deep, break_early}
 
-syntax_at : (a b : ℕ) → Syntax a ≡ Syntax b → a ≡ b
-syntax_at a b e = cc
-
-not_short : (a : ℕ) → Short ≡ Syntax a → ⊥
-not_short a e = cc
-
 module _ (fault : Fault) (s : Bool) (depth : ℕ) (due : List ℕ) (runs : FromStart fault s depth due) where
-  abbrev Named : ℕ → Type 0
-  Named at = NamesSyntax s depth due at fault
+  abbrev Named : Answer → Type 0
+  Named Short = Unit {0}
+  Named (Syntax at) = NamesSyntax s depth due at fault
 
-  -- ---- a title is due
-
-  refused_named : (before ahead : List ℕ) (point : Point) → ReachesItem s depth before point → due ≡ before ++ ahead
-      → IsAtTitle point → BeginsRefused ahead → fault ≡ f.Syntax (length before)
-  refused_named before ahead Due reach e at_title refused =
-      let o = due_reached fault s depth before ahead due reach runs e in
-      no_title fault s w.Nothing o.left o.levels o.reached.place (length before) ahead o.reached.runs refused
-  refused_named before ahead (In k) reach e at_title refused =
-      let o = string_reached fault s depth before ahead due k reach runs e in
-      no_title fault s (inside k o.more) o.left o.levels o.reached.place (length before) ahead o.reached.runs refused
-  refused_named before ahead (BodyDue k len start) reach e at_title refused = absurd at_title
-
-  long_named : (before t rest : List ℕ) (x : Header) (point : Point) → ReachesItem s depth before point
-      → due ≡ before ++ (t ++ rest) → IsAtTitle point → IsTitle t x → (IsTakenTitle s t x → ⊥) → Named (length before)
-  long_named before t rest x Due (at_item {levels = left} {closable = c} is) e at_title q never =
+  long_named : {before : List ℕ} (t rest : List ℕ) (x : Header) (point : Point) → ReachesItem s depth before point
+      → due ≡ before ++ (t ++ rest) → IsAtTitle point → IsTitle t x → (IsTakenTitle s t x → ⊥)
+      → Named (Syntax (length before))
+  long_named {before} t rest x Due (at_item {levels = left} {closable = c} is) e at_title q never =
       let o = item_reached fault s depth before (t ++ rest) due left c is runs e in
       let n = length before in
-      let titled = title_run fault s w.Nothing left o.levels o.reached.place n x t rest q o.reached.runs in
+      let titled = title_run fault s w.Nothing left o.levels o.place n x t rest q o.runs in
       elim (long_due fault s o.levels n (n + length t) left x t rest q never titled) [
         | inl named ↦ inl named
         | inr deep ↦ inr (
@@ -62,7 +46,7 @@ module _ (fault : Fault) (s : Bool) (depth : ℕ) (due : List ℕ) (runs : FromS
             header = x;
             rest = rest;
             closable = c;
-            item_due = subst (λ (z : ℕ). ItemDue s false depth before z c) deep.none_left is;
+            item_due = rw deep.none_left at is;
             is_title = q;
             untaken = never;
             is_nest = deep.is_nest;
@@ -72,90 +56,76 @@ module _ (fault : Fault) (s : Bool) (depth : ℕ) (due : List ℕ) (runs : FromS
           deep.deep,
         )
       ]
-  long_named before t rest x (In k) reach e at_title q never =
-      let o = string_reached fault s depth before (t ++ rest) due k reach runs e in
+  long_named {before} t rest x (In k) reach e at_title q never =
+      let o = string_reached fault s depth (t ++ rest) due reach runs e in
       let n = length before in
-      let titled = title_run fault s (inside k o.more) o.left o.levels o.reached.place n x t rest q o.reached.runs in
-      inl (long_in_string fault s o.left o.levels n (n + length t) k o.more x t rest never titled)
-  long_named before t rest x (BodyDue k len start) reach e at_title q never = absurd at_title
+      let titled = title_run fault s (inside k o.0) o.1.left o.1.levels o.1.place n x t rest q o.1.runs in
+      inl (long_in_string fault s o.1.left o.1.levels n (n + length t) k o.0 x t rest never titled)
+  long_named t rest x (BodyDue k len start) reach e at_title q never = absurd at_title
 
-  other_named : (before t rest : List ℕ) (x : Header) (k : Kind) → ReachesItem s depth before (In k)
+  other_named : {before : List ℕ} (t rest : List ℕ) (x : Header) (k : Kind) → ReachesItem s depth before (In k)
       → due ≡ before ++ (t ++ rest) → IsTitle t x → IsRefusedIn s k x → fault ≡ f.Syntax (length before)
-  other_named before t rest x k reach e q refused =
-      let o = string_reached fault s depth before (t ++ rest) due k reach runs e in
+  other_named {before} t rest x k reach e q refused =
+      let o = string_reached fault s depth (t ++ rest) due reach runs e in
       let n = length before in
-      let titled = title_run fault s (inside k o.more) o.left o.levels o.reached.place n x t rest q o.reached.runs in
-      other_title fault s o.left o.levels n (n + length t) k o.more x t rest refused titled
+      let titled = title_run fault s (inside k o.0) o.1.left o.1.levels o.1.place n x t rest q o.1.runs in
+      other_title fault s o.1.left o.1.levels n (n + length t) k o.0 x t rest refused titled
 
-  -- ---- the body of a text is due
-
-  text_named : (before ahead : List ℕ) (k : Kind) (len start : ℕ) → k ≡ Text
+  -- the body of a text is due
+  text_named : {before : List ℕ} (ahead : List ℕ) (k : Kind) (len start : ℕ) → k ≡ Text
       → ReachesItem s depth before (BodyDue k len start) → due ≡ before ++ ahead → NoText st.Between len ahead
       → fault ≡ f.Syntax start
-  text_named before ahead Bytes len start is_text reach e none = absurd cc
-  text_named before ahead Text len start is_text (at_body {bytes = b} {title = t} k reach q taken) e none =
-      let o = due_reached fault s depth b (t ++ ahead) due reach runs (e ∙ append_assoc b t ahead) in
+  text_named ahead Bytes len start is_text reach e none = absurd cc
+  text_named ahead Text len start is_text (at_body {bytes = b} {title = t} k reach q taken) e none =
+      let o = due_reached fault s depth (t ++ ahead) due reach runs (e ∙ append_assoc b t ahead) in
       let m = length b + length t in
-      let on = taken_run fault s w.Nothing o.left o.levels o.reached.place (length b) (h.Text (Some len)) t ahead q
-      taken
-      o.reached.runs in
+      let on = taken_run fault s w.Nothing o.left o.levels o.place (length b) (h.Text (Some len)) t ahead q taken o.runs
+      in
       let named = no_text fault s w.Nothing o.left o.levels (m - title_len (h.Text (Some len))) len ahead m on none in
       rw (length-append b t) named
-  text_named before ahead Text len start is_text (at_piece {bytes = b} {title = t} reach q taken) e none =
-      let o = string_reached fault s depth b (t ++ ahead) due Text reach runs (e ∙ append_assoc b t ahead) in
+  text_named ahead Text len start is_text (at_piece {bytes = b} {title = t} reach q taken) e none =
+      let o = string_reached fault s depth (t ++ ahead) due reach runs (e ∙ append_assoc b t ahead) in
       let n = length b in
-      let on = taken_run fault s (w.Text o.more) o.left o.levels o.reached.place n (h.Text (Some len)) t ahead q taken
-      o.reached.runs in
-      no_text fault s (w.Text o.more) o.left o.levels n len ahead (n + length t) on none
+      let on = taken_run fault s (w.Text o.0) o.1.left o.1.levels o.1.place n (h.Text (Some len)) t ahead q taken
+      o.1.runs in
+      no_text fault s (w.Text o.0) o.1.left o.1.levels n len ahead (n + length t) on none
 
-  -- ---- a row of the faults
-
-  row_named : (before ahead written : List ℕ) (point : Point) (answer : Answer) (consumed at : ℕ)
+  -- a row of the faults
+  row_named : {before ahead written : List ℕ} {point : Point} {answer : Answer} {consumed : ℕ}
       → FirstFault s before [] point ahead answer written consumed → ReachesItem s depth before point
-      → due ≡ before ++ ahead → answer ≡ Syntax at → Named at
-  row_named before ahead written point answer consumed at (CutTitle at_title is_cut) reach e a =
-      absurd (not_short at a)
-  row_named before ahead written point answer consumed at (NoTitle at_title refused) reach e a =
-      inl (refused_named before ahead point reach e at_title refused ∙ ap f.Syntax (syntax_at (length before) at a))
-  row_named before ahead written point answer consumed at (LongTitle {title = t} x rest at_title q never parts)
-      reach e a =
-      subst Named (syntax_at (length before) at a)
-      (long_named before t rest x point reach (rw parts at e) at_title q never)
-  row_named before ahead written point answer consumed at (OtherTitle {kind = k} {title = t} x rest q refused parts)
-      reach e a =
-      inl (other_named before t rest x k reach (rw parts at e) q refused
-      ∙ ap f.Syntax (syntax_at (length before) at a))
-  row_named before ahead written point answer consumed at
-      (DamagedText {len = len} {start = start} front rest fits none parts sound some within) reach e a =
-      inl (text_named before ahead Text len start refl reach e (λ long ends. none (text_from (take len ahead) ends))
-      ∙ ap f.Syntax (syntax_at start at a))
-  row_named before ahead written point answer consumed at (CutBody front rest short parts sound some most within)
-      reach e a = absurd (not_short at a)
-  row_named before ahead written point answer consumed at
-      (CutDamagedText {len = len} {start = start} front rest short none parts sound some within) reach e a =
-      inl (text_named before ahead Text len start refl reach e (λ long ends. absurd (omega (arith, long, short)))
-      ∙ ap f.Syntax (syntax_at start at a))
+      → due ≡ before ++ ahead → Named answer
+  row_named (CutTitle at_title is_cut) reach e = tt
+  row_named {before} {ahead} (NoTitle at_title refused) reach e =
+      let o = title_reached fault s depth ahead due reach at_title runs e in
+      inl (no_title fault s o.0 o.1.left o.1.levels o.1.place (length before) ahead o.1.runs refused)
+  row_named {point = point} (LongTitle {title = t} x rest at_title q never parts) reach e =
+      long_named t rest x point reach (rw parts at e) at_title q never
+  row_named (OtherTitle {kind = k} {title = t} x rest q refused parts) reach e =
+      inl (other_named t rest x k reach (rw parts at e) q refused)
+  row_named {ahead = ahead} (DamagedText {len = len} {start = start} _ _ _ none _ _ _ _) reach e =
+      inl (text_named ahead Text len start refl reach e (λ long ends. none (text_from (take len ahead) ends)))
+  row_named (CutBody _ _ _ _ _ _ _ _) reach e = tt
+  row_named {ahead = ahead} (CutDamagedText {len = len} {start = start} _ _ short _ _ _ _ _) reach e =
+      inl (text_named ahead Text len start refl reach e (λ long ends. absurd (omega (arith, long, short))))
 
   -- ---- what stops a skip
 
-  pub syntax_named : (met : HasItemFault s depth due) → (at : ℕ) → met.answer ≡ Syntax at → Named at
-  syntax_named met at a =
-      row_named met.before met.ahead met.written met.point met.answer met.consumed at met.fault met.reach met.is a
+  pub syntax_named : (met : HasItemFault s depth due) → (at : ℕ) → met.answer ≡ Syntax at
+      → NamesSyntax s depth due at fault
+  syntax_named met at a = subst Named a (row_named met.fault met.reach met.is)
 
   pub break_named : (met : HasEarlyBreak s depth due) → fault ≡ f.Break (length met.before)
   break_named met =
-      let ahead = 0xff ∷ met.rest in
-      let o = item_reached fault s depth met.before ahead due met.levels false met.item_due runs met.is in
+      let o = item_reached fault s depth met.before (0xff ∷ met.rest) due met.levels false met.item_due runs met.is in
       let n = length met.before in
       fault_of fault (f.Break n) _ met.rest (break_early fault s o.levels n (n + 1) met.levels o.levels o.same)
-      (taken_run fault s w.Nothing met.levels o.levels o.reached.place n h.Break (0xff ∷ []) met.rest break_title
-      (break_taken s) o.reached.runs)
+      (taken_run fault s w.Nothing met.levels o.levels o.place n h.Break (0xff ∷ []) met.rest break_title
+      (break_taken s) o.runs)
 
   pub deep_named : (met : HasDeepNest s depth due) → fault ≡ f.Deep (length met.before)
   deep_named met =
-      let ahead = met.title ++ met.rest in
-      let o = item_reached fault s depth met.before ahead due 0 met.closable met.item_due runs met.is in
+      let o = item_reached fault s depth met.before (met.title ++ met.rest) due 0 met.closable met.item_due runs met.is
+      in
       let n = length met.before in
       fault_of fault (f.Deep n) _ met.rest (nest_deep fault s o.levels n (n + length met.title) met.header met.is_nest)
-      (taken_run fault s w.Nothing 0 o.levels o.reached.place n met.header met.title met.rest met.is_title met.taken
-      o.reached.runs)
+      (taken_run fault s w.Nothing 0 o.levels o.place n met.header met.title met.rest met.is_title met.taken o.runs)

@@ -1,17 +1,19 @@
 use Rattle.std.proofs.Common.{◌↔◌, Bool, [], subst, arith, refl, IsOk}
 use Rattle.cbor_skip.specs.ItemFaults.{ItemInFront}
-use Rattle.cbor_feed_laws.proofs.AnswerLaws.{both_answer, fresh_ready, ended_exactly, fault_exactly, feed_tells}
-use Rattle.cbor_feed_laws.proofs.AnswerLaws.{skip_tells}
+use Rattle.cbor_feed_laws.proofs.AnswerLaws.{both_answer, exactly, fresh_ready, feed_tells, skip_tells}
 use Rattle.cbor_feed_laws.specs.SameFaults.{SkipTells}
 use Rattle.cbor_feed_laws.proofs.feed_and_skip.Goals as goal
 
 pub returns-clause-feed_told : goal.returns-clause-feed_told
 returns-clause-feed_told c =
     let start = c.checker_of-checker.ensures in
-    feed_tells c.args.strict c.args.depth c.feed-fed.result.taken c.args.bytes.now _
-    (omega (arith, c.requires.room)) (c.feed-fed.ensures.fed c.args.strict c.args.depth [] start)
+    let is_fed = c.feed-fed.ensures.fed c.args.strict c.args.depth [] start in
+    feed_tells c.args.strict c.args.depth c.feed-fed.result.taken c.args.bytes.now _ (omega (arith, c.requires.room))
+    is_fed c.feed-fed.result.progress
+    (exactly c.args.strict c.args.depth c.feed-fed.result.taken c.args.bytes.now _ (omega (arith, c.requires.room))
+    is_fed
     c.feed-fed.result.progress c.feed-fed.ensures.answers
-    (c.feed-fed.ensures.tells c.args.strict c.args.depth [] start) c.feed-fed.ensures.all
+    (c.feed-fed.ensures.tells c.args.strict c.args.depth [] start) c.feed-fed.ensures.all) c.feed-fed.ensures.all
 
 pub returns-clause-skip_told : goal.returns-clause-skip_told
 returns-clause-skip_told c =
@@ -27,18 +29,18 @@ returns-clause-skip_told c =
 pub returns-clause-ended : goal.returns-clause-ended
 returns-clause-ended c =
     let start = c.checker_of-checker.ensures in
-    ended_exactly c.args.strict c.args.depth c.feed-fed.result.taken c.args.bytes.now _
+    (exactly c.args.strict c.args.depth c.feed-fed.result.taken c.args.bytes.now _
     (omega (arith, c.requires.room)) (c.feed-fed.ensures.fed c.args.strict c.args.depth [] start)
     c.feed-fed.result.progress c.feed-fed.ensures.answers
-    (c.feed-fed.ensures.tells c.args.strict c.args.depth [] start) c.feed-fed.ensures.all
+    (c.feed-fed.ensures.tells c.args.strict c.args.depth [] start) c.feed-fed.ensures.all).1
 
 pub returns-clause-faulted : goal.returns-clause-faulted
 returns-clause-faulted c =
     let start = c.checker_of-checker.ensures in
-    fault_exactly c.args.strict c.args.depth c.feed-fed.result.taken c.args.bytes.now _
+    (exactly c.args.strict c.args.depth c.feed-fed.result.taken c.args.bytes.now _
     (omega (arith, c.requires.room)) (c.feed-fed.ensures.fed c.args.strict c.args.depth [] start)
     c.feed-fed.result.progress c.feed-fed.ensures.answers
-    (c.feed-fed.ensures.tells c.args.strict c.args.depth [] start) c.feed-fed.ensures.all
+    (c.feed-fed.ensures.tells c.args.strict c.args.depth [] start) c.feed-fed.ensures.all).2
 
 pub returns-clause-skipped : goal.returns-clause-skipped
 returns-clause-skipped c =
