@@ -41,12 +41,8 @@ run_leads s rest level all (suc count) left last bytes is (more {last = place} {
     let here : suc count + left ≡ count + suc left = omega arith in
     let long : s.offset + length (xs ++ item) ≡ s.offset + length xs + length item =
     omega (arith, length-append xs item) in
-    let m : Spot = record (due s) {
-      levels = lowered (suc left) level ∷ rest;
-      place = place;
-      offset =
-          s.offset + length xs;
-    } in
+    let sum : ℕ = s.offset + length xs in
+    let m : Spot = record (due s) { levels = lowered (suc left) level ∷ rest; place = place; offset = sum } in
     let goes = rw (next_lowered level all left is, settled) at (one m refl refl refl refl) in
     rw (here, long) (leads_more _ m _ xs item (run_leads s rest level all count (suc left) place xs is so_far) goes)
 

@@ -2,6 +2,7 @@
 use Rattle.std.proofs.Common.{◌≡◌, ℕ, zero, suc, ◌+◌, ◌%◌, ◌<◌, ◌≤◌, Bool, true, List, [], ◌∷◌, ◌++◌, length, take}
 use Rattle.std.proofs.Common.{get_or, slice_index, refl, sym, ap, subst, ◌∙◌, arith, append_assoc, append-nil}
 use Rattle.std.proofs.Common.{length-append}
+use Rattle.std.proofs.lemmas.Bool.Decides.{nat_tests}
 use Rattle.std.proofs.lemmas.List.{take_more}
 use Rattle.ciborium_ll_grammar.specs.Title.{affix_len}
 use Rattle.ciborium_ll_grammar.specs.Items.{IsItem}
@@ -17,7 +18,7 @@ use Rattle.cbor_feed.specs.declared.progress.Progress.{Progress}
 use Rattle.cbor_feed.specs.declared.progress.Progress.TheVariants as r
 use Rattle.cbor_feed.proofs.KeptLaws.{entered_kept, bytes_kept, left_kept}
 use Rattle.cbor_feed.proofs.LiveLaws.{fed_goes}
-use Rattle.cbor_feed.proofs.Waiting.{WaitsIn}
+use Rattle.cbor_feed.proofs.Waiting.{BodyThen, WaitsIn}
 use Rattle.cbor_feed.proofs.StepLaws.{Titled, due_titled, fed_same}
 
 -- ---- bytes fed one by one
@@ -44,15 +45,7 @@ title_counts spot new (none r) = refl
 
 pub step_counts : (phase : Phase) (spot new : Spot) (b : ℕ) → StepIn phase spot b new → new.offset ≡ spot.offset + 1
 step_counts p.Title spot new b step = title_counts (with_byte b spot) new step
-step_counts (p.Bytes zero) spot new b step = absurd step
-step_counts (p.Bytes (suc left)) spot new b step =
-    ap (λ (z : Spot). z.offset) step ∙ (bytes_kept left (counted spot)).1
-step_counts (p.Text zero state) spot new b step = absurd step
-step_counts (p.Text (suc left) state) spot new b step =
-    let next = after_byte state b in
-    ap (λ (z : Spot). z.offset) step ∙ (left_kept (may_end next left) left next (counted spot)).1
-step_counts p.Ended spot new b step = absurd step
-step_counts (p.Faulted fault) spot new b step = absurd step
+step_counts phase spot new b step = grind (arith, nat_tests, bytes_kept, left_kept)
 
 pub fed_counts : (s : Bool) (d : ℕ) (fed : List ℕ) (spot : Spot) → IsFed s d fed spot → spot.offset ≡ length fed
 fed_counts s d fed spot fresh = refl
@@ -84,38 +77,32 @@ title_lacks : (front : List ℕ) → length front ≤ affix_len (slice_index fro
 title_lacks [] short = omega arith
 title_lacks (b ∷ front) short = omega (arith, short)
 
+body_by : {len : ℕ} {P Then : List ℕ → Type 0} {y : List ℕ} → BodyThen len P Then y → len ≤ length y
+body_by o = let whole = ap length o.is in omega (arith, o.long, whole, length-append o.body o.rest)
+
 tells_in : (phase : Phase) (s : Bool) (d : ℕ) (fed : List ℕ) (spot : Spot) → phase ≡ spot.phase → IsFed s d fed spot
-    → has_left phase ≡ true
+    → ((y : List ℕ) → IsItem s d (fed ++ y) → WaitsIn phase spot y) → has_left phase ≡ true
     → length spot.front ≤ affix_len (slice_index spot.front 0 % 32) → Tells s d fed (progress_in phase spot)
-tells_in p.Title s d fed spot e is left short =
-    let go : (y : List ℕ) → IsItem s d (fed ++ y) → title_due spot.front ≤ length y = λ y i.
-    let waits = (fed_same s d fed spot is y).0 i in
-    due_by spot y (due_titled spot.strict spot.within spot.depth spot.levels (spot.front ++ y)
-    (subst (λ (z : Phase). WaitsIn z spot y) (sym e) waits)) in
-    (title_lacks spot.front short, fed_goes s d fed spot is (λ fault same. let both = e ∙ same in cc), go)
-tells_in (p.Bytes zero) s d fed spot e is left short = absurd cc
-tells_in (p.Bytes (suc n)) s d fed spot e is left short =
-    let go : (y : List ℕ) → IsItem s d (fed ++ y) → suc n ≤ length y = λ y i.
-    let waits = subst (λ (z : Phase). WaitsIn z spot y) (sym e) ((fed_same s d fed spot is y).0 i) in
-    let whole = ap length waits.is in
-    omega (arith, waits.long, whole, length-append waits.body waits.rest) in
-    (omega arith, fed_goes s d fed spot is (λ fault same. let both = e ∙ same in cc), go)
-tells_in (p.Text zero state) s d fed spot e is left short = absurd cc
-tells_in (p.Text (suc n) state) s d fed spot e is left short =
-    let go : (y : List ℕ) → IsItem s d (fed ++ y) → suc n ≤ length y = λ y i.
-    let waits = subst (λ (z : Phase). WaitsIn z spot y) (sym e) ((fed_same s d fed spot is y).0 i) in
-    let whole = ap length waits.is in
-    omega (arith, waits.long, whole, length-append waits.body waits.rest) in
-    (omega arith, fed_goes s d fed spot is (λ fault same. let both = e ∙ same in cc), go)
-tells_in p.Ended s d fed spot e is left short =
+tells_in p.Title s d fed spot e is waits left short = (
+  title_lacks spot.front short,
+  fed_goes s d fed spot is (λ fault same. let both = e ∙ same in cc),
+  λ y i. due_by spot y (due_titled spot.strict spot.within spot.depth spot.levels (spot.front ++ y) (waits y i)),
+)
+tells_in (p.Bytes zero) s d fed spot e is waits left short = absurd cc
+tells_in (p.Bytes (suc n)) s d fed spot e is waits left short =
+    (omega arith, fed_goes s d fed spot is (λ fault same. let both = e ∙ same in cc), λ y i. body_by (waits y i))
+tells_in (p.Text zero state) s d fed spot e is waits left short = absurd cc
+tells_in (p.Text (suc n) state) s d fed spot e is waits left short =
+    (omega arith, fed_goes s d fed spot is (λ fault same. let both = e ∙ same in cc), λ y i. body_by (waits y i))
+tells_in p.Ended s d fed spot e is waits left short =
     let item = (fed_same s d fed spot is []).1 (subst (λ (z : Phase). WaitsIn z spot []) e refl) in
-    (subst (IsItem s d) (append-nil fed) item, fed_counts s d fed spot is)
-tells_in (p.Faulted fault) s d fed spot e is left short =
-    λ y i. subst (λ (z : Phase). WaitsIn z spot y) (sym e) ((fed_same s d fed spot is y).0 i)
+    (rw append-nil at item, fed_counts s d fed spot is)
+tells_in (p.Faulted fault) s d fed spot e is waits left short = waits
 
 pub tells : (s : Bool) (d : ℕ) (fed : List ℕ) (spot : Spot) → IsFed s d fed spot → has_left spot.phase ≡ true
     → length spot.front ≤ affix_len (slice_index spot.front 0 % 32) → Tells s d fed (progress_of spot)
-tells s d fed spot is left short = tells_in spot.phase s d fed spot refl is left short
+tells s d fed spot is left short =
+    tells_in spot.phase s d fed spot refl is (λ y i. (fed_same s d fed spot is y).0 i) left short
 
 -- the same of an answer that is the spot's
 pub told : (s : Bool) (d : ℕ) (fed : List ℕ) (spot : Spot) (progress : Progress) → progress ≡ progress_of spot
@@ -126,8 +113,4 @@ told s d fed spot progress e is left short = subst (Tells s d fed) (sym e) (tell
 
 -- where more bytes are due by the answer they are by the phase
 pub more_due : (phase : Phase) (spot : Spot) (due : ℕ) → r.More due ≡ progress_in phase spot → is_due phase ≡ true
-more_due p.Title spot due e = refl
-more_due (p.Bytes left) spot due e = refl
-more_due (p.Text left state) spot due e = refl
-more_due p.Ended spot due e = absurd cc
-more_due (p.Faulted fault) spot due e = absurd cc
+more_due phase spot due e = grind (arith, nat_tests)

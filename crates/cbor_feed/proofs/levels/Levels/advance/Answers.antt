@@ -1,6 +1,6 @@
 use Rattle.std.proofs.Common.{◌∙◌, ◌-◌, arith, rules}
-use Rattle.cbor_feed.proofs.StackLaws.{counted_due, counted_some, some_levels}
 use Rattle.std.proofs.lemmas.List.{length-set}
+use Rattle.cbor_feed.proofs.StackLaws.{counted_due, counted_some, some_levels}
 use Rattle.cbor_feed.proofs.levels.Levels.advance.Goals as goal
 
 pub invariant_of-self-clause-known : goal.invariant_of-self-clause-known
@@ -13,9 +13,7 @@ pub returns-then-self-at-gt0-clause-due : goal.returns-then-self-at-gt0-clause-d
 returns-then-self-at-gt0-clause-due c = λ yes depth spot.
     let l = c.args.self.now in
     counted_due l.len (l.len - 1) l.kinds.now l.counts.now _ (omega (arith, c.requires)) (search rules)
-    (search rules) (search rules) (some_levels _ l.known) depth spot
+    (search rules) (search rules) (some_levels _ l.known) depth spot (search rules)
 
 pub invariant_of-self-clause-counts_long : goal.invariant_of-self-clause-counts_long
-invariant_of-self-clause-counts_long c =
-    let l = c.args.self.now in
-    length-set l.counts.now _ _ ∙ l.counts_long
+invariant_of-self-clause-counts_long c = length-set c.args.self.now.counts.now _ _ ∙ c.args.self.now.counts_long

@@ -20,11 +20,7 @@ returns-clause-put c =
     c.numbers-kind.ensures (some_levels _ l.known))
 
 pub invariant_of-self-clause-kinds_long : goal.invariant_of-self-clause-kinds_long
-invariant_of-self-clause-kinds_long c =
-    let l = c.args.self.now in
-    length-set l.kinds.now _ _ ∙ l.kinds_long
+invariant_of-self-clause-kinds_long c = length-set c.args.self.now.kinds.now _ _ ∙ c.args.self.now.kinds_long
 
 pub invariant_of-self-clause-counts_long : goal.invariant_of-self-clause-counts_long
-invariant_of-self-clause-counts_long c =
-    let l = c.args.self.now in
-    length-set l.counts.now _ _ ∙ l.counts_long
+invariant_of-self-clause-counts_long c = length-set c.args.self.now.counts.now _ _ ∙ c.args.self.now.counts_long
