@@ -1,6 +1,7 @@
 -- The same bytes lead to one spot.
 use Rattle.std.proofs.Common.{◌≡◌, ℕ, zero, suc, Bool, List, [], ◌∷◌, ◌++◌, length, refl, sym, ap, subst, ◌∙◌, arith}
 use Rattle.std.proofs.Common.{append-nil, length-append}
+use Rattle.std.proofs.lemmas.Bool.Decides.{nat_tests}
 use Rattle.ciborium_ll_grammar.specs.declared.hdr.Header.{Header}
 use Rattle.ciborium_ll_grammar.specs.Title.{IsTitle, IsCutTitle}
 use Rattle.ciborium_ll_grammar.specs.Items.{IsTakenTitle}
@@ -25,45 +26,36 @@ whole_none : (spot : Spot) (x : Header) → IsTitle spot.front x → IsTakenTitl
     → NoneTaken spot.strict spot.front → ⊥
 whole_none spot x q g never = never [] spot.front [] x q g refl
 
-same_fault : (a b : Fault) → p.Faulted a ≡ p.Faulted b → a ≡ b
-same_fault a b e = cc
+-- what may follow a title that isn't whole is of no use to one that is at fault by then
+module _ (spot : Spot) (some : SomeTaken spot.strict spot.front) where
+  never_early : (fault : Fault) → ((behind : List ℕ) (x : Header) (fault : Fault) → IsTitle (spot.front ++ behind) x
+      → (titled x spot).phase ≡ p.Faulted fault → ⊥)
+      → ((behind : List ℕ) (x : Header) → IsTitle (spot.front ++ behind) x → (titled x spot).phase ≡ p.Faulted fault) → ⊥
+  never_early fault may all = may some.0 some.1 fault some.2 (all some.0 some.1 some.2)
 
 title_one : (spot a b : Spot) → TitleStep spot a → TitleStep spot b → a ≡ b
 title_one spot a b (cut c some may) (cut d some' may') = refl
-title_one spot a b (cut c some may) (early fault d some' all) =
-    absurd (may some.0 some.1 fault some.2 (all some.0 some.1 some.2))
+title_one spot a b (cut c some may) (early fault d some' all) = absurd (never_early spot some fault may all)
 title_one spot a b (cut c some may) (whole x q g) = absurd (whole_cut spot x q c)
 title_one spot a b (cut c some may) (none never) = absurd (some_none spot.strict spot.front some never)
-title_one spot a b (early fault d some all) (cut c some' may) =
-    absurd (may some.0 some.1 fault some.2 (all some.0 some.1 some.2))
+title_one spot a b (early fault d some all) (cut c some' may) = absurd (never_early spot some fault may all)
 title_one spot a b (early fault c some all) (early fault' d some' all') =
-    let one = sym (all some.0 some.1 some.2) ∙ all' some.0 some.1 some.2 in
-    ap (λ (z : Fault). at_phase (p.Faulted z) spot) (same_fault fault fault' one)
+    let one = sym (all some.0 some.1 some.2) ∙ all' some.0 some.1 some.2 in ap (λ (z : Phase). at_phase z spot) one
 title_one spot a b (early fault c some all) (whole x q g) = absurd (whole_cut spot x q c)
-title_one spot a b (early fault c some all) (none never) =
-    absurd (some_none spot.strict spot.front some never)
+title_one spot a b (early fault c some all) (none never) = absurd (some_none spot.strict spot.front some never)
 title_one spot a b (whole x q g) (cut c some may) = absurd (whole_cut spot x q c)
 title_one spot a b (whole x q g) (early fault c some all) = absurd (whole_cut spot x q c)
 title_one spot a b (whole x q g) (whole x' q' g') =
-    let o = one_title spot.front spot.front [] [] x x' q q' refl in
-    ap (λ (z : Header). titled z spot) o.1
+    ap (λ (z : Header). titled z spot) (one_title spot.front spot.front [] [] x x' q q' refl).1
 title_one spot a b (whole x q g) (none never) = absurd (whole_none spot x q g never)
 title_one spot a b (none never) (cut c some may) = absurd (some_none spot.strict spot.front some never)
-title_one spot a b (none never) (early fault c some all) =
-    absurd (some_none spot.strict spot.front some never)
+title_one spot a b (none never) (early fault c some all) = absurd (some_none spot.strict spot.front some never)
 title_one spot a b (none never) (whole x q g) = absurd (whole_none spot x q g never)
 title_one spot a b (none never) (none never') = refl
 
-step_one : (phase : Phase) (spot a b : Spot) (byte : ℕ) → StepIn phase spot byte a → StepIn phase spot byte b
-    → a ≡ b
-step_one p.Title spot a b byte f g =
-    title_one (with_byte byte spot) a b f g
-step_one (p.Bytes zero) spot a b byte f g = absurd f
-step_one (p.Bytes (suc n)) spot a b byte f g = f ∙ sym g
-step_one (p.Text zero state) spot a b byte f g = absurd f
-step_one (p.Text (suc n) state) spot a b byte f g = f ∙ sym g
-step_one p.Ended spot a b byte f g = absurd f
-step_one (p.Faulted fault) spot a b byte f g = absurd f
+step_one : (phase : Phase) (spot a b : Spot) (byte : ℕ) → StepIn phase spot byte a → StepIn phase spot byte b → a ≡ b
+step_one p.Title spot a b byte f g = title_one (with_byte byte spot) a b f g
+step_one phase spot a b byte f g = grind (arith, nat_tests)
 
 -- one byte more than none
 no_last : (xs : List ℕ) (b : ℕ) → [] ≡ xs ++ b ∷ [] → ⊥
@@ -71,14 +63,13 @@ no_last xs b e = let l = ap length e in omega (arith, l, length-append xs (b ∷
 
 same_last : (xs ys : List ℕ) (b c : ℕ) → xs ++ b ∷ [] ≡ ys ++ c ∷ [] → (xs ≡ ys) × (b ≡ c)
 same_last [] [] b c e = (refl, cc)
-same_last [] (y ∷ ys) b c e = absurd (let l = ap length e in omega (arith, l, length-append ys (c ∷ [])))
-same_last (x ∷ xs) [] b c e = absurd (let l = ap length e in omega (arith, l, length-append xs (b ∷ [])))
+same_last [] (y ∷ ys) b c e = absurd (no_last ys c (let tails : [] ≡ ys ++ c ∷ [] = cc in tails))
+same_last (x ∷ xs) [] b c e = absurd (no_last xs b (let tails : [] ≡ xs ++ b ∷ [] = cc in tails))
 same_last (x ∷ xs) (y ∷ ys) b c e =
     let heads : x ≡ y = cc in
     let tails : xs ++ b ∷ [] ≡ ys ++ c ∷ [] = cc in
     let o = same_last xs ys b c tails in
-    let rest = o.0 in
-    (cc (heads, rest), o.1)
+    (cc (heads, o.0), o.1)
 
 one_from : (s : Bool) (d : ℕ) (fed : List ℕ) (a : Spot) → IsFed s d fed a → (other : List ℕ) (b : Spot)
     → IsFed s d other b → fed ≡ other → a ≡ b
@@ -88,9 +79,8 @@ one_from s d fed a (more {bytes = xs} c byte is step) other b fresh e = absurd (
 one_from s d fed a (more {bytes = xs} {spot = u} c byte is step) other b
     (more {bytes = ys} {spot = v} c' byte' is' step') e =
     let o = same_last xs ys c c' e in
-    let spots : u ≡ v = one_from s d xs u is ys v is' o.0 in
-    let first : Step u c b = subst (λ (z : ℕ). Step u z b) (sym o.1)
-    (subst (λ (z : Spot). Step z c' b) (sym spots) step') in
+    let spots : v ≡ u = sym (one_from s d xs u is ys v is' o.0) in
+    let first : Step u c b = rw spots at (subst (λ (z : ℕ). Step v z b) (sym o.1) step') in
     step_one u.phase u a b c step first
 
 -- the same bytes lead to one spot

@@ -44,16 +44,10 @@ module _ (fault : Fault) (s : Bool) (i : Within) (d : ℕ) (gs : List Level) (a 
 -- ---- a title within a string
 
 -- no fault stands behind a whole item
-settled_by : (o : Option Level) (g : Level) (gs : List Level) (d : ℕ) (u : Spot) → next g ≡ o
-    → ((settled (suc d) gs u).phase ≡ p.Title) ⊎ ((settled (suc d) gs u).phase ≡ p.Ended)
-    → ((settled d (g ∷ gs) u).phase ≡ p.Title) ⊎ ((settled d (g ∷ gs) u).phase ≡ p.Ended)
-settled_by None g gs d u e one = rw (e, settled) one
-settled_by (Some left) g gs d u e one = rw (e, settled) (inl refl)
-
 settled_sound : (gs : List Level) (d : ℕ) (u : Spot)
     → ((settled d gs u).phase ≡ p.Title) ⊎ ((settled d gs u).phase ≡ p.Ended)
 settled_sound [] d u = inr refl
-settled_sound (g ∷ gs) d u = settled_by (next g) g gs d u refl (settled_sound gs (suc d) u)
+settled_sound (g ∷ gs) d u = let one = settled_sound gs (suc d) u in grind (arith, nat_tests)
 
 module _ (fault : Fault) (s : Bool) (d : ℕ) (gs : List Level) (a n : ℕ) (k : Kind) (j : ℕ) (x : Header) where
   -- no other fault comes of one
@@ -108,5 +102,4 @@ module _ (fault : Fault) (s : Bool) (gs : List Level) (a n : ℕ) where
   -- a break that may not stand there
   pub break_early : (d : ℕ) (fs : List Level) → can_close fs ≡ false
       → Faults (f.Break a) (broken fs (at s w.Nothing d gs a n))
-  break_early d [] bad = refl
-  break_early d (g ∷ fs) bad = rw (bad, broken) refl
+  break_early d fs bad = grind (arith, nat_tests)

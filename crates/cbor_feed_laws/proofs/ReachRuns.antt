@@ -58,10 +58,6 @@ module _ (fault : Fault) (all : ℕ) (s : Bool) where
   first_open Bytes d gs t rest q g o = taken_on (h.Bytes None) t rest q g o
   first_open Text d gs t rest q g o = taken_on (h.Text None) t rest q g o
 
-  -- strings of the kind are open where a title is due
-  abbrev pub StringOn : Kind → List ℕ → Type 0
-  StringOn k due = (d : ℕ) × (gs : List Level) × (j : ℕ) × Inside fault all s d gs k j due
-
 open_taken : (k : Kind) → IsTakenTitle true (shortest_title (kind_header k None)) (kind_header k None)
 open_taken Bytes = record { shortest = refl; meant = λ small. small }
 open_taken Text = record { shortest = refl; meant = λ small. small }

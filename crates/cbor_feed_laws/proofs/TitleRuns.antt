@@ -23,16 +23,10 @@ use Rattle.cbor_feed_laws.proofs.Runs.{Runs, faulted, fault_of, next_of, On, at}
 abbrev pub Faults : Fault → Spot → Type 0
 Faults fault spot = spot.phase ≡ p.Faulted fault
 
-settled_by : (o : Option Level) (g : Level) (gs : List Level) (d a n : ℕ) (u : Spot) → next g ≡ o
-    → (settled (suc d) gs (record u { place = a; offset = n })).phase ≡ (settled (suc d) gs u).phase
-    → (settled d (g ∷ gs) (record u { place = a; offset = n })).phase ≡ (settled d (g ∷ gs) u).phase
-settled_by None g gs d a n u e same = rw (e, settled) same
-settled_by (Some left) g gs d a n u e same = rw (e, settled) refl
-
 settled_moved : (gs : List Level) (d a n : ℕ) (u : Spot)
     → (settled d gs (record u { place = a; offset = n })).phase ≡ (settled d gs u).phase
 settled_moved [] d a n u = refl
-settled_moved (g ∷ gs) d a n u = settled_by (next g) g gs d a n u refl (settled_moved gs (suc d) a n u)
+settled_moved (g ∷ gs) d a n u = let same = settled_moved gs (suc d) a n u in grind (arith, nat_tests)
 
 text_moved : (len a n : ℕ) (u : Spot)
     → (text_due len (record u { place = a; offset = n })).phase ≡ (text_due len u).phase
