@@ -1,6 +1,6 @@
 -- The same bytes lead to one spot.
-use Rattle.std.proofs.Common.{◌≡◌, ℕ, zero, suc, Bool, List, [], ◌∷◌, ◌++◌, length, refl, sym, ap, subst, ◌∙◌, arith}
-use Rattle.std.proofs.Common.{append-nil, length-append}
+use Rattle.std.proofs.Common.{◌≡◌, ℕ, Bool, List, [], ◌∷◌, ◌++◌, length, refl, sym, ap, subst, ◌∙◌, arith, append-nil}
+use Rattle.std.proofs.Common.{length-append}
 use Rattle.std.proofs.lemmas.Bool.Decides.{nat_tests}
 use Rattle.ciborium_ll_grammar.specs.declared.hdr.Header.{Header}
 use Rattle.ciborium_ll_grammar.specs.Title.{IsTitle, IsCutTitle}
@@ -30,7 +30,8 @@ whole_none spot x q g never = never [] spot.front [] x q g refl
 module _ (spot : Spot) (some : SomeTaken spot.strict spot.front) where
   never_early : (fault : Fault) → ((behind : List ℕ) (x : Header) (fault : Fault) → IsTitle (spot.front ++ behind) x
       → (titled x spot).phase ≡ p.Faulted fault → ⊥)
-      → ((behind : List ℕ) (x : Header) → IsTitle (spot.front ++ behind) x → (titled x spot).phase ≡ p.Faulted fault) → ⊥
+      → ((behind : List ℕ) (x : Header) → IsTitle (spot.front ++ behind) x → (titled x spot).phase ≡ p.Faulted fault)
+      → ⊥
   never_early fault may all = may some.0 some.1 fault some.2 (all some.0 some.1 some.2)
 
 title_one : (spot a b : Spot) → TitleStep spot a → TitleStep spot b → a ≡ b

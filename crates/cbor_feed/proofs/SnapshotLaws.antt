@@ -4,7 +4,6 @@ use Rattle.std.proofs.Common.{Option, Some, None, get_or, get_or-set_other, get_
 use Rattle.std.proofs.Math.ListN.{set}
 use Rattle.std.proofs.Math.Nat.{eq-or-lt_of_le}
 use Rattle.std.proofs.lemmas.Bool.Decides.{nat_tests}
-use Rattle.std.proofs.lemmas.Option.{same_Some}
 use Rattle.cbor_feed.specs.declared.level.Level.{Level}
 use Rattle.cbor_feed.specs.Snapshots.{level_in, levels_in, within_others}
 use Rattle.cbor_feed.specs.Stack.{others}

@@ -1,13 +1,12 @@
 -- The nests around an item, by their numbers in two arrays.
-use Rattle.std.proofs.Common.{◌≡◌, ◌≢◌, ℕ, zero, suc, ◌+◌, ◌-◌, ◌<◌, ◌≤◌, List, ◌∷◌, ◌++◌, take, length, refl, sym, ap}
-use Rattle.std.proofs.Common.{◌∙◌, arith, subst, Option, Some, None, IsSome, get_or, get_or-set_other, get_or-set_same}
-use Rattle.std.proofs.Common.{add-one}
+use Rattle.std.proofs.Common.{◌≡◌, ℕ, zero, suc, ◌+◌, ◌-◌, ◌<◌, List, ◌∷◌, ◌++◌, take, length, refl, sym, ap, ◌∙◌}
+use Rattle.std.proofs.Common.{arith, Option, Some, None, IsSome, get_or}
 use Rattle.std.proofs.Math.ListN.{get_or-append, set}
 use Rattle.std.proofs.lemmas.List.{get_or-take, set-get_or}
 use Rattle.std.proofs.lemmas.Option.{same_Some}
 use Rattle.cbor_feed.specs.declared.level.Level.{Level}
 use Rattle.cbor_feed.specs.declared.level.Level.TheVariants as l
-use Rattle.cbor_feed.specs.Snapshots.{level_in, levels_in, within_others}
+use Rattle.cbor_feed.specs.Snapshots.{levels_in}
 use Rattle.cbor_feed.specs.Spots.{Spot, item_due, settled}
 use Rattle.cbor_feed.specs.Stack.{levels_of, others}
 use Rattle.cbor_feed.proofs.SnapshotLaws.{levels_put}
@@ -40,7 +39,8 @@ module _ (m n : ℕ) (kinds counts : List ℕ) (levels : List Level) (e : m ≡ 
   -- its count alone may change
   counted : (count : ℕ) → levels_in m kinds (set counts n count) ≡ Some (l.Items count ∷ others levels)
   counted count =
-      rw (set-get_or kinds n 0) at (levels_put m n kinds counts (get_or kinds n 0) count (l.Items count) levels e ltk ltc
+      rw (set-get_or kinds n 0) at
+      (levels_put m n kinds counts (get_or kinds n 0) count (l.Items count) levels e ltk ltc
       (rw items refl) is)
 
   pub counted_some : IsSome (levels_in m kinds (set counts n (get_or counts n 0 - 1)))

@@ -1,6 +1,6 @@
 -- What a byte leaves due.
-use Rattle.std.proofs.Common.{◌≡◌, ℕ, zero, suc, Bool, true, false, List, [], ◌∷◌, ◌++◌, length, Some, None, refl, sym}
-use Rattle.std.proofs.Common.{ap, subst, ◌∙◌, inl, inr, arith, append_assoc, append-nil}
+use Rattle.std.proofs.Common.{◌≡◌, ℕ, zero, suc, Bool, true, false, List, [], ◌∷◌, ◌++◌, length, None, refl, sym, ap}
+use Rattle.std.proofs.Common.{subst, ◌∙◌, inl, inr, arith, append_assoc, append-nil}
 use Rattle.ciborium_ll_grammar.specs.declared.hdr.Header.{Header}
 use Rattle.ciborium_ll_grammar.specs.declared.hdr.Header.TheVariants as h
 use Rattle.ciborium_ll_grammar.specs.Title.{IsTitle, IsCutTitle}
@@ -39,14 +39,8 @@ pub record Titled (s : Bool) (y : List ℕ) : Type 0 where
   pub is : y ≡ title ++ rest
 
 item_titled : (s : Bool) (d : ℕ) (item rest y : List ℕ) → IsItem s d item → y ≡ item ++ rest → Titled s y
-item_titled s d item rest y (more_items {title = t} {rest = r} {header = x} q g c no_items) e = record {
-  title = t;
-  header = x;
-  rest = (r ++ []) ++ rest;
-  is_title = q;
-  taken = g;
-  is = e ∙ append_assoc t (r ++ []) rest;
-}
+item_titled s d item rest y (more_items {title = t} {rest = r} q g c no_items) e =
+    let is = e ∙ append_assoc t (r ++ []) rest in search
 
 -- the break has one title
 break_taken : (s : Bool) → IsTakenTitle s (0xff ∷ []) h.Break
@@ -59,14 +53,7 @@ break_titled s rest y e =
 
 first_titled : (s : Bool) (k : Kind) (Then : List ℕ → Type 0) (y : List ℕ) → First s k Then y → Titled s y
 first_titled s k Then y (breaks rest behind e) = break_titled s rest y e
-first_titled s k Then y (whole_string t b far q g sound behind e) = record {
-  title = t;
-  header = kind_header k (Some (length b));
-  rest = b ++ far;
-  is_title = q;
-  taken = g;
-  is = e;
-}
+first_titled s k Then y (whole_string t b far q g sound behind e) = search
 first_titled s k Then y (opens t far any q behind e) =
     record { title = t; header = kind_header k None; rest = far; is_title = q; taken = rw any tt; is = e }
 
@@ -90,14 +77,6 @@ itself A = (λ a. a, λ a. a)
 module _ (spot : Spot) (fault : Fault) (is_cut : IsCutTitle spot.front)
     (all : (behind : List ℕ) (x : Header) → IsTitle (spot.front ++ behind) x
     → (titled x spot).phase ≡ p.Faulted fault) where
-  early_longer : (t m rest : List ℕ) (x : Header) → IsTitle t x → IsTakenTitle spot.strict t x → t ≡ spot.front ++ m
-      → TitleDue spot.strict spot.within spot.depth spot.levels (t ++ rest) → ⊥
-  early_longer t m rest x q g e due =
-      let waits = (title_enters spot.within (record spot { front = [] }) t rest x refl refl q g).0 due in
-      let faulted = all m x (subst (λ (z : List ℕ). IsTitle z x) e q) in
-      let no = subst (λ (z : Phase). WaitsIn z (titled x spot) rest) faulted waits in
-      no
-
   early_none : (y : List ℕ) → TitleDue spot.strict spot.within spot.depth spot.levels (spot.front ++ y) → ⊥
   early_none y due =
       let o = due_titled spot.strict spot.within spot.depth spot.levels (spot.front ++ y) due in
@@ -108,8 +87,10 @@ module _ (spot : Spot) (fault : Fault) (is_cut : IsCutTitle spot.front)
             )
         | inr as_long ↦ (
             let f = front_of_front spot.front o.title y o.rest o.is as_long in
-            early_longer o.title f.0 o.rest o.header o.is_title o.taken f.1
-            (subst (TitleDue spot.strict spot.within spot.depth spot.levels) o.is due)
+            let u : Spot = record spot { front = [] } in
+            let waits = (title_enters spot.within u o.title o.rest o.header refl refl o.is_title o.taken).0
+            (subst (TitleDue spot.strict spot.within spot.depth spot.levels) o.is due) in
+            rw (all f.0 o.header (rw f.1 at o.is_title)) at waits
             )
       ]
 

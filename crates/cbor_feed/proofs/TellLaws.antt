@@ -7,12 +7,11 @@ use Rattle.std.proofs.lemmas.List.{take_more}
 use Rattle.ciborium_ll_grammar.specs.Title.{affix_len}
 use Rattle.ciborium_ll_grammar.specs.Items.{IsItem}
 use Rattle.ciborium_ll_grammar.proofs.AffixLaws.{announced}
-use Rattle.ciborium_ll_text.specs.States.{after_byte, may_end}
 use Rattle.cbor_feed.specs.declared.phase.Phase.{Phase}
 use Rattle.cbor_feed.specs.declared.phase.Phase.TheVariants as p
 use Rattle.cbor_feed.specs.Spots.{Spot}
-use Rattle.cbor_feed.specs.Steps.{start, with_byte, TitleStep, cut, early, whole, none, counted, StepIn, Step, IsFed}
-use Rattle.cbor_feed.specs.Steps.{fresh, more}
+use Rattle.cbor_feed.specs.Steps.{start, with_byte, TitleStep, cut, early, whole, none, StepIn, Step, IsFed, fresh}
+use Rattle.cbor_feed.specs.Steps.{more}
 use Rattle.cbor_feed.specs.Telling.{has_left, is_due, title_due, progress_in, progress_of, Tells}
 use Rattle.cbor_feed.specs.declared.progress.Progress.{Progress}
 use Rattle.cbor_feed.specs.declared.progress.Progress.TheVariants as r

@@ -1,19 +1,14 @@
-use Rattle.std.proofs.Common.{rules, Bool, sym, subst}
-use Rattle.cbor_feed.specs.Steps.{NoneTaken, SomeTaken}
+use Rattle.std.proofs.Common.{rules}
 use Rattle.cbor_feed.proofs.LongerBegun.{any_some, longer_none, strict_some}
 use Rattle.cbor_feed.proofs.title.begins_none.Goals as goal
 
 pub returns-then-strict-clause-yes : goal.returns-then-strict-clause-yes
 returns-then-strict-clause-yes c = λ yes.
-    let bytes = c.args.bytes.now in
-    subst (λ (strict : Bool). NoneTaken strict bytes) (sym c.if-strict.true)
-    (longer_none bytes c.requires.some (c.begins_longer.ensures.yes yes))
+    rw c.if-strict.true (longer_none c.args.bytes.now c.requires.some (c.begins_longer.ensures.yes yes))
 
 pub returns-then-strict-clause-no : goal.returns-then-strict-clause-no
 returns-then-strict-clause-no c = λ no.
-    let bytes = c.args.bytes.now in
-    subst (λ (strict : Bool). SomeTaken strict bytes) (sym c.if-strict.true)
-    (strict_some bytes (search rules) c.requires.some c.requires.cut
+    rw c.if-strict.true (strict_some c.args.bytes.now (search rules) c.requires.some c.requires.cut
     (λ longer. let yes = c.begins_longer.ensures.no longer in absurd cc))
 
 pub returns-else-strict-clause-no : goal.returns-else-strict-clause-no

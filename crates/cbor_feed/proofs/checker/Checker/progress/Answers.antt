@@ -6,5 +6,5 @@ use Rattle.cbor_feed.proofs.checker.Checker.progress.Goals as goal
 pub returns-clause-tells : goal.returns-clause-tells
 returns-clause-tells c = λ strict depth fed is.
     let checker = c.args.self.now in
-    told strict depth fed (spot_of checker) c.answer.result (c.answer.ensures (spot_of checker) refl refl refl) is
-    checker.position.left checker.position.begun
+    told strict depth fed _ _ (c.answer.ensures (spot_of checker) refl refl refl) is checker.position.left
+    checker.position.begun

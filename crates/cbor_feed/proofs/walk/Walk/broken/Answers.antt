@@ -5,5 +5,4 @@ use Rattle.cbor_feed.proofs.walk.Walk.broken.Goals as goal
 
 pub returns-in-Some-clause-broken : goal.returns-in-Some-clause-broken
 returns-in-Some-clause-broken c =
-    broken_done (spot_at c.args.self.now) (spot_at c.item_over.new.self) c.in-Some.level (search rules) (search rules)
-    (search rules)
+    broken_done (spot_at c.args.self.now) _ c.in-Some.level (search rules) (search rules) (search rules)

@@ -1,6 +1,5 @@
 use Rattle.std.proofs.Common.{refl, arith, rules}
 use Rattle.ciborium_ll_text.proofs.Lists.{rest_long}
-use Rattle.cbor_feed.specs.Walking.{spot_at}
 use Rattle.cbor_feed.specs.Steps.{stay}
 use Rattle.cbor_feed.proofs.LeadLaws.{run_more, run_room}
 use Rattle.cbor_feed.proofs.walk.Walk.item_run.Goals as goal
@@ -17,25 +16,22 @@ items-init c = record {
 
 pub item_step-len-requires-clause-room : goal.item_step-len-requires-clause-room
 item_step-len-requires-clause-room c =
-    run_room c.args.bytes.now c.items.at _ (spot_at c.args.self.now) (spot_at c.items.self) c.items.invariant.within
-    c.requires.room c.items.invariant.leads
+    run_room c.args.bytes.now c.items.at _ _ _ c.items.invariant.within c.requires.room c.items.invariant.leads
 
 pub returns-then-not-goes-clause-leads : goal.returns-then-not-goes-clause-leads
-returns-then-not-goes-clause-leads c =
-    run_more c.args.bytes.now c.items.at c.item_step-len.result.0 (spot_at c.args.self.now) (spot_at c.items.self)
-    (spot_at c.item_step-len.new.self) c.items.invariant.leads c.item_step-len.ensures.leads
+returns-then-not-goes-clause-leads c = run_more _ _ _ _ _ _ c.items.invariant.leads c.item_step-len.ensures.leads
 
 pub items-preserved : goal.items-preserved
-items-preserved c =
-    let bytes = c.args.bytes.now in
-    let long = rest_long bytes c.items.at in
-    record {
-      within = omega (arith, long, c.item_step-len.ensures.within, c.items.invariant.within);
-      leads =
-          run_more bytes c.items.at c.item_step-len.result.0 (spot_at c.args.self.now) (spot_at c.items.self)
-          (spot_at c.item_step-len.new.self) c.items.invariant.leads c.item_step-len.ensures.leads;
-      lent = search rules;
-      phase = search rules;
-      due = search rules;
-      fresh = search rules;
-    }
+items-preserved c = record {
+  within = omega (
+    arith,
+    rest_long c.args.bytes.now c.items.at,
+    c.item_step-len.ensures.within,
+    c.items.invariant.within,
+  );
+  leads = run_more _ _ _ _ _ _ c.items.invariant.leads c.item_step-len.ensures.leads;
+  lent = search rules;
+  phase = search rules;
+  due = search rules;
+  fresh = search rules;
+}

@@ -1,4 +1,4 @@
-use Rattle.std.proofs.Common.{◌≡◌, ℕ, ◌+◌, ◌-◌, ◌≤◌, List, ◌∷◌, length, sym, ap, subst, take, ◌∙◌, arith}
+use Rattle.std.proofs.Common.{◌≡◌, ◌+◌, ◌-◌, ◌≤◌, List, ◌∷◌, length, sym, ap, subst, take, ◌∙◌, arith}
 use Rattle.ciborium_ll_text.proofs.Lists.{rest_long}
 use Rattle.cbor_feed.specs.declared.level.Level.{Level}
 use Rattle.cbor_feed.specs.Plain.{lowered}
@@ -13,28 +13,22 @@ returns-then-run-gt0-clause-leads c =
     let s : Spot = spot_at c.args.self.now in
     let xs = c.args.bytes.now in
     let run = c.plain_run-run.result in
-    let level : Level = c.args.nest.level in
+    let place = c.plain_run-run.new.place in
     let within : run.len ≤ length xs - 1 = omega (arith, rest_long xs 1, c.plain_run-run.ensures.within) in
-    let levels : levels_at c.push.new.self ≡ lowered (run.left - 1) level ∷ s.levels =
+    let levels : levels_at c.push.new.self ≡ lowered (run.left - 1) c.args.nest.level ∷ s.levels =
     c.push.ensures.pushed ∙ ap (λ (z : Level). z ∷ s.levels) c.lowered.ensures in
-    subst (λ (z : List Level). Leads s (take (1 + run.len) xs) (record s {
-      depth = s.depth - 1;
-      levels = z;
-      place = c.plain_run-run.new.place;
-      offset = s.offset + 1 + run.len;
-    })) (sym levels)
-    (nest_goes s level c.args.nest.left c.plain_run-run.new.place run.len xs c.requires.phase c.requires.fresh
-    c.requires.due c.requires.deep within c.requires.enters c.requires.left c.requires.some run.left c.if-run-gt0.true
-    c.plain_run-run.ensures.most c.plain_run-run.ensures.plain)
+    subst (λ (z : List Level). Leads s (take (1 + run.len) xs)
+    (record s { depth = s.depth - 1; levels = z; place = place; offset = s.offset + 1 + run.len })) (sym levels)
+    (nest_goes s _ _ place run.len xs c.requires.phase c.requires.fresh c.requires.due c.requires.deep within
+    c.requires.enters c.requires.left c.requires.some run.left c.if-run-gt0.true c.plain_run-run.ensures.most
+    c.plain_run-run.ensures.plain)
 
 pub returns-clause-leads : goal.returns-clause-leads
 returns-clause-leads c =
-    let s : Spot = spot_at c.args.self.now in
     let xs = c.args.bytes.now in
     let run = c.plain_run-run.result in
-    let left : ℕ = c.args.nest.left in
     let within : run.len ≤ length xs - 1 = omega (arith, rest_long xs 1, c.plain_run-run.ensures.within) in
-    subst (Leads s (take (1 + run.len) xs)) (sym c.item_over.ensures.done)
-    (nest_ends s c.args.nest.level left c.plain_run-run.new.place run.len xs c.requires.phase c.requires.fresh
-    c.requires.due c.requires.deep within c.requires.enters c.requires.left c.requires.some (left + 1 - run.left)
-    (omega (arith, c.if-run-gt0.false)) c.plain_run-run.ensures.plain)
+    subst (Leads (spot_at c.args.self.now) (take (1 + run.len) xs)) (sym c.item_over.ensures.done)
+    (nest_ends _ _ c.args.nest.left _ run.len xs c.requires.phase c.requires.fresh c.requires.due c.requires.deep within
+    c.requires.enters c.requires.left c.requires.some _ (omega (arith, c.if-run-gt0.false))
+    c.plain_run-run.ensures.plain)

@@ -5,10 +5,8 @@ use Rattle.cbor_feed.proofs.walk.Walk.nested.Goals as goal
 
 pub returns-in-Some-clause-nested : goal.returns-in-Some-clause-nested
 returns-in-Some-clause-nested c =
-    nested_goes (spot_at c.args.self.now) _ c.args.inner c.in-Some.left c.if-self-eq0.false (search rules)
-    (search rules)
+    nested_goes (spot_at c.args.self.now) _ _ c.in-Some.left c.if-self-eq0.false (search rules) (search rules)
 
 pub returns-in-None-clause-nested : goal.returns-in-None-clause-nested
 returns-in-None-clause-nested c =
-    nested_ends (spot_at c.args.self.now) (spot_at c.item_over.new.self) c.args.inner c.if-self-eq0.false
-    (search rules) (search rules)
+    nested_ends (spot_at c.args.self.now) _ _ c.if-self-eq0.false (search rules) (search rules)

@@ -1,10 +1,8 @@
 use Rattle.std.proofs.Common.{rules}
-use Rattle.cbor_feed.specs.Walking.{spot_at}
 use Rattle.cbor_feed.proofs.LeadLaws.{one_leads, title_one}
 use Rattle.cbor_feed.proofs.walk.Walk.title_byte.Goals as goal
 
 pub returns-clause-leads : goal.returns-clause-leads
 returns-clause-leads c =
-    one_leads c.args.bytes.now (spot_at c.args.self.now) (spot_at c.title_step.new.self) (λ i less. search rules)
-    c.requires.some
-    (title_one _ (spot_at c.args.self.now) (spot_at c.title_step.new.self) (search rules) c.title_step.ensures.spot)
+    one_leads c.args.bytes.now _ _ (λ i less. search rules) c.requires.some
+    (title_one _ _ _ (search rules) c.title_step.ensures.spot)

@@ -1,25 +1,12 @@
-use Rattle.std.proofs.Common.{◌-◌, arith}
+use Rattle.std.proofs.Common.{arith}
 use Rattle.cbor_feed.proofs.NestLaws.{array_enters, map_enters}
 use Rattle.cbor_feed.proofs.walk.nests.nest_of.Goals as goal
 
 pub returns-in-132-to-151-clause-enters : goal.returns-in-132-to-151-clause-enters
 returns-in-132-to-151-clause-enters c =
-    array_enters c.args.first (c.from-count.result - 1)
-    (omega (arith, c.from-count.ensures, c.in-132-to-151.if-first-lt132-own, c.in-132-to-151.if-first-lt152-own))
-    (omega (arith, c.from-count.ensures, c.in-132-to-151.if-first-lt132-own, c.in-132-to-151.if-first-lt152-own))
+    array_enters c.args.first _ (omega (arith, c.from-count.ensures)) (omega (arith, c.from-count.ensures))
 
 pub returns-in-162-to-183-clause-enters : goal.returns-in-162-to-183-clause-enters
 returns-in-162-to-183-clause-enters c =
-    map_enters c.args.first (c.from-count-in-162-to-183.result - 1)
-    (omega (
-      arith,
-      c.from-count-in-162-to-183.ensures,
-      c.in-162-to-183.if-first-lt162-own,
-      c.in-162-to-183.if-first-lt184-own,
-    ))
-    (omega (
-      arith,
-      c.from-count-in-162-to-183.ensures,
-      c.in-162-to-183.if-first-lt162-own,
-      c.in-162-to-183.if-first-lt184-own,
-    ))
+    map_enters c.args.first _ (omega (arith, c.from-count-in-162-to-183.ensures))
+    (omega (arith, c.from-count-in-162-to-183.ensures))
