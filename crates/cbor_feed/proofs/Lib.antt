@@ -8,16 +8,13 @@ pub mod LeadLaws
 pub mod LevelLaws
 pub mod LiveLaws
 pub mod LongerBegun
-pub mod NestLaws
 pub mod OneSpot
 pub mod PlainLaws
 pub mod RunLaws
 pub mod SettledLaws
-pub mod SnapshotLaws
 pub mod StackLaws
 pub mod StepLaws
 pub mod StringLaws
 pub mod TellLaws
 pub mod TitleDueLaws
-pub mod TitleLeads
 pub mod Waiting

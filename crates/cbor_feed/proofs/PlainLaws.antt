@@ -1,7 +1,7 @@
 -- Plain items: what the table says of first bytes, and where such items lead.
-use Rattle.std.proofs.Common.{◌≡◌, ℕ, zero, suc, ◌+◌, ◌-◌, ◌*◌, ◌/◌, ◌%◌, ◌<◌, ◌≤◌, ◌^◌, Bool, true, false, List, []}
-use Rattle.std.proofs.Common.{◌∷◌, ◌++◌, ◌&&◌, ◌||◌, eqb, ltb, get_or, length, take, drop, slice_index, refl, sym, ap}
-use Rattle.std.proofs.Common.{subst, ◌∙◌, arith, inl, inr, None}
+use Rattle.std.proofs.Common.{◌≡◌, ℕ, suc, ◌+◌, ◌-◌, ◌*◌, ◌/◌, ◌%◌, ◌<◌, ◌≤◌, ◌^◌, Bool, true, false, List, [], ◌∷◌}
+use Rattle.std.proofs.Common.{◌++◌, ◌&&◌, ◌||◌, eqb, ltb, get_or, length, take, drop, slice_index, refl, sym, ap, subst}
+use Rattle.std.proofs.Common.{◌∙◌, arith, inl, inr, None}
 use borrow.Author.Tests.{le-ltb, lt-ltb}
 use Rattle.std.proofs.lemmas.Bool.{agree_below_at, and_parts}
 use Rattle.std.proofs.lemmas.Bool.Decides.{nat_tests}
@@ -75,9 +75,7 @@ pub one_taken : (strict : Bool) (b n : ℕ) (major : Major) → b ≡ 32 * major
 one_taken strict b n major e small = numbered_taken strict (b ∷ []) major Small n (rw e refl) small refl
 
 take_two : (xs : List ℕ) → 1 < length xs → take 2 xs ≡ slice_index xs 0 ∷ slice_index xs 1 ∷ []
-take_two [] some = absurd (omega arith)
-take_two (b ∷ []) some = absurd (omega arith)
-take_two (b ∷ c ∷ xs) some = refl
+take_two xs some = grind (arith, nat_tests)
 
 two_taken : (strict : Bool) (xs : List ℕ) (major : Major) → 1 < length xs
     → slice_index xs 0 ≡ 32 * major_code major + 24 → slice_index xs 1 < 256
@@ -93,12 +91,10 @@ two_taken strict xs major some e fits short =
 
 -- a byte before the reserved minors names a title
 named : (b : ℕ) → b % 32 < 28 → NamesNoTitle (b / 32) (b % 32) → ⊥
-named b less (inl reserved) = omega (arith, less, reserved.0)
-named b less (inr never) = omega (arith, less, never.0)
+named b less none = grind (arith, nat_tests)
 
 strings_free : (d place : ℕ) → (blocked w.Nothing d place k.Bytes ≡ None) × (blocked w.Nothing d place k.Text ≡ None)
-strings_free zero place = (refl, refl)
-strings_free (suc d) place = (refl, refl)
+strings_free d place = grind (arith, nat_tests)
 
 -- the major type of a value
 record ValueMajor (code : ℕ) : Type 0 where

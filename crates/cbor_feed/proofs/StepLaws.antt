@@ -120,14 +120,8 @@ body_same : (left : ℕ) (Sound Then : List ℕ → Type 0) (b : ℕ) (y : List 
     → Same (BodyThen (suc left) Sound Then (b ∷ y)) (BodyThen left (λ z. Sound (b ∷ z)) Then y)
 body_same left Sound Then b y = (
   λ o. body_next left Sound Then b y o.body o.rest o.long o.sound o.behind o.is,
-  λ o. record {
-    body = b ∷ o.body;
-    rest = o.rest;
-    long = ap suc o.long;
-    sound = o.sound;
-    behind = o.behind;
-    is = ap (λ (z : List ℕ). b ∷ z) o.is;
-  },
+  λ o. let long = ap suc o.long in let is = ap (λ (z : List ℕ). b ∷ z) o.is in
+      record { body = b ∷ o.body; rest = o.rest; long = long; sound = o.sound; behind = o.behind; is = is },
 )
 
 -- ---- a byte of a text

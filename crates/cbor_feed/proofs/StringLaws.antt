@@ -69,16 +69,8 @@ module _ (s : Bool) (k : Kind) (Then : List ℕ → Type 0) where
   ends_with : (strings : List ℕ) (bodies : List (List ℕ)) (rest : List ℕ) → AreStrings k strings bodies
       → AreTakenStrings s k strings bodies → AreWritable k bodies → Then rest
       → EndsString s k Then (strings ++ 0xff ∷ rest)
-  ends_with strings bodies rest are taken sound behind = record {
-    strings = strings;
-    bodies = bodies;
-    rest = rest;
-    are = are;
-    taken = taken;
-    sound = sound;
-    behind = behind;
-    is = refl;
-  }
+  ends_with u bs rest are taken sound k =
+      record { strings = u; bodies = bs; rest = rest; are = are; taken = taken; sound = sound; behind = k; is = refl }
 
   -- behind a title, what such a string takes
   pub body_back : (t y : List ℕ) (len : ℕ) → IsTitle t (kind_header k (Some len))

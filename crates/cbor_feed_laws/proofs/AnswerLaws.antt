@@ -200,12 +200,7 @@ module _ (s : Bool) (depth taken : ℕ) (bytes : List ℕ) (spot : Spot) (room :
 
     pub feed_tells : (progress : Progress) → Exact progress → (IsMore progress → taken ≡ length bytes)
         → FeedTells s depth bytes progress
-    feed_tells progress exact all = record {
-      taken = fed;
-      rest = drop taken bytes;
-      is = sym all_bytes;
-      all = λ more. none_left (all more);
-      spot = spot;
-      is_fed = is_fed;
-      answers = exact.0;
-    }
+    feed_tells progress exact all =
+        let is = sym all_bytes in
+        let none = λ (more : IsMore progress). none_left (all more) in
+        record { taken = fed; rest = _; is = is; all = none; spot = spot; is_fed = is_fed; answers = exact.0 }

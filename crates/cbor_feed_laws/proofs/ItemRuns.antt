@@ -22,8 +22,7 @@ use Rattle.cbor_skip.specs.Due.{IsNest, TakesMore, may_close}
 use Rattle.cbor_feed_laws.proofs.Levels.{Level, reached, reached_first, reached_next, reached_closes, takes_nest}
 use Rattle.cbor_feed_laws.proofs.Runs.{On, on_to, at, behind, settled_with}
 use Rattle.cbor_feed_laws.proofs.TitleRuns.{taken_on}
-use Rattle.cbor_feed_laws.proofs.BodyRuns.{bytes_on, text_on}
-use Rattle.cbor_feed_laws.proofs.StringRuns.{Inside, break_taken, strings_taken_on}
+use Rattle.cbor_feed_laws.proofs.StringRuns.{bytes_on, text_on, Inside, break_taken, strings_taken_on}
 
 -- the title of a nest leads into it
 nest_entered : (x : Header) (s : Bool) (d : ℕ) (gs : List Level) (a n : ℕ) → IsNest x

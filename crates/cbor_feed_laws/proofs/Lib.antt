@@ -1,9 +1,7 @@
 pub mod AnswerLaws
-pub mod BodyRuns
 pub mod FaultRuns
 pub mod ItemRuns
 pub mod Levels
-pub mod LongNestLaws
 pub mod ReachRuns
 pub mod Runs
 pub mod SameFaultLaws

@@ -20,8 +20,7 @@ use Rattle.cbor_feed.specs.declared.phase.Within.TheVariants as w
 use Rattle.cbor_feed_laws.specs.SameFaults.{NamesSyntax}
 use Rattle.cbor_feed_laws.proofs.Runs.{fault_of, at, inside}
 use Rattle.cbor_feed_laws.proofs.TitleRuns.{title_run, taken_run}
-use Rattle.cbor_feed_laws.proofs.BodyRuns.{NoText, no_text}
-use Rattle.cbor_feed_laws.proofs.StringRuns.{break_taken}
+use Rattle.cbor_feed_laws.proofs.StringRuns.{NoText, no_text, break_taken}
 use Rattle.cbor_feed_laws.proofs.ReachRuns.{FromStart, due_reached, item_reached, string_reached, title_reached}
 use Rattle.cbor_feed_laws.proofs.FaultRuns.{no_title, other_title, long_in_string, long_due, nest_deep, break_early}
 
@@ -39,22 +38,7 @@ module _ (fault : Fault) (s : Bool) (depth : ℕ) (due : List ℕ) (runs : FromS
       let titled = title_run fault s w.Nothing left o.levels o.place n x t rest q o.runs in
       elim (long_due fault s o.levels n (n + length t) left x t rest q never titled) [
         | inl named ↦ inl named
-        | inr deep ↦ inr (
-          record {
-            before = before;
-            title = t;
-            header = x;
-            rest = rest;
-            closable = c;
-            item_due = rw deep.none_left at is;
-            is_title = q;
-            untaken = never;
-            is_nest = deep.is_nest;
-            is = e;
-          },
-          refl,
-          deep.deep,
-        )
+        | inr deep ↦ inr (let here = rw deep.none_left at is in search, refl, deep.deep)
       ]
   long_named {before} t rest x (In k) reach e at_title q never =
       let o = string_reached fault s depth (t ++ rest) due reach runs e in

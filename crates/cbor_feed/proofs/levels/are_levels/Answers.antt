@@ -1,5 +1,5 @@
 use Rattle.std.proofs.Common.{sym, ◌∙◌, rules}
-use Rattle.cbor_feed.proofs.SnapshotLaws.{levels_none}
+use Rattle.cbor_feed.proofs.StackLaws.{levels_none}
 use Rattle.cbor_feed.proofs.levels.are_levels.Goals as goal
 
 pub returns-then-is_none-clause-no : goal.returns-then-is_none-clause-no

@@ -1,6 +1,5 @@
 use Rattle.std.proofs.Common.{◌≤◌, arith, rules}
-use Rattle.cbor_feed.proofs.SnapshotLaws.{same_levels}
-use Rattle.cbor_feed.proofs.StackLaws.{front_read}
+use Rattle.cbor_feed.proofs.StackLaws.{same_levels, front_read}
 use Rattle.cbor_feed.proofs.levels.copy_levels.Goals as goal
 
 pub returns : goal.returns

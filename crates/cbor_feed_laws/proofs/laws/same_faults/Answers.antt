@@ -1,6 +1,6 @@
 use Rattle.std.proofs.Common.{◌++◌}
 use Rattle.cbor_feed_laws.proofs.AnswerLaws.{runs_here}
-use Rattle.cbor_feed_laws.proofs.LongNestLaws.{long_named}
+use Rattle.cbor_feed_laws.proofs.FaultRuns.{long_named}
 use Rattle.cbor_feed_laws.proofs.SameFaultLaws.{break_named, deep_named, syntax_named}
 use Rattle.cbor_feed_laws.proofs.laws.same_faults.Goals as goal
 

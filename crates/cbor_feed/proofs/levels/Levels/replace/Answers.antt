@@ -1,8 +1,7 @@
 use Rattle.std.proofs.Common.{◌∙◌, ap, arith, rules}
 use Rattle.std.proofs.lemmas.List.{length-set}
 use Rattle.cbor_feed.specs.Stack.{levels_of}
-use Rattle.cbor_feed.proofs.SnapshotLaws.{levels_put}
-use Rattle.cbor_feed.proofs.StackLaws.{is_some, some_levels}
+use Rattle.cbor_feed.proofs.StackLaws.{levels_put, is_some, some_levels}
 use Rattle.cbor_feed.proofs.levels.Levels.replace.Goals as goal
 
 pub invariant_of-self-clause-known : goal.invariant_of-self-clause-known

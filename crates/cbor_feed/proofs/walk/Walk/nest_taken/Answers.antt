@@ -5,7 +5,7 @@ use Rattle.cbor_feed.specs.Plain.{lowered}
 use Rattle.cbor_feed.specs.Spots.{Spot}
 use Rattle.cbor_feed.specs.Steps.{Leads}
 use Rattle.cbor_feed.specs.Walking.{levels_at, spot_at}
-use Rattle.cbor_feed.proofs.NestLaws.{nest_ends, nest_goes}
+use Rattle.cbor_feed.proofs.RunLaws.{nest_ends, nest_goes}
 use Rattle.cbor_feed.proofs.walk.Walk.nest_taken.Goals as goal
 
 pub returns-then-run-gt0-clause-leads : goal.returns-then-run-gt0-clause-leads

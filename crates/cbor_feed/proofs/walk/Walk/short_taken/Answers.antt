@@ -6,8 +6,7 @@ use Rattle.cbor_feed.specs.declared.phase.Within.{Within}
 use Rattle.cbor_feed.specs.Spots.{Spot, entered}
 use Rattle.cbor_feed.specs.Steps.{Leads}
 use Rattle.cbor_feed.specs.Walking.{spot_at}
-use Rattle.cbor_feed.proofs.ItemLeads.{bytes_item, one_long, plain_leads, text_item}
-use Rattle.cbor_feed.proofs.TitleLeads.{title_leads}
+use Rattle.cbor_feed.proofs.ItemLeads.{bytes_item, one_long, plain_leads, text_item, title_leads}
 use Rattle.cbor_feed.proofs.walk.Walk.short_taken.Goals as goal
 
 pub returns-in-Bytes-Some-clause-leads : goal.returns-in-Bytes-Some-clause-leads

@@ -1,7 +1,7 @@
 use Rattle.std.proofs.Common.{take, subst, sym, rules, arith}
 use Rattle.cbor_feed.specs.Steps.{Leads}
 use Rattle.cbor_feed.specs.Walking.{spot_at}
-use Rattle.cbor_feed.proofs.TitleLeads.{front_whole, title_leads}
+use Rattle.cbor_feed.proofs.ItemLeads.{front_whole, title_leads}
 use Rattle.cbor_feed.proofs.walk.Walk.title_taken.Goals as goal
 use Rattle.cbor_feed.proofs.walk.Walk.title_taken.Goals.{else-len-gt1-via-then-len-gt1+else-is_some}
 use Rattle.cbor_feed.proofs.walk.Walk.title_taken.Goals.{else-len-gt1-via-else-len-gt1}

@@ -1,5 +1,5 @@
 use Rattle.std.proofs.Common.{arith}
-use Rattle.cbor_feed.proofs.NestLaws.{array_enters, map_enters}
+use Rattle.cbor_feed.proofs.RunLaws.{array_enters, map_enters}
 use Rattle.cbor_feed.proofs.walk.nests.nest_of.Goals as goal
 
 pub returns-in-132-to-151-clause-enters : goal.returns-in-132-to-151-clause-enters
