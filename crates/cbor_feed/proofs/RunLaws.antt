@@ -1,4 +1,4 @@
--- Where plain items one behind the other lead within a nest whose items are counted, and where the title of a nest does.
+-- Where plain items one behind the other lead in a nest whose items are counted, and where the title of a nest does.
 use Rattle.std.proofs.Common.{◌≡◌, ℕ, zero, suc, ◌+◌, ◌-◌, ◌<◌, ◌≤◌, List, [], ◌∷◌, ◌++◌, length, refl, sym, ap, subst}
 use Rattle.std.proofs.Common.{◌∙◌, arith, Some, None, length-append, zero-add, add-zero, add-one, ◌*◌, take, drop}
 use Rattle.std.proofs.Common.{slice_index}
