@@ -7,7 +7,6 @@ use Rattle.std.proofs.Math.Seq.{take-length, drop-length}
 use Rattle.ciborium_ll_grammar.proofs.ItemLaws.{one_item}
 use Rattle.std.proofs.lemmas.List.{take-append-drop}
 use Rattle.ciborium_ll_io.specs.declared.io.Read.{Ghosts}
-use Rattle.ciborium_ll_grammar.specs.Faults.{Syntax}
 use Rattle.ciborium_ll_grammar.specs.Items.{IsItem, no_items, more_items}
 use Rattle.ciborium_ll_decoder.specs.Decoding.{IsFreshAs, offset_limit, strict_of}
 use Rattle.ciborium_ll_decoder.specs.declared.dec.Decoder.{Decoder}
@@ -101,22 +100,16 @@ module _ {R E : Type 0} (source : Ghosts R E) (old new : Decoder R) where
 
   -- ---- the answer of a skip that began at the offset 0
 
-  module _ (start : old.offset ≡ 0) where
-    from_start : (at n : ℕ) → at ≡ old.offset + n → at ≡ n
-    from_start at n e = omega (arith, e, start)
-
-    pub skip_tells : (s : Bool) (depth : ℕ) (bytes : List ℕ) (result : Result (Unit {0}) (SkipError E))
-        → SkipsTold source s depth bytes old result new → SkipTells s depth bytes result
-    skip_tells s depth bytes (Ok done) told = told.front
-    skip_tells s depth bytes (Err (k.Break at)) told =
-        (told.fault, from_start at (length told.fault.before) told.place)
-    skip_tells s depth bytes (Err (k.Deep at)) told =
-        (told.fault, from_start at (length told.fault.before) told.place)
-    skip_tells s depth bytes (Err (k.Read (e.Syntax at))) told =
-        (told.2.fault, told.2.answered ∙ ap Syntax (sym (from_start at told.0 told.1)))
-    skip_tells s depth bytes (Err (k.Read (e.Io error))) told = (told.fault, told.answered)
-    skip_tells s depth bytes (Err (k.Read e.TooLong)) told = told
-    skip_tells s depth bytes (Err (k.Read e.Waiting)) told = told
+  pub skip_tells : (s : Bool) (depth : ℕ) (bytes : List ℕ) (result : Result (Unit {0}) (SkipError E)) → old.offset ≡ 0
+      → SkipsTold source s depth bytes old result new → SkipTells s depth bytes result
+  skip_tells s depth bytes (Ok done) start told = told.front
+  skip_tells s depth bytes (Err (k.Break at)) start told = (told.fault, omega (arith, told.place, start))
+  skip_tells s depth bytes (Err (k.Deep at)) start told = (told.fault, omega (arith, told.place, start))
+  skip_tells s depth bytes (Err (k.Read (e.Syntax at))) start told =
+      let place : at ≡ told.0 = omega (arith, told.1, start) in (told.2.fault, rw place told.2.answered)
+  skip_tells s depth bytes (Err (k.Read (e.Io error))) start told = (told.fault, told.answered)
+  skip_tells s depth bytes (Err (k.Read e.TooLong)) start told = told
+  skip_tells s depth bytes (Err (k.Read e.Waiting)) start told = told
 
 -- ---- what a checker answers, in terms of all bytes
 
@@ -198,9 +191,10 @@ module _ (s : Bool) (depth taken : ℕ) (bytes : List ℕ) (spot : Spot) (room :
         (answers, (λ is. absurd is, λ front. item_here front none), (λ is. none, λ none. tt))
     exactly r.TooLong answers tells all = absurd (not_long tells)
 
-    pub feed_tells : (progress : Progress) → Exact progress → (IsMore progress → taken ≡ length bytes)
-        → FeedTells s depth bytes progress
-    feed_tells progress exact all =
+    pub feed_tells : (progress : Progress) → IsAnswer progress spot → Tells s depth fed progress
+        → (IsMore progress → taken ≡ length bytes) → FeedTells s depth bytes progress
+    feed_tells progress answers tells all =
         let is = sym all_bytes in
         let none = λ (more : IsMore progress). none_left (all more) in
-        record { taken = fed; rest = _; is = is; all = none; spot = spot; is_fed = is_fed; answers = exact.0 }
+        let answer = (exactly progress answers tells all).0 in
+        record { taken = fed; rest = _; is = is; all = none; spot = spot; is_fed = is_fed; answers = answer }

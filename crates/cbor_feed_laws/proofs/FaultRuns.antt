@@ -1,6 +1,6 @@
 -- The fault to which a run leads, where what stops a skip is due.
-use Rattle.std.proofs.Common.{◌≡◌, ℕ, suc, ◌⊎◌, inl, inr, Bool, false, List, [], ◌∷◌, refl, arith, zero, ◌+◌, ◌<◌, ◌%◌}
-use Rattle.std.proofs.Common.{true, ◌++◌, length, get_or, sym, ap, ◌∙◌, append-nil}
+use Rattle.std.proofs.Common.{◌≡◌, ℕ, suc, ◌⊎◌, inl, inr, Bool, false, List, [], ◌∷◌, refl, arith, ◌+◌, ◌<◌, ◌%◌, true}
+use Rattle.std.proofs.Common.{◌++◌, length, get_or, sym, ap, ◌∙◌, append-nil}
 use Rattle.std.proofs.lemmas.Bool.Decides.{nat_tests}
 use Rattle.ciborium_ll_grammar.specs.declared.hdr.Header.{Header}
 use Rattle.ciborium_ll_grammar.specs.declared.hdr.Header.TheVariants as h
@@ -62,17 +62,13 @@ module _ (fault : Fault) (s : Bool) (d : ℕ) (gs : List Level) (a n : ℕ) (k :
   refused_in : IsRefusedIn s k x → Faults (f.Syntax a) (entered (inside k j) x (at s (inside k j) d gs a n))
   refused_in bad = grind (arith, nat_tests)
 
-  pub other_title : (t rest : List ℕ) → IsRefusedIn s k x → Titled fault s (inside k j) d gs a n x t rest
-      → fault ≡ f.Syntax a
-  other_title t rest bad (taken g runs) = fault_of fault (f.Syntax a) _ rest (refused_in bad) runs
-  other_title t rest bad (known is) = string_known is
-  other_title t rest bad (untaken never e) = e
-
-  pub long_in_string : (t rest : List ℕ) → (IsTakenTitle s t x → ⊥) → Titled fault s (inside k j) d gs a n x t rest
-      → fault ≡ f.Syntax a
-  long_in_string t rest bad (taken g runs) = absurd (bad g)
-  long_in_string t rest bad (known is) = string_known is
-  long_in_string t rest bad (untaken never e) = e
+  -- nor of one that may not stand there, or isn't taken
+  pub string_title : (t rest : List ℕ) → IsRefusedIn s k x ⊎ (IsTakenTitle s t x → ⊥)
+      → Titled fault s (inside k j) d gs a n x t rest → fault ≡ f.Syntax a
+  string_title t rest (inl bad) (taken g runs) = fault_of fault (f.Syntax a) _ rest (refused_in bad) runs
+  string_title t rest (inr never) (taken g runs) = absurd (never g)
+  string_title t rest bad (known is) = string_known is
+  string_title t rest bad (untaken never e) = e
 
 -- ---- a title where an item is due
 
@@ -88,14 +84,11 @@ module _ (fault : Fault) (s : Bool) (gs : List Level) (a n : ℕ) where
   item_known d x is = grind (arith, nat_tests, settled_sound)
 
   -- no break is untaken
-  break_not : (x : Header) (t : List ℕ) → IsTitle t x → (IsTakenTitle s t x → ⊥) → x ≡ h.Break → ⊥
-  break_not x t q never e = never (rw (e, break_bytes t x q e) (break_taken s))
-
   pub long_due : (d : ℕ) (x : Header) (t rest : List ℕ) → IsTitle t x → (IsTakenTitle s t x → ⊥)
       → Titled fault s w.Nothing d gs a n x t rest → (fault ≡ f.Syntax a) ⊎ DeepAt x d fault a
   long_due d x t rest q never (taken g runs) = absurd (never g)
   long_due d x t rest q never (known is) = elim (item_known d x is) [
-    | inl e ↦ absurd (break_not x t q never e)
+    | inl e ↦ absurd (never (rw (e, break_bytes t x q e) (break_taken s)))
     | inr deep ↦ inr deep
   ]
   long_due d x t rest q never (untaken never' e) = inl e
@@ -125,8 +118,7 @@ begins_none : (b : ℕ) → BeginsLonger (b ∷ []) → ⊥
 begins_none b o = grind (arith, nat_tests)
 
 byte_below : (b : ℕ) → b < 256 → (i : ℕ) → get_or (b ∷ []) i 0 < 256
-byte_below b byte zero = byte
-byte_below b byte (suc i) = omega arith
+byte_below b byte i = grind (arith, nat_tests)
 
 -- with the first byte of a longer title some title that is taken begins
 some_begins : (s : Bool) (b : ℕ) (m : List ℕ) (x : Header) → b < 256 → IsTitle (b ∷ m) x
@@ -170,6 +162,5 @@ pub long_named : (fault : Fault) (s : Bool) (depth : ℕ) (due : List ℕ) → F
     → (met : HasLongNest s depth due) → fault ≡ f.Deep (length met.before)
 long_named fault s depth due runs met =
     let o = item_reached fault s depth met.before (met.title ++ met.rest) due 0 met.closable met.item_due runs met.is in
-    long_deep fault s o.levels o.place (length met.before) met.title met.rest met.header met.is_title
-    met.is_nest
+    long_deep fault s o.levels o.place (length met.before) met.title met.rest met.header met.is_title met.is_nest
     met.untaken o.runs

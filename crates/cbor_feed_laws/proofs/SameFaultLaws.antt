@@ -1,6 +1,6 @@
 -- The fault that a checker names is what stops a skip of the same bytes.
-use Rattle.std.proofs.Common.{◌≡◌, ℕ, ◌+◌, ◌-◌, inl, inr, Bool, false, List, [], ◌∷◌, ◌++◌, length, take, Some, refl}
-use Rattle.std.proofs.Common.{subst, ◌∙◌, arith, append_assoc, length-append}
+use Rattle.std.proofs.Common.{◌≡◌, ◌⊎◌, ℕ, ◌+◌, ◌-◌, inl, inr, Bool, false, List, [], ◌∷◌, ◌++◌, length, take, Some}
+use Rattle.std.proofs.Common.{refl, subst, ◌∙◌, arith, append_assoc, length-append}
 use Rattle.ciborium_ll_grammar.specs.declared.hdr.Header.{Header}
 use Rattle.ciborium_ll_grammar.specs.declared.hdr.Header.TheVariants as h
 use Rattle.ciborium_ll_grammar.specs.Title.{IsTitle, title_len}
@@ -22,12 +22,21 @@ use Rattle.cbor_feed_laws.proofs.Runs.{fault_of, at, inside}
 use Rattle.cbor_feed_laws.proofs.TitleRuns.{title_run, taken_run}
 use Rattle.cbor_feed_laws.proofs.StringRuns.{NoText, no_text, break_taken}
 use Rattle.cbor_feed_laws.proofs.ReachRuns.{FromStart, due_reached, item_reached, string_reached, title_reached}
-use Rattle.cbor_feed_laws.proofs.FaultRuns.{no_title, other_title, long_in_string, long_due, nest_deep, break_early}
+use Rattle.cbor_feed_laws.proofs.FaultRuns.{no_title, string_title, long_due, nest_deep, break_early}
 
 module _ (fault : Fault) (s : Bool) (depth : ℕ) (due : List ℕ) (runs : FromStart fault s depth due) where
   abbrev Named : Answer → Type 0
   Named Short = Unit {0}
   Named (Syntax at) = NamesSyntax s depth due at fault
+
+  string_named : {before : List ℕ} (t rest : List ℕ) (x : Header) (k : Kind) → ReachesItem s depth before (In k)
+      → due ≡ before ++ (t ++ rest) → IsTitle t x → IsRefusedIn s k x ⊎ (IsTakenTitle s t x → ⊥)
+      → fault ≡ f.Syntax (length before)
+  string_named {before} t rest x k reach e q bad =
+      let o = string_reached fault s depth (t ++ rest) due reach runs e in
+      let n = length before in
+      string_title fault s o.1.left o.1.levels n (n + length t) k o.0 x t rest bad
+      (title_run fault s (inside k o.0) o.1.left o.1.levels o.1.place n x t rest q o.1.runs)
 
   long_named : {before : List ℕ} (t rest : List ℕ) (x : Header) (point : Point) → ReachesItem s depth before point
       → due ≡ before ++ (t ++ rest) → IsAtTitle point → IsTitle t x → (IsTakenTitle s t x → ⊥)
@@ -40,20 +49,8 @@ module _ (fault : Fault) (s : Bool) (depth : ℕ) (due : List ℕ) (runs : FromS
         | inl named ↦ inl named
         | inr deep ↦ inr (let here = rw deep.none_left at is in search, refl, deep.deep)
       ]
-  long_named {before} t rest x (In k) reach e at_title q never =
-      let o = string_reached fault s depth (t ++ rest) due reach runs e in
-      let n = length before in
-      let titled = title_run fault s (inside k o.0) o.1.left o.1.levels o.1.place n x t rest q o.1.runs in
-      inl (long_in_string fault s o.1.left o.1.levels n (n + length t) k o.0 x t rest never titled)
+  long_named t rest x (In k) reach e at_title q never = inl (string_named t rest x k reach e q (inr never))
   long_named t rest x (BodyDue k len start) reach e at_title q never = absurd at_title
-
-  other_named : {before : List ℕ} (t rest : List ℕ) (x : Header) (k : Kind) → ReachesItem s depth before (In k)
-      → due ≡ before ++ (t ++ rest) → IsTitle t x → IsRefusedIn s k x → fault ≡ f.Syntax (length before)
-  other_named {before} t rest x k reach e q refused =
-      let o = string_reached fault s depth (t ++ rest) due reach runs e in
-      let n = length before in
-      let titled = title_run fault s (inside k o.0) o.1.left o.1.levels o.1.place n x t rest q o.1.runs in
-      other_title fault s o.1.left o.1.levels n (n + length t) k o.0 x t rest refused titled
 
   -- the body of a text is due
   text_named : {before : List ℕ} (ahead : List ℕ) (k : Kind) (len start : ℕ) → k ≡ Text
@@ -85,7 +82,7 @@ module _ (fault : Fault) (s : Bool) (depth : ℕ) (due : List ℕ) (runs : FromS
   row_named {point = point} (LongTitle {title = t} x rest at_title q never parts) reach e =
       long_named t rest x point reach (rw parts at e) at_title q never
   row_named (OtherTitle {kind = k} {title = t} x rest q refused parts) reach e =
-      inl (other_named t rest x k reach (rw parts at e) q refused)
+      inl (string_named t rest x k reach (rw parts at e) q (inl refused))
   row_named {ahead = ahead} (DamagedText {len = len} {start = start} _ _ _ none _ _ _ _) reach e =
       inl (text_named ahead Text len start refl reach e (λ long ends. none (text_from (take len ahead) ends)))
   row_named (CutBody _ _ _ _ _ _ _ _) reach e = tt

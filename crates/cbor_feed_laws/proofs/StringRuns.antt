@@ -1,6 +1,7 @@
 -- A run over the body of a string, and over strings within an open one.
 use Rattle.std.proofs.Common.{◌≡◌, ℕ, zero, suc, ◌+◌, ◌≤◌, Bool, true, false, List, [], ◌∷◌, ◌++◌, length, take, refl}
 use Rattle.std.proofs.Common.{ap, subst, ◌∙◌, arith, Some, None, append_assoc}
+use Rattle.std.proofs.lemmas.Bool.Decides.{nat_tests}
 use Rattle.ciborium_ll_text.specs.declared.state.State.{State}
 use Rattle.ciborium_ll_text.specs.declared.state.State.TheVariants as st
 use Rattle.ciborium_ll_text.specs.States.{after, after_byte, may_end}
@@ -33,8 +34,7 @@ abbrev pub NoText : State → ℕ → List ℕ → Type 0
 NoText state len due = len ≤ length due → after state (take len due) ≡ st.Between → ⊥
 
 text_begins : (len : ℕ) (spot : Spot) → text_due len spot ≡ text_left true len st.Between spot
-text_begins zero spot = refl
-text_begins (suc len) spot = refl
+text_begins len spot = grind (arith, nat_tests)
 
 -- one byte more came
 one_on : {fault : Fault} {all b : ℕ} {to : ℕ → ℕ → Spot} {rest : List ℕ} (to' : ℕ → ℕ → Spot)
