@@ -89,8 +89,7 @@ module _ {R E : Type 0} (source : Ghosts R E) (old new : Decoder R) where
   pub both_answer : (s : Bool) (depth taken : ℕ) (bytes : List ℕ) (fault : Fault) (progress : Progress) (spot : Spot)
       (result : Result (Unit {0}) (SkipError E)) → IsFed s depth ([] ++ take taken bytes) spot → IsAnswer progress spot
       → old.offset ≡ 0 → strict_of old ≡ s → SkipsTold source (strict_of old) depth bytes old result new
-      → progress ≡ r.Fault fault
-      → AnswersFault s depth bytes fault 0 result
+      → progress ≡ r.Fault fault → AnswersFault s depth bytes fault 0 result
   both_answer s depth taken bytes fault progress spot result is_fed answers start mode told e =
       let names : Names s depth (take taken bytes) fault =
       record { spot = spot; is_fed = is_fed; answers = sym (rw e at answers) } in

@@ -130,15 +130,13 @@ module _ (fault : Fault) (all : ℕ) (s : Bool) where
 
     -- so many items in a nest
     pub items_on : {d k : ℕ} {u : List ℕ} → AreItems s d k u
-        → (x : Header) (m end : ℕ) (gs : List Level) (rest : List ℕ)
-        → m + k ≡ end → ((i : ℕ) → i < end → TakesMore x i) → Behind d (reached x m ∷ gs) (u ++ rest)
-        → Behind d (reached x end ∷ gs) rest
+        → (x : Header) (m end : ℕ) (gs : List Level) (rest : List ℕ) → m + k ≡ end → ((i : ℕ) → i < end → TakesMore x i)
+        → Behind d (reached x m ∷ gs) (u ++ rest) → Behind d (reached x end ∷ gs) rest
     items_on {d} no_items x m end gs rest e takes o =
         let same : m ≡ end = omega (arith, e) in
         subst (λ (z : ℕ). Behind d (reached x z ∷ gs) rest) same o
     items_on {d} (more_items {title = t} {rest = r} {others = v} {header = y} q taken completes others) x m end gs rest
-        e
-        takes o =
+        e takes o =
         let here = nest_due x m d gs (t ++ (r ++ (v ++ rest))) (takes m (omega (arith, e))) (simp append_assoc at o) in
         items_on others x (suc m) end gs rest (omega (arith, e)) takes
         (completes_on completes (reached x (suc m) ∷ gs) (v ++ rest) (taken_on y t (r ++ (v ++ rest)) q taken here))

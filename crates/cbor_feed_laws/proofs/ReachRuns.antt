@@ -36,8 +36,7 @@ module _ (fault : Fault) (all : ℕ) (s : Bool) where
 
   due_on : {outer closable : Bool} {depth left : ℕ} {bytes : List ℕ} → ItemDue s outer depth bytes left closable
       → (gs : List Level) (rest : List ℕ) → can_close gs ≡ outer
-      → On fault all (at s w.Nothing depth gs) (bytes ++ rest)
-      → ItemOn left closable rest
+      → On fault all (at s w.Nothing depth gs) (bytes ++ rest) → ItemOn left closable rest
   due_on here gs rest same o = record { levels = gs; same = same; on = o }
   due_on (within {depth = d} {count = count} {title = t} {items = u} {more = more} {header = x} q g takes are inner) gs
       rest same o =

@@ -81,8 +81,7 @@ module _ (fault : Fault) (s : Bool) (i : Within) (d : ℕ) (gs : List Level) (a 
       let o = next_of p.Title refl refl runs in
       let e' = append_assoc (c ∷ cs) (b ∷ []) m ∙ e in
       let counts' : n + 1 + length m ≡ end = omega (arith, counts) in
-      stepped c (cs ++ b ∷ []) m (n + 1) o.next e' counts' o.step o.runs
-      (later m c (cs ++ b ∷ []) (n + 1) e' counts')
+      stepped c (cs ++ b ∷ []) m (n + 1) o.next e' counts' o.step o.runs (later m c (cs ++ b ∷ []) (n + 1) e' counts')
 
 -- a title in front
 pub title_run : (fault : Fault) (s : Bool) (i : Within) (d : ℕ) (gs : List Level) (a n : ℕ) (x : Header)
