@@ -71,16 +71,14 @@ module _ (u : Spot) (b : ℕ) (header : Header) (at : u.phase ≡ p.Title) (may 
 
 -- all of a title, where nothing of it came
 fresh_leads : (t : List ℕ) (n : ℕ) (s : Spot) (header : Header) → Below t → s.phase ≡ p.Title → n ≡ length t → 0 < n
-    → IsTitle t header → IsTakenTitle s.strict t header
-    → (1 < n → MayStand s.within s.depth s.offset (slice_index t 0))
+    → IsTitle t header → IsTakenTitle s.strict t header → (1 < n → MayStand s.within s.depth s.offset (slice_index t 0))
     → Leads (record s { front = [] }) t
     (entered s.within header (record s { front = []; place = s.offset; offset = s.offset + n }))
 fresh_leads [] n s header below at long some is taken may = absurd (omega arith)
 fresh_leads (b ∷ []) n s header below at long some is taken may =
     let empty : Spot = record s { front = [] } in
     rw long (go b (below 0 (omega arith))
-    (title_one b empty _ at (step_whole (with_byte b empty) _ header is taken refl))
-    stay)
+    (title_one b empty _ at (step_whole (with_byte b empty) _ header is taken refl)) stay)
 fresh_leads (b ∷ y ∷ ys) n s header below at long some is taken may =
     let u : Spot = record s { place = s.offset } in
     let stands = may (omega arith) in
@@ -165,8 +163,7 @@ module _ (xs : List ℕ) (n len all : ℕ) (strict : Bool) (below : Below xs) (s
     (le : all ≤ length xs) (may : 1 < n → (d place : ℕ) → MayStand w.Nothing d place (slice_index xs 0)) where
   titled_item : (header : Header) → IsTitle (take n xs) header × IsTakenTitle strict (take n xs) header
       → ((s : Spot) → Leads (item_entered header (passed n (due s))) (take len (drop n xs))
-      (item_done (counted_by len (passed n (due s)))))
-      → IsPlainItem strict (take all xs)
+      (item_done (counted_by len (passed n (due s))))) → IsPlainItem strict (take all xs)
   titled_item header title body = λ s at clear in_none same.
       let long = length-take-le all xs le in
       let moved : s.offset + length (take all xs) ≡ s.offset + n + len = omega arith in

@@ -1,7 +1,7 @@
 -- Plain items: what the table says of first bytes, and where such items lead.
 use Rattle.std.proofs.Common.{◌≡◌, ℕ, suc, ◌+◌, ◌-◌, ◌*◌, ◌/◌, ◌%◌, ◌<◌, ◌≤◌, ◌^◌, Bool, true, false, List, [], ◌∷◌}
-use Rattle.std.proofs.Common.{◌++◌, ◌&&◌, ◌||◌, eqb, ltb, get_or, length, take, drop, slice_index, refl, sym, ap, subst}
-use Rattle.std.proofs.Common.{◌∙◌, arith, inl, inr, None}
+use Rattle.std.proofs.Common.{◌&&◌, ◌||◌, eqb, ltb, get_or, length, take, drop, slice_index, refl, sym, ap, ◌∙◌, arith}
+use Rattle.std.proofs.Common.{inl, inr, None}
 use borrow.Author.Tests.{le-ltb, lt-ltb}
 use Rattle.std.proofs.lemmas.Bool.{agree_below_at, and_parts}
 use Rattle.std.proofs.lemmas.Bool.Decides.{nat_tests}
@@ -15,6 +15,7 @@ use Rattle.ciborium_ll_grammar.specs.Title.{IsTitle, Major, Unsigned, Negative, 
 use Rattle.ciborium_ll_grammar.specs.Title.{Small, One, NamesNoTitle, affix_len, major_code, numbered, numbered_header}
 use Rattle.ciborium_ll_grammar.specs.Title.{numbered_title, size_limit}
 use Rattle.ciborium_ll_grammar.specs.Items.{IsTakenTitle}
+use Rattle.ciborium_ll_grammar.specs.TitleRows.{NamesTitle}
 use Rattle.ciborium_ll_grammar.specs.Parts.{longer_parts}
 use Rattle.ciborium_ll_grammar.proofs.LongerLaws.{minor_as, taken}
 use Rattle.ciborium_ll_titles.proofs.TitleKinds.{kind_names, kind_of}
@@ -55,8 +56,7 @@ span_tells first len text_len both =
 pub span_says : (first len text_len : ℕ) → first < 256 → len ≡ get_or LENS first 0
     → text_len ≡ get_or TEXT_LENS first 0 → IsSpan first len text_len × (0 < len → text_len < len)
 span_says first len text_len l len_is text_len_is =
-    span_tells first len text_len
-    (ap (λ (z : ℕ). span_test first z text_len) len_is
+    span_tells first len text_len (ap (λ (z : ℕ). span_test first z text_len) len_is
     ∙ (ap (λ (z : ℕ). span_test first (get_or LENS first 0) z) text_len_is
     ∙ agree_below_at (λ (b : ℕ). span_test b (get_or LENS b 0) (get_or TEXT_LENS b 0)) (λ (b : ℕ). true) 256 first refl
     l))
@@ -110,9 +110,8 @@ major_of code (inr (inr e)) = record { major = Other; is = sym e; value = refl; 
 
 -- of a longer title any spelling is taken, and of a text the body is ASCII
 pub span_plain : (xs : List ℕ) (len text_len : ℕ) (strict : Bool) → Below xs → 0 < length xs
-    → IsSpan (slice_index xs 0) len text_len → 0 < len → len ≤ length xs
-    → (24 ≤ slice_index xs 0 % 32 → strict ≡ false) → IsAscii (take text_len (drop 1 xs))
-    → IsPlainItem strict (take len xs)
+    → IsSpan (slice_index xs 0) len text_len → 0 < len → len ≤ length xs → (24 ≤ slice_index xs 0 % 32 → strict ≡ false)
+    → IsAscii (take text_len (drop 1 xs)) → IsPlainItem strict (take len xs)
 span_plain [] len text_len strict below some is least le any ascii = absurd (omega arith)
 span_plain (b ∷ xs) len text_len strict below some (inl none) least le any ascii = absurd (omega (arith, none, least))
 span_plain (b ∷ xs) len text_len strict below some (inr (inl v)) least le any ascii =
@@ -138,25 +137,21 @@ module _ (xs : List ℕ) (len : ℕ) (strict : Bool) (below : Below xs) (some : 
     (least : 24 ≤ slice_index xs 1) (e : len ≡ 2 + slice_index xs 1) (le : len ≤ length xs) where
   pub long_bytes : slice_index xs 0 ≡ 88 → IsPlainItem strict (take len xs)
   long_bytes is =
+      let known : NamesTitle 2 (slice_index xs 0 / 32) (slice_index xs 0 % 32) =
+      (omega (arith, is), named (slice_index xs 0) (omega (arith, is))) in
       bytes_item xs 2 (slice_index xs 1) len strict below (omega arith) e le
-      (λ more d place. record {
-        kind = k.Bytes;
-        is = (omega (arith, is), named (slice_index xs 0) (omega (arith, is)));
-        free = (strings_free d place).0;
-      })
+      (λ more d place. record { kind = k.Bytes; is = known; free = (strings_free d place).0 })
       (two_taken strict xs ByteString some is (below 1 some) (le-ltb (slice_index xs 1) 24 least))
 
   pub long_text : slice_index xs 0 ≡ 120 → IsAscii (take (len - 2) (drop 2 xs)) → IsPlainItem strict (take len xs)
   long_text is ascii =
       let c = slice_index xs 1 in
+      let known : NamesTitle 3 (slice_index xs 0 / 32) (slice_index xs 0 % 32) =
+      (omega (arith, is), named (slice_index xs 0) (omega (arith, is))) in
       let long : c < 2 ^ 8 = omega (arith, below 1 some) in
       let less : len - 2 ≡ c = omega (arith, e) in
       text_item xs 2 c len strict below (omega arith) e le
-      (λ more d place. record {
-        kind = k.Text;
-        is = (omega (arith, is), named (slice_index xs 0) (omega (arith, is)));
-        free = (strings_free d place).1;
-      })
+      (λ more d place. record { kind = k.Text; is = known; free = (strings_free d place).1 })
       (two_taken strict xs TextString some is (below 1 some) (le-ltb c 24 least))
       (rw (le-ltb c 24 least, lt-ltb c (2 ^ 8) long) refl) (ascii_stays _ (rw less at ascii))
 
@@ -168,11 +163,5 @@ pub plain_more : (strict : Bool) (offset first last most left at len : ℕ) (xs 
     → IsPlainItem strict (take len (drop at xs))
     → ArePlain strict offset first (most - (left - 1)) (offset + at) (take (at + len) xs)
 plain_more strict offset first last most left at len xs le some fits so_far one =
-    let rest : List ℕ = take len (drop at xs) in
     let count : suc (most - left) ≡ most - (left - 1) = omega arith in
-    let place : offset + length (take at xs) ≡ offset + at = ap (λ (z : ℕ). offset + z) (length-take-le at xs le) in
-    let bytes : take at xs ++ rest ≡ take (at + len) xs = sym (take-add at len xs) in
-    subst (λ (z : ℕ). ArePlain strict offset first z (offset + at) (take (at + len) xs)) count
-    (subst (λ (z : ℕ). ArePlain strict offset first (suc (most - left)) z (take (at + len) xs)) place
-    (subst (λ (z : List ℕ). ArePlain strict offset first (suc (most - left)) (offset + length (take at xs)) z) bytes
-    (more so_far one)))
+    rw (take-add at len xs) (rw (count, length-take-le at xs le) at (more so_far one))

@@ -73,8 +73,7 @@ module _ (s : Spot) (level : Level) (left : ℕ) (at : s.phase ≡ p.Title) (cle
 
   -- another item is due in the nest
   pub run_goes : (last : ℕ) (bytes : List ℕ) (behind : ℕ) → 0 < behind → behind ≤ left + 1
-      → ArePlain s.strict s.offset s.place (left + 1 - behind) last bytes
-      → Leads s bytes (record s {
+      → ArePlain s.strict s.offset s.place (left + 1 - behind) last bytes → Leads s bytes (record s {
         levels = lowered (behind - 1) level ∷ others s.levels;
         place = last;
         offset = s.offset + length bytes;
@@ -88,8 +87,7 @@ module _ (s : Spot) (level : Level) (left : ℕ) (at : s.phase ≡ p.Title) (cle
 
   -- the last one has come
   pub run_ends : (last : ℕ) (bytes : List ℕ) (count : ℕ) → count ≡ suc left
-      → ArePlain s.strict s.offset s.place count last bytes
-      → Leads s bytes (item_done (record s {
+      → ArePlain s.strict s.offset s.place count last bytes → Leads s bytes (item_done (record s {
         depth = s.depth + 1;
         levels = others s.levels;
         place = last;
@@ -129,8 +127,7 @@ title_enters b n major inner level e small byte left enters = λ s at clear none
     from_due s at clear none (λ (z : Spot). item_due (z.depth - 1) (level ∷ z.levels) (passed 1 z))
     (subst (Leads (due s) (b ∷ [])) (sym new)
     (title_leads (b ∷ []) 1 (due s) header (λ i less. below_one b byte i less) refl refl (omega arith) (omega arith)
-    title.0 title.1
-    (λ more. absurd (omega (arith, more)))))
+    title.0 title.1 (λ more. absurd (omega (arith, more)))))
 
 -- that of an array of one item more
 pub array_enters : (b k : ℕ) → b ≡ 129 + k → k < 23 → IsNestTitle b (l.Items k)

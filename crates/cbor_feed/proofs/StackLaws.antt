@@ -16,8 +16,7 @@ use Rattle.std.proofs.lemmas.Bool.Decides.{nat_tests}
 -- only so many numbers count
 pub same_levels : (n m : ℕ) (kinds counts kinds' counts' : List ℕ) → n ≤ m
     → ((i : ℕ) → i < m → get_or kinds' i 0 ≡ get_or kinds i 0)
-    → ((i : ℕ) → i < m → get_or counts' i 0 ≡ get_or counts i 0)
-    → levels_in n kinds' counts' ≡ levels_in n kinds counts
+    → ((i : ℕ) → i < m → get_or counts' i 0 ≡ get_or counts i 0) → levels_in n kinds' counts' ≡ levels_in n kinds counts
 same_levels zero m kinds counts kinds' counts' le k c = refl
 same_levels (suc n) m kinds counts kinds' counts' le k c =
     let below = same_levels n m kinds counts kinds' counts' (omega (arith, le)) k c in
@@ -41,9 +40,8 @@ others_in : (here : Option Level) (below : Option (List Level)) (levels : List L
 others_in here below levels is = grind (arith, nat_tests)
 
 -- another one in the place of the last
-pub levels_put : (m n : ℕ) (kinds counts : List ℕ) (kind count : ℕ) (level : Level) (levels : List Level)
-    → m ≡ n + 1 → n < length kinds → n < length counts → level_in kind count ≡ Some level
-    → levels_in m kinds counts ≡ Some levels
+pub levels_put : (m n : ℕ) (kinds counts : List ℕ) (kind count : ℕ) (level : Level) (levels : List Level) → m ≡ n + 1
+    → n < length kinds → n < length counts → level_in kind count ≡ Some level → levels_in m kinds counts ≡ Some levels
     → levels_in m (set kinds n kind) (set counts n count) ≡ Some (level ∷ others levels)
 levels_put m n kinds counts kind count level levels e ltk ltc is all =
     let whole = ap (λ (z : ℕ). levels_in z kinds counts) (sym (e ∙ add-one n)) ∙ all in
@@ -93,8 +91,7 @@ module _ (m n : ℕ) (kinds counts : List ℕ) (levels : List Level) (e : m ≡ 
   counted : (count : ℕ) → levels_in m kinds (set counts n count) ≡ Some (l.Items count ∷ others levels)
   counted count =
       rw (set-get_or kinds n 0) at
-      (levels_put m n kinds counts (get_or kinds n 0) count (l.Items count) levels e ltk ltc
-      (rw items refl) is)
+      (levels_put m n kinds counts (get_or kinds n 0) count (l.Items count) levels e ltk ltc (rw items refl) is)
 
   pub counted_some : IsSome (levels_in m kinds (set counts n (get_or counts n 0 - 1)))
   counted_some = is_some _ _ (counted (get_or counts n 0 - 1))

@@ -109,8 +109,7 @@ any_first k Then u rest y bs
     (more {rest = v} {bodies = cs} {others = ds} (indefinite {title = t} {strings = z} q inner) others) sound behind e =
     opens t (z ++ 0xff ∷ (v ++ 0xff ∷ rest)) refl q
     (ends_with false k (EndsString false k Then) z cs (v ++ 0xff ∷ rest) inner tt (AreWritable-left k cs ds sound)
-    (ends_with false k Then v ds rest others tt (AreWritable-right k cs ds sound) behind))
-    (e ∙ simp append_assoc)
+    (ends_with false k Then v ds rest others tt (AreWritable-right k cs ds sound) behind)) (e ∙ simp append_assoc)
 
 strict_first : (k : Kind) (Then : List ℕ → Type 0) (u rest y : List ℕ) (bs : List (List ℕ)) → AreFlat k u bs
     → AreWritable k bs → Then rest → y ≡ u ++ 0xff ∷ rest → First true k Then y

@@ -26,8 +26,7 @@ pub fed_fresh : (s : Bool) (d : ℕ) (spot : Spot) → spot ≡ start s d → Is
 fed_fresh s d spot e = subst (IsFed s d []) (sym e) fresh
 
 pub fed_more : (s : Bool) (d : ℕ) (fed : List ℕ) (spot new : Spot) (xs : List ℕ) (i : ℕ) → i < length xs
-    → get_or xs i 0 < 256
-    → IsFed s d (fed ++ take i xs) spot → Step spot (get_or xs i 0) new
+    → get_or xs i 0 < 256 → IsFed s d (fed ++ take i xs) spot → Step spot (get_or xs i 0) new
     → IsFed s d (fed ++ take (i + 1) xs) new
 fed_more s d fed spot new xs i l b is step =
     let e = ap (λ (z : List ℕ). fed ++ z) (take_more xs i 0 l)
@@ -105,8 +104,7 @@ tells s d fed spot is left short =
 
 -- the same of an answer that is the spot's
 pub told : (s : Bool) (d : ℕ) (fed : List ℕ) (spot : Spot) (progress : Progress) → progress ≡ progress_of spot
-    → IsFed s d fed spot
-    → has_left spot.phase ≡ true
+    → IsFed s d fed spot → has_left spot.phase ≡ true
     → length spot.front ≤ affix_len (slice_index spot.front 0 % 32) → Tells s d fed progress
 told s d fed spot progress e is left short = subst (Tells s d fed) (sym e) (tells s d fed spot is left short)
 

@@ -113,8 +113,7 @@ module _ (k : Kind) (n : ℕ) (spot : Spot) (y : List ℕ) (clear : spot.front �
       ((closes spot y clear k n).1 waits)
 
 string_off : (k : Kind) (n : ℕ) (spot : Spot) (t y : List ℕ) (x : Header) → spot.front ≡ []
-    → spot.within ≡ kind_within k n
-    → IsTitle t x → IsTakenTitle spot.strict t x → Waits (kind_entered k x n spot) y
+    → spot.within ≡ kind_within k n → IsTitle t x → IsTakenTitle spot.strict t x → Waits (kind_entered k x n spot) y
     → EndsStrings spot.strict k n (Ends spot.strict spot.depth spot.levels) (t ++ y)
 string_off Bytes n spot t y (h.Bytes (Some len)) clear inside p g waits =
     whole_off Bytes n spot y clear inside t len p g waits
@@ -133,8 +132,7 @@ string_title : (k : Kind) (n : ℕ) (spot : Spot) (t y : List ℕ) (x : Header) 
     (Waits (kind_entered k x n spot) y)
 string_title k n spot t y x clear inside p g = (
   λ o. string_on k n spot y clear inside t x p (first_of spot.strict k _ (t ++ y) o),
-  string_off k n spot t y x clear
-      inside p g,
+  string_off k n spot t y x clear inside p g,
 )
 
 -- ---- all

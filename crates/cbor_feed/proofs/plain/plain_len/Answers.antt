@@ -1,9 +1,7 @@
-use Rattle.std.proofs.Common.{◌≡◌, ℕ, ◌+◌, ◌-◌, ◌%◌, ◌≤◌, List, length, length-drop, take, drop, false, arith, subst}
-use Rattle.std.proofs.Common.{slice_index, sym, ap, ◌∙◌}
+use Rattle.std.proofs.Common.{◌≡◌, ℕ, ◌+◌, ◌-◌, ◌%◌, ◌≤◌, List, length, length-drop, drop, false, arith, slice_index}
+use Rattle.std.proofs.Common.{ap, add-zero}
 use Rattle.std.proofs.lemmas.List.{drop_more, get_or-drop}
-use Rattle.std.specs.Str.{IsAscii}
 use Rattle.ciborium_ll_text.proofs.Lists.{Below}
-use Rattle.cbor_feed.specs.Plain.{IsSpan}
 use Rattle.cbor_feed.proofs.PlainLaws.{span_plain}
 use Rattle.cbor_feed.proofs.plain.plain_len.Goals as goal
 use Rattle.cbor_feed.proofs.plain.plain_len.Goals.{else-strict-via-then-strict+else-bytes-at-ge-LONGER}
@@ -14,21 +12,15 @@ returns-then-is_ascii_from-clause-plain c = λ more.
     let xs = c.args.bytes.now in
     let at = c.args.at in
     let rest : List ℕ = drop at xs in
-    let span = c.span_of-span.result in
     let long : length rest ≡ length xs - at = length-drop at xs in
-    let below : Below rest = λ i less. (let there = get_or-drop at xs i 0 in
-    let b = (c.type_inv.bytes (at + i)).fits in omega (arith, there, b)) in
-    let first : slice_index rest 0 ≡ slice_index xs at =
-    get_or-drop at xs 0 0 ∙ (let same : at + 0 ≡ at = omega arith in
-    ap (λ (z : ℕ). slice_index xs z) same) in
+    let below : Below rest = λ i less. omega (arith, get_or-drop at xs i 0, (c.type_inv.bytes (at + i)).fits) in
+    let first : slice_index rest 0 ≡ slice_index xs at = rw add-zero at (get_or-drop at xs 0 0) in
     let behind : drop 1 rest ≡ drop (at + 1) xs = ap (λ (z : List ℕ). drop 1 z) (drop_more xs at 0 c.requires.some) in
     let any : 24 ≤ slice_index rest 0 % 32 → c.args.strict ≡ false = λ high. elim c.else-strict.branch [
       | else-strict-via-then-strict+else-bytes-at-ge-LONGER w ↦ absurd
           (omega (arith, high, first, w.if-bytes-at-ge-LONGER))
       | else-strict-via-else-strict w ↦ w.if-strict.false
     ] in
-    span_plain rest span.len span.text_len c.args.strict below (omega (arith, long, c.requires.some))
-    (subst (λ (z : ℕ). IsSpan z span.len span.text_len) (sym first) c.span_of-span.ensures.span) more
-    (omega (arith, long, c.if-span-bytes.false)) any
-    (subst (λ (z : List ℕ). IsAscii (take span.text_len z)) (sym behind)
-    (c.is_ascii_from.ensures c.if-is_ascii_from.true))
+    span_plain rest c.span_of-span.result.len c.span_of-span.result.text_len c.args.strict below
+    (omega (arith, long, c.requires.some)) (rw first c.span_of-span.ensures.span) more
+    (omega (arith, long, c.if-span-bytes.false)) any (rw behind (c.is_ascii_from.ensures c.if-is_ascii_from.true))

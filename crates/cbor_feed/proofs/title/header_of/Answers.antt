@@ -1,7 +1,4 @@
-use Rattle.std.proofs.Common.{rules, Bool, Option, sym, subst}
-use Rattle.std.specs.Option.{IfNone}
-use Rattle.ciborium_ll_grammar.specs.declared.hdr.Header.{Header}
-use Rattle.cbor_feed.specs.Steps.{NoneTaken}
+use Rattle.std.proofs.Common.{rules}
 use Rattle.cbor_feed.proofs.LongerBegun.{parts_none, refused_none, some_taken, none_means}
 use Rattle.cbor_feed.proofs.title.header_of.Goals as goal
 use Rattle.cbor_feed.proofs.title.header_of.Goals.{else-strict-via-then-strict+else-is_longer}
@@ -9,34 +6,23 @@ use Rattle.cbor_feed.proofs.title.header_of.Goals.{else-strict-via-else-strict}
 
 pub returns-then-is_longer-clause-none : goal.returns-then-is_longer-clause-none
 returns-then-is_longer-clause-none c =
-    let bytes = c.args.bytes.now in
-    subst (λ (strict : Bool). NoneTaken strict bytes) (sym c.if-strict.true)
-    (parts_none c.in_ok-title.title.major c.in_ok-title.title.minor bytes (search rules) (search rules) (search rules)
-    c.in_ok-title.ensures.bytes)
+    rw c.if-strict.true (parts_none c.in_ok-title.title.major c.in_ok-title.title.minor c.args.bytes.now (search rules)
+    (search rules) (search rules) c.in_ok-title.ensures.bytes)
 
 pub returns-clause-taken : goal.returns-clause-taken
 returns-clause-taken c =
-    let title = c.in_ok-title.title in
-    elim c.else-strict.branch [
-      | else-strict-via-then-strict+else-is_longer w ↦ (
-          some_taken c.header.result c.args.strict title.major title.minor c.args.bytes.now
-          (search rules) (search rules)
-          (λ strict. search rules) c.in_ok-title.ensures.bytes c.header.ensures.some
-          )
-      | else-strict-via-else-strict w ↦ (
-          some_taken c.header.result c.args.strict title.major title.minor c.args.bytes.now
-          (search rules) (search rules)
-          (λ strict. let no = w.if-strict.false in absurd cc) c.in_ok-title.ensures.bytes c.header.ensures.some
-          )
-    ]
+    some_taken c.header.result c.args.strict c.in_ok-title.title.major c.in_ok-title.title.minor c.args.bytes.now
+    (search rules) (search rules)
+    (λ strict. elim c.else-strict.branch [
+      | else-strict-via-then-strict+else-is_longer w ↦ search rules
+      | else-strict-via-else-strict w ↦ (let no = w.if-strict.false in absurd cc)
+    ]) c.in_ok-title.ensures.bytes c.header.ensures.some
 
 pub returns-clause-none : goal.returns-clause-none
 returns-clause-none c =
-    none_means c.header.result c.args.strict c.in_ok-title.title.major c.in_ok-title.title.minor c.args.bytes.now
-    c.in_ok-title.ensures.bytes c.header.ensures.none
+    none_means _ _ c.in_ok-title.title.major c.in_ok-title.title.minor _ c.in_ok-title.ensures.bytes
+    c.header.ensures.none
 
 pub returns-in_err-title-clause-none : goal.returns-in_err-title-clause-none
 returns-in_err-title-clause-none c =
-    let bytes = c.args.bytes.now in
-    subst (λ (z : Option Header). IfNone z (NoneTaken c.args.strict bytes)) (sym c.from_residual.ensures)
-    (refused_none c.args.strict bytes c.in_err-title.ensures.none)
+    rw c.from_residual.ensures (refused_none c.args.strict c.args.bytes.now c.in_err-title.ensures.none)

@@ -1,5 +1,6 @@
 use Rattle.std.proofs.Common.{◌≡◌, ℕ, ◌<◌, ◌≤◌, true, ltb, arith, subst}
 use borrow.Author.Tests.{lt-ltb}
+use Rattle.cbor_feed.specs.declared.progress.Feed.{Feed}
 use Rattle.cbor_feed.specs.Piece.{TakesPiece}
 use Rattle.cbor_feed.specs.Places.{spot_in}
 use Rattle.cbor_feed.specs.Spots.{Spot}
@@ -15,22 +16,17 @@ returns-clause-fed c = λ old is.
     let taken = c.take-taken.ensures in
     let kinds = c.take-taken.new.kinds in
     let counts = c.take-taken.new.counts in
-    let new : Spot = spot_in c.take-taken.new.self kinds counts in (
+    let new : Spot = spot_in c.take-taken.new.self kinds counts in
+    let feed : Feed = record { taken = c.take-taken.result; progress = c.tell.result } in (
       new,
       c.save.ensures.holds taken.known,
-      subst (λ (z : Spot). TakesPiece z c.args.bytes.now (record {
-        taken = c.take-taken.result;
-        progress =
-            c.tell.result;
-      }) new)
-          (c.load.ensures.same old is) (record {
-            taken = taken.taken;
-            all = all_taken _ _ taken.taken c.tell.ensures.all;
-            fed = taken.fed;
-            tells = λ strict depth fed is. c.tell.ensures.tells kinds counts strict depth _
-                (taken.fed strict depth fed is);
-            counted = λ strict depth fed is. omega (arith, taken.counted strict depth fed is);
-            answers = c.tell.ensures.answers kinds counts;
-            stays = taken.stays;
-          }),
+      subst (λ (z : Spot). TakesPiece z c.args.bytes.now feed new) (c.load.ensures.same old is) (record {
+        taken = taken.taken;
+        all = all_taken _ _ taken.taken c.tell.ensures.all;
+        fed = taken.fed;
+        tells = λ strict depth fed is. c.tell.ensures.tells kinds counts strict depth _ (taken.fed strict depth fed is);
+        counted = λ strict depth fed is. omega (arith, taken.counted strict depth fed is);
+        answers = c.tell.ensures.answers kinds counts;
+        stays = taken.stays;
+      }),
     )

@@ -49,8 +49,7 @@ returns-clause-leads c =
     c.pop.ensures.taken ∙ ap others (ap levels_at c.innermost.ensures.same) in
     let new : List Level → ℕ → Spot = λ z len.
     record s { depth = s.depth + 1; levels = z; place = c.plain_run-run.new.place; offset = s.offset + len } in
-    subst (Leads s bytes) (sym (c.item_over.ensures.done
-    ∙ (ap (λ (z : List Level). item_done (new z run.len)) levels
+    subst (Leads s bytes) (sym (c.item_over.ensures.done ∙ (ap (λ (z : List Level). item_done (new z run.len)) levels
     ∙ ap (λ (z : ℕ). item_done (new (others s.levels) z)) (sym long))))
     (run_ends s c.in-Some.level left c.requires.phase c.requires.fresh c.requires.due (search rules) (search rules)
     c.plain_run-run.new.place bytes (left + 1 - run.left) (omega (arith, c.if-run-gt0.false))

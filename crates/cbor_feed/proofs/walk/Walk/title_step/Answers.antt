@@ -1,5 +1,5 @@
-use Rattle.std.proofs.Common.{◌≡◌, ℕ, ◌+◌, ◌%◌, ◌<◌, ◌≤◌, List, [], ◌∷◌, ◌++◌, length, length-append, slice_index, sym}
-use Rattle.std.proofs.Common.{subst, ◌∙◌, arith, rules}
+use Rattle.std.proofs.Common.{◌≡◌, ℕ, ◌+◌, ◌%◌, ◌<◌, ◌≤◌, List, [], ◌∷◌, ◌++◌, length, length-append, slice_index, ◌∙◌}
+use Rattle.std.proofs.Common.{arith, rules}
 use Rattle.ciborium_ll_grammar.specs.Title.{affix_len}
 use Rattle.cbor_feed.specs.Walking.{spot_at}
 use Rattle.cbor_feed.specs.Steps.{with_byte}
@@ -15,38 +15,31 @@ one_more (first ∷ rest) byte short long = omega (arith, short, long, length-ap
 
 pub returns-then-begins_none-clause-spot : goal.returns-then-begins_none-clause-spot
 returns-then-begins_none-clause-spot c =
-    let spot = with_byte c.args.byte (spot_at c.args.self.now) in
-    step_none spot (spot_at c.refuse.new.self) (search rules) (search rules)
+    step_none (with_byte c.args.byte (spot_at c.args.self.now)) _ (search rules) (search rules)
 
 pub returns-in-Some-clause-spot : goal.returns-in-Some-clause-spot
 returns-in-Some-clause-spot c =
-    let spot = with_byte c.args.byte (spot_at c.args.self.now) in
-    step_early spot _ c.row_of-row.result (search rules) (search rules) (search rules) c.in-Some.fault (search rules)
-    (search rules) (search rules)
+    step_early (with_byte c.args.byte (spot_at c.args.self.now)) _ c.row_of-row.result (search rules) (search rules)
+    (search rules) c.in-Some.fault (search rules) (search rules) (search rules)
 
 pub returns-in_default-clause-spot : goal.returns-in_default-clause-spot
 returns-in_default-clause-spot c =
-    let spot = with_byte c.args.byte (spot_at c.args.self.now) in
-    step_cut spot _ c.row_of-row.result (search rules) (search rules) (search rules) (search rules) (search rules)
-    (search rules)
+    step_cut (with_byte c.args.byte (spot_at c.args.self.now)) _ c.row_of-row.result (search rules) (search rules)
+    (search rules) (search rules) (search rules) (search rules)
 
 pub returns-in-Some-header-clause-spot : goal.returns-in-Some-header-clause-spot
 returns-in-Some-header-clause-spot c =
-    let spot = with_byte c.args.byte (spot_at c.args.self.now) in
-    step_whole spot (spot_at c.enter.new.self) c.in-Some-header.header (search rules) (search rules) (search rules)
+    step_whole (with_byte c.args.byte (spot_at c.args.self.now)) _ c.in-Some-header.header (search rules)
+    (search rules) (search rules)
 
 pub returns-in-None-clause-spot : goal.returns-in-None-clause-spot
 returns-in-None-clause-spot c =
-    let spot = with_byte c.args.byte (spot_at c.args.self.now) in
-    step_none spot (spot_at c.refuse-in-None.new.self) (search rules) (search rules)
+    step_none (with_byte c.args.byte (spot_at c.args.self.now)) _ (search rules) (search rules)
 
 pub header_of-header-requires : goal.header_of-header-requires
 header_of-header-requires c =
     let is = c.bytes-bytes.ensures ∙ c.push.ensures in
     let long = c.len.ensures _ c.row_of-row.ensures.affix in
-    let front = c.args.self.now.front in
     let all : affix_len (slice_index c.bytes-bytes.result.now 0 % 32) < length c.bytes-bytes.result.now =
     omega (arith, long, c.if-bytes-len.false) in
-    subst (λ (z : List ℕ). length z ≡ 1 + affix_len (slice_index z 0 % 32)) (sym is)
-    (one_more front c.args.byte c.args.self.now.begun
-    (subst (λ (z : List ℕ). affix_len (slice_index z 0 % 32) < length z) is all))
+    rw is (one_more c.args.self.now.front c.args.byte c.args.self.now.begun (rw is at all))
