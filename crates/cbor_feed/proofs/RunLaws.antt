@@ -58,6 +58,10 @@ stack_of : (levels : List Level) (level : Level) (left : ℕ) → Some level ≡
 stack_of [] level left e all = absurd cc
 stack_of (first ∷ rest) level left e all = rw (lowered_same level left all) (cc)
 
+-- with other nests, at another place
+abbrev moved : ℕ → List Level → ℕ → ℕ → Spot → Spot
+moved depth levels place offset s = record s { depth = depth; levels = levels; place = place; offset = offset }
+
 -- bytes that lead somewhere from where an item is due in the innermost nest
 module _ (s : Spot) (level : Level) (left : ℕ) (at : s.phase ≡ p.Title) (clear : length s.front ≡ 0)
     (in_none : s.within ≡ w.Nothing) (is : Some level ≡ innermost s.levels)
@@ -73,26 +77,17 @@ module _ (s : Spot) (level : Level) (left : ℕ) (at : s.phase ≡ p.Title) (cle
 
   -- another item is due in the nest
   pub run_goes : (last : ℕ) (bytes : List ℕ) (behind : ℕ) → 0 < behind → behind ≤ left + 1
-      → ArePlain s.strict s.offset s.place (left + 1 - behind) last bytes → Leads s bytes (record s {
-        levels = lowered (behind - 1) level ∷ others s.levels;
-        place = last;
-        offset = s.offset + length bytes;
-      })
+      → ArePlain s.strict s.offset s.place (left + 1 - behind) last bytes
+      → Leads s bytes (moved s.depth (lowered (behind - 1) level ∷ others s.levels) last (s.offset + length bytes) s)
   run_goes last bytes behind some fits plain =
-      from_stack (left + 1 - behind + (behind - 1)) (λ (z : Spot). record z {
-        levels = lowered (behind - 1) level ∷ others z.levels;
-        place = last;
-        offset = z.offset + length bytes;
-      }) (omega arith) (run_leads s (others s.levels) level left (left + 1 - behind) (behind - 1) last bytes all plain)
+      from_stack (left + 1 - behind + (behind - 1))
+      (λ z. moved z.depth (lowered (behind - 1) level ∷ others z.levels) last (z.offset + length bytes) z) (omega arith)
+      (run_leads s (others s.levels) level left (left + 1 - behind) (behind - 1) last bytes all plain)
 
   -- the last one has come
   pub run_ends : (last : ℕ) (bytes : List ℕ) (count : ℕ) → count ≡ suc left
-      → ArePlain s.strict s.offset s.place count last bytes → Leads s bytes (item_done (record s {
-        depth = s.depth + 1;
-        levels = others s.levels;
-        place = last;
-        offset = s.offset + length bytes;
-      }))
+      → ArePlain s.strict s.offset s.place count last bytes
+      → Leads s bytes (item_done (moved (s.depth + 1) (others s.levels) last (s.offset + length bytes) s))
   run_ends last bytes zero e plain = absurd (omega arith)
   run_ends last bytes (suc count) e (more {last = place} {bytes = xs} {item = item} so_far one) =
       let rest : List Level = others s.levels in
@@ -102,19 +97,15 @@ module _ (s : Spot) (level : Level) (left : ℕ) (at : s.phase ≡ p.Title) (cle
       omega (arith, length-append xs item) in
       let done : item_done u ≡ settled (suc s.depth) rest u = rw (last_lowered level left all, settled) refl in
       let to = done ∙ sym (settled_alike rest (suc s.depth) u (suc s.depth) rest) in
-      from_stack (count + 0) (λ (z : Spot). item_done (record z {
-        depth = z.depth + 1;
-        levels = others z.levels;
-        place = last;
-        offset = z.offset + length (xs ++ item);
-      })) (omega arith) (rw (long, add-one s.depth) (leads_more _ m _ xs item
+      from_stack (count + 0)
+      (λ z. item_done (moved (z.depth + 1) (others z.levels) last (z.offset + length (xs ++ item)) z)) (omega arith)
+      (rw (long, add-one s.depth) (leads_more _ m _ xs item
       (run_leads s rest level left count 0 place xs all so_far) (subst (Leads m item) to (one m refl refl refl refl))))
 
 -- ---- the title
 
 below_one : (b : ℕ) → b < 256 → Below (b ∷ [])
-below_one b byte zero less = byte
-below_one b byte (suc i) less = absurd (omega (arith, less))
+below_one b byte i less = grind (arith, nat_tests)
 
 title_enters : (b n : ℕ) (major : Major) (inner level : Level) → b ≡ 32 * major_code major + n → n < 24 → b < 256
     → next inner ≡ Some level
@@ -126,7 +117,7 @@ title_enters b n major inner level e small byte left enters = λ s at clear none
     let new = nested_goes u _ inner level (λ zero. omega (arith, zero, deep)) left refl ∙ sym (enters u) in
     from_due s at clear none (λ (z : Spot). item_due (z.depth - 1) (level ∷ z.levels) (passed 1 z))
     (subst (Leads (due s) (b ∷ [])) (sym new)
-    (title_leads (b ∷ []) 1 (due s) header (λ i less. below_one b byte i less) refl refl (omega arith) (omega arith)
+    (title_leads (b ∷ []) 1 (due s) header (below_one b byte) refl refl (omega arith) (omega arith)
     title.0 title.1 (λ more. absurd (omega (arith, more)))))
 
 -- that of an array of one item more
@@ -144,8 +135,7 @@ map_enters b k e small =
 -- ---- the items behind it
 
 one_byte : (xs : List ℕ) → 0 < length xs → slice_index xs 0 ∷ [] ≡ take 1 xs
-one_byte [] some = absurd (omega arith)
-one_byte (x ∷ xs) some = refl
+one_byte xs some = grind (arith, nat_tests)
 
 module _ (s : Spot) (level : Level) (left last len : ℕ) (xs : List ℕ) (at : s.phase ≡ p.Title)
     (clear : length s.front ≡ 0) (in_none : s.within ≡ w.Nothing) (deep : 0 < s.depth) (le : len ≤ length xs - 1)
@@ -168,20 +158,11 @@ module _ (s : Spot) (level : Level) (left last len : ℕ) (xs : List ℕ) (at : 
 
   -- another item is due in the nest
   pub nest_goes : 0 < length xs → (behind : ℕ) → 0 < behind → behind ≤ left + 1
-      → ArePlain s.strict (s.offset + 1) s.offset (left + 1 - behind) last items
-      → Leads s (take (1 + len) xs) (record s {
-        depth = s.depth - 1;
-        levels = lowered (behind - 1) level ∷ s.levels;
-        place = last;
-        offset = s.offset + 1 + len;
-      })
+      → ArePlain s.strict (s.offset + 1) s.offset (left + 1 - behind) last items → Leads s (take (1 + len) xs)
+      (moved (s.depth - 1) (lowered (behind - 1) level ∷ s.levels) last (s.offset + 1 + len) s)
   nest_goes some behind due_more fits plain =
-      leads_in some (λ (z : Spot). record z {
-        depth = z.depth - 1;
-        levels = lowered (behind - 1) level ∷ z.levels;
-        place = last;
-        offset = z.offset + 1 + len;
-      }) (rw long at (run_goes m level left refl refl refl refl all last items behind due_more fits plain))
+      leads_in some (λ z. moved (z.depth - 1) (lowered (behind - 1) level ∷ z.levels) last (z.offset + 1 + len) z)
+      (rw long at (run_goes m level left refl refl refl refl all last items behind due_more fits plain))
 
   -- the last one has come
   pub nest_ends : 0 < length xs → (count : ℕ) → count ≡ suc left

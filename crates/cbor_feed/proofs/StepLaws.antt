@@ -131,8 +131,7 @@ text_left_same : (m : Bool) (left : ℕ) (state : State) (spot : Spot) (y : List
     → Same (BodyThen left (TextBody state) (StringDone spot.strict spot.within spot.depth spot.levels) y)
     (Waits (text_left m left state spot) y)
 text_left_same false left state spot y clear e = (
-  λ o. let may = text_may_end state o.body o.sound in let long = o.long in
-      absurd (let no = sym e ∙ (ap (may_end state) (sym long) ∙ may) in cc),
+  λ o. let may = text_may_end state o.body o.sound in let no = sym e ∙ (rw o.long at may) in absurd cc,
   λ no. absurd no,
 )
 text_left_same true zero state spot y clear e = no_body (TextBody state) spot y clear (none_left state e)
@@ -147,16 +146,13 @@ step_same : (phase : Phase) (spot new : Spot) (b : ℕ) → phase ≡ spot.phase
     → Same (WaitsIn phase spot (b ∷ y)) (Waits new y)
 step_same p.Title spot new b at step y =
     rw (append_assoc spot.front (b ∷ []) y) at (title_same (with_byte b spot) new step (sym at) y)
-step_same (p.Bytes zero) spot new b at step y = absurd step
 step_same (p.Bytes (suc left)) spot new b at step y =
     rw step (both (body_same left AnyBody _ b y) (bytes_body left (counted spot) y refl))
-step_same (p.Text zero state) spot new b at step y = absurd step
 step_same (p.Text (suc left) state) spot new b at step y =
     let next = after_byte state b in
     rw step (both (body_same left (TextBody state) _ b y)
     (text_left_same (may_end next left) left next (counted spot) y refl refl))
-step_same p.Ended spot new b at step y = absurd step
-step_same (p.Faulted fault) spot new b at step y = absurd step
+step_same phase spot new b at step y = absurd step
 
 -- ---- all bytes so far
 

@@ -1,17 +1,14 @@
 -- What the answer of a checker says of the bytes so far.
-use Rattle.std.proofs.Common.{◌≡◌, ℕ, zero, suc, ◌+◌, ◌%◌, ◌<◌, ◌≤◌, Bool, true, List, [], ◌∷◌, ◌++◌, length, take}
-use Rattle.std.proofs.Common.{get_or, slice_index, refl, sym, ap, subst, ◌∙◌, arith, append_assoc, append-nil}
-use Rattle.std.proofs.Common.{length-append}
+use Rattle.std.proofs.Common.{◌≡◌, ℕ, zero, suc, ◌+◌, ◌%◌, ◌≤◌, Bool, true, List, [], ◌∷◌, ◌++◌, length, slice_index}
+use Rattle.std.proofs.Common.{refl, sym, ap, subst, ◌∙◌, arith, append-nil, length-append}
 use Rattle.std.proofs.lemmas.Bool.Decides.{nat_tests}
-use Rattle.std.proofs.lemmas.List.{take_more}
 use Rattle.ciborium_ll_grammar.specs.Title.{affix_len}
 use Rattle.ciborium_ll_grammar.specs.Items.{IsItem}
 use Rattle.ciborium_ll_grammar.proofs.AffixLaws.{announced}
 use Rattle.cbor_feed.specs.declared.phase.Phase.{Phase}
 use Rattle.cbor_feed.specs.declared.phase.Phase.TheVariants as p
 use Rattle.cbor_feed.specs.Spots.{Spot}
-use Rattle.cbor_feed.specs.Steps.{start, with_byte, TitleStep, cut, early, whole, none, StepIn, Step, IsFed, fresh}
-use Rattle.cbor_feed.specs.Steps.{more}
+use Rattle.cbor_feed.specs.Steps.{start, with_byte, TitleStep, cut, early, whole, none, StepIn, IsFed, fresh, more}
 use Rattle.cbor_feed.specs.Telling.{has_left, is_due, title_due, progress_in, progress_of, Tells}
 use Rattle.cbor_feed.specs.declared.progress.Progress.{Progress}
 use Rattle.cbor_feed.specs.declared.progress.Progress.TheVariants as r
@@ -24,14 +21,6 @@ use Rattle.cbor_feed.proofs.StepLaws.{Titled, due_titled, fed_same}
 
 pub fed_fresh : (s : Bool) (d : ℕ) (spot : Spot) → spot ≡ start s d → IsFed s d [] spot
 fed_fresh s d spot e = subst (IsFed s d []) (sym e) fresh
-
-pub fed_more : (s : Bool) (d : ℕ) (fed : List ℕ) (spot new : Spot) (xs : List ℕ) (i : ℕ) → i < length xs
-    → get_or xs i 0 < 256 → IsFed s d (fed ++ take i xs) spot → Step spot (get_or xs i 0) new
-    → IsFed s d (fed ++ take (i + 1) xs) new
-fed_more s d fed spot new xs i l b is step =
-    let e = ap (λ (z : List ℕ). fed ++ z) (take_more xs i 0 l)
-    ∙ sym (append_assoc fed (take i xs) (get_or xs i 0 ∷ [])) in
-    subst (λ (z : List ℕ). IsFed s d z new) (sym e) (more (get_or xs i 0) b is step)
 
 -- ---- each byte is counted
 
@@ -62,9 +51,8 @@ title_least [] y rest t affix byte e is long =
 title_least (b ∷ front) y rest t affix byte e is long =
     let whole = ap length e in
     let some = ap length is in
-    let heads : b ≡ byte = cc in
-    let same : affix_len (b % 32) ≡ affix_len (byte % 32) = ap (λ (z : ℕ). affix_len (z % 32)) heads in
-    omega (arith, whole, some, same, long, length-append t rest, length-append front y)
+    let heads : byte ≡ b = cc in
+    omega (arith, whole, some, rw heads at long, length-append t rest, length-append front y)
 
 due_by : (spot : Spot) (y : List ℕ) → Titled spot.strict (spot.front ++ y) → title_due spot.front ≤ length y
 due_by spot y o =
@@ -72,8 +60,7 @@ due_by spot y o =
     title_least spot.front y o.rest o.title a.affix a.byte o.is a.is a.long
 
 title_lacks : (front : List ℕ) → length front ≤ affix_len (slice_index front 0 % 32) → 1 ≤ title_due front
-title_lacks [] short = omega arith
-title_lacks (b ∷ front) short = omega (arith, short)
+title_lacks front short = grind (arith, nat_tests)
 
 body_by : {len : ℕ} {P Then : List ℕ → Type 0} {y : List ℕ} → BodyThen len P Then y → len ≤ length y
 body_by o = let whole = ap length o.is in omega (arith, o.long, whole, length-append o.body o.rest)

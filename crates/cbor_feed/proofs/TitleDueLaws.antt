@@ -1,5 +1,7 @@
 -- What is due behind a whole title, wherever it stands.
-use Rattle.std.proofs.Common.{◌≡◌, ℕ, zero, suc, Bool, true, false, List, [], ◌∷◌, ◌++◌, length, Some, None, refl}
+use Rattle.std.proofs.Common.{◌≡◌, ℕ, zero, suc, Bool, true, false, List, [], ◌∷◌, ◌++◌, length, Some, None, arith}
+use Rattle.std.proofs.Common.{refl}
+use Rattle.std.proofs.lemmas.Bool.Decides.{nat_tests}
 use Rattle.ciborium_ll_grammar.specs.declared.hdr.Header.{Header}
 use Rattle.ciborium_ll_grammar.specs.declared.hdr.Header.TheVariants as h
 use Rattle.ciborium_ll_grammar.specs.Title.{IsTitle}
@@ -12,7 +14,7 @@ use Rattle.cbor_feed.specs.declared.phase.Within.{Within}
 use Rattle.cbor_feed.specs.declared.phase.Within.TheVariants as w
 use Rattle.cbor_feed.specs.Spots.{Spot, bytes_due, bytes_entered, text_due, text_entered, open_entered, entered}
 use Rattle.cbor_feed.specs.Spots.{string_closed, string_open}
-use Rattle.cbor_feed.proofs.Waiting.{Behind, Ends, EndsString, EndsStrings, BodyThen, TitleDue, Waits}
+use Rattle.cbor_feed.proofs.Waiting.{Behind, Ends, EndsStrings, BodyThen, TitleDue, Waits}
 use Rattle.cbor_feed.proofs.LevelLaws.{Same, settles}
 use Rattle.cbor_feed.proofs.StringLaws.{bytes_body, text_body, First, breaks, whole, opens, first_of, body_back}
 use Rattle.cbor_feed.proofs.StringLaws.{open_back, end_back}
@@ -36,8 +38,7 @@ kind_enters : (k : Kind) (n len : ℕ) (spot : Spot)
     → (kind_entered k (kind_header k (Some len)) n spot ≡ kind_due k len spot)
     × (kind_entered k (kind_header k None) n spot ≡ open_entered spot.strict (kind_within k (suc n)) spot)
     × (kind_entered k h.Break n spot ≡ string_closed (kind_within k) n spot)
-kind_enters Bytes n len spot = (refl, refl, refl)
-kind_enters Text n len spot = (refl, refl, refl)
+kind_enters k n len spot = grind (arith, nat_tests)
 
 itself : (A : Type 0) → Same A A
 itself A = (λ a. a, λ a. a)
@@ -97,33 +98,24 @@ module _ (k : Kind) (n : ℕ) (spot : Spot) (y : List ℕ) (clear : spot.front �
       rw (o.1, (kind_enters k n 0 spot).1) ((opened spot.strict (kind_within k (suc n)) spot y).0
       (any, (open_same spot y clear k (suc n)).0 (rw o.2 behind)))
 
-  whole_off : (len : ℕ) → IsTitle t (kind_header k (Some len)) → IsTakenTitle spot.strict t (kind_header k (Some len))
-      → Waits (kind_due k len spot) y → EndsString spot.strict k Inner (t ++ y)
-  whole_off len p g waits = body_back spot.strict k Inner t y len p g ((body_same spot y clear k n len inside).1 waits)
-
-  open_off : IsTitle t (kind_header k None) → Waits (open_entered spot.strict (kind_within k (suc n)) spot) y
-      → EndsString spot.strict k Inner (t ++ y)
-  open_off p waits =
-      let o = (opened spot.strict (kind_within k (suc n)) spot y).1 waits in
-      open_back spot.strict k Inner t y o.0 p ((open_same spot y clear k (suc n)).1 o.1)
-
-  break_off : IsTitle t h.Break → Waits (string_closed (kind_within k) n spot) y
-      → EndsString spot.strict k Inner (t ++ y)
-  break_off p waits = end_back spot.strict k Inner t y (break_bytes t h.Break p refl)
-      ((closes spot y clear k n).1 waits)
-
 string_off : (k : Kind) (n : ℕ) (spot : Spot) (t y : List ℕ) (x : Header) → spot.front ≡ []
     → spot.within ≡ kind_within k n → IsTitle t x → IsTakenTitle spot.strict t x → Waits (kind_entered k x n spot) y
     → EndsStrings spot.strict k n (Ends spot.strict spot.depth spot.levels) (t ++ y)
 string_off Bytes n spot t y (h.Bytes (Some len)) clear inside p g waits =
-    whole_off Bytes n spot y clear inside t len p g waits
-string_off Bytes n spot t y (h.Bytes None) clear inside p g waits = open_off Bytes n spot y clear inside t p waits
-string_off Bytes n spot t y h.Break clear inside p g waits = break_off Bytes n spot y clear inside t p waits
+    body_back _ Bytes _ t y len p g ((body_same spot y clear Bytes n len inside).1 waits)
+string_off Bytes n spot t y (h.Bytes None) clear inside p g waits =
+    let o = (opened _ (w.Bytes (suc n)) spot y).1 waits in
+    open_back _ Bytes _ t y o.0 p ((open_same spot y clear Bytes (suc n)).1 o.1)
+string_off Bytes n spot t y h.Break clear inside p g waits =
+    end_back _ Bytes _ t y (break_bytes t h.Break p refl) ((closes spot y clear Bytes n).1 waits)
 string_off Bytes n spot t y x clear inside p g waits = absurd waits
 string_off Text n spot t y (h.Text (Some len)) clear inside p g waits =
-    whole_off Text n spot y clear inside t len p g waits
-string_off Text n spot t y (h.Text None) clear inside p g waits = open_off Text n spot y clear inside t p waits
-string_off Text n spot t y h.Break clear inside p g waits = break_off Text n spot y clear inside t p waits
+    body_back _ Text _ t y len p g ((body_same spot y clear Text n len inside).1 waits)
+string_off Text n spot t y (h.Text None) clear inside p g waits =
+    let o = (opened _ (w.Text (suc n)) spot y).1 waits in
+    open_back _ Text _ t y o.0 p ((open_same spot y clear Text (suc n)).1 o.1)
+string_off Text n spot t y h.Break clear inside p g waits =
+    end_back _ Text _ t y (break_bytes t h.Break p refl) ((closes spot y clear Text n).1 waits)
 string_off Text n spot t y x clear inside p g waits = absurd waits
 
 string_title : (k : Kind) (n : ℕ) (spot : Spot) (t y : List ℕ) (x : Header) → spot.front ≡ []

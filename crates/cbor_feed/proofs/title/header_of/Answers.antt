@@ -12,8 +12,7 @@ returns-then-is_longer-clause-none c =
 pub returns-clause-taken : goal.returns-clause-taken
 returns-clause-taken c =
     some_taken c.header.result c.args.strict c.in_ok-title.title.major c.in_ok-title.title.minor c.args.bytes.now
-    (search rules) (search rules)
-    (λ strict. elim c.else-strict.branch [
+    (search rules) (search rules) (λ strict. elim c.else-strict.branch [
       | else-strict-via-then-strict+else-is_longer w ↦ search rules
       | else-strict-via-else-strict w ↦ (let no = w.if-strict.false in absurd cc)
     ]) c.in_ok-title.ensures.bytes c.header.ensures.some
