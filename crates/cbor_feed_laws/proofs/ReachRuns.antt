@@ -1,6 +1,7 @@
 -- A run over a beginning of an item, up to what is due behind it.
 use Rattle.std.proofs.Common.{◌≡◌, ℕ, suc, Bool, true, false, List, [], ◌∷◌, ◌++◌, length, None, refl, ap, ◌∙◌, arith}
 use Rattle.std.proofs.Common.{append_assoc, length-append}
+use Rattle.std.proofs.lemmas.Bool.Decides.{nat_tests}
 use Rattle.ciborium_ll_grammar.specs.declared.hdr.Header.TheVariants as h
 use Rattle.ciborium_ll_grammar.specs.Title.{IsTitle, shortest_title}
 use Rattle.ciborium_ll_grammar.specs.Strings.{Kind, Bytes, Text, kind_header}
@@ -58,8 +59,7 @@ module _ (fault : Fault) (all : ℕ) (s : Bool) where
   first_open Text d gs t rest q g o = taken_on (h.Text None) t rest q g o
 
 open_taken : (k : Kind) → IsTakenTitle true (shortest_title (kind_header k None)) (kind_header k None)
-open_taken Bytes = record { shortest = refl; meant = λ small. small }
-open_taken Text = record { shortest = refl; meant = λ small. small }
+open_taken k = grind (arith, nat_tests)
 
 module _ (fault : Fault) (all : ℕ) (k : Kind) (d : ℕ) (gs : List Level) where
   -- opens and strings behind an open, from where one may stand

@@ -71,22 +71,9 @@ on_to {fault} {due = due} to' same o = record {
 
 -- ---- spots with no part of a title
 
--- with this due
-abbrev pub with : Phase → Bool → Within → ℕ → List Level → ℕ → ℕ → Spot
-with phase s i d gs a n = record {
-  strict = s;
-  phase = phase;
-  front = [];
-  within = i;
-  depth = d;
-  levels = gs;
-  place = a;
-  offset = n;
-}
-
 -- a title is due
 abbrev pub at : Bool → Within → ℕ → List Level → ℕ → ℕ → Spot
-at s i d gs a n = with p.Title s i d gs a n
+at s i d gs a n = record (start s d) { within = i; levels = gs; place = a; offset = n }
 
 -- a string of the kind is open, and so many more
 abbrev pub inside : Kind → ℕ → Within
