@@ -125,13 +125,8 @@ pub plain_leads : (xs front : List ℕ) (n offset : ℕ) (s new : Spot) → IsPl
     → s.phase ≡ p.Title → length s.front ≡ 0 → s.within ≡ w.Nothing → length front ≡ 0 → offset ≡ s.offset + n
     → new ≡ item_done (record s { front = front; place = s.offset; offset = offset }) → Leads s (take n xs) new
 plain_leads xs front n offset s new plain le at clear in_none none counts e =
-    let behind : offset ≡ s.offset + length (take n xs) =
-    counts ∙ ap (λ (z : ℕ). s.offset + z) (sym (length-take-le n xs le)) in
-    subst (Leads s (take n xs))
-    (sym (e ∙ (ap (λ (z : List ℕ). item_done (record s { front = z; place = s.offset; offset = offset }))
-    (length_zero front none)
-    ∙ ap (λ (z : ℕ). item_done (record s { front = []; place = s.offset; offset = z })) behind)))
-    (plain s at clear in_none refl)
+    let behind : offset ≡ s.offset + length (take n xs) = omega (arith, counts, length-take-le n xs le) in
+    rw (e, length_zero front none, behind) (plain s at clear in_none refl)
 
 -- ---- a title and the body behind it
 

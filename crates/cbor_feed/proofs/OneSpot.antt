@@ -4,12 +4,10 @@ use Rattle.std.proofs.Common.{length-append}
 use Rattle.std.proofs.lemmas.Bool.Decides.{nat_tests}
 use Rattle.ciborium_ll_grammar.specs.declared.hdr.Header.{Header}
 use Rattle.ciborium_ll_grammar.specs.Title.{IsTitle, IsCutTitle}
-use Rattle.ciborium_ll_grammar.specs.Items.{IsTakenTitle}
 use Rattle.ciborium_ll_grammar.proofs.TitleLaws.{one_title}
 use Rattle.ciborium_ll_grammar.proofs.AffixLaws.{title_not_cut}
 use Rattle.cbor_feed.specs.declared.phase.Phase.{Phase}
 use Rattle.cbor_feed.specs.declared.phase.Phase.TheVariants as p
-use Rattle.cbor_feed.specs.declared.phase.Fault.{Fault}
 use Rattle.cbor_feed.specs.Spots.{Spot, at_phase}
 use Rattle.cbor_feed.specs.Steps.{SomeTaken, NoneTaken, with_byte, titled, TitleStep, cut, early, whole, none, StepIn}
 use Rattle.cbor_feed.specs.Steps.{Step, IsFed, fresh, more}
@@ -22,37 +20,25 @@ some_none s front some never =
     let t = front ++ some.0 in
     never some.0 t [] some.1 some.2 some.3 (sym (append-nil t))
 
-whole_none : (spot : Spot) (x : Header) → IsTitle spot.front x → IsTakenTitle spot.strict spot.front x
-    → NoneTaken spot.strict spot.front → ⊥
-whole_none spot x q g never = never [] spot.front [] x q g refl
-
--- what may follow a title that isn't whole is of no use to one that is at fault by then
-module _ (spot : Spot) (some : SomeTaken spot.strict spot.front) where
-  never_early : (fault : Fault) → ((behind : List ℕ) (x : Header) (fault : Fault) → IsTitle (spot.front ++ behind) x
-      → (titled x spot).phase ≡ p.Faulted fault → ⊥)
-      → ((behind : List ℕ) (x : Header) → IsTitle (spot.front ++ behind) x → (titled x spot).phase ≡ p.Faulted fault)
-      → ⊥
-  never_early fault may all = may some.0 some.1 fault some.2 (all some.0 some.1 some.2)
-
-title_one : (spot a b : Spot) → TitleStep spot a → TitleStep spot b → a ≡ b
-title_one spot a b (cut c some may) (cut d some' may') = refl
-title_one spot a b (cut c some may) (early fault d some' all) = absurd (never_early spot some fault may all)
-title_one spot a b (cut c some may) (whole x q g) = absurd (whole_cut spot x q c)
-title_one spot a b (cut c some may) (none never) = absurd (some_none spot.strict spot.front some never)
-title_one spot a b (early fault d some all) (cut c some' may) = absurd (never_early spot some fault may all)
-title_one spot a b (early fault c some all) (early fault' d some' all') =
-    let one = sym (all some.0 some.1 some.2) ∙ all' some.0 some.1 some.2 in ap (λ (z : Phase). at_phase z spot) one
-title_one spot a b (early fault c some all) (whole x q g) = absurd (whole_cut spot x q c)
-title_one spot a b (early fault c some all) (none never) = absurd (some_none spot.strict spot.front some never)
-title_one spot a b (whole x q g) (cut c some may) = absurd (whole_cut spot x q c)
-title_one spot a b (whole x q g) (early fault c some all) = absurd (whole_cut spot x q c)
-title_one spot a b (whole x q g) (whole x' q' g') =
-    ap (λ (z : Header). titled z spot) (one_title spot.front spot.front [] [] x x' q q' refl).1
-title_one spot a b (whole x q g) (none never) = absurd (whole_none spot x q g never)
-title_one spot a b (none never) (cut c some may) = absurd (some_none spot.strict spot.front some never)
-title_one spot a b (none never) (early fault c some all) = absurd (some_none spot.strict spot.front some never)
-title_one spot a b (none never) (whole x q g) = absurd (whole_none spot x q g never)
-title_one spot a b (none never) (none never') = refl
+title_one : (u a b : Spot) → TitleStep u a → TitleStep u b → a ≡ b
+title_one u a b (cut c o may) (cut d o' may') = refl
+title_one u a b (cut c o may) (early y d o' all) = absurd (may o.0 o.1 y o.2 (all o.0 o.1 o.2))
+title_one u a b (cut c o may) (whole x q g) = absurd (whole_cut u x q c)
+title_one u a b (cut c o may) (none never) = absurd (some_none u.strict u.front o never)
+title_one u a b (early y d o all) (cut c o' may) = absurd (may o.0 o.1 y o.2 (all o.0 o.1 o.2))
+title_one u a b (early y c o all) (early y' d o' all') =
+    ap (λ (z : Phase). at_phase z u) (sym (all o.0 o.1 o.2) ∙ all' o.0 o.1 o.2)
+title_one u a b (early y c o all) (whole x q g) = absurd (whole_cut u x q c)
+title_one u a b (early y c o all) (none never) = absurd (some_none u.strict u.front o never)
+title_one u a b (whole x q g) (cut c o may) = absurd (whole_cut u x q c)
+title_one u a b (whole x q g) (early y c o all) = absurd (whole_cut u x q c)
+title_one u a b (whole x q g) (whole x' q' g') =
+    ap (λ (z : Header). titled z u) (one_title u.front u.front [] [] x x' q q' refl).1
+title_one u a b (whole x q g) (none never) = absurd (never [] u.front [] x q g refl)
+title_one u a b (none never) (cut c o may) = absurd (some_none u.strict u.front o never)
+title_one u a b (none never) (early y c o all) = absurd (some_none u.strict u.front o never)
+title_one u a b (none never) (whole x q g) = absurd (never [] u.front [] x q g refl)
+title_one u a b (none never) (none never') = refl
 
 step_one : (phase : Phase) (spot a b : Spot) (byte : ℕ) → StepIn phase spot byte a → StepIn phase spot byte b → a ≡ b
 step_one p.Title spot a b byte f g = title_one (with_byte byte spot) a b f g

@@ -56,10 +56,10 @@ span_tells first len text_len both =
 pub span_says : (first len text_len : ℕ) → first < 256 → len ≡ get_or LENS first 0
     → text_len ≡ get_or TEXT_LENS first 0 → IsSpan first len text_len × (0 < len → text_len < len)
 span_says first len text_len l len_is text_len_is =
+    let passes = agree_below_at (λ (b : ℕ). span_test b (get_or LENS b 0) (get_or TEXT_LENS b 0)) (λ (b : ℕ). true)
+    256 first refl l in
     span_tells first len text_len (ap (λ (z : ℕ). span_test first z text_len) len_is
-    ∙ (ap (λ (z : ℕ). span_test first (get_or LENS first 0) z) text_len_is
-    ∙ agree_below_at (λ (b : ℕ). span_test b (get_or LENS b 0) (get_or TEXT_LENS b 0)) (λ (b : ℕ). true) 256 first refl
-    l))
+    ∙ (ap (λ (z : ℕ). span_test first (get_or LENS first 0) z) text_len_is ∙ passes))
 
 -- ---- titles of one and of two bytes
 

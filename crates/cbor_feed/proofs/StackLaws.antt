@@ -14,13 +14,14 @@ use Rattle.std.proofs.Math.Nat.{eq-or-lt_of_le}
 use Rattle.std.proofs.lemmas.Bool.Decides.{nat_tests}
 
 -- only so many numbers count
-pub same_levels : (n m : ℕ) (kinds counts kinds' counts' : List ℕ) → n ≤ m
-    → ((i : ℕ) → i < m → get_or kinds' i 0 ≡ get_or kinds i 0)
-    → ((i : ℕ) → i < m → get_or counts' i 0 ≡ get_or counts i 0) → levels_in n kinds' counts' ≡ levels_in n kinds counts
-same_levels zero m kinds counts kinds' counts' le k c = refl
-same_levels (suc n) m kinds counts kinds' counts' le k c =
-    let below = same_levels n m kinds counts kinds' counts' (omega (arith, le)) k c in
-    cc (k n (omega (arith, le)), c n (omega (arith, le)), below)
+pub same_levels : (n : ℕ) (kinds counts kinds' counts' : List ℕ)
+    → ((i : ℕ) → i < n → get_or kinds' i 0 ≡ get_or kinds i 0)
+    → ((i : ℕ) → i < n → get_or counts' i 0 ≡ get_or counts i 0) → levels_in n kinds' counts' ≡ levels_in n kinds counts
+same_levels zero kinds counts kinds' counts' k c = refl
+same_levels (suc n) kinds counts kinds' counts' k c =
+    let below = same_levels n kinds counts kinds' counts' (λ i less. k i (omega (arith, less)))
+    (λ i less. c i (omega (arith, less))) in
+    cc (k n (omega arith), c n (omega arith), below)
 
 -- one more nest
 pub levels_push : (n m : ℕ) (kinds counts : List ℕ) (kind count : ℕ) (level : Level) (levels : List Level)
@@ -30,8 +31,8 @@ pub levels_push : (n m : ℕ) (kinds counts : List ℕ) (kind count : ℕ) (leve
 levels_push n m kinds counts kind count level levels ltk ltc e is below =
     let other : (xs : List ℕ) (x i : ℕ) → i < n → get_or (set xs n x) i 0 ≡ get_or xs i 0 = λ xs x i less.
     let ne : i ≢ n = omega (arith, less) in get_or-set_other xs n i x 0 ne in
-    let f = same_levels n n kinds counts (set kinds n kind) (set counts n count) (omega arith) (other kinds kind)
-    (other counts count) in
+    let f = same_levels n kinds counts (set kinds n kind) (set counts n count) (other kinds kind) (other counts count)
+    in
     ap (λ (z : ℕ). levels_in z (set kinds n kind) (set counts n count)) (e ∙ add-one n)
     ∙ cc (get_or-set_same kinds n kind 0 ltk, get_or-set_same counts n count 0 ltc, f, is, below)
 
