@@ -2,6 +2,7 @@
 use Rattle.std.proofs.Common.{◌≡◌, ℕ, ◌+◌, ◌/◌, ◌%◌, ◌<◌, ◌≤◌, List, [], ◌∷◌, ◌++◌, length, take, slice_index, refl}
 use Rattle.std.proofs.Common.{sym, ap, subst, ◌∙◌, arith, append_assoc, None, length-append, zero, suc, ◌-◌, Bool, true}
 use Rattle.std.proofs.Common.{false, length-drop, drop, Some, inl, inr, add-zero}
+use Rattle.std.proofs.lemmas.Bool.Decides.{nat_tests}
 use Rattle.std.proofs.lemmas.List.{get_or-take, length-take-le, get_or-drop}
 use Rattle.ciborium_ll_text.proofs.Lists.{Below, below_rest, below_take, length_zero}
 use Rattle.ciborium_ll_grammar.specs.declared.hdr.Header.{Header}
@@ -111,10 +112,7 @@ abbrev pub due : Spot → Spot
 due s = record s { phase = p.Title; front = []; within = w.Nothing }
 
 due_is : (s : Spot) → s.phase ≡ p.Title → length s.front ≡ 0 → s.within ≡ w.Nothing → s ≡ due s
-due_is s at clear in_none =
-    ap (λ (z : Phase). record s { phase = z }) at
-    ∙ (ap (λ (z : List ℕ). record s { phase = p.Title; front = z }) (length_zero s.front clear)
-    ∙ ap (λ (z : Within). record s { phase = p.Title; front = []; within = z }) in_none)
+due_is s at clear in_none = let none = length_zero s.front clear in grind (arith, nat_tests)
 
 pub from_due : {bytes : List ℕ} (s : Spot) → s.phase ≡ p.Title → length s.front ≡ 0 → s.within ≡ w.Nothing
     → (To : Spot → Spot) → Leads (due s) bytes (To (due s)) → Leads s bytes (To s)

@@ -65,8 +65,7 @@ levels_none (suc m) n kinds counts lt is =
 
 -- where there are levels, they are these
 pub some_levels : (known : Option (List Level)) → IsSome known → known ≡ Some (levels_of known)
-some_levels (Some levels) some = refl
-some_levels None some = absurd (let none = some in cc)
+some_levels known some = grind (arith, nat_tests)
 
 pub is_some : (known : Option (List Level)) (levels : List Level) → known ≡ Some levels → IsSome known
 is_some known levels is = rw is refl
@@ -82,9 +81,7 @@ front_read numbers front behind n i same long less =
 
 settled_items : (d count : ℕ) (rest : List Level) (s : Spot) → 0 < count
     → settled d (l.Items count ∷ rest) s ≡ item_due d (l.Items (count - 1) ∷ rest) s
-settled_items d zero rest s some = absurd (omega arith)
-settled_items d (suc c) rest s some = let less : c ≡ suc c - 1 = omega arith in
-    ap (λ (z : ℕ). item_due d (l.Items z ∷ rest) s) less
+settled_items d count rest s some = grind (arith, nat_tests)
 
 module _ (m n : ℕ) (kinds counts : List ℕ) (levels : List Level) (e : m ≡ n + 1) (ltk : n < length kinds)
     (ltc : n < length counts) (items : get_or kinds n 0 ≡ 0) (is : levels_in m kinds counts ≡ Some levels) where

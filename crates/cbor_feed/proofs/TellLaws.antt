@@ -25,10 +25,8 @@ fed_fresh s d spot e = subst (IsFed s d []) (sym e) fresh
 -- ---- each byte is counted
 
 title_counts : (spot new : Spot) → TitleStep spot new → new.offset ≡ spot.offset
-title_counts spot new (cut c some may) = refl
-title_counts spot new (early fault c some all) = refl
 title_counts spot new (whole x q g) = (entered_kept spot.within x (record spot { front = [] })).1
-title_counts spot new (none r) = refl
+title_counts spot new step = grind (arith, nat_tests)
 
 pub step_counts : (phase : Phase) (spot new : Spot) (b : ℕ) → StepIn phase spot b new → new.offset ≡ spot.offset + 1
 step_counts p.Title spot new b step = title_counts (with_byte b spot) new step

@@ -46,8 +46,7 @@ itself A = (λ a. a, λ a. a)
 -- where the shortest spelling alone is taken nothing goes on behind an open within another one
 opened : (s : Bool) (i : Within) (spot : Spot) (y : List ℕ)
     → Same ((s ≡ false) × Waits (string_open i spot) y) (Waits (open_entered s i spot) y)
-opened true i spot y = (λ o. let no = o.0 in absurd cc, λ waits. absurd waits)
-opened false i spot y = (λ o. o.1, λ waits. (refl, waits))
+opened s i spot y = grind (arith, nat_tests)
 
 sound_as : {len : ℕ} {P Q Then : List ℕ → Type 0} {y : List ℕ} → BodyThen len P Then y → ((b : List ℕ) → P b → Q b)
     → BodyThen len Q Then y
