@@ -55,8 +55,7 @@ run_leads s rest level all (suc count) left last bytes is (more {last = place} {
 
 stack_of : (levels : List Level) (level : Level) (left : ℕ) → Some level ≡ innermost levels
     → counted_behind level ≡ Some left → levels ≡ lowered left level ∷ others levels
-stack_of [] level left e all = absurd cc
-stack_of (first ∷ rest) level left e all = rw (lowered_same level left all) (cc)
+stack_of levels level left e all = let same = lowered_same level left all in grind (arith, nat_tests)
 
 -- with other nests, at another place
 abbrev moved : ℕ → List Level → ℕ → ℕ → Spot → Spot

@@ -1,6 +1,7 @@
 -- What a byte leaves due.
 use Rattle.std.proofs.Common.{◌≡◌, ℕ, zero, suc, Bool, true, false, List, [], ◌∷◌, ◌++◌, length, None, refl, sym, ap}
 use Rattle.std.proofs.Common.{subst, ◌∙◌, inl, inr, arith, append_assoc, append-nil}
+use Rattle.std.proofs.lemmas.Bool.Decides.{nat_tests}
 use Rattle.ciborium_ll_grammar.specs.declared.hdr.Header.{Header}
 use Rattle.ciborium_ll_grammar.specs.declared.hdr.Header.TheVariants as h
 use Rattle.ciborium_ll_grammar.specs.Title.{IsTitle, IsCutTitle}
@@ -44,8 +45,7 @@ item_titled s d item rest y (more_items {title = t} {rest = r} q g c no_items) e
 
 -- the break has one title
 break_taken : (s : Bool) → IsTakenTitle s (0xff ∷ []) h.Break
-break_taken true = record { shortest = refl; meant = λ small. small }
-break_taken false = tt
+break_taken s = grind (arith, nat_tests)
 
 break_titled : (s : Bool) (rest y : List ℕ) → y ≡ 0xff ∷ rest → Titled s y
 break_titled s rest y e =
@@ -58,8 +58,8 @@ first_titled s k Then y (opens t far any q behind e) =
     record { title = t; header = kind_header k None; rest = far; is_title = q; taken = rw any tt; is = e }
 
 breaks_titled : (s : Bool) (d : ℕ) (levels : List Level) (y : List ℕ) → Breaks s d levels y → Titled s y
-breaks_titled s d [] y o = absurd o
 breaks_titled s d (level ∷ levels) y o = break_titled s o.rest y o.is
+breaks_titled s d [] y o = absurd o
 
 pub due_titled : (s : Bool) (i : Within) (d : ℕ) (levels : List Level) (y : List ℕ) → TitleDue s i d levels y
     → Titled s y

@@ -1,6 +1,7 @@
 -- What an open string takes behind a title.
 use Rattle.std.proofs.Common.{◌≡◌, ℕ, zero, suc, Bool, true, false, List, [], ◌∷◌, ◌++◌, length, Some, None, refl, ap}
-use Rattle.std.proofs.Common.{◌∙◌, append_assoc}
+use Rattle.std.proofs.Common.{◌∙◌, arith, append_assoc}
+use Rattle.std.proofs.lemmas.Bool.Decides.{nat_tests}
 use Rattle.ciborium_ll_grammar.specs.Title.{IsTitle}
 use Rattle.ciborium_ll_grammar.specs.Strings.{Kind, kind_header, AreStrings, none, more, IsWritable}
 use Rattle.ciborium_ll_grammar.specs.Strings.IsString.{definite, indefinite}
@@ -42,15 +43,13 @@ text_body (suc len) spot y clear = (λ b. b, λ b. b)
 -- ---- an open string
 
 pub taken_none : (s : Bool) (k : Kind) → AreTakenStrings s k [] []
-taken_none true k = no_flat
-taken_none false k = tt
+taken_none s k = grind (arith, nat_tests, no_flat)
 
 -- one string of a definite length more is taken
 taken_more : (s : Bool) (k : Kind) (t b rest : List ℕ) (bs : List (List ℕ))
     → IsTitle t (kind_header k (Some (length b))) → IsTakenTitle s t (kind_header k (Some (length b)))
     → AreTakenStrings s k rest bs → AreTakenStrings s k ((t ++ b) ++ rest) (b ∷ bs)
-taken_more true k t b rest bs p g others = more_flat p g others
-taken_more false k t b rest bs p g others = tt
+taken_more s k t b rest bs p g others = grind (arith, nat_tests, more_flat)
 
 flat_strings : {k : Kind} {u : List ℕ} {bs : List (List ℕ)} → AreFlat k u bs → AreStrings k u bs
 flat_strings no_flat = none

@@ -8,7 +8,7 @@ use Rattle.ciborium_ll_grammar.proofs.AffixLaws.{announced}
 use Rattle.cbor_feed.specs.declared.phase.Phase.{Phase}
 use Rattle.cbor_feed.specs.declared.phase.Phase.TheVariants as p
 use Rattle.cbor_feed.specs.Spots.{Spot}
-use Rattle.cbor_feed.specs.Steps.{start, with_byte, TitleStep, cut, early, whole, none, StepIn, IsFed, fresh, more}
+use Rattle.cbor_feed.specs.Steps.{start, with_byte, TitleStep, whole, StepIn, IsFed, fresh, more}
 use Rattle.cbor_feed.specs.Telling.{has_left, is_due, title_due, progress_in, progress_of, Tells}
 use Rattle.cbor_feed.specs.declared.progress.Progress.{Progress}
 use Rattle.cbor_feed.specs.declared.progress.Progress.TheVariants as r

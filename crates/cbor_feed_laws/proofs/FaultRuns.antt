@@ -34,10 +34,8 @@ use Rattle.cbor_feed_laws.specs.SameFaults.{HasLongNest}
 module _ (fault : Fault) (s : Bool) (i : Within) (d : ℕ) (gs : List Level) (a n : ℕ) where
   refused_step : (b : ℕ) (next : Spot) (due : List ℕ) → BeginsRefused (b ∷ [])
       → TitleStep (with_byte b (at s i d gs a n)) next → Runs fault next due → fault ≡ f.Syntax n
-  refused_step b next due bad (cut is_cut some may) runs =
-      absurd (refused_begins_none b some.0 some.1 bad some.2)
-  refused_step b next due bad (early other is_cut some all) runs =
-      absurd (refused_begins_none b some.0 some.1 bad some.2)
+  refused_step b next due bad (cut is_cut o may) runs = absurd (refused_begins_none b o.0 o.1 bad o.2)
+  refused_step b next due bad (early other is_cut o all) runs = absurd (refused_begins_none b o.0 o.1 bad o.2)
   refused_step b next due bad (whole x q g) runs = absurd (refused_begins_none b [] x bad q)
   refused_step b next due bad (none never) runs = fault_of fault (f.Syntax n) next due refl runs
 

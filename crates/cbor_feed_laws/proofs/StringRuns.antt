@@ -106,8 +106,7 @@ module _ (fault : Fault) (s : Bool) (i : Within) (d : ℕ) (gs : List Level) (a 
 
 -- the break has one title
 pub break_taken : (s : Bool) → IsTakenTitle s (0xff ∷ []) h.Break
-break_taken true = record { shortest = refl; meant = λ small. small }
-break_taken false = tt
+break_taken s = grind (arith, nat_tests)
 
 module _ (fault : Fault) (all : ℕ) (s : Bool) (d : ℕ) (gs : List Level) where
   -- within so many open strings and one more
