@@ -101,7 +101,7 @@ module _ (s : Spot) (level : Level) (left : ℕ) (at : s.phase ≡ p.Title) (cle
       (rw (long, add-one s.depth) (leads_more _ m _ xs item
       (run_leads s rest level left count 0 place xs all so_far) (subst (Leads m item) to (one m refl refl refl refl))))
 
--- ---- the title
+-- ---- the title of a nest
 
 below_one : (b : ℕ) → b < 256 → Below (b ∷ [])
 below_one b byte i less = grind (arith, nat_tests)

@@ -31,8 +31,7 @@ pub levels_push : (n m : ℕ) (kinds counts : List ℕ) (kind count : ℕ) (leve
 levels_push n m kinds counts kind count level levels ltk ltc e is below =
     let other : (xs : List ℕ) (x i : ℕ) → i < n → get_or (set xs n x) i 0 ≡ get_or xs i 0 = λ xs x i less.
     let ne : i ≢ n = omega (arith, less) in get_or-set_other xs n i x 0 ne in
-    let f = same_levels n kinds counts (set kinds n kind) (set counts n count) (other kinds kind) (other counts count)
-    in
+    let f = same_levels n kinds counts _ _ (other kinds kind) (other counts count) in
     ap (λ (z : ℕ). levels_in z (set kinds n kind) (set counts n count)) (e ∙ add-one n)
     ∙ cc (get_or-set_same kinds n kind 0 ltk, get_or-set_same counts n count 0 ltc, f, is, below)
 

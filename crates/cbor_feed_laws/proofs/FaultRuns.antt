@@ -100,6 +100,8 @@ module _ (fault : Fault) (s : Bool) (gs : List Level) (a n : ℕ) where
       → Faults (f.Break a) (broken fs (at s w.Nothing d gs a n))
   break_early d fs bad = grind (arith, nat_tests)
 
+-- ---- the title of a nest that isn't the shortest, where no level is left: the fault is known with its first byte
+
 not_simple : (x : Header) → IsNest x → IsSmallSimple x → ⊥
 not_simple x nest small = grind (arith, nat_tests)
 
@@ -159,6 +161,5 @@ module _ (fault : Fault) (s : Bool) (gs : List Level) (a n : ℕ) where
 pub long_named : (fault : Fault) (s : Bool) (depth : ℕ) (due : List ℕ) → FromStart fault s depth due
     → (met : HasLongNest s depth due) → fault ≡ f.Deep (length met.before)
 long_named fault s depth due runs met =
-    let o = item_reached fault s depth met.before (met.title ++ met.rest) due 0 met.closable met.item_due runs met.is in
-    long_deep fault s o.levels o.place (length met.before) met.title met.rest met.header met.is_title met.is_nest
-    met.untaken o.runs
+    let o = item_reached _ _ _ _ (met.title ++ met.rest) due 0 met.closable met.item_due runs met.is in
+    long_deep _ _ _ _ _ met.title met.rest met.header met.is_title met.is_nest met.untaken o.runs

@@ -59,17 +59,14 @@ module _ (fault : Fault) (s : Bool) (depth : ℕ) (due : List ℕ) (runs : FromS
   text_named ahead Bytes len start is_text reach e none = absurd cc
   text_named ahead Text len start is_text (at_body {bytes = b} {title = t} k reach q taken) e none =
       let o = due_reached fault s depth (t ++ ahead) due reach runs (e ∙ append_assoc b t ahead) in
+      let on = taken_run _ _ _ _ _ _ _ (h.Text (Some len)) t ahead q taken o.runs in
       let m = length b + length t in
-      let on = taken_run fault s w.Nothing o.left o.levels o.place (length b) (h.Text (Some len)) t ahead q taken o.runs
-      in
-      let named = no_text fault s w.Nothing o.left o.levels (m - title_len (h.Text (Some len))) len ahead m on none in
-      rw (length-append b t) named
+      rw (length-append b t) (no_text fault s w.Nothing o.left o.levels (m - title_len (h.Text (Some len))) len ahead m
+      on none)
   text_named ahead Text len start is_text (at_piece {bytes = b} {title = t} reach q taken) e none =
       let o = string_reached fault s depth (t ++ ahead) due reach runs (e ∙ append_assoc b t ahead) in
-      let n = length b in
-      let on = taken_run fault s (w.Text o.0) o.1.left o.1.levels o.1.place n (h.Text (Some len)) t ahead q taken
-      o.1.runs in
-      no_text fault s (w.Text o.0) o.1.left o.1.levels n len ahead (n + length t) on none
+      let on = taken_run _ _ _ _ _ _ _ (h.Text (Some len)) t ahead q taken o.1.runs in
+      no_text fault s (w.Text o.0) o.1.left o.1.levels (length b) len ahead (length b + length t) on none
 
   -- a row of the faults
   row_named : {before ahead written : List ℕ} {point : Point} {answer : Answer} {consumed : ℕ}
@@ -97,16 +94,14 @@ module _ (fault : Fault) (s : Bool) (depth : ℕ) (due : List ℕ) (runs : FromS
 
   pub break_named : (met : HasEarlyBreak s depth due) → fault ≡ f.Break (length met.before)
   break_named met =
-      let o = item_reached fault s depth met.before (0xff ∷ met.rest) due met.levels false met.item_due runs met.is in
+      let o = item_reached _ _ _ _ (0xff ∷ met.rest) due met.levels false met.item_due runs met.is in
       let n = length met.before in
       fault_of fault (f.Break n) _ met.rest (break_early fault s o.levels n (n + 1) met.levels o.levels o.same)
-      (taken_run fault s w.Nothing met.levels o.levels o.place n h.Break (0xff ∷ []) met.rest break_title
-      (break_taken s) o.runs)
+      (taken_run _ _ _ _ _ _ _ h.Break (0xff ∷ []) met.rest break_title (break_taken s) o.runs)
 
   pub deep_named : (met : HasDeepNest s depth due) → fault ≡ f.Deep (length met.before)
   deep_named met =
-      let o = item_reached fault s depth met.before (met.title ++ met.rest) due 0 met.closable met.item_due runs met.is
-      in
+      let o = item_reached _ _ _ _ (met.title ++ met.rest) due 0 met.closable met.item_due runs met.is in
       let n = length met.before in
       fault_of fault (f.Deep n) _ met.rest (nest_deep fault s o.levels n (n + length met.title) met.header met.is_nest)
-      (taken_run fault s w.Nothing 0 o.levels o.place n met.header met.title met.rest met.is_title met.taken o.runs)
+      (taken_run _ _ _ _ _ _ _ met.header met.title met.rest met.is_title met.taken o.runs)

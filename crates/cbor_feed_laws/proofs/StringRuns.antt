@@ -104,6 +104,8 @@ module _ (fault : Fault) (s : Bool) (i : Within) (d : ℕ) (gs : List Level) (a 
       text_fails len st.Between due n (between_ends len)
       (subst (λ (z : Spot). Runs fault z due) (text_begins len (at s i d gs a n)) runs) never
 
+-- ---- strings within an open one
+
 -- the break has one title
 pub break_taken : (s : Bool) → IsTakenTitle s (0xff ∷ []) h.Break
 break_taken s = grind (arith, nat_tests)
