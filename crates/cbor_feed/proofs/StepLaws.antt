@@ -79,7 +79,7 @@ module _ (spot : Spot) (fault : Fault) (is_cut : IsCutTitle spot.front)
     → (titled x spot).phase ≡ p.Faulted fault) where
   early_none : (y : List ℕ) → TitleDue spot.strict spot.within spot.depth spot.levels (spot.front ++ y) → ⊥
   early_none y due =
-      let o = due_titled spot.strict spot.within spot.depth spot.levels (spot.front ++ y) due in
+      let o = due_titled _ spot.within _ spot.levels _ due in
       elim (cases_lt (length o.title) (length spot.front)) [
         | inl less ↦ (
             let f = front_of_front o.title spot.front o.rest y (sym o.is) (omega (arith, less)) in
@@ -88,8 +88,7 @@ module _ (spot : Spot) (fault : Fault) (is_cut : IsCutTitle spot.front)
         | inr as_long ↦ (
             let f = front_of_front spot.front o.title y o.rest o.is as_long in
             let u : Spot = record spot { front = [] } in
-            let waits = (title_enters spot.within u o.title o.rest o.header refl refl o.is_title o.taken).0
-            (subst (TitleDue spot.strict spot.within spot.depth spot.levels) o.is due) in
+            let waits = (title_enters spot.within u _ o.rest _ refl refl o.is_title o.taken).0 (rw o.is at due) in
             rw (all f.0 o.header (rw f.1 at o.is_title)) at waits
             )
       ]
@@ -101,8 +100,7 @@ title_same spot new (early fault c some all) at y = (λ due. early_none spot fau
 title_same spot new (whole x q g) at y =
     title_enters spot.within (record spot { front = [] }) spot.front y x refl refl q g
 title_same spot new (none never) at y = (
-  λ due.
-      let o = due_titled spot.strict spot.within spot.depth spot.levels (spot.front ++ y) due in
+  λ due. let o = due_titled _ spot.within _ spot.levels _ due in
       never y o.title o.rest o.header o.is_title o.taken o.is,
   λ no. absurd no,
 )

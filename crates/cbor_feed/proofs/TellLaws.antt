@@ -69,7 +69,7 @@ tells_in : (phase : Phase) (s : Bool) (d : ℕ) (fed : List ℕ) (spot : Spot) �
 tells_in p.Title s d fed spot e is waits left short = (
   title_lacks spot.front short,
   fed_goes s d fed spot is (λ fault same. let both = e ∙ same in cc),
-  λ y i. due_by spot y (due_titled spot.strict spot.within spot.depth spot.levels (spot.front ++ y) (waits y i)),
+  λ y i. due_by spot y (due_titled _ spot.within _ spot.levels _ (waits y i)),
 )
 tells_in (p.Bytes zero) s d fed spot e is waits left short = absurd cc
 tells_in (p.Bytes (suc n)) s d fed spot e is waits left short =

@@ -88,13 +88,13 @@ module _ (k : Kind) (n : ℕ) (spot : Spot) (y : List ℕ) (clear : spot.front �
       let o = one_title t (0xff ∷ []) y rest x h.Break p break_title e in
       rw (o.1, (kind_enters k n 0 spot).2) ((closes spot y clear k n).0 (rw o.2 behind))
   string_on x p (whole t' b far q g sound behind e) =
-      let o = one_title t t' y (b ++ far) x (kind_header k (Some (length b))) p q e in
+      let o = one_title t t' y (b ++ far) x _ p q e in
       rw (o.1, (kind_enters k n (length b) spot).0) ((body_same spot y clear k n (length b) inside).0
       (record { body = b; rest = far; long = refl; sound = sound; behind = behind; is = o.2 }))
   string_on x p (opens t' far any q behind e) =
-      let o = one_title t t' y far x (kind_header k None) p q e in
-      rw (o.1, (kind_enters k n 0 spot).1) ((opened spot.strict (kind_within k (suc n)) spot y).0
-      (any, (open_same spot y clear k (suc n)).0 (rw o.2 behind)))
+      let o = one_title t t' y far x _ p q e in
+      let inner = (open_same spot y clear k (suc n)).0 (rw o.2 behind) in
+      rw (o.1, (kind_enters k n 0 spot).1) ((opened _ (kind_within k (suc n)) spot y).0 (any, inner))
 
 string_off : (k : Kind) (n : ℕ) (spot : Spot) (t y : List ℕ) (x : Header) → spot.front ≡ []
     → spot.within ≡ kind_within k n → IsTitle t x → IsTakenTitle spot.strict t x → Waits (kind_entered k x n spot) y
