@@ -1,5 +1,4 @@
 pub mod DueLaws
-mod FlatLaws
 pub mod ItemRuns
 pub mod ItemSteps
 pub mod RemainingLaws
