@@ -164,8 +164,8 @@ module _ (strict : Bool) where
 -- ---- where only the shortest spelling is taken
 
 -- a title in front of the same bytes as a strict one is a strict one
-strict_first : {t w : List ℕ} {x y : Header} (r q : List ℕ) → IsTitle t x → IsTitle w y → IsStrictTitle w y → t ++ r ≡ w ++ q
-    → IsStrictTitle t x
+strict_first : {t w : List ℕ} {x y : Header} (r q : List ℕ) → IsTitle t x → IsTitle w y → IsStrictTitle w y
+    → t ++ r ≡ w ++ q → IsStrictTitle t x
 strict_first {t} {w} {x} {y} r q p p' g e =
     let o = one_title t w r q x y p p' e in
     rw (o.0, o.1) g

@@ -1,5 +1,5 @@
 -- What remains due within a nest says how many items more may stand there, and where a break may.
-use Rattle.std.proofs.Common.{◌≡◌, ℕ, zero, suc, ◌*◌, ◌%◌, ◌==◌, true, false, Some, None, refl, sym, ap, ◌∙◌, arith}
+use Rattle.std.proofs.Common.{◌≡◌, ℕ, suc, ◌*◌, ◌%◌, ◌==◌, true, false, None, sym, ap, ◌∙◌, arith}
 use Rattle.std.proofs.Common.{add-one}
 use Rattle.std.proofs.Math.Nat.{mul-mod_right, mul-add-mod_self_left}
 use Rattle.ciborium_ll_grammar.specs.declared.hdr.Header.{Header}
@@ -25,28 +25,11 @@ odd_pairs n =
 pub takes_more : (x : Header) (count : ℕ) (remaining : Remaining) → IsRemaining x count remaining
     → is_done remaining ≡ false
     → TakesMore x count × (may_close x count ≡ closes remaining)
-takes_more (h.Tag n) count (r.Items (suc m)) is some = (omega (arith, is), refl)
-takes_more (h.Array (Some n)) count (r.Items (suc m)) is some = (omega (arith, is), refl)
-takes_more (h.Map (Some n)) count (r.Pairs (suc m)) is some = (omega (arith, is), refl)
-takes_more (h.Map (Some n)) count (r.Value m) is some = (omega (arith, is), refl)
-takes_more (h.Array None) count r.OpenItems is some = (tt, refl)
-takes_more (h.Map None) count r.OpenPairs is some = (tt, ap (λ (z : ℕ). z % 2 == 0) is.1 ∙ even_pairs is.0)
-takes_more (h.Map None) count r.OpenValue is some =
-    (tt, ap (λ (z : ℕ). z % 2 == 0) (is.1 ∙ add-one (2 * is.0)) ∙ odd_pairs is.0)
-takes_more (h.Tag n) count (r.Items zero) is some = absurd cc
-takes_more (h.Array (Some n)) count (r.Items zero) is some = absurd cc
-takes_more (h.Map (Some n)) count (r.Pairs zero) is some = absurd cc
-takes_more x count remaining is some = absurd is
+takes_more x count remaining is some = grind (arith, even_pairs, odd_pairs)
 
 -- behind a value a pair is due
 pub value_done : (x : Header) (count : ℕ) (remaining : Remaining) → remaining ≡ r.OpenValue
     → IsRemaining x count remaining
     → IsRemaining x (suc count) r.OpenPairs
 value_done (h.Map None) count r.OpenValue e is = (suc is.0, let f = is.1 in omega (arith, f))
-value_done (h.Map None) count r.OpenPairs e is = absurd cc
-value_done (h.Map (Some n)) count (r.Pairs m) e is = absurd cc
-value_done (h.Map (Some n)) count (r.Value m) e is = absurd cc
-value_done (h.Array (Some n)) count (r.Items m) e is = absurd cc
-value_done (h.Array None) count r.OpenItems e is = absurd cc
-value_done (h.Tag n) count (r.Items m) e is = absurd cc
-value_done x count remaining e is = absurd is
+value_done x count remaining e is = absurd (grind arith)

@@ -1,5 +1,5 @@
 -- What is in its shortest spelling is one of any too, and what a decoder's strictness says of the titles that it gave.
-use Rattle.std.proofs.Common.{◌≡◌, ℕ, ◌*◌, Bool, true, false, List, Option, Some, None, refl, sym, ap, ◌∙◌, inl, inr}
+use Rattle.std.proofs.Common.{◌≡◌, ℕ, Bool, true, false, List, Option, None, refl, sym, ap, ◌∙◌, inl, inr, arith}
 use Rattle.ciborium_ll_io.specs.declared.io.Read.{Ghosts}
 use Rattle.ciborium_ll_grammar.specs.declared.hdr.Header.{Header}
 use Rattle.ciborium_ll_decoder.specs.declared.dec.Decoder.{Decoder}
@@ -9,61 +9,53 @@ use Rattle.ciborium_ll_grammar.specs.Items.{Completes, positive, negative, float
 use Rattle.ciborium_ll_grammar.specs.Items.{open_bytes, open_text, tag, array, pairs, open_array, open_pairs, AreItems}
 use Rattle.ciborium_ll_grammar.specs.Items.{no_items, more_items, IsTakenTitle}
 use Rattle.ciborium_ll_decoder.specs.Decoding.{Passes, PullsTitle}
-use Rattle.cbor_skip.specs.Due.{ItemDue, here, within, IsTakenInside, may_close}
+use Rattle.cbor_skip.specs.Due.{ItemDue, here, within, IsTakenInside}
 use Rattle.cbor_skip.specs.Skipping.{strict_unless_waiting, strictness}
 
 -- ---- any spelling
 
 mutual
-  completes_any : (d : ℕ) (x : Header) (r : List ℕ) → Completes true d x r → Completes false d x r
-  completes_any d x r positive = positive
-  completes_any d x r negative = negative
-  completes_any d x r float = float
-  completes_any d x r simple = simple
-  completes_any d x r (byte_string l) = byte_string l
-  completes_any d x r (text_string l k) = text_string l k
-  completes_any d x r (open_bytes q g) = open_bytes q tt
-  completes_any d x r (open_text q g k) = open_text q tt k
-  completes_any d x r (tag {depth = e} {item = w} i) = tag (items_any e 1 w i)
-  completes_any d x r (array {depth = e} {count = n} {items = w} i) = array (items_any e n w i)
-  completes_any d x r (pairs {depth = e} {count = n} {items = w} i) = pairs (items_any e (2 * n) w i)
-  completes_any d x r (open_array {depth = e} {count = n} {items = w} i) = open_array (items_any e n w i)
-  completes_any d x r (open_pairs {depth = e} {items = w} n i) = open_pairs n (items_any e (2 * n) w i)
+  completes_any : {d : ℕ} {x : Header} {r : List ℕ} → Completes true d x r → Completes false d x r
+  completes_any (byte_string l) = byte_string l
+  completes_any (text_string l k) = text_string l k
+  completes_any (open_bytes q g) = open_bytes q tt
+  completes_any (open_text q g k) = open_text q tt k
+  completes_any (tag i) = tag (items_any i)
+  completes_any (array i) = array (items_any i)
+  completes_any (pairs i) = pairs (items_any i)
+  completes_any (open_array i) = open_array (items_any i)
+  completes_any (open_pairs n i) = open_pairs n (items_any i)
+  completes_any c = search (positive, negative, float, simple)
 
-  items_any : (d n : ℕ) (u : List ℕ) → AreItems true d n u → AreItems false d n u
-  items_any d n u no_items = no_items
-  items_any d n u (more_items {count = m} {title = t} {rest = r} {others = a} {header = x} p g c i) =
-      more_items p tt (completes_any d x r c) (items_any d m a i)
+  items_any : {d n : ℕ} {u : List ℕ} → AreItems true d n u → AreItems false d n u
+  items_any no_items = no_items
+  items_any (more_items p g c i) = more_items p tt (completes_any c) (items_any i)
 
-due_any : (outer : Bool) (d : ℕ) (u : List ℕ) (levels : ℕ) (closable : Bool) → ItemDue true outer d u levels closable
+due_any : {outer closable : Bool} {d levels : ℕ} {u : List ℕ} → ItemDue true outer d u levels closable
     → ItemDue false outer d u levels closable
-due_any outer d u levels closable here = here
-due_any outer d u levels closable
-    (within {depth = e} {count = n} {items = w} {more = v} {header = x} p g more i due) =
-    within p tt more (items_any e n w i) (due_any (may_close x n) e v levels closable due)
+due_any here = here
+due_any (within p g more i due) = within p tt more (items_any i) (due_any due)
 
 -- ---- a spelling no shorter
 
+looser : (b b' : Bool) → (b ≡ true → b' ≡ true) → (P : Bool → Type 0) → (P true → P false) → P b' → P b
+looser true true keeps P any p = p
+looser true false keeps P any p = absurd (let never = keeps refl in cc)
+looser false true keeps P any p = any p
+looser false false keeps P any p = p
+
 pub items_looser : (b b' : Bool) → (b ≡ true → b' ≡ true) → (d n : ℕ) (u : List ℕ) → AreItems b' d n u
     → AreItems b d n u
-items_looser true true keeps d n u i = i
-items_looser true false keeps d n u i = absurd (let no = keeps refl in cc)
-items_looser false true keeps d n u i = items_any d n u i
-items_looser false false keeps d n u i = i
+items_looser b b' keeps d n u i = looser b b' keeps (λ s. AreItems s d n u) items_any i
 
 pub completes_looser : (b b' : Bool) → (b ≡ true → b' ≡ true) → (d : ℕ) (x : Header) (r : List ℕ)
     → Completes b' d x r → Completes b d x r
-completes_looser true true keeps d x r c = c
-completes_looser true false keeps d x r c = absurd (let no = keeps refl in cc)
-completes_looser false true keeps d x r c = completes_any d x r c
-completes_looser false false keeps d x r c = c
+completes_looser b b' keeps d x r c = looser b b' keeps (λ s. Completes s d x r) completes_any c
 
 pub due_looser : (b b' : Bool) → (b ≡ true → b' ≡ true) → (outer : Bool) (d : ℕ) (u : List ℕ) (levels : ℕ)
     (closable : Bool) → ItemDue b' outer d u levels closable → ItemDue b outer d u levels closable
-due_looser true true keeps outer d u levels closable due = due
-due_looser true false keeps outer d u levels closable due = absurd (let no = keeps refl in cc)
-due_looser false true keeps outer d u levels closable due = due_any outer d u levels closable due
-due_looser false false keeps outer d u levels closable due = due
+due_looser b b' keeps outer d u levels closable due =
+    looser b b' keeps (λ s. ItemDue s outer d u levels closable) due_any due
 
 pub taken_when : (b : Bool) (t : List ℕ) (x : Header) → (b ≡ true → IsStrictTitle t x) → IsTakenTitle b t x
 taken_when true t x strict = strict refl
@@ -77,18 +69,14 @@ inside_when false k u bs strict = tt
 -- ---- the strictness of a decoder
 
 pub strict_by : (w : Option Header) (b : Bool) → strict_unless_waiting w b ≡ true → (b ≡ true) × (w ≡ None)
-strict_by None b e = (e, refl)
-strict_by (Some x) b e = absurd cc
+strict_by w b e = grind arith
 
 pub strict_settled : (w : Option Header) (b : Bool) → w ≡ None → strict_unless_waiting w b ≡ b
-strict_settled None b e = refl
-strict_settled (Some x) b e = absurd cc
+strict_settled w b e = grind arith
 
 -- where no header waits on a strict one, it is its mode
 pub strict_mode : (w : Option Header) (b : Bool) → (b ≡ true → w ≡ None) → strict_unless_waiting w b ≡ b
-strict_mode None b none = refl
-strict_mode (Some x) false none = refl
-strict_mode (Some x) true none = absurd (let no = none refl in cc)
+strict_mode w b none = grind arith
 
 module _ {R E : Type 0} (source : Ghosts R E) where
   -- a title that was given
