@@ -1,40 +1,29 @@
 -- Items that follow one another, over any reader, where only their number is known.
-use Rattle.std.proofs.Common.{◌≡◌, ℕ, suc, ◌*◌, Bool, List, [], ◌++◌, Some, None, Result, Ok, Err}
-use Rattle.std.proofs.Common.{refl, sym, ap, subst, ◌∙◌, arith, append_assoc, append-nil, false, MatchResult}
+use Rattle.std.proofs.Common.{◌≡◌, ℕ, suc, ◌<◌, Bool, List, [], ◌++◌, Some, Result, Ok, Err}
+use Rattle.std.proofs.Common.{refl, sym, arith, append_assoc, append-nil, false, MatchResult}
 use Rattle.ciborium_ll_io.specs.declared.io.Read.{Ghosts}
 use Rattle.ciborium_ll_grammar.specs.declared.hdr.Header.{Header}
-use Rattle.ciborium_ll_grammar.specs.declared.hdr.Header.TheVariants as h
 use Rattle.ciborium_ll_decoder.specs.declared.dec.Decoder.{Decoder}
-use Rattle.ciborium_ll_grammar.specs.Items.{AreItems, IsItem, array, more_items, no_items, pairs, tag}
-use Rattle.ciborium_ll_decoder.specs.Decoding.{IsSteady, MovesOn, Passes, PullsTitle}
+use Rattle.ciborium_ll_grammar.specs.Items.{AreItems, IsItem, more_items, no_items}
+use Rattle.ciborium_ll_decoder.specs.Decoding.{IsSteady, MovesOn, PullsTitle}
 use Rattle.ciborium_ll_decoder.proofs.DecodingLaws.{Passes-none, Passes-then}
 use Rattle.cbor_skip.specs.declared.SkipError.{SkipError}
-use Rattle.cbor_skip.specs.Due.{IsNest, item_count}
+use Rattle.cbor_skip.specs.Due.{IsNest, TakesMore, item_count, may_close}
 use Rattle.cbor_skip.specs.Skipping.{ReadsItem, ReadsCounted, SkipsCounted, SkipsWithin, StopsItem, StopsCounted}
-use Rattle.cbor_skip.specs.Skipping.{SkipsItem, strictness}
-use Rattle.cbor_skip.proofs.ItemSteps.{reads_nest, stops_nest, no_items_read}
+use Rattle.cbor_skip.specs.Skipping.{SkipsItem}
+use Rattle.cbor_skip.proofs.ItemSteps.{counted_completes, reads_nest, stops_nest, no_items_read}
 use Rattle.cbor_skip.proofs.StrictnessLaws.{items_looser, due_looser, passed_keeps}
 
 -- an item and then others
 item_first : (s : Bool) (d n : ℕ) (u v : List ℕ) → IsItem s d u → AreItems s d n v → AreItems s d (suc n) (u ++ v)
-item_first s d n u v (more_items {title = t} {rest = w} p g c no_items) i =
-    let joined : t ++ (w ++ v) ≡ (t ++ (w ++ [])) ++ v =
-    ap (λ (z : List ℕ). t ++ (z ++ v)) (sym (append-nil w)) ∙ sym (append_assoc t (w ++ []) v) in
-    subst (λ (z : List ℕ). AreItems s d (suc n) z) joined (more_items p g c i)
+item_first s d n u v (more_items p g c no_items) i = simp (append_assoc, append-nil) (more_items p g c i)
 
 -- a header that counts items is a nest's
 pub counted_nest : (x : Header) (n : ℕ) → item_count x ≡ Some n → IsNest x
-counted_nest (h.Tag m) n is = tt
-counted_nest (h.Array len) n is = tt
-counted_nest (h.Map (Some len)) n is = tt
-counted_nest (h.Map None) n is = absurd cc
-counted_nest (h.Positive m) n is = absurd cc
-counted_nest (h.Negative m) n is = absurd cc
-counted_nest (h.Float x) n is = absurd cc
-counted_nest (h.Simple m) n is = absurd cc
-counted_nest (h.Bytes len) n is = absurd cc
-counted_nest (h.Text len) n is = absurd cc
-counted_nest h.Break n is = absurd cc
+counted_nest x n is = grind arith
+
+counted_more : (x : Header) (n m : ℕ) → item_count x ≡ Some n → m < n → TakesMore x m × (may_close x m ≡ false)
+counted_more x n m is less = grind arith
 
 module _ {R E : Type 0} (source : Ghosts R E) where
   -- what a read of the items that are due now does is what the whole read does
@@ -52,13 +41,13 @@ module _ {R E : Type 0} (source : Ghosts R E) where
   pub stops_first : {left after d room : ℕ} {now : Decoder R} {error : SkipError E} {new : Decoder R}
       → suc after ≡ left → StopsItem source false d room now error new
       → StopsCounted source left d room now error new
-  stops_first {now = now} some stops = record {
+  stops_first some stops = record {
     before = 0;
     items = [];
-    more = omega (arith, some);
+    more = omega arith;
     are_items = no_items;
-    between = now;
-    passed = Passes-none source now;
+    between = _;
+    passed = Passes-none source _;
     stops = stops;
   }
 
@@ -68,85 +57,46 @@ module _ {R E : Type 0} (source : Ghosts R E) where
       → (result : Result (Unit {0}) (SkipError E)) (new : Decoder R)
       → SkipsCounted source n d room now result new → SkipsCounted source (suc n) d room old result new
   item_then n d room old now first (Ok done) new others = record {
-    items = first.item ++ others.items;
-    are_items = item_first (strictness old) d n first.item others.items first.is_item
-        (items_looser (strictness old) (strictness now) (passed_keeps source first.passed) d n others.items
-        others.are_items);
-    passed = Passes-then source old now new first.item others.items first.passed others.passed;
+    items = _;
+    are_items = item_first _ _ _ _ _ first.is_item
+        (items_looser _ _ (passed_keeps source first.passed) _ _ _ others.are_items);
+    passed = Passes-then source _ _ _ _ _ first.passed others.passed;
   }
   item_then n d room old now first (Err error) new others = record {
     before = suc others.before;
-    items = first.item ++ others.items;
-    more = (let less = others.more in omega (arith, less));
-    are_items = item_first (strictness old) d others.before first.item others.items first.is_item
-        (items_looser (strictness old) (strictness now) (passed_keeps source first.passed) d others.before others.items
-        others.are_items);
+    items = _;
+    more = omega arith;
+    are_items = item_first _ _ _ _ _ first.is_item
+        (items_looser _ _ (passed_keeps source first.passed) _ _ _ others.are_items);
     between = others.between;
-    passed = Passes-then source old now others.between first.item others.items first.passed others.passed;
+    passed = Passes-then source _ _ _ _ _ first.passed others.passed;
     stops = others.stops;
   }
 
   pub item_decides : {room left after levels count depth : ℕ} {now next old : Decoder R} → suc after ≡ left
       → Decides room left levels now count depth old → ReadsItem source levels now next
       → Decides room after levels next count depth old
-  item_decides {room = room} {left = left} {after = after} {levels = levels} {now = now} {next = next} some whole item
-      result new others =
-      whole result new (subst (λ (n : ℕ). SkipsCounted source n levels room now result new) some
-      (item_then after levels room now next item result new others))
+  item_decides some whole item result new others =
+      whole result new (rw (sym some) (item_then _ _ _ _ _ item result new others))
 
   -- ---- what a nest contains, where its items are counted
 
   pub counted_within : (x : Header) (n d room : ℕ) (old : Decoder R) → item_count x ≡ Some n
       → (result : Result (Unit {0}) (SkipError E)) (new : Decoder R)
       → SkipsCounted source n d room old result new → SkipsWithin source x d room old result new
-  counted_within (h.Tag m) n d room old is (Ok done) new reads =
-      let one : n ≡ 1 = cc in
-      let items = subst (λ (k : ℕ). AreItems (strictness old) d k reads.items) one reads.are_items in
-      record { rest = reads.items; completes = tag items; passed = reads.passed }
-  counted_within (h.Tag m) n d room old is (Err error) new stops = record {
-    count = stops.before;
-    items = stops.items;
-    takes_more = (let one : n ≡ 1 = cc in let less = stops.more in omega (arith, one, less));
-    are_items = stops.are_items;
-    between = stops.between;
-    passed = stops.passed;
-    stops = stops.stops;
-  }
-  counted_within (h.Array (Some m)) n d room old is (Ok done) new reads =
-      let same : n ≡ m = cc in
-      let items = subst (λ (k : ℕ). AreItems (strictness old) d k reads.items) same reads.are_items in
-      record { rest = reads.items; completes = array items; passed = reads.passed }
-  counted_within (h.Array (Some m)) n d room old is (Err error) new stops = record {
-    count = stops.before;
-    items = stops.items;
-    takes_more = (let same : n ≡ m = cc in let less = stops.more in omega (arith, same, less));
-    are_items = stops.are_items;
-    between = stops.between;
-    passed = stops.passed;
-    stops = stops.stops;
-  }
-  counted_within (h.Array None) n d room old is result new skips = absurd cc
-  counted_within (h.Map (Some m)) n d room old is (Ok done) new reads =
-      let twice : n ≡ 2 * m = cc in
-      let items = subst (λ (k : ℕ). AreItems (strictness old) d k reads.items) twice reads.are_items in
-      record { rest = reads.items; completes = pairs items; passed = reads.passed }
-  counted_within (h.Map (Some m)) n d room old is (Err error) new stops = record {
-    count = stops.before;
-    items = stops.items;
-    takes_more = (let twice : n ≡ 2 * m = cc in let less = stops.more in omega (arith, twice, less));
-    are_items = stops.are_items;
-    between = stops.between;
-    passed = stops.passed;
-    stops = stops.stops;
-  }
-  counted_within (h.Map None) n d room old is result new skips = absurd cc
-  counted_within (h.Positive m) n d room old is result new skips = absurd cc
-  counted_within (h.Negative m) n d room old is result new skips = absurd cc
-  counted_within (h.Float x) n d room old is result new skips = absurd cc
-  counted_within (h.Simple m) n d room old is result new skips = absurd cc
-  counted_within (h.Bytes len) n d room old is result new skips = absurd cc
-  counted_within (h.Text len) n d room old is result new skips = absurd cc
-  counted_within h.Break n d room old is result new skips = absurd cc
+  counted_within x n d room old is (Ok done) new reads =
+      record { rest = reads.items; completes = counted_completes x is reads.are_items; passed = reads.passed }
+  counted_within x n d room old is (Err error) new stops =
+      let more = counted_more x n stops.before is stops.more in
+      record {
+        count = stops.before;
+        items = stops.items;
+        takes_more = more.0;
+        are_items = stops.are_items;
+        between = stops.between;
+        passed = stops.passed;
+        stops = rw more.1 stops.stops;
+      }
 
   -- what a read behind a nest's title does, is what a read of that item does
   pub rest_read : (outer : Bool) (room : ℕ) {levels d : ℕ} {before titled : Decoder R} {x : Header}
@@ -174,11 +124,9 @@ module _ {R E : Type 0} (source : Ghosts R E) where
       → Decides room left levels now count depth old
       → PullsTitle source now x titled → (IsSteady source now → IsSteady source titled)
       → Decides room within inner titled count depth old
-  nest_decides {room = room} {levels = levels} {inner = inner} {within = within} {now = now} {titled = titled} {x = x}
-      last level is whole title steady result new skips =
-      whole result new (subst (λ (n : ℕ). SkipsCounted source n levels room now result new) last
-      (nest_alone x inner levels room now titled level title steady result new
-      (counted_within x within inner room titled is result new skips)))
+  nest_decides {x = x} last level is whole title steady result new skips =
+      whole result new (rw (sym last) (nest_alone x _ _ _ _ _ level title steady result new
+      (counted_within x _ _ _ _ is result new skips)))
 
   -- ---- the whole
 
@@ -188,17 +136,13 @@ module _ {R E : Type 0} (source : Ghosts R E) where
       record { item = reads.items; is_item = reads.are_items; passed = reads.passed }
   one_item d room old (Err error) new stops =
       let inner = stops.stops in
-      let none : stops.items ≡ [] = no_items_read (strictness old) d stops.before stops.items stops.more
-      stops.are_items in
-      let passed =
-      Passes-then source old stops.between inner.between stops.items inner.bytes stops.passed inner.passed in
+      let none = no_items_read _ d stops.before stops.items stops.more stops.are_items in
       record {
         bytes = inner.bytes;
         levels = inner.levels;
         closable = inner.closable;
-        due = due_looser (strictness old) (strictness stops.between) (passed_keeps source stops.passed) false d
-            inner.bytes inner.levels inner.closable inner.due;
+        due = due_looser _ _ (passed_keeps source stops.passed) _ _ _ _ _ inner.due;
         between = inner.between;
-        passed = subst (λ (z : List ℕ). Passes source old (z ++ inner.bytes) inner.between) none passed;
+        passed = rw none at (Passes-then source _ _ _ _ _ stops.passed inner.passed);
         stops = inner.stops;
       }

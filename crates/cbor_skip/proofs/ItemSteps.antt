@@ -1,5 +1,5 @@
 -- The steps of the read of an item, over any reader.
-use Rattle.std.proofs.Common.{◌≡◌, ℕ, zero, suc, ◌<◌, ◌*◌, Bool, true, false, List, [], ◌∷◌, ◌++◌, length, Option}
+use Rattle.std.proofs.Common.{◌≡◌, ℕ, suc, ◌<◌, ◌*◌, Bool, true, false, List, [], ◌∷◌, ◌++◌, length, Option}
 use Rattle.std.proofs.Common.{Some, None, Err, refl, sym, ap, subst, ◌∙◌, inl, arith, append_assoc}
 use Rattle.std.proofs.Common.{append-nil, length-append}
 use Rattle.ciborium_ll_io.specs.declared.io.Read.{Ghosts}
@@ -20,12 +20,12 @@ use Rattle.ciborium_ll_text.proofs.Lists.{same_front}
 use Rattle.ciborium_ll_grammar.proofs.TitleLaws.{IsTitle-shortest, title_in_range}
 use Rattle.ciborium_ll_grammar.proofs.StringLaws.{fronts}
 use Rattle.ciborium_ll_decoder.proofs.NestLaws.{alone_bytes}
-use Rattle.ciborium_ll_decoder.proofs.DecodingLaws.{Passes-none, Passes-pulled, Passes-then}
+use Rattle.ciborium_ll_decoder.proofs.DecodingLaws.{Passes-none, Passes-pull, Passes-pulled, Passes-then}
 use Rattle.cbor_skip.specs.declared.SkipError.{SkipError}
 use Rattle.cbor_skip.specs.declared.SkipError.TheVariants as s
 use Rattle.cbor_skip.specs.declared.remaining.Remaining.{Remaining}
 use Rattle.cbor_skip.specs.declared.remaining.Remaining.TheVariants as r
-use Rattle.cbor_skip.specs.Due.{here, within, may_close}
+use Rattle.cbor_skip.specs.Due.{here, within, item_count}
 use Rattle.cbor_skip.specs.Remaining.{IsRemaining, is_done, closes}
 use Rattle.cbor_skip.specs.Skipping.{StopsDue, StopsTitle, StopsItem, ReadsItem, ReadsWithin, StopsWithin}
 use Rattle.cbor_skip.specs.Skipping.{strictness}
@@ -38,24 +38,26 @@ use Rattle.cbor_skip.proofs.StrictnessLaws.{pulled_keeps, passed_keeps}
 -- a title and what completes it are an item
 pub item_of : (s : Bool) (d : ℕ) (t rest : List ℕ) (x : Header) → IsTitle t x → IsTakenTitle s t x
     → Completes s d x rest → IsItem s d (t ++ rest)
-item_of s d t rest x p g c = subst (λ (z : List ℕ). IsItem s d (t ++ z)) (append-nil rest) (more_items p g c no_items)
+item_of s d t rest x p g c = rw append-nil at (more_items p g c no_items)
 
 -- one item more
 pub items_item : (s : Bool) (d n : ℕ) (u v : List ℕ) → AreItems s d n u → IsItem s d v → AreItems s d (suc n) (u ++ v)
 items_item s d n u v no_items i = i
-items_item s d n u v (more_items {count = m} {title = t} {rest = w} {others = a} {header = x} p g c others) i =
-    let whole : t ++ (w ++ (a ++ v)) ≡ (t ++ (w ++ a)) ++ v =
-    sym (append_assoc t (w ++ a) v ∙ ap (λ (z : List ℕ). t ++ z) (append_assoc w a v)) in
-    subst (λ (z : List ℕ). AreItems s d (suc (suc m)) z) whole (more_items p g c (items_item s d m a v others i))
-
--- what completes a tag is one item
-one_of : (s : Bool) (n d : ℕ) (rest : List ℕ) → Completes s (suc d) (h.Tag n) rest → IsItem s d rest
-one_of s n d rest (tag i) = i
+items_item s d n u v (more_items {count = m} {others = a} p g c others) i =
+    simp append_assoc (more_items p g c (items_item s d m a v others i))
 
 -- of less than one item nothing was read
 pub no_items_read : (s : Bool) (d count : ℕ) (items : List ℕ) → count < 1 → AreItems s d count items → items ≡ []
 no_items_read s d count items less no_items = refl
-no_items_read s d count items less (more_items p g c i) = absurd (omega (arith, less))
+no_items_read s d count items less (more_items p g c i) = absurd (omega arith)
+
+-- what a header counts completes a nest
+pub counted_completes : {s : Bool} {d n : ℕ} {items : List ℕ} (x : Header) → item_count x ≡ Some n
+    → AreItems s d n items → Completes s (suc d) x items
+counted_completes {n = n} (h.Tag number) is i = let one : n ≡ 1 = cc in tag (rw one at i)
+counted_completes {n = n} (h.Array (Some len)) is i = let same : n ≡ len = cc in array (rw same at i)
+counted_completes {n = n} (h.Map (Some len)) is i = let same : n ≡ 2 * len = cc in pairs (rw same at i)
+counted_completes x is i = absurd (grind arith)
 
 -- ---- a string behind its header
 
@@ -76,23 +78,13 @@ string_completes : (s : Bool) (d : ℕ) (k : Kind) (len : Option ℕ) (t rest w 
     → Completes s d (kind_header k len) rest
 string_completes s d k len t rest w bs p (definite {title = t'} {body = b} p') e taken sound =
     let f = fronts k t t' rest b len (Some (length b)) p p' e in
-    let same : Some (length b) ≡ len = sym f.1 in
-    let behind : b ≡ rest = sym f.2 in
-    subst (λ (z : List ℕ). Completes s d (kind_header k len) z) behind
-    (subst (λ (o : Option ℕ). Completes s d (kind_header k o) b) same (completes_body s d k b sound.0))
+    rw (f.1, f.2) (completes_body s d k b sound.0)
 string_completes s d k len t rest w bs p (indefinite {title = t'} {strings = x} p' strings) e taken sound =
     let f = fronts k t t' rest (x ++ 0xff ∷ []) len None p p' e in
-    let same : None ≡ len = sym f.1 in
-    let behind : x ++ 0xff ∷ [] ≡ rest = sym f.2 in
-    let parts = subst (λ (o : Option ℕ). IsTakenBehind s k o rest bs) (sym same) taken in
-    let both : x ++ 0xff ∷ [] ≡ parts.0 ++ 0xff ∷ [] = behind ∙ parts.1 in
-    let counted = ap length both in
-    let one = same_front x parts.0 (0xff ∷ []) (0xff ∷ [])
-    (omega (arith, counted, length-append x (0xff ∷ []), length-append parts.0 (0xff ∷ []))) both in
-    let flat = subst (λ (z : List ℕ). AreTakenStrings s k z bs) (sym one.0) parts.2 in
-    subst (λ (z : List ℕ). Completes s d (kind_header k len) z) behind
-    (subst (λ (o : Option ℕ). Completes s d (kind_header k o) (x ++ 0xff ∷ [])) same
-    (completes_open s d k x bs strings flat sound))
+    let parts = rw (f.1, f.2) at taken in
+    let counted = simp length-append at (ap length parts.1) in
+    let one = same_front x parts.0 (0xff ∷ []) (0xff ∷ []) (omega arith) parts.1 in
+    rw (f.1, f.2) (completes_open s d k x bs strings (rw (sym one.0) at parts.2) sound)
 
 module _ {R E : Type 0} (source : Ghosts R E) where
   -- ---- one item
@@ -100,24 +92,22 @@ module _ {R E : Type 0} (source : Ghosts R E) where
   -- a title was read from the start
   pulled_first : {old titled : Decoder R} {x : Header} (title : PullsTitle source old x titled)
       → (IsSteady source old → IsSteady source titled) → Passes source old title.title titled
-  pulled_first {old = old} {titled = titled} {x = x} title steady =
-      Passes-pulled source old old titled [] x title (Passes-none source old) steady
+  pulled_first title steady = Passes-pulled source _ _ _ [] _ title (Passes-none source _) steady
 
   -- an item is a title, and what completes it
   reads_item : {d : ℕ} {old titled new : Decoder R} {x : Header} {rest : List ℕ} → PullsTitle source old x titled
       → (IsSteady source old → IsSteady source titled) → Completes (strictness old) d x rest
       → Passes source titled rest new
       → ReadsItem source d old new
-  reads_item {d = d} {old = old} {titled = titled} {new = new} {x = x} {rest = rest} title steady completes passed =
-      record {
-        item = title.title ++ rest;
-        is_item = item_of (strictness old) d title.title rest x title.is_title (pulled_taken source title) completes;
-        passed = Passes-then source old titled new title.title rest (pulled_first title steady) passed;
-      }
+  reads_item title steady completes passed = record {
+    item = _;
+    is_item = item_of _ _ _ _ _ title.is_title (pulled_taken source title) completes;
+    passed = Passes-then source _ _ _ _ _ (pulled_first title steady) passed;
+  }
 
   pub reads_plain : {d : ℕ} {old titled : Decoder R} {x : Header} → PullsTitle source old x titled
       → (IsSteady source old → IsSteady source titled) → Completes (strictness old) d x [] → ReadsItem source d old titled
-  reads_plain {titled = titled} title steady completes = reads_item title steady completes (Passes-none source titled)
+  reads_plain title steady completes = reads_item title steady completes (Passes-none source _)
 
   pub reads_string : {d : ℕ} {old titled new : Decoder R} (k : Kind) (len : Option ℕ)
       → PullsTitle source old (kind_header k len) titled → (IsSteady source old → IsSteady source titled)
@@ -125,68 +115,63 @@ module _ {R E : Type 0} (source : Ghosts R E) where
   reads_string {d = d} {old = old} {titled = titled} k len title steady whole =
       let x = kind_header k len in
       let shortest = IsTitle-shortest x (title_in_range title.title x title.is_title) in
-      let completes =
-      string_completes titled.strict d k len (shortest_title x) whole.behind _ whole.bodies shortest whole.is_string
-      refl whole.taken whole.sound in
+      let completes = string_completes titled.strict d k len (shortest_title x) whole.behind _ whole.bodies shortest
+      whole.is_string refl whole.taken whole.sound in
       let keeps : strictness old ≡ true → titled.strict ≡ true =
       λ on. title.mode ∙ (strict_by old.waiting old.strict on).0 in
-      reads_item title steady (completes_looser (strictness old) titled.strict keeps d x whole.behind completes)
-      whole.passed
+      reads_item title steady (completes_looser _ _ keeps d x whole.behind completes) whole.passed
 
   pub reads_nest : {d levels : ℕ} {old titled new : Decoder R} {x : Header} → suc levels ≡ d
       → PullsTitle source old x titled
       → (IsSteady source old → IsSteady source titled) → ReadsWithin source x levels titled new
       → ReadsItem source d old new
-  reads_nest {levels = levels} {old = old} {titled = titled} {new = new} {x = x} level title steady inner =
-      let completes = completes_looser (strictness old) (strictness titled) (pulled_keeps source title) (suc levels) x
-      inner.rest inner.completes in
-      subst (λ (n : ℕ). ReadsItem source n old new) level (reads_item title steady completes inner.passed)
+  reads_nest level title steady inner =
+      let completes = completes_looser _ _ (pulled_keeps source title) _ _ inner.rest inner.completes in
+      rw (sym level) (reads_item title steady completes inner.passed)
 
   -- an error where the item begins
   pub stops_here : {outer : Bool} {d room : ℕ} {old : Decoder R} {error : SkipError E} {new : Decoder R}
       → StopsDue source d outer room old error new → StopsItem source outer d room old error new
-  stops_here {outer = outer} {d = d} {old = old} stops =
-      let passed = Passes-none source old in
-      record { bytes = []; levels = d; closable = outer; due = here; between = old; passed = passed; stops = stops }
+  stops_here stops = record {
+    bytes = [];
+    levels = _;
+    closable = _;
+    due = here;
+    between = _;
+    passed = Passes-none source _;
+    stops = stops;
+  }
 
   -- the same, where its title or a string behind that failed
   pub title_stops : {outer : Bool} {d room room' : ℕ} {old before : Decoder R} {error : Error E} {new : Decoder R}
       → before ≡ old → room' ≡ room
       → StopsTitle source room' before error new → StopsItem source outer d room old (s.Read error) new
-  title_stops {room = room} {before = before} {error = error} {new = new} same same_room stops =
-      let stopped = subst (λ (n : ℕ). StopsTitle source n before error new) same_room stops in
-      stops_here (subst (λ (first : Decoder R). StopsTitle source room first error new) same stopped)
+  title_stops {room = room} {error = error} {new = new} same same_room stops =
+      stops_here (subst (λ (first : Decoder R). StopsTitle source room first error new) same (rw same_room at stops))
 
   pub pull_stops : {outer : Bool} {d room : ℕ} {old before : Decoder R} {error : Error E} {new : Decoder R}
       → before ≡ old
       → PullsHeader source before (Err error) new → StopsItem source outer d room old (s.Read error) new
-  pull_stops {error = error} {new = new} same fails =
-      stops_here (inl (subst (λ (first : Decoder R). PullsHeader source first (Err error) new) same fails))
+  pull_stops same fails = title_stops same refl (inl fails)
 
   -- an error within it, behind its title
   pub stops_nest : {outer : Bool} {d levels room : ℕ} {old titled : Decoder R} {x : Header} {error : SkipError E}
       {new : Decoder R}
       → suc levels ≡ d → PullsTitle source old x titled → (IsSteady source old → IsSteady source titled)
       → StopsWithin source x levels room titled error new → StopsItem source outer d room old error new
-  stops_nest {outer = outer} {levels = levels} {room = room} {old = old} {titled = titled} {x = x} {error = error}
-      {new = new} level title steady stops =
+  stops_nest level title steady stops =
       let inner = stops.stops in
-      let items = items_looser (strictness old) (strictness titled) (pulled_keeps source title) levels stops.count
-      stops.items stops.are_items in
-      let keeps : strictness old ≡ true → strictness stops.between ≡ true =
-      λ on. passed_keeps source stops.passed (pulled_keeps source title on) in
-      let due = due_looser (strictness old) (strictness stops.between) keeps (may_close x stops.count) levels
-      inner.bytes inner.levels inner.closable inner.due in
-      let first = pulled_first title steady in
-      let rest =
-      Passes-then source titled stops.between inner.between stops.items inner.bytes stops.passed inner.passed in
-      subst (λ (n : ℕ). StopsItem source outer n room old error new) level (record {
-        bytes = title.title ++ (stops.items ++ inner.bytes);
+      let keeps = pulled_keeps source title in
+      let items = items_looser _ _ keeps _ _ _ stops.are_items in
+      let due = due_looser _ _ (λ on. passed_keeps source stops.passed (keeps on)) _ _ _ _ _ inner.due in
+      rw (sym level) (record {
+        bytes = _;
         levels = inner.levels;
         closable = inner.closable;
         due = within title.is_title (pulled_taken source title) stops.takes_more items due;
         between = inner.between;
-        passed = Passes-then source old titled inner.between title.title (stops.items ++ inner.bytes) first rest;
+        passed = Passes-then source _ _ _ _ _ (pulled_first title steady)
+            (Passes-then source _ _ _ _ _ stops.passed inner.passed);
         stops = inner.stops;
       })
 
@@ -202,66 +187,48 @@ module _ {R E : Type 0} (source : Ghosts R E) where
 
   pub none_read : {x : Header} {d : ℕ} {old : Decoder R} {remaining : Remaining} → IsRemaining x 0 remaining
       → SoFar x d old old remaining
-  none_read {old = old} is =
-      record { count = 0; is_remaining = is; items = []; are_items = no_items; passed = Passes-none source old }
+  none_read is = record { count = 0; is_remaining = is; items = []; are_items = no_items; passed = Passes-none source _ }
 
   pub one_more : {x : Header} {d : ℕ} {old now new : Decoder R} {remaining after : Remaining}
       → SoFar x d old now remaining
       → ((count : ℕ) → IsRemaining x count remaining → IsRemaining x (suc count) after) → ReadsItem source d now new
       → SoFar x d old new after
-  one_more {d = d} {old = old} {now = now} {new = new} so_far goes_on item =
-      let one = items_looser (strictness old) (strictness now) (passed_keeps source so_far.passed) d 1 item.item
-      item.is_item in
-      record {
-        count = suc so_far.count;
-        is_remaining = goes_on so_far.count so_far.is_remaining;
-        items = so_far.items ++ item.item;
-        are_items = items_item (strictness old) d so_far.count so_far.items item.item so_far.are_items one;
-        passed = Passes-then source old now new so_far.items item.item so_far.passed item.passed;
-      }
+  one_more so_far goes_on item = record {
+    count = suc so_far.count;
+    is_remaining = goes_on so_far.count so_far.is_remaining;
+    items = _;
+    are_items = items_item _ _ _ _ _ so_far.are_items
+        (items_looser _ _ (passed_keeps source so_far.passed) _ _ _ item.is_item);
+    passed = Passes-then source _ _ _ _ _ so_far.passed item.passed;
+  }
 
   -- an error where one more is due; the buffer was as long from the start
   pub stops_within : {x : Header} {d room room' : ℕ} {old now new : Decoder R} {error : SkipError E}
       {remaining : Remaining}
       → SoFar x d old now remaining → is_done remaining ≡ false → room' ≡ room
       → StopsItem source (closes remaining) d room' now error new → StopsWithin source x d room old error new
-  stops_within {x = x} {d = d} {room = room} {now = now} {new = new} {error = error} {remaining = remaining}
-      so_far some same stops =
+  stops_within {x = x} {remaining = remaining} so_far some same stops =
       let more = takes_more x so_far.count remaining so_far.is_remaining some in
       record {
         count = so_far.count;
         items = so_far.items;
         takes_more = more.0;
         are_items = so_far.are_items;
-        between = now;
+        between = _;
         passed = so_far.passed;
-        stops = subst (λ (outer : Bool). StopsItem source outer d room now error new) (sym more.1)
-            (subst (λ (n : ℕ). StopsItem source (closes remaining) d n now error new) same stops);
+        stops = rw more.1 (rw same at stops);
       }
 
-  -- all items were read, by what remains
-  all_read : (s : Bool) (x : Header) (d count : ℕ) (items : List ℕ) (remaining : Remaining) → IsRemaining x count remaining
-      → is_done remaining ≡ true → AreItems s d count items → Completes s (suc d) x items
-  all_read s (h.Tag n) d count items (r.Items zero) is done i =
-      let one : count ≡ 1 = omega (arith, is) in tag (subst (λ (m : ℕ). AreItems s d m items) one i)
-  all_read s (h.Array (Some n)) d count items (r.Items zero) is done i =
-      let all : count ≡ n = omega (arith, is) in array (subst (λ (m : ℕ). AreItems s d m items) all i)
-  all_read s (h.Map (Some n)) d count items (r.Pairs zero) is done i =
-      let all : count ≡ 2 * n = omega (arith, is) in pairs (subst (λ (m : ℕ). AreItems s d m items) all i)
-  all_read s (h.Tag n) d count items (r.Items (suc m)) is done i = absurd cc
-  all_read s (h.Array (Some n)) d count items (r.Items (suc m)) is done i = absurd cc
-  all_read s (h.Map (Some n)) d count items (r.Pairs (suc m)) is done i = absurd cc
-  all_read s (h.Map (Some n)) d count items (r.Value m) is done i = absurd cc
-  all_read s (h.Array None) d count items r.OpenItems is done i = absurd cc
-  all_read s (h.Map None) d count items r.OpenPairs is done i = absurd cc
-  all_read s (h.Map None) d count items r.OpenValue is done i = absurd cc
-  all_read s x d count items remaining is done i = absurd is
+  -- all items were read
+  all_read : (x : Header) (count : ℕ) (remaining : Remaining) → IsRemaining x count remaining
+      → is_done remaining ≡ true → item_count x ≡ Some count
+  all_read x count remaining is done = grind arith
 
   pub ended : {x : Header} {d : ℕ} {old now : Decoder R} {remaining : Remaining} → SoFar x d old now remaining
       → is_done remaining ≡ true → ReadsWithin source x d old now
-  ended {x = x} {d = d} {old = old} {remaining = remaining} so_far done = record {
+  ended {x = x} {remaining = remaining} so_far done = record {
     rest = so_far.items;
-    completes = all_read (strictness old) x d so_far.count so_far.items remaining so_far.is_remaining done so_far.are_items;
+    completes = counted_completes x (all_read x so_far.count remaining so_far.is_remaining done) so_far.are_items;
     passed = so_far.passed;
   }
 
@@ -269,26 +236,15 @@ module _ {R E : Type 0} (source : Ghosts R E) where
   all_closed : (s : Bool) (x : Header) (d count : ℕ) (items : List ℕ) (remaining : Remaining) → IsRemaining x count remaining
       → closes remaining ≡ true → AreItems s d count items → Completes s (suc d) x (items ++ 0xff ∷ [])
   all_closed s (h.Array None) d count items r.OpenItems is may i = open_array i
-  all_closed s (h.Map None) d count items r.OpenPairs is may i =
-      open_pairs is.0 (subst (λ (m : ℕ). AreItems s d m items) is.1 i)
-  all_closed s (h.Tag n) d count items (r.Items m) is may i = absurd cc
-  all_closed s (h.Array (Some n)) d count items (r.Items m) is may i = absurd cc
-  all_closed s (h.Map (Some n)) d count items (r.Pairs m) is may i = absurd cc
-  all_closed s (h.Map (Some n)) d count items (r.Value m) is may i = absurd cc
-  all_closed s (h.Map None) d count items r.OpenValue is may i = absurd cc
-  all_closed s x d count items remaining is may i = absurd is
+  all_closed s (h.Map None) d count items r.OpenPairs is may i = open_pairs is.0 (rw is.1 at i)
+  all_closed s x d count items remaining is may i = absurd (grind arith)
 
   pub closed : {x : Header} {d : ℕ} {old now new : Decoder R} {remaining : Remaining} → SoFar x d old now remaining
       → closes remaining ≡ true → PullsTitle source now h.Break new → (IsSteady source now → IsSteady source new)
       → ReadsWithin source x d old new
-  closed {x = x} {d = d} {old = old} {now = now} {new = new} {remaining = remaining} so_far may title steady =
-      let lone = alone_bytes title.title h.Break title.is_title refl in
-      let still : IsSteady source old → IsSteady source new = λ first. steady (so_far.passed.steady first) in
-      let passed = Passes-pulled source old now new so_far.items h.Break title so_far.passed still in
-      record {
-        rest = so_far.items ++ 0xff ∷ [];
-        completes = all_closed (strictness old) x d so_far.count so_far.items remaining so_far.is_remaining may
-            so_far.are_items;
-        passed = subst (λ (z : List ℕ). Passes source old (so_far.items ++ z) new) lone passed;
-      }
-  -- ---- the whole: what a tag contains is one item
+  closed {x = x} {remaining = remaining} so_far may title steady = record {
+    rest = so_far.items ++ 0xff ∷ [];
+    completes = all_closed _ x _ _ _ remaining so_far.is_remaining may so_far.are_items;
+    passed = rw (alone_bytes title.title h.Break title.is_title refl) at
+        (Passes-pull source _ _ _ _ _ title so_far.passed steady);
+  }

@@ -25,7 +25,7 @@ mutual
   completes_any (pairs i) = pairs (items_any i)
   completes_any (open_array i) = open_array (items_any i)
   completes_any (open_pairs n i) = open_pairs n (items_any i)
-  completes_any c = search (positive, negative, float, simple)
+  completes_any c = grind (arith, positive, negative, float, simple)
 
   items_any : {d n : ℕ} {u : List ℕ} → AreItems true d n u → AreItems false d n u
   items_any no_items = no_items
@@ -58,13 +58,11 @@ due_looser b b' keeps outer d u levels closable due =
     looser b b' keeps (λ s. ItemDue s outer d u levels closable) due_any due
 
 pub taken_when : (b : Bool) (t : List ℕ) (x : Header) → (b ≡ true → IsStrictTitle t x) → IsTakenTitle b t x
-taken_when true t x strict = strict refl
-taken_when false t x strict = tt
+taken_when b t x strict = grind arith
 
 pub inside_when : (b : Bool) (k : Kind) (u : List ℕ) (bs : List (List ℕ)) → (b ≡ true → IsTakenInside true k u bs)
     → IsTakenInside b k u bs
-inside_when true k u bs strict = strict refl
-inside_when false k u bs strict = tt
+inside_when b k u bs strict = grind arith
 
 -- ---- the strictness of a decoder
 
