@@ -49,16 +49,9 @@ module _ (strict : Bool) where
     is : s ≡ title ++ (rest ++ behind)
 
   ahead : {d n : ℕ} {w s : List ℕ} (v : List ℕ) → AreItems strict d (suc n) w → s ≡ w ++ v → Ahead d s
-  ahead v (more_items {title = t} {rest = r} {others = a} {header = x} p g c i) e = record {
-    title = t;
-    header = x;
-    rest = r;
-    behind = a ++ v;
-    is_title = p;
-    taken = g;
-    completes = c;
-    is = simp append_assoc at e;
-  }
+  ahead {s = s} v (more_items {title = t} {rest = r} {others = a} {header = x} p g c i) e =
+      let is : s ≡ t ++ (r ++ (a ++ v)) = simp append_assoc at e in
+      search
 
   -- nothing completes an item behind a break
   no_completion : {d : ℕ} {r : List ℕ} → Completes strict d h.Break r → ⊥

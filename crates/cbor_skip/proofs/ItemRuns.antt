@@ -10,7 +10,7 @@ use Rattle.ciborium_ll_decoder.proofs.DecodingLaws.{Passes-none, Passes-then}
 use Rattle.cbor_skip.specs.declared.SkipError.{SkipError}
 use Rattle.cbor_skip.specs.Due.{IsNest, TakesMore, item_count, may_close}
 use Rattle.cbor_skip.specs.Skipping.{ReadsItem, ReadsCounted, SkipsCounted, SkipsWithin, StopsItem, StopsCounted}
-use Rattle.cbor_skip.specs.Skipping.{SkipsItem}
+use Rattle.cbor_skip.specs.Skipping.{SkipsItem, strictness}
 use Rattle.cbor_skip.proofs.ItemSteps.{counted_completes, reads_nest, stops_nest, no_items_read}
 use Rattle.cbor_skip.proofs.StrictnessLaws.{items_looser, due_looser, passed_keeps}
 
@@ -41,37 +41,24 @@ module _ {R E : Type 0} (source : Ghosts R E) where
   pub stops_first : {left after d room : ℕ} {now : Decoder R} {error : SkipError E} {new : Decoder R}
       → suc after ≡ left → StopsItem source false d room now error new
       → StopsCounted source left d room now error new
-  stops_first some stops = record {
-    before = 0;
-    items = [];
-    more = omega arith;
-    are_items = no_items;
-    between = _;
-    passed = Passes-none source _;
-    stops = stops;
-  }
+  stops_first {left = left} {d = d} {now = now} some stops =
+      let more : 0 < left = omega arith in
+      let none : AreItems (strictness now) d 0 [] = no_items in
+      let passed = Passes-none source now in
+      search
 
   -- ---- one item more
 
   item_then : (n d room : ℕ) (old now : Decoder R) → ReadsItem source d old now
       → (result : Result (Unit {0}) (SkipError E)) (new : Decoder R)
       → SkipsCounted source n d room now result new → SkipsCounted source (suc n) d room old result new
-  item_then n d room old now first (Ok done) new others = record {
-    items = _;
-    are_items = item_first _ _ _ _ _ first.is_item
-        (items_looser _ _ (passed_keeps source first.passed) _ _ _ others.are_items);
-    passed = Passes-then source _ _ _ _ _ first.passed others.passed;
-  }
-  item_then n d room old now first (Err error) new others = record {
-    before = suc others.before;
-    items = _;
-    more = omega arith;
-    are_items = item_first _ _ _ _ _ first.is_item
-        (items_looser _ _ (passed_keeps source first.passed) _ _ _ others.are_items);
-    between = others.between;
-    passed = Passes-then source _ _ _ _ _ first.passed others.passed;
-    stops = others.stops;
-  }
+  item_then n d room old now first (Ok done) new others =
+      let items = items_looser _ _ (passed_keeps source first.passed) _ _ _ others.are_items in
+      search (item_first _ _ _ _ _ first.is_item items, Passes-then source _ _ _ _ _ first.passed others.passed)
+  item_then n d room old now first (Err error) new others =
+      let items = items_looser _ _ (passed_keeps source first.passed) _ _ _ others.are_items in
+      let more : suc others.before < suc n = omega arith in
+      search (item_first _ _ _ _ _ first.is_item items, Passes-then source _ _ _ _ _ first.passed others.passed)
 
   pub item_decides : {room left after levels count depth : ℕ} {now next old : Decoder R} → suc after ≡ left
       → Decides room left levels now count depth old → ReadsItem source levels now next
@@ -88,15 +75,8 @@ module _ {R E : Type 0} (source : Ghosts R E) where
       record { rest = reads.items; completes = counted_completes x is reads.are_items; passed = reads.passed }
   counted_within x n d room old is (Err error) new stops =
       let more = counted_more x n stops.before is stops.more in
-      record {
-        count = stops.before;
-        items = stops.items;
-        takes_more = more.0;
-        are_items = stops.are_items;
-        between = stops.between;
-        passed = stops.passed;
-        stops = rw more.1 stops.stops;
-      }
+      let stopped : StopsItem source (may_close x stops.before) d room stops.between error new = rw more.1 stops.stops in
+      search
 
   -- what a read behind a nest's title does, is what a read of that item does
   pub rest_read : (outer : Bool) (room : ℕ) {levels d : ℕ} {before titled : Decoder R} {x : Header}
@@ -137,12 +117,6 @@ module _ {R E : Type 0} (source : Ghosts R E) where
   one_item d room old (Err error) new stops =
       let inner = stops.stops in
       let none = no_items_read _ d stops.before stops.items stops.more stops.are_items in
-      record {
-        bytes = inner.bytes;
-        levels = inner.levels;
-        closable = inner.closable;
-        due = due_looser _ _ (passed_keeps source stops.passed) _ _ _ _ _ inner.due;
-        between = inner.between;
-        passed = rw none at (Passes-then source _ _ _ _ _ stops.passed inner.passed);
-        stops = inner.stops;
-      }
+      let due = due_looser _ _ (passed_keeps source stops.passed) _ _ _ _ _ inner.due in
+      let passed = rw none at (Passes-then source _ _ _ _ _ stops.passed inner.passed) in
+      search

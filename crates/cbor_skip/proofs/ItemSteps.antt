@@ -25,7 +25,7 @@ use Rattle.cbor_skip.specs.declared.SkipError.{SkipError}
 use Rattle.cbor_skip.specs.declared.SkipError.TheVariants as s
 use Rattle.cbor_skip.specs.declared.remaining.Remaining.{Remaining}
 use Rattle.cbor_skip.specs.declared.remaining.Remaining.TheVariants as r
-use Rattle.cbor_skip.specs.Due.{here, within, item_count}
+use Rattle.cbor_skip.specs.Due.{ItemDue, here, within, item_count, may_close}
 use Rattle.cbor_skip.specs.Remaining.{IsRemaining, is_done, closes}
 use Rattle.cbor_skip.specs.Skipping.{StopsDue, StopsTitle, StopsItem, ReadsItem, ReadsWithin, StopsWithin}
 use Rattle.cbor_skip.specs.Skipping.{strictness}
@@ -132,15 +132,10 @@ module _ {R E : Type 0} (source : Ghosts R E) where
   -- an error where the item begins
   pub stops_here : {outer : Bool} {d room : ℕ} {old : Decoder R} {error : SkipError E} {new : Decoder R}
       → StopsDue source d outer room old error new → StopsItem source outer d room old error new
-  stops_here stops = record {
-    bytes = [];
-    levels = _;
-    closable = _;
-    due = here;
-    between = _;
-    passed = Passes-none source _;
-    stops = stops;
-  }
+  stops_here {outer = outer} {d = d} {old = old} stops =
+      let due : ItemDue (strictness old) outer d [] d outer = here in
+      let passed = Passes-none source old in
+      search
 
   -- the same, where its title or a string behind that failed
   pub title_stops : {outer : Bool} {d room room' : ℕ} {old before : Decoder R} {error : Error E} {new : Decoder R}
@@ -159,21 +154,16 @@ module _ {R E : Type 0} (source : Ghosts R E) where
       {new : Decoder R}
       → suc levels ≡ d → PullsTitle source old x titled → (IsSteady source old → IsSteady source titled)
       → StopsWithin source x levels room titled error new → StopsItem source outer d room old error new
-  stops_nest level title steady stops =
+  stops_nest {outer = outer} {levels = levels} {old = old} level title steady stops =
       let inner = stops.stops in
       let keeps = pulled_keeps source title in
       let items = items_looser _ _ keeps _ _ _ stops.are_items in
       let due = due_looser _ _ (λ on. passed_keeps source stops.passed (keeps on)) _ _ _ _ _ inner.due in
-      rw (sym level) (record {
-        bytes = _;
-        levels = inner.levels;
-        closable = inner.closable;
-        due = within title.is_title (pulled_taken source title) stops.takes_more items due;
-        between = inner.between;
-        passed = Passes-then source _ _ _ _ _ (pulled_first title steady)
-            (Passes-then source _ _ _ _ _ stops.passed inner.passed);
-        stops = inner.stops;
-      })
+      let passed = Passes-then source _ _ _ _ _ (pulled_first title steady)
+      (Passes-then source _ _ _ _ _ stops.passed inner.passed) in
+      let whole : ItemDue (strictness old) outer (suc levels) _ inner.levels inner.closable =
+      within title.is_title (pulled_taken source title) stops.takes_more items due in
+      rw (sym level) (search)
 
   -- ---- items within a nest
 
@@ -193,31 +183,23 @@ module _ {R E : Type 0} (source : Ghosts R E) where
       → SoFar x d old now remaining
       → ((count : ℕ) → IsRemaining x count remaining → IsRemaining x (suc count) after) → ReadsItem source d now new
       → SoFar x d old new after
-  one_more so_far goes_on item = record {
-    count = suc so_far.count;
-    is_remaining = goes_on so_far.count so_far.is_remaining;
-    items = _;
-    are_items = items_item _ _ _ _ _ so_far.are_items
-        (items_looser _ _ (passed_keeps source so_far.passed) _ _ _ item.is_item);
-    passed = Passes-then source _ _ _ _ _ so_far.passed item.passed;
-  }
+  one_more so_far goes_on item =
+      let one = items_looser _ _ (passed_keeps source so_far.passed) _ _ _ item.is_item in
+      search (
+        goes_on so_far.count so_far.is_remaining,
+        items_item _ _ _ _ _ so_far.are_items one,
+        Passes-then source _ _ _ _ _ so_far.passed item.passed,
+      )
 
   -- an error where one more is due; the buffer was as long from the start
   pub stops_within : {x : Header} {d room room' : ℕ} {old now new : Decoder R} {error : SkipError E}
       {remaining : Remaining}
       → SoFar x d old now remaining → is_done remaining ≡ false → room' ≡ room
       → StopsItem source (closes remaining) d room' now error new → StopsWithin source x d room old error new
-  stops_within {x = x} {remaining = remaining} so_far some same stops =
+  stops_within {x = x} {d = d} {room = room} {now = now} {new = new} {error = error} {remaining = remaining} so_far some same stops =
       let more = takes_more x so_far.count remaining so_far.is_remaining some in
-      record {
-        count = so_far.count;
-        items = so_far.items;
-        takes_more = more.0;
-        are_items = so_far.are_items;
-        between = _;
-        passed = so_far.passed;
-        stops = rw more.1 (rw same at stops);
-      }
+      let stopped : StopsItem source (may_close x so_far.count) d room now error new = rw more.1 (rw same at stops) in
+      search
 
   -- all items were read
   all_read : (x : Header) (count : ℕ) (remaining : Remaining) → IsRemaining x count remaining

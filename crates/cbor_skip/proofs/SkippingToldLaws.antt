@@ -61,11 +61,7 @@ module _ {R E : Type 0} (source : Ghosts R E) (depth room : ℕ) (old : Decoder 
       → SkipsFront source (strictness old) depth due old new
   front_told told new reads =
       let gone = consumes_told _ _ due reads.item told reads.passed.consumed in
-      record {
-        front = record { item = reads.item; rest = gone.0; is_item = reads.is_item; is = gone.2 };
-        left = gone.1;
-        offset = reads.passed.offset;
-      }
+      record { front = search; left = gone.1; offset = reads.passed.offset }
 
   -- `Ok` means that over any reader that tells its bytes
   pub ok_told : view source old ≡ Some due → (new : Decoder R) (result : Result (Unit {0}) (SkipError E))
@@ -110,18 +106,9 @@ module _ {R E : Type 0} (source : Ghosts R E) (depth room : ℕ) (old : Decoder 
       met {point = point} {answer = answer} {written = written} read reach gone offset fault =
           let c = came in
           let behind = consumes_told _ _ c.0 read c.1 gone in
+          let found = fault c.0 behind.0 c.1 behind.1 behind.2 in
           record {
-            fault = record {
-              before = bytes;
-              point = point;
-              ahead = c.0;
-              answer = answer;
-              written = written;
-              consumed = length read;
-              reach = reach;
-              is = c.2;
-              fault = fault c.0 behind.0 c.1 behind.1 behind.2;
-            };
+            fault = search;
             answered = refl;
             left = behind.1 ∙ ap Some (sym (ap (drop (length read)) behind.2 ∙ drop-append_seam read behind.0));
             offset = omega (arith, offset, passed.offset);
@@ -268,14 +255,10 @@ module _ {R E : Type 0} (source : Ghosts R E) (depth room : ℕ) (old : Decoder 
         let pulled = meets.pulled in
         let gone = consumes_told _ _ c.0 pulled.title c.1 pulled.bytes in
         let lone = alone_bytes pulled.title h.Break pulled.is_title refl in
+        let due = rw meets.not_closable at stops.due in
+        let is = c.2 ∙ ap (◌++◌ stops.bytes) (gone.2 ∙ ap (λ (z : List ℕ). z ++ gone.0) lone) in
         record {
-          fault = record {
-            before = stops.bytes;
-            rest = gone.0;
-            levels = stops.levels;
-            item_due = rw meets.not_closable at stops.due;
-            is = c.2 ∙ ap (◌++◌ stops.bytes) (gone.2 ∙ ap (λ (z : List ℕ). z ++ gone.0) lone);
-          };
+          fault = search;
           place = meets.place ∙ stops.passed.offset;
           left = gone.1;
           offset = omega (arith, pulled.offset, meets.place, ap length lone);
@@ -288,19 +271,11 @@ module _ {R E : Type 0} (source : Ghosts R E) (depth room : ℕ) (old : Decoder 
         let meets = stops.stops in
         let pulled = meets.pulled in
         let gone = consumes_told _ _ c.0 pulled.title c.1 pulled.bytes in
+        let due = rw meets.none_left at stops.due in
+        let taken = behind_taken source stops.passed pulled in
+        let is = c.2 ∙ ap (◌++◌ stops.bytes) gone.2 in
         record {
-          fault = record {
-            before = stops.bytes;
-            title = pulled.title;
-            header = meets.header;
-            rest = gone.0;
-            closable = stops.closable;
-            item_due = rw meets.none_left at stops.due;
-            is_title = pulled.is_title;
-            taken = behind_taken source stops.passed pulled;
-            is_nest = meets.is_nest;
-            is = c.2 ∙ ap (◌++◌ stops.bytes) gone.2;
-          };
+          fault = search;
           place = meets.place ∙ stops.passed.offset;
           left = gone.1;
           offset = omega (arith, pulled.offset, meets.place);
