@@ -156,8 +156,9 @@ module _ (strict : Bool) (n : ℕ) where
       ]
 
   -- the step over the title of a body, by what a body that may be written leads to
-  body_step : {u s : List ℕ} {ms : List Mark} {k : Kind} {l p : ℕ} (t rest : List ℕ) → Reaches n (u ++ t) ms (BodyDue k l p)
-      → Spelled (u ++ t) ms (shortest_title (kind_header k (Some l))) → s ≡ t ++ rest
+  body_step : {u s : List ℕ} {ms : List Mark} {k : Kind} {l p : ℕ} (t rest : List ℕ)
+      → Reaches n (u ++ t) ms (BodyDue k l p) → Spelled (u ++ t) ms (shortest_title (kind_header k (Some l)))
+      → s ≡ t ++ rest
       → ((b more : List ℕ) → s ≡ (t ++ b) ++ more → length b ≡ l → IsWritable k b → Step u s) → Step u s
   body_step {u = u} {s = s} {k = k} {l = l} t rest reach sp q on =
       let there : HasFault strict n ((u ++ t) ++ rest) → Step u s = λ f. fails (rw q (rw append_assoc at f)) in
@@ -215,8 +216,8 @@ module _ (strict : Bool) (n : ℕ) where
     reach = inside l r (counted k (suc j) v bs ia) ok
 
     -- the step over a title that is taken
-    in_titled : {s t : List ℕ} {x : Header} (rest : List ℕ) → ViewIn k x → IsTitle t x → IsTakenTitle strict t x → s ≡ t ++ rest
-        → Step (u ++ v) s
+    in_titled : {s t : List ℕ} {x : Header} (rest : List ℕ) → ViewIn k x → IsTitle t x → IsTakenTitle strict t x
+        → s ≡ t ++ rest → Step (u ++ v) s
     in_titled {x = x} rest (in_misplaced f) p taken q =
         fails (faulty reach sp (OtherTitle x rest p (inl f) q))
     in_titled {t = t} rest in_break p taken q =
