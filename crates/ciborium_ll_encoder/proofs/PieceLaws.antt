@@ -1,29 +1,27 @@
 -- A value written piece by piece.
-use Rattle.std.proofs.Common.{◌≡◌, ℕ, zero, suc, get_or, ◌+◌, ◌<◌, ◌≤◌, max, List, [], ◌∷◌, ◌++◌, length, take, drop}
-use Rattle.std.proofs.Common.{Option, Some, None, Result, Ok, Err, IsErr, OnOk, sym, ap, ◌∙◌, subst, inl, inr, arith}
+use Rattle.std.proofs.Common.{◌≡◌, ℕ, zero, suc, get_or, ◌+◌, ◌<◌, ◌≤◌, List, [], ◌∷◌, ◌++◌, length, take, drop}
+use Rattle.std.proofs.Common.{Some, Result, Ok, IsErr, sym, ap, ◌∙◌, inl, inr, arith}
 use Rattle.std.proofs.Common.{append_assoc}
 use Rattle.std.proofs.lemmas.Bool.{cases_lt}
 use Rattle.std.proofs.lemmas.List.{append-nil, take-append-drop, length-take-le, length-drop}
 use Rattle.std.proofs.lemmas.Str.{IsUtf8-take, IsUtf8-drop, IsCharBoundary-past_char, IsCharBoundary-start}
 use Rattle.std.proofs.lemmas.Str.{length-encode}
-use Rattle.std.proofs.Math.Utf8.{encode}
-use Rattle.std.specs.Option.{unwrap_or}
 use Rattle.std.specs.Str.{IsUtf8, IsCharBoundary}
+use Rattle.std.specs.Char.{len_utf8}
 use Rattle.ciborium_ll_io.specs.declared.io.Write.{Ghosts}
 use Rattle.ciborium_ll_grammar.specs.Title.{shortest_title}
-use Rattle.ciborium_ll_grammar.specs.Strings.{Kind, Bytes, Text, kind_header, IsWritable}
+use Rattle.ciborium_ll_grammar.specs.Strings.{Kind, Bytes, Text, kind_header}
 use Rattle.ciborium_ll_text.specs.Text.{joined, IsCharacter, IsTail}
-use Rattle.ciborium_ll_grammar.specs.Elements.{Whole, body_spelling, spelling, pieces, open_marks}
-use Rattle.ciborium_ll_text.specs.Cuts.{IsFilled, AreFilled}
-use Rattle.ciborium_ll_grammar.specs.Values.{least_limit, value_limit, ArePieces, in_one, in_pieces}
-use Rattle.ciborium_ll_encoder.specs.Encoding.{WritesAll, WritesFront, WritesBytes, WritesPieces, WritesValue}
-use Rattle.ciborium_ll_encoder.specs.Encoding.{WritesFewest}
-use Rattle.ciborium_ll_grammar.proofs.ElementLaws.{pieces-append, spelling-append, open_spelled}
+use Rattle.ciborium_ll_grammar.specs.Elements.{body_spelling, spelling, pieces}
+use Rattle.ciborium_ll_text.specs.Cuts.{AreFilled}
+use Rattle.ciborium_ll_grammar.specs.Values.{ArePieces}
+use Rattle.ciborium_ll_encoder.specs.Encoding.{WritesAll, WritesFront, WritesBytes, WritesPieces}
+use Rattle.ciborium_ll_grammar.proofs.ElementLaws.{pieces-append, spelling-append}
 use Rattle.ciborium_ll_encoder.proofs.EncodingLaws.{WritesBytes-then, WritesBytes-stopped}
 use Rattle.ciborium_ll_text.proofs.TextLaws.{character_length}
 use Rattle.ciborium_ll_text.proofs.Utf8Laws.{written, from_std}
 use Rattle.ciborium_ll_text.proofs.CutLaws.{starts}
-use Rattle.ciborium_ll_grammar.proofs.ValueLaws.{full_piece_first, pieces_exist, fewest_segments}
+use Rattle.ciborium_ll_grammar.proofs.ValueLaws.{full_piece_first}
 
 -- ---- pieces in front of a rest
 
@@ -32,45 +30,40 @@ abbrev pub Leads : Kind → ℕ → List ℕ → List (List ℕ) → List ℕ �
 Leads kind limit value done rest = (others : List (List ℕ)) → ArePieces kind limit rest others
     → ArePieces kind limit value (done ++ others)
 
--- members behind members
-Leads-then : (k : Kind) (limit : ℕ) (value mid rest : List ℕ) (done more : List (List ℕ)) → Leads k limit value done mid
-    → Leads k limit mid more rest
-    → Leads k limit value (done ++ more) rest
-Leads-then k limit value mid rest done more p q others o =
-    subst (ArePieces k limit value) (sym (append_assoc done more others)) (p (more ++ others) (q others o))
-
 -- as many bytes as the limit lead the rest
 pub bytes_lead : (limit : ℕ) (value piece behind : List ℕ) → value ≡ piece ++ behind → length piece ≡ limit
     → Leads Bytes limit value (piece ∷ []) behind
 bytes_lead limit value piece behind whole len others o =
-    (whole ∙ ap (λ (z : List ℕ). piece ++ z) o.0, full_piece_first limit piece others len o.1)
+    (whole ∙ ap (◌++◌ piece) o.0, full_piece_first limit piece others len o.1)
 
 -- ---- places of a text
-
--- behind a character that begins at a place is a place
-next_place : (text character rest : List ℕ) (n : ℕ) → IsUtf8 text → IsCharBoundary text n → IsCharacter character
-    → drop n text ≡ character ++ rest → IsCharBoundary text (n + length character)
-next_place text character rest n u b p e =
-    let w = written character p in
-    let same : drop n text ≡ encode w.char ++ rest = e ∙ ap (λ (z : List ℕ). z ++ rest) (sym w.is) in
-    subst (λ (z : ℕ). IsCharBoundary text (n + z)) (sym (length-encode w.char) ∙ ap length w.is)
-    (IsCharBoundary-past_char text rest n w.char b.0 (IsUtf8-drop text n u b) same)
 
 -- no place behind n is within the limit
 abbrev pub IsLastWithin : ℕ → List ℕ → ℕ → Type 0
 IsLastWithin limit text n = (other : ℕ) → n < other → other ≤ limit → ¬ (IsCharBoundary text other)
 
+-- behind a character that begins at a place is a place, so it isn't within the limit behind the last one
+too_far : {limit n : ℕ} {text : List ℕ} (character rest : List ℕ) → IsUtf8 text → IsCharBoundary text n
+    → IsLastWithin limit text n → IsCharacter character → drop n text ≡ character ++ rest
+    → limit < n + length character
+too_far {limit} {n} {text} character rest u b last p e =
+    let w = written character p in
+    let size : len_utf8 w.char ≡ length character = sym (length-encode w.char) ∙ ap length w.is in
+    elim (cases_lt limit (n + length character)) [
+      | inl cut ↦ cut
+      | inr fits ↦ absurd (last (n + length character) (omega (arith, (character_length character p).0)) fits
+          (rw size at (IsCharBoundary-past_char text rest n w.char b.0 (IsUtf8-drop text n u b)
+          (e ∙ ap (λ (z : List ℕ). z ++ rest) (sym w.is)))))
+    ]
+
 -- the first character fits a limit of at least 4
 pub some_within : (limit : ℕ) (text : List ℕ) (n : ℕ) → IsUtf8 text → 0 < length text → 4 ≤ limit
     → IsLastWithin limit text n → 0 < n
-some_within limit text n u l four last =
+some_within limit text zero u l four last =
     let s = starts text (from_std text u) l in
-    let m = character_length s.char s.ok in
-    elim (cases_lt 0 n) [
-      | inl some ↦ some
-      | inr none ↦ absurd (last (0 + length s.char) (omega (arith, m.0)) (omega (arith, m.1))
-          (next_place text s.char s.rest 0 u (IsCharBoundary-start text u) s.ok s.is))
-    ]
+    let far = too_far s.char s.rest u (IsCharBoundary-start text u) last s.ok s.is in
+    absurd (omega (arith, (character_length s.char s.ok).1))
+some_within limit text (suc n) u l four last = omega arith
 
 -- no text begins with a later byte of a character
 pub past_tail : (text : List ℕ) (n : ℕ) → IsUtf8 text → n < length text → IsTail (get_or text n 0) → 0 < n
@@ -95,34 +88,19 @@ pub near_limit : (limit : ℕ) (text : List ℕ) (n : ℕ) → IsUtf8 text → I
 near_limit limit text n u b within longer last =
     let left : 0 < length (drop n text) = omega (arith, length-drop n text) in
     let s = starts (drop n text) (from_std (drop n text) (IsUtf8-drop text n u b)) left in
-    let m = character_length s.char s.ok in
-    elim (cases_lt limit (n + length s.char)) [
-      | inl cut ↦ omega (arith, m.1)
-      | inr fits ↦ absurd (last (n + length s.char) (omega (arith, m.0)) fits
-          (next_place text s.char s.rest n u b s.ok s.is))
-    ]
+    omega (arith, (character_length s.char s.ok).1, too_far s.char s.rest u b last s.ok s.is)
 
--- the first character behind the last place within the limit doesn't fit
-last_is_filled : (limit : ℕ) (text : List ℕ) (n : ℕ) (following behind : List ℕ) → IsUtf8 text → IsCharBoundary text n
-    → IsLastWithin limit text n
-    → drop n text ≡ following ++ behind → IsFilled limit (take n text) following
-last_is_filled limit text n following behind u b last e character rest p f =
-    let m = character_length character p in
-    let same : drop n text ≡ character ++ (rest ++ behind) = e ∙
-    (ap (λ (z : List ℕ). z ++ behind) f ∙ append_assoc character rest behind) in
-    let len = length-take-le n text b.0 in
-    elim (cases_lt limit (length (take n text) + length character)) [
-      | inl l ↦ l
-      | inr l ↦ absurd (last (n + length character) (omega (arith, m.0)) (omega arith)
-          (next_place text character (rest ++ behind) n u b p same))
-    ]
-
--- the last place within the limit ends a member that is filled
-filled_first : (limit : ℕ) (text : List ℕ) (n : ℕ) (others : List (List ℕ)) → IsUtf8 text → IsCharBoundary text n
+-- the last place within the limit ends a member that is filled: the first character behind it doesn't fit
+filled_first : {limit n : ℕ} {text : List ℕ} (others : List (List ℕ)) → IsUtf8 text → IsCharBoundary text n
     → IsLastWithin limit text n
     → drop n text ≡ joined others → AreFilled limit others → AreFilled limit (take n text ∷ others)
-filled_first limit text n [] u b last e f = tt
-filled_first limit text n (x ∷ xs) u b last e f = (last_is_filled limit text n x (joined xs) u b last e, f)
+filled_first [] u b last e f = tt
+filled_first {limit} {n} {text} (x ∷ xs) u b last e f = (
+  λ character rest p g.
+      let same : drop n text ≡ character ++ (rest ++ joined xs) = rw (g, append_assoc) at e in
+      omega (arith, length-take-le n text b.0, too_far character (rest ++ joined xs) u b last p same),
+  f,
+)
 
 -- the front of a text up to the last place within the limit leads the rest
 pub text_leads : (limit : ℕ) (text : List ℕ) (n : ℕ) (piece behind : List ℕ) → piece ≡ take n text → behind
@@ -133,11 +111,11 @@ text_leads limit text n piece behind p q u b within some last others o =
     let rest : drop n text ≡ joined others = sym q ∙ o.cut.whole in
     rw p (record {
       cut = record {
-        whole = sym (take-append-drop n text) ∙ ap (λ (z : List ℕ). take n text ++ z) rest;
+        whole = sym (take-append-drop n text) ∙ ap (◌++◌ (take n text)) rest;
         each = ((from_std (take n text) (IsUtf8-take text n u b), omega arith), o.cut.each);
       };
       nonempty = (omega arith, o.nonempty);
-      filled = filled_first limit text n others u b last rest o.filled;
+      filled = filled_first others u b last rest o.filled;
     })
 
 -- ---- what a rest that fits has as its pieces
@@ -156,14 +134,6 @@ text_last limit rest u some fits = record {
   filled = tt;
 }
 
--- ---- the limit
-
--- the limit is the one that is asked for, or the value's length, raised to the least one
-pub limit_is : (k : Kind) (segment : Option ℕ) (value : List ℕ) (limit : ℕ)
-    → limit ≡ max (least_limit k) (unwrap_or segment (length value)) → limit ≡ value_limit k segment value
-limit_is k None value limit e = e
-limit_is k (Some n) value limit e = e
-
 -- ---- the spelling of pieces
 
 -- pieces behind pieces
@@ -175,7 +145,7 @@ spelled_then k done others = ap spelling (pieces-append k done others)
 -- one piece more
 spelled_more : (k : Kind) (done : List (List ℕ)) (piece : List ℕ)
     → spelling (pieces k (done ++ piece ∷ [])) ≡ spelling (pieces k done) ++ body_spelling k piece
-spelled_more k done piece = spelled_then k done (piece ∷ []) ∙ ap (λ (z : List ℕ). spelling (pieces k done) ++ z)
+spelled_more k done piece = spelled_then k done (piece ∷ []) ∙ ap (◌++◌ (spelling (pieces k done)))
     (append-nil (body_spelling k piece))
 
 module _ {W F : Type 0} (sink : Ghosts W F) where
@@ -185,126 +155,38 @@ module _ {W F : Type 0} (sink : Ghosts W F) where
     pub leads : Leads kind limit value done rest
     pub written : WritesAll sink old (spelling (pieces kind done)) current
 
-  -- one piece more is written
-  pub Progress-more : (k : Kind) (limit : ℕ) (value : List ℕ) (old : W) (rest : List ℕ) (current : W)
-      (piece behind : List ℕ) (new : W)
-      → Progress k limit value old rest current → Leads k limit rest (piece ∷ []) behind
-      → WritesAll sink current (body_spelling k piece) new
-      → Progress k limit value old behind new
-  Progress-more k limit value old rest current piece behind new p leads all = record {
-    done = p.done ++ piece ∷ [];
-    leads = Leads-then k limit value rest behind p.done (piece ∷ []) p.leads leads;
-    written = subst (λ (z : List ℕ). WritesAll sink old z new) (sym (spelled_more k p.done piece))
-        (WritesBytes-then sink {T = Unit {0}} old current new (Ok (tt {0})) (spelling (pieces k p.done))
-        (body_spelling k piece) p.written all);
-  }
+  -- the bytes of a piece, and its title in front of them
+  abbrev pub titled : Kind → List ℕ → List ℕ → List ℕ
+  titled kind piece body = shortest_title (kind_header kind (Some (length piece))) ++ body
 
-  -- the writer failed at a piece, with others behind it
-  pub Progress-stopped : {T : Type 0} (result : Result T F) → IsErr result
-      → (k : Kind) (limit : ℕ) (value : List ℕ) (old : W) (rest : List ℕ) (current : W)
-      (piece behind : List ℕ) (others : List (List ℕ)) (new : W) → Progress k limit value old rest current
-      → Leads k limit rest (piece ∷ []) behind
-      → ArePieces k limit behind others → WritesFront sink current (body_spelling k piece) new
-      → WritesPieces sink k limit value old result new
-  Progress-stopped result e k limit value old rest current piece behind others new p leads o front = record {
-    members = p.done ++ (piece ∷ others);
-    are_pieces = p.leads (piece ∷ others) (leads others o);
-    bytes = subst (λ (z : List ℕ). WritesBytes sink old result z new) (sym (spelled_then k p.done (piece ∷ others)))
-        (WritesBytes-then sink old current new result (spelling (pieces k p.done))
-        (spelling (pieces k (piece ∷ others))) p.written
-        (WritesBytes-stopped sink current new result (body_spelling k piece) (spelling (pieces k others)) e front));
-  }
+  module _ {k : Kind} {limit : ℕ} {value rest : List ℕ} {old current new : W} (piece body : List ℕ) (same : body ≡ piece)
+      (p : Progress k limit value old rest current) where
+    -- one piece more is written
+    pub Progress-more : (behind : List ℕ) → Leads k limit rest (piece ∷ []) behind
+        → WritesAll sink current (titled k piece body) new → Progress k limit value old behind new
+    Progress-more behind leads all = record {
+      done = p.done ++ piece ∷ [];
+      leads = λ others o. rw append_assoc (p.leads (piece ∷ others) (leads others o));
+      written = rw spelled_more
+          (WritesBytes-then sink {T = Unit {0}} old current new (Ok (tt {0})) _ _ p.written (rw same at all));
+    }
 
-  -- the rest is written as the last piece
-  pub Progress-last : {T : Type 0} (result : Result T F) (k : Kind) (limit : ℕ) (value : List ℕ) (old : W)
-      (rest : List ℕ)
-      (current new : W)
-      → Progress k limit value old rest current → ArePieces k limit rest (rest ∷ [])
-      → WritesBytes sink current result (body_spelling k rest) new
-      → WritesPieces sink k limit value old result new
-  Progress-last result k limit value old rest current new p last next = record {
-    members = p.done ++ rest ∷ [];
-    are_pieces = p.leads (rest ∷ []) last;
-    bytes = subst (λ (z : List ℕ). WritesBytes sink old result z new) (sym (spelled_more k p.done rest))
-        (WritesBytes-then sink old current new result (spelling (pieces k p.done)) (body_spelling k rest) p.written
-        next);
-  }
+    -- the writer failed at a piece, with others behind it
+    pub Progress-stopped : {T : Type 0} (result : Result T F) → IsErr result → (behind : List ℕ) (others : List (List ℕ))
+        → Leads k limit rest (piece ∷ []) behind → ArePieces k limit behind others
+        → WritesFront sink current (titled k piece body) new → WritesPieces sink k limit value old result new
+    Progress-stopped result e behind others leads o front = record {
+      members = p.done ++ (piece ∷ others);
+      are_pieces = p.leads (piece ∷ others) (leads others o);
+      bytes = rw spelled_then (WritesBytes-then sink old current new result _ _ p.written
+          (WritesBytes-stopped sink current new result (body_spelling k piece) _ e (rw same at front)));
+    }
 
-  -- ---- a whole value
-
-  -- a value in one string
-  pub WritesValue-in_one : {T : Type 0} (result : Result T F) (k : Kind) (segment : Option ℕ) (value : List ℕ)
-      (limit : ℕ) (old new : W)
-      → limit ≡ value_limit k segment value → length value ≤ limit
-      → WritesBytes sink old result (body_spelling k value) new
-      → WritesValue sink k segment value old result new
-  WritesValue-in_one result k segment value limit old new same fits bytes = record {
-    marks = Whole k value ∷ [];
-    written = in_one (omega arith);
-    bytes = subst (λ (z : List ℕ). WritesBytes sink old result z new) (sym (append-nil (body_spelling k value))) bytes;
-  }
-
-  -- a value in pieces
-  in_open : {T : Type 0} (result : Result T F) (k : Kind) (segment : Option ℕ) (value : List ℕ) (limit : ℕ)
-      (members : List (List ℕ))
-      (old new : W)
-      → limit ≡ value_limit k segment value → limit < length value → ArePieces k limit value members
-      → WritesBytes sink old result (shortest_title (kind_header k None) ++
-      (spelling (pieces k members) ++ 0xff ∷ [])) new
-      → WritesValue sink k segment value old result new
-  in_open result k segment value limit members old new same longer are bytes = record {
-    marks = open_marks k members;
-    written = in_pieces members (omega arith) (subst (λ (z : ℕ). ArePieces k z value members) same are);
-    bytes = subst (λ (z : List ℕ). WritesBytes sink old result z new) (sym (open_spelled k members)) bytes;
-  }
-
-  -- the writer failed at the open
-  pub WritesValue-unopened : {T : Type 0} (result : Result T F) → IsErr result
-      → (k : Kind) (segment : Option ℕ) (value : List ℕ) (limit : ℕ) (old new : W)
-      → IsWritable k value → least_limit k ≤ limit → limit ≡ value_limit k segment value → limit < length value
-      → WritesFront sink old (shortest_title (kind_header k None)) new → WritesValue sink k segment value old result new
-  WritesValue-unopened result e k segment value limit old new sound least same longer front =
-      let p = pieces_exist k limit value least sound longer in
-      in_open result k segment value limit p.0 old new same longer p.1
-      (WritesBytes-stopped sink old new result (shortest_title (kind_header k None))
-      (spelling (pieces k p.0) ++ 0xff ∷ []) e front)
-
-  -- the writer failed at the pieces
-  pub WritesValue-cut : {T : Type 0} (result : Result T F) → IsErr result
-      → (k : Kind) (segment : Option ℕ) (value : List ℕ) (limit : ℕ) (old open_new new : W)
-      (fault : F) → limit ≡ value_limit k segment value → limit < length value
-      → WritesAll sink old (shortest_title (kind_header k None)) open_new
-      → WritesPieces sink {T = T} k limit value open_new (Err fault) new
-      → WritesValue sink k segment value old result new
-  WritesValue-cut result e k segment value limit old open_new new fault same longer all p =
-      in_open result k segment value limit p.members old new same longer p.are_pieces
-      (WritesBytes-then sink old open_new new result (shortest_title (kind_header k None))
-      (spelling (pieces k p.members) ++ 0xff ∷ []) all
-      (WritesBytes-stopped sink open_new new result (spelling (pieces k p.members)) (0xff ∷ []) e p.bytes))
-
-  -- the pieces were written, and then the break, or the writer failed there
-  pub WritesValue-closed : {T : Type 0} (result : Result T F) (k : Kind) (segment : Option ℕ) (value : List ℕ)
-      (limit : ℕ)
-      (old open_new last new : W)
-      (done : T) → limit ≡ value_limit k segment value → limit < length value
-      → WritesAll sink old (shortest_title (kind_header k None)) open_new
-      → WritesPieces sink {T = T} k limit value open_new (Ok done) last → WritesBytes sink last result (0xff ∷ []) new
-      → WritesValue sink k segment value old result new
-  WritesValue-closed result k segment value limit old open_new last new done same longer all p close =
-      in_open result k segment value limit p.members old new same longer p.are_pieces
-      (WritesBytes-then sink old open_new new result (shortest_title (kind_header k None))
-      (spelling (pieces k p.members) ++ 0xff ∷ []) all
-      (WritesBytes-then sink open_new last new result (spelling (pieces k p.members)) (0xff ∷ []) p.bytes close))
-
-  -- a text that was written has the fewest segments
-  pub WritesFewest-of : {T : Type 0} (result : Result T F) (segment : Option ℕ) (text : List ℕ) (old new : W)
-      → IsUtf8 text
-      → WritesValue sink Text segment text old result new
-      → OnOk result (0 < length text → WritesFewest sink (value_limit Text segment text) text old new)
-  WritesFewest-of (Ok done) segment text old new u w = λ some. record {
-    marks = w.marks;
-    written = w.written;
-    fewest = fewest_segments (value_limit Text segment text) text w.marks w.written (from_std text u) some;
-    bytes = w.bytes;
-  }
-  WritesFewest-of (Err fault) segment text old new u w = tt
+    -- the rest is written as the last piece
+    pub Progress-last : {T : Type 0} (result : Result T F) → piece ≡ rest → ArePieces k limit rest (rest ∷ [])
+        → WritesBytes sink current result (titled k piece body) new → WritesPieces sink k limit value old result new
+    Progress-last result is last next = record {
+      members = p.done ++ piece ∷ [];
+      are_pieces = rw is (p.leads (rest ∷ []) last);
+      bytes = rw spelled_more (WritesBytes-then sink old current new result _ _ p.written (rw same at next));
+    }

@@ -1,6 +1,6 @@
 -- Writes in two steps, in the words of the contracts of the steps. The check finds by them what a function of such
 -- calls ensures, in whichever form its body stands.
-use Rattle.std.proofs.Common.{◌≡◌, ℕ, ◌+◌, ◌<◌, ◌≤◌, max, List, [], ◌∷◌, ◌++◌, length, subst, arith}
+use Rattle.std.proofs.Common.{◌≡◌, ℕ, ◌+◌, ◌<◌, ◌≤◌, max, List, [], ◌∷◌, ◌++◌, length, append-nil, sym, ◌∙◌, arith}
 use Rattle.std.proofs.Common.{Option, None, Some, Result, Ok, Err, IsErr, IfSome, OnOk, OnErr}
 use Rattle.std.specs.Io.KnownBytes.{Appends}
 use Rattle.std.specs.Option.{unwrap_or}
@@ -9,12 +9,19 @@ use Rattle.ciborium_ll_io.specs.declared.io.Write.{Ghosts}
 use Rattle.ciborium_ll_io.specs.Transfer.{Shrinks, AppendsFront}
 use Rattle.ciborium_ll_grammar.specs.Title.{shortest_title}
 use Rattle.ciborium_ll_grammar.specs.Strings.{Kind, Text, kind_header, IsWritable}
-use Rattle.ciborium_ll_grammar.specs.Values.{least_limit, value_limit}
+use Rattle.ciborium_ll_grammar.specs.Values.{least_limit, value_limit, ArePieces, in_one, in_pieces}
 use Rattle.ciborium_ll_encoder.specs.Encoding.{WritesAll, WritesFront, WritesBytes, WritesPieces, WritesValue}
 use Rattle.ciborium_ll_encoder.specs.Encoding.{WritesFewest}
-use Rattle.ciborium_ll_encoder.proofs.PieceLaws.{limit_is, WritesValue-in_one, WritesValue-unopened}
-use Rattle.ciborium_ll_encoder.proofs.PieceLaws.{WritesValue-cut, WritesValue-closed, WritesFewest-of}
+use Rattle.ciborium_ll_grammar.specs.Elements.{Whole, spelling, pieces, open_marks}
+use Rattle.ciborium_ll_grammar.proofs.ElementLaws.{open_spelled}
+use Rattle.ciborium_ll_grammar.proofs.ValueLaws.{pieces_exist, fewest_segments}
+use Rattle.ciborium_ll_text.proofs.Utf8Laws.{from_std}
 use Rattle.ciborium_ll_encoder.proofs.EncodingLaws.{WritesBytes-of, WritesBytes-stopped, WritesBytes-then}
+
+-- the limit is the one that is asked for, or the value's length, raised to the least one
+limit_is : (k : Kind) (segment : Option ℕ) (value : List ℕ)
+    → max (least_limit k) (unwrap_or segment (length value)) ≡ value_limit k segment value
+limit_is k segment value = grind arith
 
 module _ {W F : Type 0} (sink : Ghosts W F) where
   -- a first byte, and the bytes behind it
@@ -23,8 +30,7 @@ module _ {W F : Type 0} (sink : Ghosts W F) where
       → Shrinks (sink.room old) (sink.room mid) 1 → sink.failures mid ≡ sink.failures old
       → WritesBytes sink mid result affix new → WritesBytes sink old result (byte ∷ affix) new
   behind_byte old mid new result first byte affix same appended room failures next =
-      subst (λ (z : ℕ). WritesBytes sink old result (z ∷ affix) new) same
-      (WritesBytes-then sink old mid new result (first ∷ []) affix
+      rw (sym same) (WritesBytes-then sink old mid new result (first ∷ []) affix
       (record { appended = appended; room = room; failures = failures }) next)
 
   -- a first byte that wasn't written, so that nothing behind it is
@@ -34,15 +40,14 @@ module _ {W F : Type 0} (sink : Ghosts W F) where
       → IfSome (sink.room old) (λ n. n < 1) → sink.failures new ≡ sink.failures old + 1
       → WritesBytes sink old result (byte ∷ affix) new
   byte_unwritten old new result first byte affix fails same front full failures =
-      subst (λ (z : ℕ). WritesBytes sink old result (z ∷ affix) new) same
-      (WritesBytes-stopped sink old new result (first ∷ []) affix fails
+      rw (sym same) (WritesBytes-stopped sink old new result (first ∷ []) affix fails
       (record { front = front; full = full; failures = failures }))
 
   -- a write of the same bytes, under another name
   pub same_written : {T : Type 0} (old new : W) (result : Result T F) (written bytes : List ℕ) → written ≡ bytes
       → WritesBytes sink old result written new → WritesBytes sink old result bytes new
   same_written old new result written bytes same writes =
-      subst (λ (z : List ℕ). WritesBytes sink old result z new) same writes
+      rw same at writes
 
   -- bytes that were written, and a write of the writer behind them
   pub behind_bytes : {T : Type 0} (old mid new : W) (result : Result T F) (xs ys : List ℕ) → WritesAll sink old xs mid
@@ -63,9 +68,26 @@ module _ {W F : Type 0} (sink : Ghosts W F) where
       → length value ≤ limit → body ≡ value
       → WritesBytes sink old result (shortest_title (kind_header kind (Some (length value))) ++ body) new
       → WritesValue sink kind segment value old result new
-  value_in_one old new result kind segment value body limit is fits same bytes =
-      WritesValue-in_one sink result kind segment value limit old new (limit_is kind segment value limit is) fits
-      (rw same at bytes)
+  value_in_one old new result kind segment value body limit is fits same bytes = record {
+    marks = Whole kind value ∷ [];
+    written = in_one (rw (sym (limit_is kind segment value) ∙ sym is) fits);
+    bytes = rw append-nil (rw same at bytes);
+  }
+
+  -- a value in pieces
+  value_in_pieces : {T : Type 0} {old new : W} {result : Result T F} {kind : Kind} {segment : Option ℕ}
+      {value : List ℕ} {limit : ℕ} (members : List (List ℕ))
+      → limit ≡ max (least_limit kind) (unwrap_or segment (length value)) → limit < length value
+      → ArePieces kind limit value members → WritesBytes sink old result (shortest_title (kind_header kind None)
+      ++ (spelling (pieces kind members) ++ 0xff ∷ [])) new
+      → WritesValue sink kind segment value old result new
+  value_in_pieces {kind = kind} {segment = segment} {value = value} members is longer are bytes =
+      let same = is ∙ limit_is kind segment value in
+      record {
+        marks = open_marks kind members;
+        written = in_pieces members (rw same at longer) (rw same at are);
+        bytes = rw open_spelled bytes;
+      }
 
   -- a longer value, whose open wasn't written
   pub value_unopened : {T : Type 0} (old new : W) (result : Result T F) (kind : Kind) (segment : Option ℕ)
@@ -74,8 +96,8 @@ module _ {W F : Type 0} (sink : Ghosts W F) where
       → IsWritable kind value → WritesFront sink old (shortest_title (kind_header kind None)) new
       → WritesValue sink kind segment value old result new
   value_unopened old new result kind segment value limit fails is longer sound front =
-      WritesValue-unopened sink result fails kind segment value limit old new sound (omega (arith, is))
-      (limit_is kind segment value limit is) longer front
+      let p = pieces_exist kind limit value (omega arith) sound longer in
+      value_in_pieces p.0 is longer p.1 (WritesBytes-stopped sink old new result _ _ fails front)
 
   -- one of whose pieces one wasn't written
   pub value_cut : {T : Type 0} (old opened new : W) (result : Result T F) (kind : Kind) (segment : Option ℕ)
@@ -84,9 +106,9 @@ module _ {W F : Type 0} (sink : Ghosts W F) where
       → WritesAll sink old (shortest_title (kind_header kind None)) opened
       → WritesPieces sink {T = T} kind limit value opened (Err fault) new
       → WritesValue sink kind segment value old result new
-  value_cut old opened new result kind segment value limit fault fails is longer all pieces =
-      WritesValue-cut sink result fails kind segment value limit old opened new fault
-      (limit_is kind segment value limit is) longer all pieces
+  value_cut old opened new result kind segment value limit fault fails is longer all p =
+      value_in_pieces p.members is longer p.are_pieces (WritesBytes-then sink old opened new result _ _ all
+      (WritesBytes-stopped sink opened new result _ _ fails p.bytes))
 
   -- one whose pieces were written, and then its break or not
   pub value_closed : {T : Type 0} (old opened last new : W) (result : Result T F) (kind : Kind) (segment : Option ℕ)
@@ -95,16 +117,18 @@ module _ {W F : Type 0} (sink : Ghosts W F) where
       → WritesAll sink old (shortest_title (kind_header kind None)) opened
       → WritesPieces sink {T = T} kind limit value opened (Ok done) last → WritesBytes sink last result (0xff ∷ []) new
       → WritesValue sink kind segment value old result new
-  value_closed old opened last new result kind segment value limit done is longer all pieces close =
-      WritesValue-closed sink result kind segment value limit old opened last new done
-      (limit_is kind segment value limit is) longer all pieces close
+  value_closed old opened last new result kind segment value limit done is longer all p close =
+      value_in_pieces p.members is longer p.are_pieces (WritesBytes-then sink old opened new result _ _ all
+      (WritesBytes-then sink opened last new result _ _ p.bytes close))
 
   -- a text that is written in pieces is written in the fewest
   pub in_fewest : {T : Type 0} (old new : W) (result : Result T F) (segment : Option ℕ) (text : List ℕ) → IsUtf8 text
       → WritesValue sink Text segment text old result new
       → OnOk result (0 < length text → WritesFewest sink (value_limit Text segment text) text old new)
-  in_fewest old new result segment text is_text writes =
-      WritesFewest-of sink result segment text old new is_text writes
+  in_fewest old new (Ok done) segment text is_text writes = λ some.
+      let fewest = fewest_segments _ text writes.marks writes.written (from_std text is_text) some in
+      search
+  in_fewest old new (Err fault) segment text is_text writes = tt
 
 -- what is said of a byte string
 pub ruleset values = (value_in_one, value_unopened, value_cut, value_closed)

@@ -1,4 +1,4 @@
-use Rattle.std.proofs.Common.{[], ◌∷◌, ◌∙◌, arith}
+use Rattle.std.proofs.Common.{[], ◌∷◌, ◌∙◌, refl, arith}
 use Rattle.ciborium_ll_grammar.specs.Strings.{Bytes}
 use Rattle.ciborium_ll_grammar.proofs.ValueLaws.{byte_pieces}
 use Rattle.ciborium_ll_encoder.proofs.PieceLaws.{Leads, bytes_lead, bytes_last, Progress-more, Progress-stopped}
@@ -17,8 +17,7 @@ pieces-preserved g c =
     let cut = (goal.at.pieces-preserved g c).After-split_at in
     record {
       some = omega arith;
-      progress = Progress-more g.W.Write Bytes c.args.limit _ _ _ _ c.split_at.result.0.now _ _
-          c.pieces.invariant.progress (leads g cut)
+      progress = Progress-more g.W.Write c.split_at.result.0.now _ refl c.pieces.invariant.progress _ (leads g cut)
           c.in_ok-string.ensures.bytes;
       target = c.in_ok-string.ensures.target ∙ c.pieces.invariant.target;
     }
@@ -26,15 +25,12 @@ pieces-preserved g c =
 pub returns-in_err-string-clause-pieces : goal.returns-in_err-string-clause-pieces
 returns-in_err-string-clause-pieces g c =
     let cut = (goal.at.returns-in_err-string-clause-pieces g c).After-split_at in
-    let behind = c.split_at.result.1.now in
-    let others = byte_pieces behind c.args.limit (omega arith) c.requires.some in
-    Progress-stopped g.W.Write c.from_residual.result c.from_residual.ensures.0 Bytes c.args.limit _ _ _ _
-    c.split_at.result.0.now behind
-    others.0 _
-    c.pieces.invariant.progress (leads g cut) others.1 c.in_err-string.ensures.bytes
+    let others = byte_pieces c.split_at.result.1.now c.args.limit (omega arith) c.requires.some in
+    Progress-stopped g.W.Write c.split_at.result.0.now _ refl c.pieces.invariant.progress c.from_residual.result
+    c.from_residual.ensures.0 _ others.0 (leads g cut) others.1 c.in_err-string.ensures.bytes
 
 pub returns-clause-pieces : goal.returns-clause-pieces
 returns-clause-pieces g c =
     let rest = c.pieces.rest.now in
-    Progress-last g.W.Write c.string-2.result Bytes c.args.limit _ _ rest _ _ c.pieces.invariant.progress
+    Progress-last g.W.Write rest _ refl c.pieces.invariant.progress c.string-2.result refl
     (bytes_last c.args.limit rest c.pieces.invariant.some c.pieces-test.false) c.string-2.ensures.bytes
