@@ -134,19 +134,7 @@ text_last limit rest u some fits = record {
   filled = tt;
 }
 
--- ---- the spelling of pieces
-
--- pieces behind pieces
-spelled_then : (k : Kind) (done others : List (List ℕ))
-    → spelling (pieces k (done ++ others)) ≡ spelling (pieces k done) ++ spelling (pieces k others)
-spelled_then k done others = ap spelling (pieces-append k done others)
-    ∙ spelling-append (pieces k done) (pieces k others)
-
--- one piece more
-spelled_more : (k : Kind) (done : List (List ℕ)) (piece : List ℕ)
-    → spelling (pieces k (done ++ piece ∷ [])) ≡ spelling (pieces k done) ++ body_spelling k piece
-spelled_more k done piece = spelled_then k done (piece ∷ []) ∙ ap (◌++◌ (spelling (pieces k done)))
-    (append-nil (body_spelling k piece))
+-- ---- pieces that are written
 
 module _ {W F : Type 0} (sink : Ghosts W F) where
   -- the first pieces of a value were written, and the rest is left
@@ -159,26 +147,26 @@ module _ {W F : Type 0} (sink : Ghosts W F) where
   abbrev pub titled : Kind → List ℕ → List ℕ → List ℕ
   titled kind piece body = shortest_title (kind_header kind (Some (length piece))) ++ body
 
-  module _ {k : Kind} {limit : ℕ} {value rest : List ℕ} {old current new : W} (piece body : List ℕ) (same : body ≡ piece)
-      (p : Progress k limit value old rest current) where
+  module _ {k : Kind} {limit : ℕ} {value rest : List ℕ} {old current new : W} (piece body : List ℕ)
+      (same : body ≡ piece) (p : Progress k limit value old rest current) where
     -- one piece more is written
     pub Progress-more : (behind : List ℕ) → Leads k limit rest (piece ∷ []) behind
         → WritesAll sink current (titled k piece body) new → Progress k limit value old behind new
     Progress-more behind leads all = record {
       done = p.done ++ piece ∷ [];
       leads = λ others o. rw append_assoc (p.leads (piece ∷ others) (leads others o));
-      written = rw spelled_more
+      written = simp (pieces-append, spelling-append, append-nil)
           (WritesBytes-then sink {T = Unit {0}} old current new (Ok (tt {0})) _ _ p.written (rw same at all));
     }
 
     -- the writer failed at a piece, with others behind it
-    pub Progress-stopped : {T : Type 0} (result : Result T F) → IsErr result → (behind : List ℕ) (others : List (List ℕ))
-        → Leads k limit rest (piece ∷ []) behind → ArePieces k limit behind others
+    pub Progress-stopped : {T : Type 0} (result : Result T F) → IsErr result → (behind : List ℕ)
+        (others : List (List ℕ)) → Leads k limit rest (piece ∷ []) behind → ArePieces k limit behind others
         → WritesFront sink current (titled k piece body) new → WritesPieces sink k limit value old result new
     Progress-stopped result e behind others leads o front = record {
       members = p.done ++ (piece ∷ others);
       are_pieces = p.leads (piece ∷ others) (leads others o);
-      bytes = rw spelled_then (WritesBytes-then sink old current new result _ _ p.written
+      bytes = simp (pieces-append, spelling-append) (WritesBytes-then sink old current new result _ _ p.written
           (WritesBytes-stopped sink current new result (body_spelling k piece) _ e (rw same at front)));
     }
 
@@ -188,5 +176,5 @@ module _ {W F : Type 0} (sink : Ghosts W F) where
     Progress-last result is last next = record {
       members = p.done ++ piece ∷ [];
       are_pieces = rw is (p.leads (rest ∷ []) last);
-      bytes = rw spelled_more (WritesBytes-then sink old current new result _ _ p.written (rw same at next));
+      bytes = simp (pieces-append, spelling-append, append-nil) (WritesBytes-then sink old current new result _ _ p.written (rw same at next));
     }

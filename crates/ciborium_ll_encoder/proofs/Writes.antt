@@ -43,12 +43,6 @@ module _ {W F : Type 0} (sink : Ghosts W F) where
       rw (sym same) (WritesBytes-stopped sink old new result (first ∷ []) affix fails
       (record { front = front; full = full; failures = failures }))
 
-  -- a write of the same bytes, under another name
-  pub same_written : {T : Type 0} (old new : W) (result : Result T F) (written bytes : List ℕ) → written ≡ bytes
-      → WritesBytes sink old result written new → WritesBytes sink old result bytes new
-  same_written old new result written bytes same writes =
-      rw same at writes
-
   -- bytes that were written, and a write of the writer behind them
   pub behind_bytes : {T : Type 0} (old mid new : W) (result : Result T F) (xs ys : List ℕ) → WritesAll sink old xs mid
       → OnOk result (Appends (sink.written mid) (sink.written new) ys)
@@ -74,52 +68,45 @@ module _ {W F : Type 0} (sink : Ghosts W F) where
     bytes = rw append-nil (rw same at bytes);
   }
 
-  -- a value in pieces
-  value_in_pieces : {T : Type 0} {old new : W} {result : Result T F} {kind : Kind} {segment : Option ℕ}
-      {value : List ℕ} {limit : ℕ} (members : List (List ℕ))
-      → limit ≡ max (least_limit kind) (unwrap_or segment (length value)) → limit < length value
-      → ArePieces kind limit value members → WritesBytes sink old result (shortest_title (kind_header kind None)
-      ++ (spelling (pieces kind members) ++ 0xff ∷ [])) new
-      → WritesValue sink kind segment value old result new
-  value_in_pieces {kind = kind} {segment = segment} {value = value} members is longer are bytes =
-      let same = is ∙ limit_is kind segment value in
-      record {
-        marks = open_marks kind members;
-        written = in_pieces members (rw same at longer) (rw same at are);
-        bytes = rw open_spelled bytes;
-      }
+  module _ {T : Type 0} {old new : W} {result : Result T F} {kind : Kind} {segment : Option ℕ} {value : List ℕ}
+      {limit : ℕ} (is : limit ≡ max (least_limit kind) (unwrap_or segment (length value)))
+      (longer : limit < length value) where
+    -- a longer value, in pieces
+    in_open : (members : List (List ℕ)) → ArePieces kind limit value members → WritesBytes sink old result
+        (shortest_title (kind_header kind None) ++ (spelling (pieces kind members) ++ 0xff ∷ [])) new
+        → WritesValue sink kind segment value old result new
+    in_open members are bytes =
+        let same = is ∙ limit_is kind segment value in
+        record {
+          marks = open_marks kind members;
+          written = in_pieces members (rw same at longer) (rw same at are);
+          bytes = rw open_spelled bytes;
+        }
 
-  -- a longer value, whose open wasn't written
-  pub value_unopened : {T : Type 0} (old new : W) (result : Result T F) (kind : Kind) (segment : Option ℕ)
-      (value : List ℕ) (limit : ℕ) → IsErr result
-      → limit ≡ max (least_limit kind) (unwrap_or segment (length value)) → limit < length value
-      → IsWritable kind value → WritesFront sink old (shortest_title (kind_header kind None)) new
-      → WritesValue sink kind segment value old result new
-  value_unopened old new result kind segment value limit fails is longer sound front =
-      let p = pieces_exist kind limit value (omega arith) sound longer in
-      value_in_pieces p.0 is longer p.1 (WritesBytes-stopped sink old new result _ _ fails front)
+    -- one whose open wasn't written
+    pub value_unopened : IsErr result → IsWritable kind value
+        → WritesFront sink old (shortest_title (kind_header kind None)) new
+        → WritesValue sink kind segment value old result new
+    value_unopened fails sound front =
+        let p = pieces_exist kind limit value (omega arith) sound longer in
+        in_open p.0 p.1 (WritesBytes-stopped sink old new result _ _ fails front)
 
-  -- one of whose pieces one wasn't written
-  pub value_cut : {T : Type 0} (old opened new : W) (result : Result T F) (kind : Kind) (segment : Option ℕ)
-      (value : List ℕ) (limit : ℕ) (fault : F) → IsErr result
-      → limit ≡ max (least_limit kind) (unwrap_or segment (length value)) → limit < length value
-      → WritesAll sink old (shortest_title (kind_header kind None)) opened
-      → WritesPieces sink {T = T} kind limit value opened (Err fault) new
-      → WritesValue sink kind segment value old result new
-  value_cut old opened new result kind segment value limit fault fails is longer all p =
-      value_in_pieces p.members is longer p.are_pieces (WritesBytes-then sink old opened new result _ _ all
-      (WritesBytes-stopped sink opened new result _ _ fails p.bytes))
+    -- one of whose pieces one wasn't written
+    pub value_cut : {opened : W} {fault : F} → IsErr result
+        → WritesAll sink old (shortest_title (kind_header kind None)) opened
+        → WritesPieces sink {T = T} kind limit value opened (Err fault) new
+        → WritesValue sink kind segment value old result new
+    value_cut {opened = opened} fails all p =
+        in_open p.members p.are_pieces (WritesBytes-then sink old opened new result _ _ all
+        (WritesBytes-stopped sink opened new result _ _ fails p.bytes))
 
-  -- one whose pieces were written, and then its break or not
-  pub value_closed : {T : Type 0} (old opened last new : W) (result : Result T F) (kind : Kind) (segment : Option ℕ)
-      (value : List ℕ) (limit : ℕ) (done : T)
-      → limit ≡ max (least_limit kind) (unwrap_or segment (length value)) → limit < length value
-      → WritesAll sink old (shortest_title (kind_header kind None)) opened
-      → WritesPieces sink {T = T} kind limit value opened (Ok done) last → WritesBytes sink last result (0xff ∷ []) new
-      → WritesValue sink kind segment value old result new
-  value_closed old opened last new result kind segment value limit done is longer all p close =
-      value_in_pieces p.members is longer p.are_pieces (WritesBytes-then sink old opened new result _ _ all
-      (WritesBytes-then sink opened last new result _ _ p.bytes close))
+    -- one whose pieces were written, and then its break or not
+    pub value_closed : {opened last : W} {done : T} → WritesAll sink old (shortest_title (kind_header kind None)) opened
+        → WritesPieces sink {T = T} kind limit value opened (Ok done) last
+        → WritesBytes sink last result (0xff ∷ []) new → WritesValue sink kind segment value old result new
+    value_closed {opened = opened} {last = last} all p close =
+        in_open p.members p.are_pieces (WritesBytes-then sink old opened new result _ _ all
+        (WritesBytes-then sink opened last new result _ _ p.bytes close))
 
   -- a text that is written in pieces is written in the fewest
   pub in_fewest : {T : Type 0} (old new : W) (result : Result T F) (segment : Option ℕ) (text : List ℕ) → IsUtf8 text

@@ -5,8 +5,8 @@ use Rattle.ciborium_ll_encoder.proofs.enc.Encoder.bytes.Goals as goal
 
 pub returns-in_err-push : goal.returns-in_err-push
 returns-in_err-push g c = record {
-  value = value_unopened g.W.Write _ _ c.from_residual.result Bytes c.args.segment c.args.value.now
-      c.limit-limit.result c.from_residual.ensures.0 c.limit-limit.ensures (omega arith) tt c.in_err-push.ensures.title;
+  value = value_unopened g.W.Write {kind = Bytes} c.limit-limit.ensures (omega arith) c.from_residual.ensures.0 tt
+      c.in_err-push.ensures.title;
   target = c.in_err-push.ensures.target;
 }
 

@@ -1,4 +1,4 @@
-use Rattle.std.proofs.Common.{[], ◌∷◌, ◌∙◌, refl, sym, subst, arith}
+use Rattle.std.proofs.Common.{[], ◌∷◌, ◌∙◌, refl, arith}
 use Rattle.std.specs.Str.{IsUtf8}
 use Rattle.std.proofs.lemmas.Str.{IsUtf8-drop}
 use Rattle.ciborium_ll_grammar.specs.Strings.{Text}
@@ -22,7 +22,7 @@ leads g c =
 -- what is behind the piece is a text
 behind_is_text : (g : given.Over) (c : After-split_at g) → IsUtf8 c.split_at.result.1.now
 behind_is_text g c =
-    subst IsUtf8 (sym c.split_at.ensures.back)
+    rw c.split_at.ensures.back
     (IsUtf8-drop c.pieces.rest.now c.piece_len.result c.pieces.invariant.utf8 c.piece_len.ensures.boundary)
 
 pub pieces-preserved : goal.pieces-preserved

@@ -1,6 +1,5 @@
-use Rattle.std.proofs.Common.{◌<◌, List, ℕ, get_or, sym, subst, arith, rules}
+use Rattle.std.proofs.Common.{◌<◌, arith, rules}
 use Rattle.std.specs.Str.{IsCharBoundary}
-use Rattle.ciborium_ll_text.specs.Text.{IsTail}
 use Rattle.ciborium_ll_encoder.proofs.PieceLaws.{at_no_tail, near_limit, past_tail, some_within}
 use Rattle.ciborium_ll_encoder.proofs.enc.values.piece_len.Goals as goal
 use Rattle.ciborium_ll_encoder.proofs.enc.values.piece_len.Goals.{In-shorter, After-shorter}
@@ -8,16 +7,14 @@ use Rattle.ciborium_ll_encoder.proofs.enc.values.piece_len.Goals.{In-shorter, Af
 -- the length isn't 0 at a later byte of a character
 some_left : (c : In-shorter) → 0 < c.shorter.len
 some_left c =
-    let tail = c.is_continuation.ensures.0 c.shorter-test.true in
     past_tail c.args.text.now c.shorter.len c.utf8.text (omega arith)
-    (subst (λ (z : List ℕ). IsTail (get_or z c.shorter.len 0)) c.as_bytes-bytes.ensures.value tail)
+    (rw c.as_bytes-bytes.ensures.value at (c.is_continuation.ensures.0 c.shorter-test.true))
 
 -- behind the loop a character begins
 boundary : (c : After-shorter) → IsCharBoundary c.args.text.now c.shorter.len
 boundary c =
     at_no_tail c.args.text.now c.shorter.len (omega arith)
-    (λ tail. let found = c.is_continuation.ensures.1 (subst (λ (z : List ℕ). IsTail (get_or z c.shorter.len 0))
-    (sym c.as_bytes-bytes.ensures.value) tail) in
+    (λ tail. let found = c.is_continuation.ensures.1 (rw c.as_bytes-bytes.ensures.value tail) in
     let missed = c.shorter-test.false in cc (missed, found))
 
 pub overflow_sub-len : goal.overflow_sub-len
