@@ -67,19 +67,11 @@ some_within limit text (suc n) u l four last = omega arith
 
 -- no text begins with a later byte of a character
 pub past_tail : (text : List ℕ) (n : ℕ) → IsUtf8 text → n < length text → IsTail (get_or text n 0) → 0 < n
-past_tail text zero u l tail = let start = IsCharBoundary-start text u in
-    absurd (omega (arith, start.1 l tail.0, tail.1))
-past_tail text (suc n) u l tail = omega arith
+past_tail text n u l tail = let start = IsCharBoundary-start text u in grind arith
 
 -- where no later byte of a character stands is a place
 pub at_no_tail : (text : List ℕ) (n : ℕ) → n ≤ length text → ¬ (IsTail (get_or text n 0)) → IsCharBoundary text n
-at_no_tail text n within none = (
-  within,
-  λ l above. elim (cases_lt (get_or text n 0) 192) [
-    | inl below ↦ absurd (none (above, omega arith))
-    | inr lead ↦ lead
-  ],
-)
+at_no_tail text n within none = grind arith
 
 -- the last place within the limit is at most three bytes in front of it
 pub near_limit : (limit : ℕ) (text : List ℕ) (n : ℕ) → IsUtf8 text → IsCharBoundary text n → n ≤ limit

@@ -57,12 +57,12 @@ module _ {W F : Type 0} (sink : Ghosts W F) where
       (WritesBytes-of sink mid new result ys bytes fills ok front full err)
 
   -- a value in one string of a definite length, whose body is the value
-  pub value_in_one : {T : Type 0} (old new : W) (result : Result T F) (kind : Kind) (segment : Option ℕ)
-      (value body : List ℕ) (limit : ℕ) → limit ≡ max (least_limit kind) (unwrap_or segment (length value))
+  pub value_in_one : {T : Type 0} {old new : W} {result : Result T F} {kind : Kind} {segment : Option ℕ}
+      {value body : List ℕ} {limit : ℕ} → limit ≡ max (least_limit kind) (unwrap_or segment (length value))
       → length value ≤ limit → body ≡ value
       → WritesBytes sink old result (shortest_title (kind_header kind (Some (length value))) ++ body) new
       → WritesValue sink kind segment value old result new
-  value_in_one old new result kind segment value body limit is fits same bytes = record {
+  value_in_one {kind = kind} {segment = segment} {value = value} is fits same bytes = record {
     marks = Whole kind value ∷ [];
     written = in_one (rw (sym (limit_is kind segment value) ∙ sym is) fits);
     bytes = rw append-nil (rw same at bytes);
