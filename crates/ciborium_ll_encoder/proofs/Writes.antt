@@ -1,7 +1,7 @@
 -- Writes in two steps, in the words of the contracts of the steps. The check finds by them what a function of such
 -- calls ensures, in whichever form its body stands.
 use Rattle.std.proofs.Common.{◌≡◌, ℕ, ◌+◌, ◌<◌, ◌≤◌, max, List, [], ◌∷◌, ◌++◌, length, append-nil, sym, ◌∙◌, arith}
-use Rattle.std.proofs.Common.{Option, None, Some, Result, Ok, Err, IsErr, IfSome, OnOk, OnErr}
+use Rattle.std.proofs.Common.{Option, None, Some, Result, Ok, Err, IsErr, IfSome, OnOk}
 use Rattle.std.specs.Io.KnownBytes.{Appends}
 use Rattle.std.specs.Option.{unwrap_or}
 use Rattle.std.specs.Str.{IsUtf8}
@@ -16,7 +16,7 @@ use Rattle.ciborium_ll_grammar.specs.Elements.{Whole, spelling, pieces, open_mar
 use Rattle.ciborium_ll_grammar.proofs.ElementLaws.{open_spelled}
 use Rattle.ciborium_ll_grammar.proofs.ValueLaws.{pieces_exist, fewest_segments}
 use Rattle.ciborium_ll_text.proofs.Utf8Laws.{from_std}
-use Rattle.ciborium_ll_encoder.proofs.EncodingLaws.{WritesBytes-of, WritesBytes-stopped, WritesBytes-then}
+use Rattle.ciborium_ll_encoder.proofs.EncodingLaws.{WritesBytes-stopped, WritesBytes-then}
 
 -- the limit is the one that is asked for, or the value's length, raised to the least one
 limit_is : (k : Kind) (segment : Option ℕ) (value : List ℕ)
@@ -42,19 +42,6 @@ module _ {W F : Type 0} (sink : Ghosts W F) where
   byte_unwritten old new result first byte affix fails same front full failures =
       rw (sym same) (WritesBytes-stopped sink old new result (first ∷ []) affix fails
       (record { front = front; full = full; failures = failures }))
-
-  -- bytes that were written, and a write of the writer behind them
-  pub behind_bytes : {T : Type 0} (old mid new : W) (result : Result T F) (xs ys : List ℕ) → WritesAll sink old xs mid
-      → OnOk result (Appends (sink.written mid) (sink.written new) ys)
-      → OnOk result (Shrinks (sink.room mid) (sink.room new) (length ys))
-      → OnOk result (sink.failures new ≡ sink.failures mid)
-      → OnErr result (AppendsFront (sink.written mid) (sink.written new) (sink.room mid) (sink.room new) ys)
-      → OnErr result (IfSome (sink.room mid) (λ n. n < length ys))
-      → OnErr result (sink.failures new ≡ sink.failures mid + 1)
-      → WritesBytes sink old result (xs ++ ys) new
-  behind_bytes old mid new result xs ys all bytes fills ok front full err =
-      WritesBytes-then sink old mid new result xs ys all
-      (WritesBytes-of sink mid new result ys bytes fills ok front full err)
 
   -- a value in one string of a definite length, whose body is the value
   pub value_in_one : {T : Type 0} {old new : W} {result : Result T F} {kind : Kind} {segment : Option ℕ}

@@ -1,5 +1,4 @@
-use Rattle.ciborium_ll_encoder.proofs.EncodingLaws.{WritesBytes-stopped}
-use Rattle.ciborium_ll_encoder.proofs.Writes.{behind_bytes}
+use Rattle.ciborium_ll_encoder.proofs.EncodingLaws.{WritesBytes-of, WritesBytes-stopped, WritesBytes-then}
 use Rattle.ciborium_ll_encoder.proofs.enc.Encoder.string.Goals as goal
 
 pub returns-in_err-push-clause-bytes : goal.returns-in_err-push-clause-bytes
@@ -10,5 +9,6 @@ returns-in_err-push-clause-bytes g c =
 pub returns-clause-bytes : goal.returns-clause-bytes
 returns-clause-bytes g c =
     let wrote = c.write_all.ensures in
-    behind_bytes g.W.Write _ _ _ c.write_all.result _ c.args.body.now c.in_ok-push.ensures.title wrote.bytes
-    wrote.fills wrote.ok wrote.front wrote.full wrote.err
+    WritesBytes-then g.W.Write _ _ _ c.write_all.result _ c.args.body.now c.in_ok-push.ensures.title
+    (WritesBytes-of g.W.Write _ _ c.write_all.result c.args.body.now wrote.bytes wrote.fills wrote.ok wrote.front
+    wrote.full wrote.err)
