@@ -42,26 +42,61 @@ bytes_lead limit value piece behind whole len others o =
 abbrev pub IsLastWithin : ℕ → List ℕ → ℕ → Type 0
 IsLastWithin limit text n = (other : ℕ) → n < other → other ≤ limit → ¬ (IsCharBoundary text other)
 
--- behind a character that begins at a place is a place, so it isn't within the limit behind the last one
-too_far : {limit n : ℕ} {text : List ℕ} (character rest : List ℕ) → IsUtf8 text → IsCharBoundary text n
-    → IsLastWithin limit text n → IsCharacter character → drop n text ≡ character ++ rest
-    → limit < n + length character
-too_far {limit} {n} {text} character rest u b last p e =
-    let w = written character p in
-    let size : len_utf8 w.char ≡ length character = sym (length-encode w.char) ∙ ap length w.is in
-    elim (cases_lt limit (n + length character)) [
-      | inl cut ↦ cut
-      | inr fits ↦ absurd (last (n + length character) (omega (arith, (character_length character p).0)) fits
-          (rw size at (IsCharBoundary-past_char text rest n w.char b.0 (IsUtf8-drop text n u b)
-          (e ∙ ap (λ (z : List ℕ). z ++ rest) (sym w.is)))))
-    ]
+-- of a text, at the last place within the limit
+module _ {limit n : ℕ} {text : List ℕ} (u : IsUtf8 text) (b : IsCharBoundary text n) (last : IsLastWithin limit text n)
+  where
+    -- behind a character is a place, so it isn't within the limit
+    too_far : (character rest : List ℕ) → IsCharacter character → drop n text ≡ character ++ rest
+        → limit < n + length character
+    too_far character rest p e =
+        let w = written character p in
+        let size : len_utf8 w.char ≡ length character = sym (length-encode w.char) ∙ ap length w.is in
+        elim (cases_lt limit (n + length character)) [
+          | inl cut ↦ cut
+          | inr fits ↦ absurd (last (n + length character) (omega (arith, (character_length character p).0)) fits
+              (rw size at (IsCharBoundary-past_char text rest n w.char b.0 (IsUtf8-drop text n u b)
+              (e ∙ ap (λ (z : List ℕ). z ++ rest) (sym w.is)))))
+        ]
+
+    -- it is at most three bytes in front of the limit
+    pub near_limit : n ≤ limit → limit < length text → limit ≤ n + 3
+    near_limit within longer =
+        let left : 0 < length (drop n text) = omega (arith, length-drop n text) in
+        let s = starts (drop n text) (from_std (drop n text) (IsUtf8-drop text n u b)) left in
+        omega (arith, (character_length s.char s.ok).1, too_far s.char s.rest s.ok s.is)
+
+    -- it ends a member that is filled: the first character behind it doesn't fit
+    filled_first : (others : List (List ℕ)) → drop n text ≡ joined others → AreFilled limit others
+        → AreFilled limit (take n text ∷ others)
+    filled_first [] e f = tt
+    filled_first (x ∷ xs) e f = (
+      λ character rest p g.
+          let same : drop n text ≡ character ++ (rest ++ joined xs) = rw (g, append_assoc) at e in
+          omega (arith, length-take-le n text b.0, too_far character (rest ++ joined xs) p same),
+      f,
+    )
+
+    -- the front of the text up to it leads the rest
+    pub text_leads : {piece behind : List ℕ} → piece ≡ take n text → behind ≡ drop n text → n ≤ limit → 0 < n
+        → Leads Text limit text (piece ∷ []) behind
+    text_leads p q within some others o =
+        let len = length-take-le n text b.0 in
+        let rest : drop n text ≡ joined others = sym q ∙ o.cut.whole in
+        rw p (record {
+          cut = record {
+            whole = sym (take-append-drop n text) ∙ ap (◌++◌ (take n text)) rest;
+            each = ((from_std (take n text) (IsUtf8-take text n u b), omega arith), o.cut.each);
+          };
+          nonempty = (omega arith, o.nonempty);
+          filled = filled_first others rest o.filled;
+        })
 
 -- the first character fits a limit of at least 4
 pub some_within : (limit : ℕ) (text : List ℕ) (n : ℕ) → IsUtf8 text → 0 < length text → 4 ≤ limit
     → IsLastWithin limit text n → 0 < n
 some_within limit text zero u l four last =
     let s = starts text (from_std text u) l in
-    let far = too_far s.char s.rest u (IsCharBoundary-start text u) last s.ok s.is in
+    let far = too_far u (IsCharBoundary-start text u) last s.char s.rest s.ok s.is in
     absurd (omega (arith, (character_length s.char s.ok).1))
 some_within limit text (suc n) u l four last = omega arith
 
@@ -72,43 +107,6 @@ past_tail text n u l tail = let start = IsCharBoundary-start text u in grind ari
 -- where no later byte of a character stands is a place
 pub at_no_tail : (text : List ℕ) (n : ℕ) → n ≤ length text → ¬ (IsTail (get_or text n 0)) → IsCharBoundary text n
 at_no_tail text n within none = grind arith
-
--- the last place within the limit is at most three bytes in front of it
-pub near_limit : (limit : ℕ) (text : List ℕ) (n : ℕ) → IsUtf8 text → IsCharBoundary text n → n ≤ limit
-    → limit < length text
-    → IsLastWithin limit text n → limit ≤ n + 3
-near_limit limit text n u b within longer last =
-    let left : 0 < length (drop n text) = omega (arith, length-drop n text) in
-    let s = starts (drop n text) (from_std (drop n text) (IsUtf8-drop text n u b)) left in
-    omega (arith, (character_length s.char s.ok).1, too_far s.char s.rest u b last s.ok s.is)
-
--- the last place within the limit ends a member that is filled: the first character behind it doesn't fit
-filled_first : {limit n : ℕ} {text : List ℕ} (others : List (List ℕ)) → IsUtf8 text → IsCharBoundary text n
-    → IsLastWithin limit text n
-    → drop n text ≡ joined others → AreFilled limit others → AreFilled limit (take n text ∷ others)
-filled_first [] u b last e f = tt
-filled_first {limit} {n} {text} (x ∷ xs) u b last e f = (
-  λ character rest p g.
-      let same : drop n text ≡ character ++ (rest ++ joined xs) = rw (g, append_assoc) at e in
-      omega (arith, length-take-le n text b.0, too_far character (rest ++ joined xs) u b last p same),
-  f,
-)
-
--- the front of a text up to the last place within the limit leads the rest
-pub text_leads : (limit : ℕ) (text : List ℕ) (n : ℕ) (piece behind : List ℕ) → piece ≡ take n text → behind
-    ≡ drop n text → IsUtf8 text
-    → IsCharBoundary text n → n ≤ limit → 0 < n → IsLastWithin limit text n → Leads Text limit text (piece ∷ []) behind
-text_leads limit text n piece behind p q u b within some last others o =
-    let len = length-take-le n text b.0 in
-    let rest : drop n text ≡ joined others = sym q ∙ o.cut.whole in
-    rw p (record {
-      cut = record {
-        whole = sym (take-append-drop n text) ∙ ap (◌++◌ (take n text)) rest;
-        each = ((from_std (take n text) (IsUtf8-take text n u b), omega arith), o.cut.each);
-      };
-      nonempty = (omega arith, o.nonempty);
-      filled = filled_first others u b last rest o.filled;
-    })
 
 -- ---- what a rest that fits has as its pieces
 
@@ -168,5 +166,6 @@ module _ {W F : Type 0} (sink : Ghosts W F) where
     Progress-last result is last next = record {
       members = p.done ++ piece ∷ [];
       are_pieces = rw is (p.leads (rest ∷ []) last);
-      bytes = simp (pieces-append, spelling-append, append-nil) (WritesBytes-then sink old current new result _ _ p.written (rw same at next));
+      bytes = simp (pieces-append, spelling-append, append-nil)
+          (WritesBytes-then sink old current new result _ _ p.written (rw same at next));
     }

@@ -15,9 +15,8 @@ leads : (g : given.Over) (c : After-split_at g)
     → Leads Text c.args.limit c.pieces.rest.now (c.split_at.result.0.now ∷ []) c.split_at.result.1.now
 leads g c =
     let first = c.piece_len.ensures in
-    text_leads c.args.limit c.pieces.rest.now c.piece_len.result _ _ c.split_at.ensures.front c.split_at.ensures.back
-    c.pieces.invariant.utf8
-    first.boundary first.within first.some first.longest
+    text_leads c.pieces.invariant.utf8 first.boundary first.longest c.split_at.ensures.front c.split_at.ensures.back
+    first.within first.some
 
 -- what is behind the piece is a text
 behind_is_text : (g : given.Over) (c : After-split_at g) → IsUtf8 c.split_at.result.1.now

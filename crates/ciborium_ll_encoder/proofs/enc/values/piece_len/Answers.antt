@@ -33,9 +33,7 @@ returns-clause-some c =
 
 pub returns-clause-back : goal.returns-clause-back
 returns-clause-back c =
-    near_limit c.args.limit c.args.text.now c.shorter.len c.utf8.text (boundary c) c.shorter.invariant.within
-    c.requires.longer
-    c.shorter.invariant.longest
+    near_limit c.utf8.text (boundary c) c.shorter.invariant.longest c.shorter.invariant.within c.requires.longer
 
 pub shorter-init : goal.shorter-init
 shorter-init c = search rules
