@@ -1,5 +1,5 @@
 -- What remains due within a nest says how many items more may stand there, and where a break may.
-use Rattle.std.proofs.Common.{◌≡◌, ℕ, suc, ◌*◌, ◌%◌, ◌==◌, true, false, None, sym, ap, ◌∙◌, arith}
+use Rattle.std.proofs.Common.{◌≡◌, ℕ, suc, ◌*◌, ◌%◌, ◌==◌, true, false, None, arith}
 use Rattle.std.proofs.Common.{add-one}
 use Rattle.std.proofs.Math.Nat.{mul-mod_right, mul-add-mod_self_left}
 use Rattle.ciborium_ll_grammar.specs.declared.hdr.Header.{Header}
@@ -11,15 +11,11 @@ use Rattle.cbor_skip.specs.Remaining.{IsRemaining, is_done, closes}
 
 -- pairs are an even number of items
 pub even_pairs : (n : ℕ) → ((2 * n) % 2 == 0) ≡ true
-even_pairs n =
-    let e : (2 * n) % 2 ≡ 0 = mul-mod_right 2 n in
-    ap (λ (z : ℕ). z == 0) e
+even_pairs n = rw (mul-mod_right 2 n)
 
 -- pairs and a key are an odd number of items
 odd_pairs : (n : ℕ) → (suc (2 * n) % 2 == 0) ≡ false
-odd_pairs n =
-    let e : suc (2 * n) % 2 ≡ 1 = ap (λ (z : ℕ). z % 2) (sym (add-one (2 * n))) ∙ mul-add-mod_self_left 2 n 1 in
-    ap (λ (z : ℕ). z == 0) e
+odd_pairs n = rw (← add-one (2 * n), mul-add-mod_self_left 2 n 1)
 
 -- where something remains, one item more may stand there, and a break in its place just where that closes
 pub takes_more : (x : Header) (count : ℕ) (remaining : Remaining) → IsRemaining x count remaining

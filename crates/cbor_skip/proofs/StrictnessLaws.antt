@@ -1,5 +1,5 @@
 -- What is in its shortest spelling is one of any too, and what a decoder's strictness says of the titles that it gave.
-use Rattle.std.proofs.Common.{◌≡◌, ℕ, Bool, true, false, List, Option, None, refl, sym, ap, ◌∙◌, inl, inr, arith}
+use Rattle.std.proofs.Common.{◌≡◌, ℕ, Bool, true, false, List, Option, None, refl, arith}
 use Rattle.ciborium_ll_io.specs.declared.io.Read.{Ghosts}
 use Rattle.ciborium_ll_grammar.specs.declared.hdr.Header.{Header}
 use Rattle.ciborium_ll_decoder.specs.declared.dec.Decoder.{Decoder}
@@ -80,34 +80,23 @@ module _ {R E : Type 0} (source : Ghosts R E) where
   -- a title that was given
   pub pulled_taken : {old new : Decoder R} {x : Header} (p : PullsTitle source old x new)
       → IsTakenTitle (strictness old) p.title x
-  pulled_taken {old = old} {new = new} {x = x} p = taken_when (strictness old) p.title x (λ on.
-      let by = strict_by old.waiting old.strict on in
-      p.strict by.0 by.1)
+  pulled_taken p = taken_when _ p.title _ (λ on. grind arith)
 
   -- the mode stays, and behind a title no header waits
   pub pulled_keeps : {old new : Decoder R} {x : Header} → PullsTitle source old x new → strictness old ≡ true
       → strictness new ≡ true
-  pulled_keeps {old = old} {new = new} p on =
-      strict_settled new.waiting new.strict p.none_waits ∙ (p.mode ∙ (strict_by old.waiting old.strict on).0)
+  pulled_keeps p on = grind arith
 
   pub passed_keeps : {old new : Decoder R} {bytes : List ℕ} → Passes source old bytes new → strictness old ≡ true
       → strictness new ≡ true
-  passed_keeps {old = old} {new = new} p on = elim p.waiting [
-    | inl same ↦ ap (λ (d : Decoder R). strictness d) same.1 ∙ on
-    | inr none ↦ strict_settled new.waiting new.strict none ∙ (p.mode ∙ (strict_by old.waiting old.strict on).0)
-  ]
+  passed_keeps p on = grind arith
 
   -- a title that was given behind these bytes
   pub behind_taken : {old at new : Decoder R} {bytes : List ℕ} {x : Header} → Passes source old bytes at
       → (p : PullsTitle source at x new) → IsTakenTitle (strictness old) p.title x
-  behind_taken {old = old} {at = at} {x = x} passed p = taken_when (strictness old) p.title x (λ on.
-      let by = strict_by at.waiting at.strict (passed_keeps passed on) in
-      p.strict by.0 by.1)
+  behind_taken passed p = taken_when _ p.title _ (λ on. let still = passed_keeps passed on in grind arith)
 
   -- and behind what was read none waits where none did
   pub none_behind : {old new : Decoder R} {bytes : List ℕ} → Passes source old bytes new
       → (old.strict ≡ true → old.waiting ≡ None) → new.strict ≡ true → new.waiting ≡ None
-  none_behind {old = old} {new = new} p none on = elim p.waiting [
-    | inl same ↦ ap (λ (d : Decoder R). d.waiting) same.1 ∙ none (sym p.mode ∙ on)
-    | inr settled ↦ settled
-  ]
+  none_behind p none on = grind arith
