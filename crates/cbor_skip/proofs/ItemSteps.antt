@@ -1,14 +1,14 @@
 -- The steps of the read of an item, over any reader.
 use Rattle.std.proofs.Common.{◌≡◌, ℕ, suc, ◌<◌, ◌*◌, Bool, true, false, List, [], ◌∷◌, ◌++◌, length, Option}
-use Rattle.std.proofs.Common.{Some, None, Err, refl, sym, ap, subst, ◌∙◌, inl, arith, append_assoc}
-use Rattle.std.proofs.Common.{append-nil, length-append}
+use Rattle.std.proofs.Common.{Some, None, Err, refl, sym, subst, ◌∙◌, inl, arith, append_assoc}
+use Rattle.std.proofs.Common.{append-nil}
 use Rattle.ciborium_ll_io.specs.declared.io.Read.{Ghosts}
 use Rattle.ciborium_ll_grammar.specs.declared.hdr.Header.{Header}
 use Rattle.ciborium_ll_grammar.specs.declared.hdr.Header.TheVariants as h
 use Rattle.ciborium_ll_decoder.specs.declared.dec.Decoder.{Decoder}
 use Rattle.ciborium_ll_decoder.specs.declared.dec.Error.{Error}
 use Rattle.ciborium_ll_grammar.specs.Title.{IsTitle, shortest_title}
-use Rattle.ciborium_ll_grammar.specs.Strings.{Kind, Bytes, Text, kind_header, IsString, AreStrings, IsWritable}
+use Rattle.ciborium_ll_grammar.specs.Strings.{Kind, kind_header, IsString, AreStrings, IsWritable}
 use Rattle.ciborium_ll_grammar.specs.Strings.IsString.{definite, indefinite}
 use Rattle.ciborium_ll_grammar.specs.Elements.{AreWritable}
 use Rattle.ciborium_ll_grammar.specs.Items.{Completes, byte_string, text_string, open_bytes, open_text, tag, array, pairs}
@@ -16,7 +16,7 @@ use Rattle.ciborium_ll_grammar.specs.Items.{open_array, open_pairs, AreItems, no
 use Rattle.ciborium_ll_grammar.specs.Items.{AreTakenStrings}
 use Rattle.ciborium_ll_decoder.specs.Decoding.{Passes, PullsHeader, PullsTitle, IsSteady}
 use Rattle.ciborium_ll_decoder.specs.Skipping.{IsTakenBehind, SkipsWhole}
-use Rattle.ciborium_ll_text.proofs.Lists.{same_front}
+use Rattle.std.proofs.lemmas.List.{append_cancel_right}
 use Rattle.ciborium_ll_grammar.proofs.TitleLaws.{IsTitle-shortest, title_in_range}
 use Rattle.ciborium_ll_grammar.proofs.StringLaws.{fronts}
 use Rattle.ciborium_ll_decoder.proofs.NestLaws.{alone_bytes}
@@ -63,13 +63,11 @@ counted_completes x is i = absurd (grind arith)
 
 completes_body : (s : Bool) (d : ℕ) (k : Kind) (b : List ℕ) → IsWritable k b
     → Completes s d (kind_header k (Some (length b))) b
-completes_body s d Bytes b sound = byte_string refl
-completes_body s d Text b sound = text_string refl sound
+completes_body s d k b sound = grind (arith, byte_string, text_string)
 
 completes_open : (s : Bool) (d : ℕ) (k : Kind) (x : List ℕ) (bs : List (List ℕ)) → AreStrings k x bs
     → AreTakenStrings s k x bs → AreWritable k bs → Completes s d (kind_header k None) (x ++ 0xff ∷ [])
-completes_open s d Bytes x bs strings taken sound = open_bytes strings taken
-completes_open s d Text x bs strings taken sound = open_text strings taken sound
+completes_open s d k x bs strings taken sound = grind (arith, open_bytes, open_text)
 
 -- what follows a string's title is the rest of an item
 string_completes : (s : Bool) (d : ℕ) (k : Kind) (len : Option ℕ) (t rest w : List ℕ) (bs : List (List ℕ))
@@ -82,9 +80,8 @@ string_completes s d k len t rest w bs p (definite {title = t'} {body = b} p') e
 string_completes s d k len t rest w bs p (indefinite {title = t'} {strings = x} p' strings) e taken sound =
     let f = fronts k t t' rest (x ++ 0xff ∷ []) len None p p' e in
     let parts = rw (f.1, f.2) at taken in
-    let counted = simp length-append at (ap length parts.1) in
-    let one = same_front x parts.0 (0xff ∷ []) (0xff ∷ []) (omega arith) parts.1 in
-    rw (f.1, f.2) (completes_open s d k x bs strings (rw (sym one.0) at parts.2) sound)
+    let one = append_cancel_right x parts.0 (0xff ∷ []) parts.1 in
+    rw (f.1, f.2) (completes_open s d k x bs strings (rw (sym one) at parts.2) sound)
 
 module _ {R E : Type 0} (source : Ghosts R E) where
   -- ---- one item

@@ -1,22 +1,28 @@
 -- What a title begins tells its header.
-use Rattle.std.proofs.Common.{◌≡◌, ℕ, Option, [], Bool, arith}
+use Rattle.std.proofs.Common.{◌≡◌, ℕ, Option, Err, [], Bool, arith, inr}
 use Rattle.ciborium_ll_io.specs.declared.io.Read.{Ghosts}
 use Rattle.ciborium_ll_grammar.specs.declared.hdr.Header.{Header}
 use Rattle.ciborium_ll_grammar.specs.declared.hdr.Header.TheVariants as h
 use Rattle.ciborium_ll_grammar.specs.Items.{Completes, positive, negative, float, simple}
 use Rattle.ciborium_ll_grammar.specs.declared.hdr.start.Start.TheVariants as s
+use Rattle.ciborium_ll_grammar.specs.declared.hdr.start.Start.{Start}
 use Rattle.ciborium_ll_grammar.specs.Starts.{start_of}
+use Rattle.ciborium_ll_grammar.specs.Strings.{Kind, Bytes, Text, kind_header}
+use Rattle.ciborium_ll_decoder.specs.declared.dec.Error.{Error}
+use Rattle.ciborium_ll_decoder.specs.Skipping.{SkipsString}
 use Rattle.ciborium_ll_decoder.specs.declared.dec.Decoder.{Decoder}
-use Rattle.ciborium_ll_decoder.specs.Decoding.{PullsTitle}
+use Rattle.ciborium_ll_decoder.specs.Decoding.{PullsTitle, IsSteady}
 use Rattle.cbor_skip.specs.declared.Begun.{Begun}
 use Rattle.cbor_skip.specs.Due.{IsNest}
-use Rattle.cbor_skip.specs.Skipping.{BeginsNest, IsBegun}
+use Rattle.cbor_skip.specs.Skipping.{BeginsNest, IsBegun, StopsTitle}
 
-pub bytes_start : (header : Header) (len : Option ℕ) → start_of header ≡ s.Bytes len → header ≡ h.Bytes len
-bytes_start header len e = grind arith
+abbrev pub string_begun : Kind → Option ℕ → Start
+string_begun Bytes len = s.Bytes len
+string_begun Text len = s.Text len
 
-pub text_start : (header : Header) (len : Option ℕ) → start_of header ≡ s.Text len → header ≡ h.Text len
-text_start header len e = grind arith
+string_start : (kind : Kind) (len : Option ℕ) (header : Header) → start_of header ≡ string_begun kind len
+    → header ≡ kind_header kind len
+string_start kind len header e = grind arith
 
 pub break_start : (header : Header) → start_of header ≡ s.Break → header ≡ h.Break
 break_start header e = grind arith
@@ -40,3 +46,22 @@ begins_nest source header nest begun e begins pulled =
 pub value_start : (strict : Bool) (depth : ℕ) (header : Header) → start_of header ≡ s.Value
     → Completes strict depth header []
 value_start strict depth header e = grind (arith, positive, negative, float, simple)
+
+module _ {R E : Type 0} (source : Ghosts R E) (kind : Kind) (len : Option ℕ) {old titled : Decoder R} where
+  -- a string's title was pulled
+  pub string_pulled : (header : Header) → start_of header ≡ string_begun kind len → PullsTitle source old header titled
+      → PullsTitle source old (kind_header kind len) titled
+  string_pulled header e pulled = rw (string_start kind len header e) at pulled
+
+  -- and behind it the string failed
+  pub string_stops : {room : ℕ} {error : Error E} {new : Decoder R} → PullsTitle source old (kind_header kind len) titled
+      → (IsSteady source old → IsSteady source titled) → SkipsString source kind len room titled (Err error) new
+      → StopsTitle source room old error new
+  string_stops pulled steady fails = inr (record {
+    kind = kind;
+    len = len;
+    titled = titled;
+    pulled = pulled;
+    steady = steady;
+    fails = fails;
+  })

@@ -1,16 +1,15 @@
-use Rattle.std.proofs.Common.{◌≡◌, ◌∙◌, ◌<◌, ◌≤◌, ℕ, sym, inl, inr, arith}
+use Rattle.std.proofs.Common.{◌∙◌, ◌<◌, ◌≤◌, ℕ, sym, inl, arith}
 use Rattle.ciborium_ll_io.specs.declared.io.Read.{Ghosts}
 use Rattle.ciborium_ll_grammar.specs.declared.hdr.Header.{Header}
 use Rattle.ciborium_ll_decoder.specs.declared.dec.Decoder.{Decoder}
 use Rattle.ciborium_ll_decoder.specs.Decoding.{PullsTitle}
 use Rattle.ciborium_ll_decoder.proofs.DecodingLaws.{exit_is, MovesOn-then}
-use Rattle.ciborium_ll_grammar.specs.declared.hdr.Header.TheVariants as h
 use Rattle.ciborium_ll_grammar.specs.Strings.{Bytes, Text}
 use Rattle.ciborium_ll_decoder.proofs.NestLaws.{title_some}
 use Rattle.ciborium_ll_grammar.proofs.TitleLaws.{shortest_no_longer}
 use Rattle.cbor_skip.specs.Skipping.{strictness}
 use Rattle.cbor_skip.proofs.ItemSteps.{reads_plain, reads_string}
-use Rattle.cbor_skip.proofs.StartSteps.{begins_nest, break_start, bytes_start, nest_start, text_start, value_start}
+use Rattle.cbor_skip.proofs.StartSteps.{begins_nest, break_start, nest_start, string_pulled, string_stops, value_start}
 use Rattle.cbor_skip.proofs.skip_title.Goals as goal
 
 -- a title that was pulled has some bytes
@@ -24,17 +23,15 @@ rises_behind risen rises = omega (arith, risen, rises)
 
 pub skip_bytes-requires-clause-covered : goal.skip_bytes-requires-clause-covered
 skip_bytes-requires-clause-covered g c =
-    let pulled = c.in_ok-header.ensures.header in
-    let known : c.in_ok-header.header ≡ h.Bytes c.in-Bytes.len = bytes_start c.in_ok-header.header c.in-Bytes.len
-    (sym c.start.ensures ∙ c.in-Bytes.is) in
-    grind (arith, shortest_no_longer pulled.title _ pulled.is_title, pulled.offset, known)
+    let pulled = string_pulled g.R.Read Bytes c.in-Bytes.len c.in_ok-header.header (sym c.start.ensures ∙ c.in-Bytes.is)
+    c.in_ok-header.ensures.header in
+    omega (arith, shortest_no_longer pulled.title _ pulled.is_title, pulled.offset)
 
 pub skip_text-requires-clause-covered : goal.skip_text-requires-clause-covered
 skip_text-requires-clause-covered g c =
-    let pulled = c.in_ok-header.ensures.header in
-    let known : c.in_ok-header.header ≡ h.Text c.in-Text.len = text_start c.in_ok-header.header c.in-Text.len
-    (sym c.start.ensures ∙ c.in-Text.is) in
-    grind (arith, shortest_no_longer pulled.title _ pulled.is_title, pulled.offset, known)
+    let pulled = string_pulled g.R.Read Text c.in-Text.len c.in_ok-header.header (sym c.start.ensures ∙ c.in-Text.is)
+    c.in_ok-header.ensures.header in
+    omega (arith, shortest_no_longer pulled.title _ pulled.is_title, pulled.offset)
 
 pub returns-in-Value-clause-begun : goal.returns-in-Value-clause-begun
 returns-in-Value-clause-begun g c = λ depth.
@@ -83,17 +80,17 @@ returns-in-Nest-clause-moves_on g c = c.pull_title.ensures.moves_on
 
 pub returns-in_ok-skip_bytes-in-Bytes-clause-begun : goal.returns-in_ok-skip_bytes-in-Bytes-clause-begun
 returns-in_ok-skip_bytes-in-Bytes-clause-begun g c = λ depth.
-    let is : c.in_ok-header.header ≡ h.Bytes c.in-Bytes.len = bytes_start c.in_ok-header.header c.in-Bytes.len
-    (sym c.start.ensures ∙ c.in-Bytes.is) in
-    reads_string g.R.Read Bytes c.in-Bytes.len (rw is at c.in_ok-header.ensures.header)
-    c.pull_title.ensures.moves_on.steady c.in_ok-skip_bytes-in-Bytes.ensures.skipped
+    let pulled = string_pulled g.R.Read Bytes c.in-Bytes.len c.in_ok-header.header (sym c.start.ensures ∙ c.in-Bytes.is)
+    c.in_ok-header.ensures.header in
+    reads_string g.R.Read Bytes c.in-Bytes.len pulled c.pull_title.ensures.moves_on.steady
+    c.in_ok-skip_bytes-in-Bytes.ensures.skipped
 
 pub returns-in_ok-skip_text-in-Text-clause-begun : goal.returns-in_ok-skip_text-in-Text-clause-begun
 returns-in_ok-skip_text-in-Text-clause-begun g c = λ depth.
-    let is : c.in_ok-header.header ≡ h.Text c.in-Text.len = text_start c.in_ok-header.header c.in-Text.len
-    (sym c.start.ensures ∙ c.in-Text.is) in
-    reads_string g.R.Read Text c.in-Text.len (rw is at c.in_ok-header.ensures.header)
-    c.pull_title.ensures.moves_on.steady c.in_ok-skip_text-in-Text.ensures.skipped
+    let pulled = string_pulled g.R.Read Text c.in-Text.len c.in_ok-header.header (sym c.start.ensures ∙ c.in-Text.is)
+    c.in_ok-header.ensures.header in
+    reads_string g.R.Read Text c.in-Text.len pulled c.pull_title.ensures.moves_on.steady
+    c.in_ok-skip_text-in-Text.ensures.skipped
 
 pub returns-in_ok-skip_bytes-in-Bytes-clause-rises : goal.returns-in_ok-skip_bytes-in-Bytes-clause-rises
 returns-in_ok-skip_bytes-in-Bytes-clause-rises g c = λ ok.
@@ -105,33 +102,21 @@ returns-in_ok-skip_text-in-Text-clause-rises g c = λ ok.
 
 pub returns-in_err-skip_bytes-in-Bytes-clause-begun : goal.returns-in_err-skip_bytes-in-Bytes-clause-begun
 returns-in_err-skip_bytes-in-Bytes-clause-begun g c =
-    let is : c.in_ok-header.header ≡ h.Bytes c.in-Bytes.len = bytes_start c.in_ok-header.header c.in-Bytes.len
-    (sym c.start.ensures ∙ c.in-Bytes.is) in
+    let pulled = string_pulled g.R.Read Bytes c.in-Bytes.len c.in_ok-header.header (sym c.start.ensures ∙ c.in-Bytes.is)
+    c.in_ok-header.ensures.header in
     let residual = c.from_residual-in_err-skip_bytes-in-Bytes in
     let same = exit_is residual.result c.in_err-skip_bytes-in-Bytes.field-0.0 residual.ensures.1 in
-    rw same (inr (record {
-      kind = Bytes;
-      len = c.in-Bytes.len;
-      titled = c.pull_title.new.decoder;
-      pulled = rw is at c.in_ok-header.ensures.header;
-      steady = c.pull_title.ensures.moves_on.steady;
-      fails = c.in_err-skip_bytes-in-Bytes.ensures.skipped;
-    }))
+    rw same (string_stops g.R.Read Bytes c.in-Bytes.len pulled c.pull_title.ensures.moves_on.steady
+    c.in_err-skip_bytes-in-Bytes.ensures.skipped)
 
 pub returns-in_err-skip_text-in-Text-clause-begun : goal.returns-in_err-skip_text-in-Text-clause-begun
 returns-in_err-skip_text-in-Text-clause-begun g c =
-    let is : c.in_ok-header.header ≡ h.Text c.in-Text.len = text_start c.in_ok-header.header c.in-Text.len
-    (sym c.start.ensures ∙ c.in-Text.is) in
+    let pulled = string_pulled g.R.Read Text c.in-Text.len c.in_ok-header.header (sym c.start.ensures ∙ c.in-Text.is)
+    c.in_ok-header.ensures.header in
     let residual = c.from_residual-in_err-skip_text-in-Text in
     let same = exit_is residual.result c.in_err-skip_text-in-Text.field-0.0 residual.ensures.1 in
-    rw same (inr (record {
-      kind = Text;
-      len = c.in-Text.len;
-      titled = c.pull_title.new.decoder;
-      pulled = rw is at c.in_ok-header.ensures.header;
-      steady = c.pull_title.ensures.moves_on.steady;
-      fails = c.in_err-skip_text-in-Text.ensures.skipped;
-    }))
+    rw same (string_stops g.R.Read Text c.in-Text.len pulled c.pull_title.ensures.moves_on.steady
+    c.in_err-skip_text-in-Text.ensures.skipped)
 
 pub returns-in_ok-skip_bytes-in-Bytes-clause-moves_on : goal.returns-in_ok-skip_bytes-in-Bytes-clause-moves_on
 returns-in_ok-skip_bytes-in-Bytes-clause-moves_on g c =
