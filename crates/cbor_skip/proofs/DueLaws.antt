@@ -168,9 +168,8 @@ break_strict : IsStrictTitle (0xff ∷ []) h.Break
 break_strict = record { shortest = refl; meant = λ small. small }
 
 -- in front of such strings and a break, behind some of them each title is a strict one, and no open
-flat_goes : {k : Kind} {u w : List ℕ} {bs cs : List (List ℕ)} → AreFlat k u bs → AreFlat k w cs
-    → (t r v : List ℕ) (x : Header) → IsTitle t x → u ++ (t ++ r) ≡ w ++ 0xff ∷ v
-    → IsStrictTitle t x × (x ≡ kind_header k None → ⊥)
+flat_goes : {k : Kind} {u w : List ℕ} {bs cs : List (List ℕ)} → AreFlat k u bs → AreFlat k w cs → (t r v : List ℕ)
+    (x : Header) → IsTitle t x → u ++ (t ++ r) ≡ w ++ 0xff ∷ v → IsStrictTitle t x × (x ≡ kind_header k None → ⊥)
 flat_goes {k = k} none none t r v x p e = (
   strict_first _ _ p break_title break_strict e,
   λ same. not_break k None (sym same ∙ (one_title t (0xff ∷ []) r v x h.Break p break_title e).1),

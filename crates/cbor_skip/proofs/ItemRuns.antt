@@ -38,9 +38,8 @@ module _ {R E : Type 0} (source : Ghosts R E) where
   none_due d now = record { items = []; are_items = no_items; passed = Passes-none source now }
 
   -- an error in the first of those that are due
-  pub stops_first : {left after d room : ℕ} {now : Decoder R} {error : SkipError E} {new : Decoder R}
-      → suc after ≡ left → StopsItem source false d room now error new
-      → StopsCounted source left d room now error new
+  pub stops_first : {left after d room : ℕ} {now : Decoder R} {error : SkipError E} {new : Decoder R} → suc after ≡ left
+      → StopsItem source false d room now error new → StopsCounted source left d room now error new
   stops_first {left = left} {d = d} {now = now} some stops =
       let more : 0 < left = omega arith in
       let none : AreItems (strictness now) d 0 [] = no_items in
@@ -79,9 +78,9 @@ module _ {R E : Type 0} (source : Ghosts R E) where
       search
 
   -- what a read behind a nest's title does, is what a read of that item does
-  pub rest_read : (outer : Bool) (room : ℕ) {levels d : ℕ} {before titled : Decoder R} {x : Header}
-      → suc levels ≡ d → PullsTitle source before x titled → MovesOn source before titled
-      → (result : Result (Unit {0}) (SkipError E)) (new : Decoder R) → SkipsWithin source x levels room titled result new
+  pub rest_read : (outer : Bool) (room : ℕ) {levels d : ℕ} {before titled : Decoder R} {x : Header} → suc levels ≡ d
+      → PullsTitle source before x titled → MovesOn source before titled → (result : Result (Unit {0}) (SkipError E))
+      (new : Decoder R) → SkipsWithin source x levels room titled result new
       → MatchResult result (λ done. ReadsItem source d before new)
       (λ error. StopsItem source outer d room before error new)
   rest_read outer room level title moved (Ok done) new reads = reads_nest source level title moved.steady reads
@@ -100,8 +99,7 @@ module _ {R E : Type 0} (source : Ghosts R E) where
 
   -- where it is the last of those that are due, what it contains is all that is due
   pub nest_decides : {room left levels inner within count depth : ℕ} {now titled old : Decoder R} {x : Header}
-      → 1 ≡ left → suc inner ≡ levels → item_count x ≡ Some within
-      → Decides room left levels now count depth old
+      → 1 ≡ left → suc inner ≡ levels → item_count x ≡ Some within → Decides room left levels now count depth old
       → PullsTitle source now x titled → (IsSteady source now → IsSteady source titled)
       → Decides room within inner titled count depth old
   nest_decides {x = x} last level is whole title steady result new skips =

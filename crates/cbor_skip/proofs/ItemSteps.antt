@@ -1,7 +1,6 @@
 -- The steps of the read of an item, over any reader.
-use Rattle.std.proofs.Common.{◌≡◌, ℕ, suc, ◌<◌, ◌*◌, Bool, true, false, List, [], ◌∷◌, ◌++◌, length, Option}
-use Rattle.std.proofs.Common.{Some, None, Err, refl, sym, subst, ◌∙◌, inl, arith, append_assoc}
-use Rattle.std.proofs.Common.{append-nil}
+use Rattle.std.proofs.Common.{◌≡◌, ℕ, suc, ◌<◌, Bool, true, false, List, [], ◌∷◌, ◌++◌, length, Option}
+use Rattle.std.proofs.Common.{Some, None, Err, refl, sym, subst, ◌∙◌, inl, arith, append_assoc, append-nil}
 use Rattle.ciborium_ll_io.specs.declared.io.Read.{Ghosts}
 use Rattle.ciborium_ll_grammar.specs.declared.hdr.Header.{Header}
 use Rattle.ciborium_ll_grammar.specs.declared.hdr.Header.TheVariants as h
@@ -11,9 +10,9 @@ use Rattle.ciborium_ll_grammar.specs.Title.{IsTitle, shortest_title}
 use Rattle.ciborium_ll_grammar.specs.Strings.{Kind, kind_header, IsString, AreStrings, IsWritable}
 use Rattle.ciborium_ll_grammar.specs.Strings.IsString.{definite, indefinite}
 use Rattle.ciborium_ll_grammar.specs.Elements.{AreWritable}
-use Rattle.ciborium_ll_grammar.specs.Items.{Completes, byte_string, text_string, open_bytes, open_text, tag, array, pairs}
-use Rattle.ciborium_ll_grammar.specs.Items.{open_array, open_pairs, AreItems, no_items, more_items, IsItem, IsTakenTitle}
-use Rattle.ciborium_ll_grammar.specs.Items.{AreTakenStrings}
+use Rattle.ciborium_ll_grammar.specs.Items.{Completes, byte_string, text_string, open_bytes, open_text, tag, array}
+use Rattle.ciborium_ll_grammar.specs.Items.{pairs, open_array, open_pairs, AreItems, no_items, more_items, IsItem}
+use Rattle.ciborium_ll_grammar.specs.Items.{IsTakenTitle, AreTakenStrings}
 use Rattle.ciborium_ll_decoder.specs.Decoding.{Passes, PullsHeader, PullsTitle, IsSteady}
 use Rattle.ciborium_ll_decoder.specs.Skipping.{IsTakenBehind, SkipsWhole}
 use Rattle.std.proofs.lemmas.List.{append_cancel_right}
@@ -24,7 +23,6 @@ use Rattle.ciborium_ll_decoder.proofs.DecodingLaws.{Passes-none, Passes-pull, Pa
 use Rattle.cbor_skip.specs.declared.SkipError.{SkipError}
 use Rattle.cbor_skip.specs.declared.SkipError.TheVariants as s
 use Rattle.cbor_skip.specs.declared.remaining.Remaining.{Remaining}
-use Rattle.cbor_skip.specs.declared.remaining.Remaining.TheVariants as r
 use Rattle.cbor_skip.specs.Due.{ItemDue, here, within, item_count, may_close}
 use Rattle.cbor_skip.specs.Remaining.{IsRemaining, is_done, closes}
 use Rattle.cbor_skip.specs.Skipping.{StopsDue, StopsTitle, StopsItem, ReadsItem, ReadsWithin, StopsWithin}
@@ -48,16 +46,12 @@ items_item s d n u v (more_items {count = m} {others = a} p g c others) i =
 
 -- of less than one item nothing was read
 pub no_items_read : (s : Bool) (d count : ℕ) (items : List ℕ) → count < 1 → AreItems s d count items → items ≡ []
-no_items_read s d count items less no_items = refl
-no_items_read s d count items less (more_items p g c i) = absurd (omega arith)
+no_items_read s d count items less i = grind arith
 
 -- what a header counts completes a nest
 pub counted_completes : {s : Bool} {d n : ℕ} {items : List ℕ} (x : Header) → item_count x ≡ Some n
     → AreItems s d n items → Completes s (suc d) x items
-counted_completes {n = n} (h.Tag number) is i = let one : n ≡ 1 = cc in tag (rw one at i)
-counted_completes {n = n} (h.Array (Some len)) is i = let same : n ≡ len = cc in array (rw same at i)
-counted_completes {n = n} (h.Map (Some len)) is i = let same : n ≡ 2 * len = cc in pairs (rw same at i)
-counted_completes x is i = absurd (grind arith)
+counted_completes x is i = grind (arith, tag, array, pairs)
 
 -- ---- a string behind its header
 
@@ -71,8 +65,7 @@ completes_open s d k x bs strings taken sound = grind (arith, open_bytes, open_t
 
 -- what follows a string's title is the rest of an item
 string_completes : (s : Bool) (d : ℕ) (k : Kind) (len : Option ℕ) (t rest w : List ℕ) (bs : List (List ℕ))
-    → IsTitle t (kind_header k len)
-    → IsString k w bs → t ++ rest ≡ w → IsTakenBehind s k len rest bs → AreWritable k bs
+    → IsTitle t (kind_header k len) → IsString k w bs → t ++ rest ≡ w → IsTakenBehind s k len rest bs → AreWritable k bs
     → Completes s d (kind_header k len) rest
 string_completes s d k len t rest w bs p (definite {title = t'} {body = b} p') e taken sound =
     let f = fronts k t t' rest b len (Some (length b)) p p' e in
@@ -94,8 +87,7 @@ module _ {R E : Type 0} (source : Ghosts R E) where
   -- an item is a title, and what completes it
   reads_item : {d : ℕ} {old titled new : Decoder R} {x : Header} {rest : List ℕ} → PullsTitle source old x titled
       → (IsSteady source old → IsSteady source titled) → Completes (strictness old) d x rest
-      → Passes source titled rest new
-      → ReadsItem source d old new
+      → Passes source titled rest new → ReadsItem source d old new
   reads_item title steady completes passed = record {
     item = _;
     is_item = item_of _ _ _ _ _ title.is_title (pulled_taken source title) completes;
@@ -103,7 +95,8 @@ module _ {R E : Type 0} (source : Ghosts R E) where
   }
 
   pub reads_plain : {d : ℕ} {old titled : Decoder R} {x : Header} → PullsTitle source old x titled
-      → (IsSteady source old → IsSteady source titled) → Completes (strictness old) d x [] → ReadsItem source d old titled
+      → (IsSteady source old → IsSteady source titled) → Completes (strictness old) d x []
+      → ReadsItem source d old titled
   reads_plain title steady completes = reads_item title steady completes (Passes-none source _)
 
   pub reads_string : {d : ℕ} {old titled new : Decoder R} (k : Kind) (len : Option ℕ)
@@ -119,9 +112,8 @@ module _ {R E : Type 0} (source : Ghosts R E) where
       reads_item title steady (completes_looser _ _ keeps d x whole.behind completes) whole.passed
 
   pub reads_nest : {d levels : ℕ} {old titled new : Decoder R} {x : Header} → suc levels ≡ d
-      → PullsTitle source old x titled
-      → (IsSteady source old → IsSteady source titled) → ReadsWithin source x levels titled new
-      → ReadsItem source d old new
+      → PullsTitle source old x titled → (IsSteady source old → IsSteady source titled)
+      → ReadsWithin source x levels titled new → ReadsItem source d old new
   reads_nest level title steady inner =
       let completes = completes_looser _ _ (pulled_keeps source title) _ _ inner.rest inner.completes in
       rw (sym level) (reads_item title steady completes inner.passed)
@@ -142,8 +134,7 @@ module _ {R E : Type 0} (source : Ghosts R E) where
       stops_here (subst (λ (first : Decoder R). StopsTitle source room first error new) same (rw same_room at stops))
 
   pub pull_stops : {outer : Bool} {d room : ℕ} {old before : Decoder R} {error : Error E} {new : Decoder R}
-      → before ≡ old
-      → PullsHeader source before (Err error) new → StopsItem source outer d room old (s.Read error) new
+      → before ≡ old → PullsHeader source before (Err error) new → StopsItem source outer d room old (s.Read error) new
   pull_stops same fails = title_stops same refl (inl fails)
 
   -- an error within it, behind its title
@@ -177,9 +168,8 @@ module _ {R E : Type 0} (source : Ghosts R E) where
   none_read is = record { count = 0; is_remaining = is; items = []; are_items = no_items; passed = Passes-none source _ }
 
   pub one_more : {x : Header} {d : ℕ} {old now new : Decoder R} {remaining after : Remaining}
-      → SoFar x d old now remaining
-      → ((count : ℕ) → IsRemaining x count remaining → IsRemaining x (suc count) after) → ReadsItem source d now new
-      → SoFar x d old new after
+      → SoFar x d old now remaining → ((count : ℕ) → IsRemaining x count remaining → IsRemaining x (suc count) after)
+      → ReadsItem source d now new → SoFar x d old new after
   one_more so_far goes_on item =
       let one = items_looser _ _ (passed_keeps source so_far.passed) _ _ _ item.is_item in
       search (
@@ -190,33 +180,27 @@ module _ {R E : Type 0} (source : Ghosts R E) where
 
   -- an error where one more is due; the buffer was as long from the start
   pub stops_within : {x : Header} {d room room' : ℕ} {old now new : Decoder R} {error : SkipError E}
-      {remaining : Remaining}
-      → SoFar x d old now remaining → is_done remaining ≡ false → room' ≡ room
+      {remaining : Remaining} → SoFar x d old now remaining → is_done remaining ≡ false → room' ≡ room
       → StopsItem source (closes remaining) d room' now error new → StopsWithin source x d room old error new
-  stops_within {x = x} {d = d} {room = room} {now = now} {new = new} {error = error} {remaining = remaining} so_far some same stops =
+  stops_within {x = x} {d = d} {room = room} {now = now} {new = new} {error = error} {remaining = remaining} so_far
+      some same stops =
       let more = takes_more x so_far.count remaining so_far.is_remaining some in
       let stopped : StopsItem source (may_close x so_far.count) d room now error new = rw more.1 (rw same at stops) in
       search
 
   -- all items were read
-  all_read : (x : Header) (count : ℕ) (remaining : Remaining) → IsRemaining x count remaining
-      → is_done remaining ≡ true → item_count x ≡ Some count
-  all_read x count remaining is done = grind arith
-
   pub ended : {x : Header} {d : ℕ} {old now : Decoder R} {remaining : Remaining} → SoFar x d old now remaining
       → is_done remaining ≡ true → ReadsWithin source x d old now
-  ended {x = x} {remaining = remaining} so_far done = record {
-    rest = so_far.items;
-    completes = counted_completes x (all_read x so_far.count remaining so_far.is_remaining done) so_far.are_items;
-    passed = so_far.passed;
-  }
+  ended {x = x} so_far done =
+      let all : item_count x ≡ Some so_far.count = grind arith in
+      let completes = counted_completes x all so_far.are_items in
+      search
 
   -- a break ended them, by what remains
-  all_closed : (s : Bool) (x : Header) (d count : ℕ) (items : List ℕ) (remaining : Remaining) → IsRemaining x count remaining
-      → closes remaining ≡ true → AreItems s d count items → Completes s (suc d) x (items ++ 0xff ∷ [])
-  all_closed s (h.Array None) d count items r.OpenItems is may i = open_array i
-  all_closed s (h.Map None) d count items r.OpenPairs is may i = open_pairs is.0 (rw is.1 at i)
-  all_closed s x d count items remaining is may i = absurd (grind arith)
+  all_closed : (s : Bool) (x : Header) (d count : ℕ) (items : List ℕ) (remaining : Remaining)
+      → IsRemaining x count remaining → closes remaining ≡ true → AreItems s d count items
+      → Completes s (suc d) x (items ++ 0xff ∷ [])
+  all_closed s x d count items remaining is may i = grind (arith, open_array, open_pairs)
 
   pub closed : {x : Header} {d : ℕ} {old now new : Decoder R} {remaining : Remaining} → SoFar x d old now remaining
       → closes remaining ≡ true → PullsTitle source now h.Break new → (IsSteady source now → IsSteady source new)

@@ -19,13 +19,11 @@ odd_pairs n = rw (← add-one (2 * n), mul-add-mod_self_left 2 n 1)
 
 -- where something remains, one item more may stand there, and a break in its place just where that closes
 pub takes_more : (x : Header) (count : ℕ) (remaining : Remaining) → IsRemaining x count remaining
-    → is_done remaining ≡ false
-    → TakesMore x count × (may_close x count ≡ closes remaining)
+    → is_done remaining ≡ false → TakesMore x count × (may_close x count ≡ closes remaining)
 takes_more x count remaining is some = grind (arith, even_pairs, odd_pairs)
 
 -- behind a value a pair is due
 pub value_done : (x : Header) (count : ℕ) (remaining : Remaining) → remaining ≡ r.OpenValue
-    → IsRemaining x count remaining
-    → IsRemaining x (suc count) r.OpenPairs
+    → IsRemaining x count remaining → IsRemaining x (suc count) r.OpenPairs
 value_done (h.Map None) count r.OpenValue e is = (suc is.0, let f = is.1 in omega (arith, f))
 value_done x count remaining e is = absurd (grind arith)

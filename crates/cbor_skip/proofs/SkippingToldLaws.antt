@@ -65,8 +65,7 @@ module _ {R E : Type 0} (source : Ghosts R E) (depth room : ℕ) (old : Decoder 
 
   -- `Ok` means that over any reader that tells its bytes
   pub ok_told : view source old ≡ Some due → (new : Decoder R) (result : Result (Unit {0}) (SkipError E))
-      → SkipsItem source depth room old result new → IsOk result
-      → SkipsFront source (strictness old) depth due old new
+      → SkipsItem source depth room old result new → IsOk result → SkipsFront source (strictness old) depth due old new
   ok_told told new (Ok done) reads ok = front_told told new reads
   ok_told told new (Err error) stops ok = absurd cc
 
@@ -298,14 +297,12 @@ module _ {R E : Type 0} (source : Ghosts R E) (depth room : ℕ) (old : Decoder 
     ready_mode = strict_mode old.waiting old.strict ready.none_waits
 
     pub skip_told : (new : Decoder R) (result : Result (Unit {0}) (SkipError E))
-        → SkipsItem source depth room old result new
-        → SkipsTold source old.strict depth due old result new
+        → SkipsItem source depth room old result new → SkipsTold source old.strict depth due old result new
     skip_told new result skips =
         subst (λ (b : Bool). SkipsTold source b depth due old result new) ready_mode (told_by new result skips)
 
     exactly_told : (new : Decoder R) (result : Result (Unit {0}) (SkipError E))
-        → SkipsTold source old.strict depth due old result new
-        → IsOk result ↔ ItemInFront old.strict depth due
+        → SkipsTold source old.strict depth due old result new → IsOk result ↔ ItemInFront old.strict depth due
     exactly_told new (Ok done) told = (λ ok. told.front, λ front. refl)
     exactly_told new (Err (s.Break at)) told =
         (λ ok. absurd cc, λ front. absurd (no_early_break old.strict depth due front told.fault))
@@ -319,6 +316,5 @@ module _ {R E : Type 0} (source : Ghosts R E) (depth room : ℕ) (old : Decoder 
     exactly_told new (Err (s.Read e.Waiting)) told = absurd told
 
     pub skip_exactly : (new : Decoder R) (result : Result (Unit {0}) (SkipError E))
-        → SkipsItem source depth room old result new
-        → IsOk result ↔ ItemInFront old.strict depth due
+        → SkipsItem source depth room old result new → IsOk result ↔ ItemInFront old.strict depth due
     skip_exactly new result skips = exactly_told new result (skip_told new result skips)

@@ -54,9 +54,9 @@ module _ {R E : Type 0} (source : Ghosts R E) (kind : Kind) (len : Option ℕ) {
   string_pulled header e pulled = rw (string_start kind len header e) at pulled
 
   -- and behind it the string failed
-  pub string_stops : {room : ℕ} {error : Error E} {new : Decoder R} → PullsTitle source old (kind_header kind len) titled
-      → (IsSteady source old → IsSteady source titled) → SkipsString source kind len room titled (Err error) new
-      → StopsTitle source room old error new
+  pub string_stops : {room : ℕ} {error : Error E} {new : Decoder R}
+      → PullsTitle source old (kind_header kind len) titled → (IsSteady source old → IsSteady source titled)
+      → SkipsString source kind len room titled (Err error) new → StopsTitle source room old error new
   string_stops pulled steady fails = inr (record {
     kind = kind;
     len = len;
