@@ -74,7 +74,8 @@ module _ {R E : Type 0} (source : Ghosts R E) where
       record { rest = reads.items; completes = counted_completes x is reads.are_items; passed = reads.passed }
   counted_within x n d room old is (Err error) new stops =
       let more = counted_more x n stops.before is stops.more in
-      let stopped : StopsItem source (may_close x stops.before) d room stops.between error new = rw more.1 stops.stops in
+      let stopped : StopsItem source (may_close x stops.before) d room stops.between error new =
+      rw more.1 stops.stops in
       search
 
   -- what a read behind a nest's title does, is what a read of that item does

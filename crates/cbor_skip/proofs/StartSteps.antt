@@ -43,9 +43,9 @@ begins_nest source header nest begun e begins pulled =
     grind arith
 
 -- a value is an item by itself
-pub value_start : (strict : Bool) (depth : ℕ) (header : Header) → start_of header ≡ s.Value
+pub value_start : {strict : Bool} {depth : ℕ} (header : Header) → start_of header ≡ s.Value
     → Completes strict depth header []
-value_start strict depth header e = grind (arith, positive, negative, float, simple)
+value_start header e = grind (arith, positive, negative, float, simple)
 
 module _ {R E : Type 0} (source : Ghosts R E) (kind : Kind) (len : Option ℕ) {old titled : Decoder R} where
   -- a string's title was pulled

@@ -1,12 +1,16 @@
 use Rattle.std.proofs.Common.{◌≡◌, ◌∙◌, ◌-◌, suc, true, false, Ok, Err, refl, arith, rules, length}
-use Rattle.std.proofs.Common.{ℕ, ◌<◌, ◌≤◌, ◌^◌, subst, sym}
+use Rattle.std.proofs.Common.{Bool, ℕ, ◌<◌, ◌≤◌, ◌^◌, subst, sym}
 use Rattle.ciborium_ll_decoder.specs.declared.dec.Decoder.{Decoder}
 use Rattle.ciborium_ll_decoder.proofs.DecodingLaws.{exit_is, nearer, MovesOn-none, MovesOn-then}
 use Rattle.cbor_skip.specs.declared.SkipError.TheVariants as s
 use Rattle.cbor_skip.specs.declared.Begun.{Begun}
 use Rattle.cbor_skip.specs.declared.Begun.TheVariants.{Break}
 use Rattle.cbor_skip.specs.Remaining.{is_done, closes}
-use Rattle.cbor_skip.specs.Skipping.{IsBegun}
+use Rattle.cbor_skip.specs.Skipping.{IsBegun, StopsItem}
+use Rattle.cbor_skip.specs.Due.{IsNest}
+use Rattle.ciborium_ll_io.specs.declared.io.Read.{Ghosts}
+use Rattle.ciborium_ll_grammar.specs.declared.hdr.Header.{Header}
+use Rattle.ciborium_ll_decoder.specs.Decoding.{PullsTitle}
 use Rattle.cbor_skip.proofs.ItemRuns.{counted_nest, counted_within, item_decides, nest_decides, none_due, rest_read}
 use Rattle.cbor_skip.proofs.ItemRuns.{stops_first}
 use Rattle.cbor_skip.proofs.ItemSteps.{stops_here, title_stops, none_read, one_more, stops_within, ended, closed}
@@ -20,9 +24,12 @@ use Rattle.cbor_skip.proofs.+nests.Goals.{skip_rest-in-Items+else-depth-gt0, ski
 one_before : (n : ℕ) → 0 < n → suc (n - 1) ≡ n
 one_before n some = omega arith
 
--- a number that isn't above 0
-none_left : (n : ℕ) → n ≤ 0 → n ≡ 0
-none_left n none = omega (arith, none)
+-- no level is left for a nest
+too_deep : {R E : Type 0} (source : Ghosts R E) {closable : Bool} {depth room at : ℕ} {before new : Decoder R}
+    {header : Header} → depth ≤ 0 → at ≡ before.offset → IsNest header → PullsTitle source before header new
+    → StopsItem source closable depth room before (s.Deep at) new
+too_deep source {depth = depth} none place nest pulled = let none_left : depth ≡ 0 = omega arith in
+    stops_here source (search)
 
 -- the decoder is nearer to the last offset
 nearer_now : {R : Type 0} (before old new : Decoder R) → old ≡ before → old.offset < new.offset
@@ -59,8 +66,6 @@ skip_items-returns-in_err-begun-clause-skipped g t c =
     let stops = title_stops g.R.Read c.offset-place.ensures.same c.items.auto.buffer c.in_err-begun.ensures.begun in
     rw same (c.items.invariant.whole (Err (s.Read error)) c.skip_title.new.decoder (stops_first g.R.Read some stops))
 
--- ---- so many items: one item more
-
 -- ---- what remains: the ends
 
 pub skip_within-items-init : goal.skip_within-items-init
@@ -83,8 +88,6 @@ skip_within-returns-in_err-begun-clause-skipped g t c =
     let same = exit_is c.from_residual.result (s.Read error) c.from_residual.ensures.1 in
     rw same (stops_within g.R.Read c.items.invariant.so_far some c.items.auto.buffer
     (title_stops g.R.Read c.offset-place.ensures.same refl c.in_err-begun.ensures.begun))
-
--- ---- what remains: one item more
 
 -- ---- the decoder moves on
 
@@ -223,22 +226,10 @@ skip_rest-returns-in-Items-2-clause-skipped g t c = λ closable before begun mov
     elim c.in-Items-2-1.branch [
       | skip_rest-in-Items+else-depth-gt0 w ↦
           let nest = rw w.in-Items.is at begun in
-          stops_here g.R.Read (record {
-            none_left = none_left c.args.depth w.if-depth-gt0.false;
-            place = place;
-            header = nest.0;
-            is_nest = counted_nest nest.0 w.in-Items.count nest.1;
-            pulled = nest.2;
-          })
+          too_deep g.R.Read w.if-depth-gt0.false place (counted_nest nest.0 w.in-Items.count nest.1) nest.2
       | skip_rest-in-Nest+else-depth-gt0-2 w ↦
           let nest = rw w.in-Nest.is at begun in
-          stops_here g.R.Read (record {
-            none_left = none_left c.args.depth w.if-depth-gt0-2.false;
-            place = place;
-            header = w.in-Nest.nest;
-            is_nest = nest.0;
-            pulled = nest.1;
-          })
+          too_deep g.R.Read w.if-depth-gt0-2.false place nest.0 nest.1
     ]
 
 -- ---- the decoder moves on

@@ -7,7 +7,6 @@ use Rattle.ciborium_ll_decoder.proofs.DecodingLaws.{exit_is, MovesOn-then}
 use Rattle.ciborium_ll_grammar.specs.Strings.{Bytes, Text}
 use Rattle.ciborium_ll_decoder.proofs.NestLaws.{title_some}
 use Rattle.ciborium_ll_grammar.proofs.TitleLaws.{shortest_no_longer}
-use Rattle.cbor_skip.specs.Skipping.{strictness}
 use Rattle.cbor_skip.proofs.ItemSteps.{reads_plain, reads_string}
 use Rattle.cbor_skip.proofs.StartSteps.{begins_nest, break_start, nest_start, string_pulled, string_stops, value_start}
 use Rattle.cbor_skip.proofs.skip_title.Goals as goal
@@ -35,8 +34,8 @@ skip_text-requires-clause-covered g c =
 
 pub returns-in-Value-clause-begun : goal.returns-in-Value-clause-begun
 returns-in-Value-clause-begun g c = λ depth.
-    let plain = value_start (strictness c.args.decoder.now) depth c.in_ok-header.header (sym c.start.ensures ∙ c.in-Value.is) in
-    reads_plain g.R.Read c.in_ok-header.ensures.header c.pull_title.ensures.moves_on.steady plain
+    reads_plain g.R.Read c.in_ok-header.ensures.header c.pull_title.ensures.moves_on.steady
+    (value_start c.in_ok-header.header (sym c.start.ensures ∙ c.in-Value.is))
 
 pub returns-in-Break-clause-rises : goal.returns-in-Break-clause-rises
 returns-in-Break-clause-rises g c = λ ok. pull_rises g.R.Read c.in_ok-header.ensures.header
