@@ -1,5 +1,5 @@
 -- What a skip means where the bytes are told: the premises turn the general statement into an exact one.
-use Rattle.std.proofs.Common.{◌≡◌, ℕ, ◌+◌, ◌≤◌, Bool, true, false, List, [], ◌++◌, length, drop}
+use Rattle.std.proofs.Common.{◌≡◌, ℕ, ◌+◌, ◌≤◌, Bool, true, false, List, [], ◌++◌, length}
 use Rattle.std.proofs.Common.{take, Option, Some, None, Result, Ok, Err, IsOk, ◌↔◌, refl, sym, ap, subst, ◌∙◌}
 use Rattle.std.proofs.Common.{inl, inr, arith, append_assoc, length-append}
 use Rattle.std.proofs.lemmas.List.{length-take}
@@ -37,21 +37,19 @@ use Rattle.cbor_skip.proofs.DueLaws.{no_item_fault, no_early_break, no_deep_nest
 use Rattle.cbor_skip.proofs.StrictnessLaws.{behind_taken, inside_when, strict_by, strict_mode, strict_settled}
 
 -- the row of a text's body that is no text, as a whole or however it goes on
-damage : {strict : Bool} {before read rest : List ℕ} {len start : ℕ} (behind : List ℕ) → rest ≡ read ++ behind
-    → length read ≤ len → IsNoText [] len read
-    → FirstFault strict before [] (BodyDue Text len start) rest (Syntax start) (with_front [] Text len []) (length read)
-damage {read = read} {rest = rest} {len = len} behind split within (inl whole) =
-    let taken = front_of len rest read behind split whole.0 in
-    let counted = simp length-append at (ap length split) in
-    DamagedText [] (take len rest) (omega arith) (λ text. whole.1 (rw taken at text)) refl IsCharacters-nil
-    (omega arith) within
-damage {read = read} {rest = rest} {len = len} behind split within (inr begins) =
-    let counted = simp length-append at (ap length split) in
+damage : {strict : Bool} {before read : List ℕ} {len start : ℕ} (behind : List ℕ) → length read ≤ len
+    → IsNoText [] len read → FirstFault strict before [] (BodyDue Text len start) (read ++ behind) (Syntax start)
+    (with_front [] Text len []) (length read)
+damage {read = read} {len = len} behind within (inl whole) =
+    DamagedText [] _ (omega (arith, length-append read behind))
+    (λ text. whole.1 (rw (front_of len _ read behind refl whole.0) at text)) refl IsCharacters-nil (omega arith) within
+damage {read = read} {len = len} behind within (inr begins) =
+    let rest = read ++ behind in
     elim (cases_lt (length rest) len) [
-      | inl cut ↦ CutDamagedText [] rest cut (rw split (no_text_behind read behind begins)) refl IsCharacters-nil
-          (omega arith) (omega arith)
+      | inl cut ↦ CutDamagedText [] rest cut (no_text_behind read behind begins) refl IsCharacters-nil (omega arith)
+          (omega (arith, length-append read behind))
       | inr all ↦ DamagedText [] (take len rest) all
-          (λ text. begins _ (rw (front_behind len rest read behind split within) at text)) refl IsCharacters-nil
+          (λ text. begins _ (rw (front_behind len rest read behind refl within) at text)) refl IsCharacters-nil
           (omega arith) within
     ]
 
@@ -76,17 +74,18 @@ module _ {R E : Type 0} (source : Ghosts R E) (depth room : ℕ) (old : Decoder 
 
     -- behind bytes that were read
     module _ {bytes : List ℕ} {at : Decoder R} (passed : Passes source old bytes at) where
-      came : (rest : List ℕ) × (view source at ≡ Some rest) × (due ≡ bytes ++ rest)
-      came = consumes_told _ _ due bytes ready.told passed.consumed
+      -- what is read there is due
+      gone : {known : Option (List ℕ)} (read : List ℕ) → Consumes (view source at) known read → (rest : List ℕ)
+          × (view source at ≡ Some (read ++ rest)) × (known ≡ Some rest) × (due ≡ bytes ++ (read ++ rest))
+      gone read consumes =
+          let came = consumes_told _ _ due bytes ready.told passed.consumed in
+          let behind = consumes_told _ _ came.0 read came.1 consumes in
+          (behind.0, came.1 ∙ ap Some behind.2, behind.1, came.2 ∙ ap (◌++◌ bytes) behind.2)
 
-      -- what is read there is due as well
       bounded : (known : Option (List ℕ)) (read : List ℕ) → Consumes (view source at) known read
           → at.offset + length read ≤ old.offset + length due
-      bounded known read gone =
-          let c = came in
-          let behind = consumes_told _ _ c.0 read c.1 gone in
-          let whole = simp length-append at (ap length c.2) in
-          let counted = simp length-append at (ap length behind.2) in
+      bounded known read consumes =
+          let whole = simp length-append at (ap length (gone read consumes).3) in
           omega (arith, passed.offset)
 
       -- a strict decoder takes only the shortest spelling
@@ -99,17 +98,16 @@ module _ {R E : Type 0} (source : Ghosts R E) (depth room : ℕ) (old : Decoder 
       met : {point : Point} {answer : Answer} {written : List ℕ} {new : Decoder R} (read : List ℕ)
           → ReachesItem (strictness old) depth bytes point → Consumes (view source at) (view source new) read
           → new.offset ≡ at.offset + length read
-          → ((ahead rest : List ℕ) → view source at ≡ Some ahead → view source new ≡ Some rest → ahead ≡ read ++ rest
-          → FirstFault (strictness old) bytes [] point ahead answer written (length read))
+          → ((rest : List ℕ) → view source at ≡ Some (read ++ rest) → view source new ≡ Some rest
+          → FirstFault (strictness old) bytes [] point (read ++ rest) answer written (length read))
           → MeetsItemFault source (strictness old) depth due answer old new
-      met {point = point} {answer = answer} {written = written} read reach gone offset fault =
-          let c = came in
-          let behind = consumes_told _ _ c.0 read c.1 gone in
-          let found = fault c.0 behind.0 c.1 behind.1 behind.2 in
+      met {answer = answer} {written = written} read reach consumes offset fault =
+          let g = gone read consumes in
+          let found = fault g.0 g.1 g.2 in
           record {
             fault = search;
             answered = refl;
-            left = behind.1 ∙ ap Some (sym (ap (drop (length read)) behind.2 ∙ drop-append_seam read behind.0));
+            left = g.2 ∙ ap Some (sym (drop-append_seam read g.0));
             offset = omega (arith, offset, passed.offset);
           }
 
@@ -118,21 +116,21 @@ module _ {R E : Type 0} (source : Ghosts R E) (depth room : ℕ) (old : Decoder 
           → IsAtTitle point → PullsHeader source at (Err error) new → Told error new
       title_told {point = point} (e.Io fault) new reach title fails =
           let cut = fails.steady (passed.steady ready.steady) in
-          met fails.read reach cut.0 fails.offset (λ ahead rest here left is.
+          met fails.read reach cut.0 fails.offset (λ rest here left.
           let ends = rw here at cut.1 in
-          subst (FirstFault (strictness old) bytes [] point ahead Short [])
-          (sym (ap length ends.1 ∙ length-take 1 ahead)) (CutTitle title ends.0))
+          subst (FirstFault (strictness old) bytes [] point (fails.read ++ rest) Short [])
+          (sym (ap length ends.1 ∙ length-take 1 (fails.read ++ rest))) (CutTitle title ends.0))
       title_told (e.Syntax n) new reach title (inl fails) = (
         length bytes,
         fails.place ∙ passed.offset,
-        met _ reach fails.bytes fails.offset (λ ahead rest here left is. NoTitle title (rw is fails.refused)),
+        met _ reach fails.bytes fails.offset (λ rest here left. NoTitle title fails.refused),
       )
       title_told (e.Syntax n) new reach title (inr fails) = (
         length bytes,
         fails.place ∙ passed.offset,
-        met _ reach fails.bytes fails.offset (λ ahead rest here left is.
+        met _ reach fails.bytes fails.offset (λ rest here left.
             LongTitle fails.header rest title fails.is_title
-            (λ taken. fails.not_strict (rw (strictly fails.strict) at taken)) is),
+            (λ taken. fails.not_strict (rw (strictly fails.strict) at taken)) refl),
       )
       title_told e.TooLong new reach title fails =
           absurd (omega (arith, bounded _ fails.read fails.bytes, fails.full, next_read_small fails.read))
@@ -149,19 +147,19 @@ module _ {R E : Type 0} (source : Ghosts R E) (depth room : ℕ) (old : Decoder 
           let same : view source fails.between ≡ view source new =
           rw (stop.none_waited, stop.none_waits) (sym still.0) in
           met part.read reach (rw same at part.passed.consumed) (stop.offset ∙ part.passed.offset)
-          (λ ahead rest here left is.
+          (λ rest here left.
           let after : source.ahead fails.between.reader ≡ Some rest = rw stop.none_waited at (same ∙ left) in
           let few = rw after at still.1 in
-          let counted = simp length-append at (ap length is) in
+          let counted = length-append part.read rest in
           let parts = simp length-append at (ap length part.parts) in
-          CutBody part.front (part.left ++ rest) (omega arith) (rw (part.parts, append_assoc) at is) part.sound
+          CutBody part.front (part.left ++ rest) (omega arith) (rw (part.parts, append_assoc)) part.sound
           (omega arith) (omega arith) (omega arith))
       body_told {k = k} {len = len} {start = start} {place = place} (e.Syntax n) new reach there fails =
           let all = damage_read source k [] len room place n at new fails in (
             start,
             fails.stops.0 ∙ there,
             met all.read (rw all.textual at reach) all.passed.consumed all.passed.offset
-                (λ ahead rest here left is. damage rest is all.within all.no_text),
+                (λ rest here left. damage rest all.within all.no_text),
           )
       body_told e.TooLong new reach there fails =
           let part = fails.part in
@@ -217,7 +215,7 @@ module _ {R E : Type 0} (source : Ghosts R E) (depth room : ℕ) (old : Decoder 
               length w.0,
               other.place ∙ w.2.offset,
               met w.2 other.pulled.title w.1 other.pulled.bytes other.pulled.offset
-                  (λ ahead rest here left is. OtherTitle other.header rest other.pulled.is_title refused is),
+                  (λ rest here left. OtherTitle other.header rest other.pulled.is_title refused refl),
             )
 
         -- by its answer
@@ -249,34 +247,31 @@ module _ {R E : Type 0} (source : Ghosts R E) (depth room : ℕ) (old : Decoder 
     break_told : (at : ℕ) (new : Decoder R) → StopsItem source false depth room old (s.Break at) new
         → FindsBreak source (strictness old) depth due old at new
     break_told at new stops =
-        let c = came stops.passed in
         let meets = stops.stops in
         let pulled = meets.pulled in
-        let gone = consumes_told _ _ c.0 pulled.title c.1 pulled.bytes in
+        let g = gone stops.passed pulled.title pulled.bytes in
         let lone = alone_bytes pulled.title h.Break pulled.is_title refl in
         let due = rw meets.not_closable at stops.due in
-        let is = c.2 ∙ ap (◌++◌ stops.bytes) (gone.2 ∙ ap (λ (z : List ℕ). z ++ gone.0) lone) in
+        let is = g.3 ∙ ap (λ (z : List ℕ). stops.bytes ++ (z ++ g.0)) lone in
         record {
           fault = search;
           place = meets.place ∙ stops.passed.offset;
-          left = gone.1;
+          left = g.2;
           offset = omega (arith, pulled.offset, meets.place, ap length lone);
         }
 
     nest_told : (at : ℕ) (new : Decoder R) → StopsItem source false depth room old (s.Deep at) new
         → FindsNest source (strictness old) depth due old at new
     nest_told at new stops =
-        let c = came stops.passed in
         let meets = stops.stops in
         let pulled = meets.pulled in
-        let gone = consumes_told _ _ c.0 pulled.title c.1 pulled.bytes in
+        let g = gone stops.passed pulled.title pulled.bytes in
         let due = rw meets.none_left at stops.due in
         let taken = behind_taken source stops.passed pulled in
-        let is = c.2 ∙ ap (◌++◌ stops.bytes) gone.2 in
         record {
           fault = search;
           place = meets.place ∙ stops.passed.offset;
-          left = gone.1;
+          left = g.2;
           offset = omega (arith, pulled.offset, meets.place);
         }
 
