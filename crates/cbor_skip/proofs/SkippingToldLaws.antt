@@ -31,8 +31,8 @@ use Rattle.cbor_skip.specs.declared.SkipError.{SkipError}
 use Rattle.cbor_skip.specs.declared.SkipError.TheVariants as s
 use Rattle.cbor_skip.specs.Due.{ItemDue, ReachesItem, at_item, at_string, at_body, at_piece}
 use Rattle.cbor_skip.specs.ItemFaults.{ItemInFront}
-use Rattle.cbor_skip.specs.Skipping.{SkipsItem, StopsItem, ReadsItem, strictness}
-use Rattle.cbor_skip.specs.SkippingTold.{IsReadyToSkip, SkipsFront, MeetsItemFault, FindsBreak, FindsNest, SkipsTold}
+use Rattle.cbor_skip.specs.Skipping.{SkipsItem, ReadsItem, strictness}
+use Rattle.cbor_skip.specs.SkippingTold.{IsReadyToSkip, SkipsFront, MeetsItemFault, SkipsTold}
 use Rattle.cbor_skip.proofs.DueLaws.{no_item_fault, no_early_break, no_deep_nest}
 use Rattle.cbor_skip.proofs.StrictnessLaws.{behind_taken, inside_when, strict_by, strict_mode, strict_settled}
 
@@ -82,12 +82,6 @@ module _ {R E : Type 0} (source : Ghosts R E) (depth room : ℕ) (old : Decoder 
           let behind = consumes_told _ _ came.0 read came.1 consumes in
           (behind.0, came.1 ∙ ap Some behind.2, behind.1, came.2 ∙ ap (◌++◌ bytes) behind.2)
 
-      bounded : (known : Option (List ℕ)) (read : List ℕ) → Consumes (view source at) known read
-          → at.offset + length read ≤ old.offset + length due
-      bounded known read consumes =
-          let whole = simp length-append at (ap length (gone read consumes).3) in
-          omega (arith, passed.offset)
-
       -- a strict decoder takes only the shortest spelling
       strictly : at.strict ≡ true → strictness old ≡ true
       strictly on =
@@ -133,7 +127,8 @@ module _ {R E : Type 0} (source : Ghosts R E) (depth room : ℕ) (old : Decoder 
             (λ taken. fails.not_strict (rw (strictly fails.strict) at taken)) refl),
       )
       title_told e.TooLong new reach title fails =
-          absurd (omega (arith, bounded _ fails.read fails.bytes, fails.full, next_read_small fails.read))
+          let whole = simp length-append at (ap length (gone fails.read fails.bytes).3) in
+          absurd (omega (arith, next_read_small fails.read))
       title_told e.Waiting new reach title fails = absurd fails
 
       -- where a body is due
@@ -163,7 +158,8 @@ module _ {R E : Type 0} (source : Ghosts R E) (depth room : ℕ) (old : Decoder 
           )
       body_told e.TooLong new reach there fails =
           let part = fails.part in
-          absurd (omega (arith, bounded _ part.read part.passed.consumed))
+          let whole = simp length-append at (ap length (gone part.read part.passed.consumed).3) in
+          absurd (omega arith)
       body_told e.Waiting new reach there fails = absurd fails.stops
 
     -- behind a beginning of an item
@@ -244,9 +240,10 @@ module _ {R E : Type 0} (source : Ghosts R E) (depth room : ℕ) (old : Decoder 
 
     -- ---- all answers
 
-    break_told : (at : ℕ) (new : Decoder R) → StopsItem source false depth room old (s.Break at) new
-        → FindsBreak source (strictness old) depth due old at new
-    break_told at new stops =
+    told_by : (new : Decoder R) (result : Result (Unit {0}) (SkipError E)) → SkipsItem source depth room old result new
+        → SkipsTold source (strictness old) depth due old result new
+    told_by new (Ok done) reads = front_told ready.told new reads
+    told_by new (Err (s.Break at)) stops =
         let meets = stops.stops in
         let pulled = meets.pulled in
         let g = gone stops.passed pulled.title pulled.bytes in
@@ -259,10 +256,7 @@ module _ {R E : Type 0} (source : Ghosts R E) (depth room : ℕ) (old : Decoder 
           left = g.2;
           offset = omega (arith, pulled.offset, meets.place, ap length lone);
         }
-
-    nest_told : (at : ℕ) (new : Decoder R) → StopsItem source false depth room old (s.Deep at) new
-        → FindsNest source (strictness old) depth due old at new
-    nest_told at new stops =
+    told_by new (Err (s.Deep at)) stops =
         let meets = stops.stops in
         let pulled = meets.pulled in
         let g = gone stops.passed pulled.title pulled.bytes in
@@ -274,12 +268,6 @@ module _ {R E : Type 0} (source : Ghosts R E) (depth room : ℕ) (old : Decoder 
           left = g.2;
           offset = omega (arith, pulled.offset, meets.place);
         }
-
-    told_by : (new : Decoder R) (result : Result (Unit {0}) (SkipError E)) → SkipsItem source depth room old result new
-        → SkipsTold source (strictness old) depth due old result new
-    told_by new (Ok done) reads = front_told ready.told new reads
-    told_by new (Err (s.Break at)) stops = break_told at new stops
-    told_by new (Err (s.Deep at)) stops = nest_told at new stops
     told_by new (Err (s.Read error)) stops =
         elim stops.stops [
           | inl fails ↦ title_told stops.passed error new (at_item stops.due) tt fails
