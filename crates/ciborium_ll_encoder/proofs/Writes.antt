@@ -34,9 +34,8 @@ module _ {W F : Type 0} (sink : Ghosts W F) where
       (record { appended = appended; room = room; failures = failures }) next)
 
   -- a first byte that wasn't written, so that nothing behind it is
-  pub byte_unwritten : {T : Type 0} (old new : W) (result : Result T F) (first byte : ℕ) (affix : List ℕ)
-      → IsErr result → first ≡ byte
-      → AppendsFront (sink.written old) (sink.written new) (sink.room old) (sink.room new) (first ∷ [])
+  pub byte_unwritten : {T : Type 0} (old new : W) (result : Result T F) (first byte : ℕ) (affix : List ℕ) → IsErr result
+      → first ≡ byte → AppendsFront (sink.written old) (sink.written new) (sink.room old) (sink.room new) (first ∷ [])
       → IfSome (sink.room old) (λ n. n < 1) → sink.failures new ≡ sink.failures old + 1
       → WritesBytes sink old result (byte ∷ affix) new
   byte_unwritten old new result first byte affix fails same front full failures =

@@ -1,5 +1,5 @@
 -- Either n elements stand in front, or a fault stops them.
-use Rattle.std.proofs.Common.{◌≡◌, ℕ, zero, suc, ◌%◌, ◌<◌, ◌≤◌, ◌⊎◌, Bool, true, false, List, [], ◌∷◌}
+use Rattle.std.proofs.Common.{◌≡◌, ℕ, zero, suc, ◌%◌, ◌<◌, ◌≤◌, ◌⊎◌, Bool, true, List, [], ◌∷◌}
 use Rattle.std.proofs.Common.{◌++◌, length, take, drop, Some, None, refl, sym, ap, ◌∙◌, append_assoc, arith}
 use Rattle.std.proofs.Common.{inl, inr}
 use Rattle.std.proofs.lemmas.Bool.{cases_Bool, cases_lt}
@@ -49,23 +49,12 @@ sight (b ∷ y) f =
 -- ---- titles that are taken
 
 small_or_not : (x : Header) → IsSmallSimple x ⊎ (IsSmallSimple x → ⊥)
-small_or_not (h.Simple m) = elim (cases_lt m 24) [
-  | inl less ↦ inr (λ s. omega arith)
-  | inr more ↦ elim (cases_lt m 32) [ inl small ↦ inl (more, small) | inr large ↦ inr (λ s. omega arith) ]
-]
+small_or_not (h.Simple m) = let low = cases_lt m 24 in let high = cases_lt m 32 in grind arith
 small_or_not x = inr (λ s. s)
 
 taken_or_not : (strict : Bool) (t : List ℕ) (x : Header) → IsTitle t x
     → IsTakenTitle strict t x ⊎ (IsTakenTitle strict t x → ⊥)
-taken_or_not false t x p = inl tt
-taken_or_not true t x p =
-    elim (shortest_or_longer x t p) [
-      | inl same ↦ elim (small_or_not x) [
-        | inl small ↦ inr (λ s. s.meant small)
-        | inr large ↦ inl (record { shortest = same; meant = large })
-      ]
-      | inr longer ↦ inr (λ s. let l = ap length s.shortest in omega arith)
-    ]
+taken_or_not strict t x p = let small = small_or_not x in let shortest = shortest_or_longer x t p in grind arith
 
 -- the bytes of a body behind its shortest title
 body_same : {l : ℕ} {t : List ℕ} (k : Kind) (b : List ℕ) → t ≡ shortest_title (kind_header k (Some l)) → length b ≡ l
@@ -158,8 +147,7 @@ module _ (strict : Bool) (n : ℕ) where
   -- the step over the title of a body, by what a body that may be written leads to
   body_step : {u s : List ℕ} {ms : List Mark} {k : Kind} {l p : ℕ} (t rest : List ℕ)
       → Reaches n (u ++ t) ms (BodyDue k l p) → Spelled (u ++ t) ms (shortest_title (kind_header k (Some l)))
-      → s ≡ t ++ rest
-      → ((b more : List ℕ) → s ≡ (t ++ b) ++ more → length b ≡ l → IsWritable k b → Step u s) → Step u s
+      → s ≡ t ++ rest → ((b more : List ℕ) → s ≡ (t ++ b) ++ more → length b ≡ l → IsWritable k b → Step u s) → Step u s
   body_step {u = u} {s = s} {k = k} {l = l} t rest reach sp q on =
       let there : HasFault strict n ((u ++ t) ++ rest) → Step u s = λ f. fails (rw q (rw append_assoc at f)) in
       elim (cases_lt (length rest) l) [
