@@ -1,5 +1,5 @@
 -- What is in its shortest spelling is one of any too, and what a decoder's strictness says of the titles that it gave.
-use Rattle.std.proofs.Common.{◌≡◌, ℕ, Bool, true, false, List, Option, None, refl, arith}
+use Rattle.std.proofs.Common.{◌≡◌, ℕ, Bool, true, false, List, Option, None, arith}
 use Rattle.ciborium_ll_io.specs.declared.io.Read.{Ghosts}
 use Rattle.ciborium_ll_grammar.specs.declared.hdr.Header.{Header}
 use Rattle.ciborium_ll_decoder.specs.declared.dec.Decoder.{Decoder}
@@ -39,10 +39,7 @@ due_any (within p g more i due) = within p tt more (items_any i) (due_any due)
 -- ---- a spelling no shorter
 
 looser : (b b' : Bool) → (b ≡ true → b' ≡ true) → (P : Bool → Type 0) → (P true → P false) → P b' → P b
-looser true true keeps P any p = p
-looser true false keeps P any p = absurd (let never = keeps refl in cc)
-looser false true keeps P any p = any p
-looser false false keeps P any p = p
+looser b b' keeps P any p = grind arith
 
 pub items_looser : (b b' : Bool) → (b ≡ true → b' ≡ true) → (d n : ℕ) (u : List ℕ) → AreItems b' d n u
     → AreItems b d n u
