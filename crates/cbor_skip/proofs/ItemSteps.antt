@@ -165,7 +165,7 @@ module _ {R E : Type 0} (source : Ghosts R E) where
 
   pub none_read : {x : Header} {d : ℕ} {old : Decoder R} {remaining : Remaining} → IsRemaining x 0 remaining
       → SoFar x d old old remaining
-  none_read is = record { count = 0; is_remaining = is; items = []; are_items = no_items; passed = Passes-none source _ }
+  none_read is = record { count = 0; is_remaining = is; items = _; are_items = no_items; passed = Passes-none source _ }
 
   pub one_more : {x : Header} {d : ℕ} {old now new : Decoder R} {remaining after : Remaining}
       → SoFar x d old now remaining → ((count : ℕ) → IsRemaining x count remaining → IsRemaining x (suc count) after)
