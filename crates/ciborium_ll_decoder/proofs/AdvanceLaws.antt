@@ -1,7 +1,6 @@
 -- How the titles of a string lead on, one after the other.
 use Rattle.std.proofs.Common.{Some, Bool, IsTrue, ◌≤◌, ◌≡◌, ℕ, suc, ◌+◌, ◌-◌, ◌<◌, ◌⊎◌, List, ◌++◌, length, Option}
-use Rattle.std.proofs.Common.{None}
-use Rattle.std.proofs.Common.{Result, Ok, Err, refl, ap, subst, ◌∙◌, inl, inr, arith, add-one, length-append}
+use Rattle.std.proofs.Common.{None, Result, Ok, refl, ap, subst, ◌∙◌, inl, arith, add-one, length-append}
 use Rattle.ciborium_ll_io.specs.declared.io.Read.{Ghosts}
 use Rattle.ciborium_ll_decoder.specs.declared.dec.Decoder.{Decoder}
 use Rattle.ciborium_ll_decoder.specs.declared.dec.Error.{Error}
@@ -13,8 +12,8 @@ use Rattle.ciborium_ll_decoder.specs.declared.seg.Segment.{Segment}
 use Rattle.ciborium_ll_grammar.specs.Strings.{Kind, kind_header}
 use Rattle.ciborium_ll_decoder.specs.Decoding.{IsSteady, Passes}
 use Rattle.ciborium_ll_decoder.specs.Segments.{Nests, in_place, deeper, back, AdvancesFrom, AdvancesTo, EndsAdvance}
-use Rattle.ciborium_ll_decoder.specs.Progress.{opens_of}
 use Rattle.ciborium_ll_decoder.specs.Segments.{GivesAgain, StepsOver, Deepens, ClosesInner}
+use Rattle.ciborium_ll_decoder.specs.Progress.{opens_of}
 use Rattle.ciborium_ll_decoder.specs.Chunks.{PullsSegment}
 use Rattle.ciborium_ll_decoder.proofs.DecodingLaws.{Passes-none, Passes-pull}
 use Rattle.ciborium_ll_decoder.proofs.NestLaws.{alone_bytes, open_alone, open_length, nests_zero, nests_counted}
@@ -121,51 +120,23 @@ module _ {R E : Type 0} (source : Ghosts R E) (kind : Kind) (strict : Bool) wher
   pub Reached-step : (first : Progress) (left : ℕ) (old now new : Decoder R) (after : Progress)
       → Reached first old (p.Open left) now → (IsSteady source now → IsSteady source new)
       → StepsOver source kind strict left now (Ok None) after new → Reached first old after new
-  Reached-step (p.Open opens) left old now new after (inl led) steady (inl closes) =
-      inr (ends_from opens left old now new (Ok None) after led closes)
-  Reached-step (p.Open opens) left old now new after (inl led) steady (inr (inl deepens)) =
-      inl (leads_deeper opens left old now new after led steady deepens)
-  Reached-step (p.Open opens) left old now new after (inl led) steady (inr (inr inner)) =
-      inl (leads_back opens left old now new after led steady inner)
-  Reached-step (p.Open opens) left old now new after (inr ended) steady step =
-      absurd (not_ended opens left old now ended)
-  Reached-step p.Ended left old now new after r steady step = let f = r.0 in cc
-  Reached-step (p.Damaged place) left old now new after r steady step = let f = r.0 in cc
-  Reached-step p.TooDeep left old now new after r steady step = let f = r.0 in cc
+  Reached-step first left old now new after r steady step = grind (arith, ends_from, leads_deeper, leads_back, not_ended)
 
   -- a title that decides gives the answer
   pub Reached-ends : (first : Progress) (left : ℕ) (old now new : Decoder R)
       (result : Result (Option Body) (Error E)) (after : Progress) → Reached first old (p.Open left) now
       → EndsAdvance source kind strict left now result after new → AdvancesTo source kind strict first old result after
       new
-  Reached-ends (p.Open opens) left old now new result after (inl led) ends =
-      ends_from opens left old now new result after led ends
-  Reached-ends (p.Open opens) left old now new result after (inr ended) ends =
-      absurd (not_ended opens left old now ended)
-  Reached-ends p.Ended left old now new result after r ends = let f = r.0 in cc
-  Reached-ends (p.Damaged place) left old now new result after r ends = let f = r.0 in cc
-  Reached-ends p.TooDeep left old now new result after r ends = let f = r.0 in cc
+  Reached-ends first left old now new result after r ends = grind (arith, ends_from, not_ended)
 
   -- behind the title of a body no header waits
   pub none_waits_for_body : (first : Progress) (old : Decoder R) (body : Body) (after : Progress) (new : Decoder R)
       → AdvancesTo source kind strict first old (Ok (Some body)) after new → new.waiting ≡ None
-  none_waits_for_body (p.Open opens) old body after new advanced = advanced.ends.pulled.none_waits
-  none_waits_for_body p.Ended old body after new advanced = let f = advanced.0 in cc
-  none_waits_for_body (p.Damaged place) old body after new advanced = let f = advanced.0 in cc
-  none_waits_for_body p.TooDeep old body after new advanced = let f = advanced.0 in cc
+  none_waits_for_body first old body after new advanced = grind arith
 
 module _ {R E P : Type 0} {parser : Parser P} (source : Ghosts R E) (kind : Kind) (strict : Bool) where
   -- what `pull` answers where an answer stays
   pub given_again : (progress : Progress) (old : Decoder R)
       (result : Result (Option (Segment R P parser)) (Error E)) → PullsSegment source kind strict progress old result
       → GivesAgain progress result
-  given_again (p.Open opens) old result pulls = tt
-  given_again p.Ended old (Ok None) pulls = refl
-  given_again p.Ended old (Ok (Some segment)) pulls = let f = pulls.goes_on.advanced.0 in cc
-  given_again p.Ended old (Err error) pulls = let f = pulls.1.advanced.0 in cc
-  given_again (p.Damaged place) old (Ok None) pulls = let f = pulls.1.advanced.0 in cc
-  given_again (p.Damaged place) old (Ok (Some segment)) pulls = let f = pulls.goes_on.advanced.0 in cc
-  given_again (p.Damaged place) old (Err error) pulls = let f = pulls.1.advanced.0 in cc
-  given_again p.TooDeep old (Ok None) pulls = let f = pulls.1.advanced.0 in cc
-  given_again p.TooDeep old (Ok (Some segment)) pulls = let f = pulls.goes_on.advanced.0 in cc
-  given_again p.TooDeep old (Err error) pulls = let f = pulls.1.advanced.0 in cc
+  given_again progress old result pulls = grind arith

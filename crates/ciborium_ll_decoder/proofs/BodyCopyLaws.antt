@@ -1,6 +1,6 @@
 -- The copy of a body, chunk by chunk.
-use Rattle.std.proofs.Common.{◌≡◌, ℕ, ◌≤◌, List, [], ◌++◌, length, Result, Ok, Err, refl, sym, ap, subst}
-use Rattle.std.proofs.Common.{◌∙◌, arith, append_assoc, append-nil, length-append}
+use Rattle.std.proofs.Common.{[], ◌≡◌, ℕ, ◌≤◌, List, ◌++◌, length, Result, Ok, Err, refl, sym, ap, subst, ◌∙◌, arith}
+use Rattle.std.proofs.Common.{append_assoc, append-nil, length-append}
 use Rattle.std.proofs.KnownBytes.{Appends-nil}
 use Rattle.std.specs.Result.{IsErrAnd, MatchResult}
 use Rattle.ciborium_ll_io.specs.declared.io.Read.{Ghosts as Reader}
@@ -27,8 +27,7 @@ pub write_refused : {E F : Type 0} (wrote : Result (Unit {0}) F) (answer : Resul
     (error : RecodeError E F) → answer ≡ Err error
     → MatchResult wrote (λ done. answer ≡ Ok done) (λ fault. IsErrAnd answer (λ error. error ≡ r.Write fault))
     → (fault : F) × (wrote ≡ Err fault) × (error ≡ r.Write fault)
-write_refused (Ok done) answer error is cases = absurd cc
-write_refused (Err fault) answer error is cases = (fault, refl, rw is at cases)
+write_refused wrote answer error is cases = grind arith
 
 module _ {R E P W F : Type 0} {parser : Parser P} (source : Reader R E) (sink : Writer W F) where
   -- of the body of the first segment the chunks so far were written

@@ -1,52 +1,43 @@
 -- Bodies, chunk by chunk: what is handed out, what is kept, and a read behind what passed.
-use Rattle.std.proofs.Common.{◌≡◌, ℕ, ◌<◌, ◌≤◌, ◌⊎◌, List, [], ◌∷◌, ◌++◌, length, Option, Some, None, IfSome}
-use Rattle.std.proofs.Common.{refl, sym, ap, subst, ◌∙◌, inl, inr, arith, append_assoc, append-nil}
-use Rattle.std.proofs.Common.{length-append}
+use Rattle.std.proofs.Common.{[], ◌≡◌, ℕ, ◌<◌, ◌≤◌, ◌⊎◌, List, ◌∷◌, ◌++◌, length, Option, Some, None, IfSome, refl, sym}
+use Rattle.std.proofs.Common.{ap, subst, ◌∙◌, inl, inr, arith, append_assoc, append-nil, length-append}
 use Rattle.std.proofs.KnownBytes.{Consumes-trans}
 use Rattle.ciborium_ll_io.specs.declared.io.Read.{Ghosts as Reader}
 use Rattle.ciborium_ll_grammar.specs.declared.hdr.Header.{Header}
 use Rattle.ciborium_ll_decoder.specs.declared.dec.Decoder.{Decoder}
 use Rattle.ciborium_ll_decoder.specs.declared.seg.Kept.{Kept}
-use Rattle.ciborium_ll_decoder.specs.declared.seg.Kept.TheVariants as k
 use Rattle.ciborium_ll_grammar.specs.Title.{shortest_title}
-use Rattle.ciborium_ll_grammar.specs.Strings.{Kind, Bytes, Text, IsWritable, most_kept}
+use Rattle.ciborium_ll_grammar.specs.Strings.{Kind, Bytes, IsWritable, most_kept}
 use Rattle.ciborium_ll_grammar.specs.Elements.{AreWritable}
 use Rattle.ciborium_ll_text.specs.Text.{IsCharacters, IsFront, IsStuck, BeginsNoText}
 use Rattle.ciborium_ll_decoder.specs.Kept.{kept_bytes}
 use Rattle.ciborium_ll_decoder.specs.Decoding.{Begins, behind_waiting, IsSteady, Passes, ReadsAll}
 use Rattle.ciborium_ll_decoder.specs.Chunks.{IsSplit}
-use Rattle.ciborium_ll_text.proofs.TextLaws.{IsCharacters-append, IsCharacters-rest, IsCharacters-nil, no_text_begins}
+use Rattle.ciborium_ll_text.proofs.TextLaws.{IsCharacters-append, IsCharacters-rest, no_text_begins}
 
 -- ---- kinds
 
 -- what is split is the front and the rest
 pub split_parts : (kind : Kind) (bytes front rest : List ℕ) → IsSplit kind bytes front rest → bytes ≡ front ++ rest
-split_parts Bytes bytes front rest s = sym s.0 ∙ sym (append-nil front) ∙ ap (λ (z : List ℕ). front ++ z) (sym s.1)
-split_parts Text bytes front rest s = s.parts
+split_parts kind bytes front rest s = grind (arith, append-nil {A = ℕ})
 
 pub writable_nil : (kind : Kind) → IsWritable kind []
-writable_nil Bytes = tt
-writable_nil Text = IsCharacters-nil
+writable_nil kind = grind arith
 
 pub writable_chunk : (kind : Kind) (front bytes chunk rest : List ℕ) → IsWritable kind front
     → IsSplit kind bytes chunk rest → IsWritable kind (front ++ chunk)
-writable_chunk Bytes front bytes chunk rest w s = tt
-writable_chunk Text front bytes chunk rest w s = IsCharacters-append front chunk w s.text
+writable_chunk kind front bytes chunk rest w s = grind (arith, IsCharacters-append)
 
 -- a body that is written is sound by itself
 pub sound_body : (k : Kind) (b : List ℕ) → IsWritable k b → AreWritable k (b ∷ [])
 sound_body k b w = (w, tt)
 
 pub three_kept : (kept : Kept) → length (kept_bytes kept) ≤ 3
-three_kept k.Nothing = omega arith
-three_kept (k.One a) = omega arith
-three_kept (k.Two a b) = omega arith
-three_kept (k.Three a b c) = omega arith
+three_kept kept = grind arith
 
 pub few_kept : (kind : Kind) (kept : Kept) → (kind ≡ Bytes → kept_bytes kept ≡ []) → length (kept_bytes kept)
     ≤ most_kept kind
-few_kept Bytes kept none = let l = ap length (none refl) in omega (arith, l)
-few_kept Text kept none = three_kept kept
+few_kept kind kept h2 = grind arith
 
 -- a front of text that is followed by bytes that are stuck is all of the text
 pub stuck_is_no_text : (read front kept : List ℕ) → read ≡ front ++ kept → IsCharacters front → IsStuck kept
@@ -70,8 +61,7 @@ too_much_is_no_text read front kept more chunk left e text split much = λ other
 
 pub view_none : (waiting : Option Header) (ahead : Option (List ℕ)) → waiting ≡ None → behind_waiting waiting ahead
     ≡ ahead
-view_none None ahead e = refl
-view_none (Some header) ahead e = absurd cc
+view_none waiting ahead e = grind arith
 
 waited_read : {R : Type 0} (old now new : Decoder R) (bytes read : List ℕ) (waiting : Option Header) → old.waiting
     ≡ waiting → now.waiting ≡ None

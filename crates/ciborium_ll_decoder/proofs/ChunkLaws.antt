@@ -1,6 +1,6 @@
 -- What a segment keeps.
-use Rattle.std.proofs.Common.{◌≡◌, ℕ, ◌+◌, ◌<◌, ◌≤◌, min, false, List, [], ◌++◌, length, take, Option, Some, None}
-use Rattle.std.proofs.Common.{sym, ap, ◌∙◌, ◌-◌, arith, append_assoc, length-append}
+use Rattle.std.proofs.Common.{[], ◌≡◌, ℕ, ◌+◌, ◌<◌, ◌≤◌, min, false, List, ◌++◌, length, take, Option, Some, None, sym}
+use Rattle.std.proofs.Common.{ap, ◌∙◌, ◌-◌, arith, append_assoc, length-append, Result, Ok, Err}
 use Rattle.std.proofs.Math.Seq.{take-append-add}
 use Rattle.std.specs.Io.KnownBytes.{Consumes, prepend_known}
 use Rattle.std.specs.Option.{option_map}
@@ -8,13 +8,12 @@ use Rattle.ciborium_ll_io.specs.declared.io.Read.{Ghosts}
 use Rattle.ciborium_ll_decoder.specs.declared.seg.Parser.{Ghosts as Parser}
 use Rattle.ciborium_ll_decoder.specs.declared.seg.Segment.{Segment}
 use Rattle.ciborium_ll_decoder.specs.Kept.{kept_bytes}
-use Rattle.std.proofs.Common.{Result, Ok, Err, refl, subst}
 use Rattle.std.specs.Borrow.{Bor}
 use Rattle.ciborium_ll_decoder.specs.declared.dec.Decoder.{Decoder}
 use Rattle.ciborium_ll_decoder.specs.declared.dec.Error.{Error}
 use Rattle.ciborium_ll_decoder.specs.declared.dec.Error.TheVariants as e
-use Rattle.ciborium_ll_decoder.specs.Chunks.{FillsBehind, GivesChunk, IsPulled, IsSame, PullsChunk, ReadsOn}
-use Rattle.ciborium_ll_decoder.specs.Chunks.{left_of, read_count, rest, segment_reference}
+use Rattle.ciborium_ll_decoder.specs.Chunks.{FillsBehind, GivesChunk, IsPulled, IsSame, PullsChunk, ReadsOn, left_of}
+use Rattle.ciborium_ll_decoder.specs.Chunks.{read_count, rest, segment_reference}
 use Rattle.ciborium_ll_decoder.proofs.BodyLaws.{split_parts}
 use Rattle.ciborium_ll_decoder.specs.Decoding.{IsUntouched, MovesOn, ReadFails, ReadsAll, ReadsBytes, offset_limit}
 
@@ -30,14 +29,7 @@ module _ {R E P : Type 0} {parser : Parser P} (source : Ghosts R E) where
   pub ReadsOn-none : (room : ℕ) (segment new : Segment R P parser) → 0 < segment.unread → segment.damaged ≡ false
       → min room (left_of segment) ≤ length (kept_bytes segment.kept)
       → IsSame segment new → ReadsAll source segment.decoder.now [] new.decoder.now → ReadsOn source room segment [] new
-  ReadsOn-none room segment new some sound short same reads = record {
-    some_unread = some;
-    sound = sound;
-    count = omega (arith, short);
-    reads = reads;
-    unread = omega (arith, same.unread);
-    place = same.place;
-  }
+  ReadsOn-none room segment new some sound short same reads = grind arith
 
   -- a pull that fills room behind the kept bytes
   pub ReadsOn-behind : (room size count : ℕ) (segment new : Segment R P parser) (filled read : List ℕ)
@@ -46,54 +38,24 @@ module _ {R E P : Type 0} {parser : Parser P} (source : Ghosts R E) where
       → filled ≡ kept_bytes segment.kept ++ read → ReadsAll source segment.decoder.now read new.decoder.now
       → new.unread ≡ segment.unread - (size - count) → new.place ≡ segment.place
       → ReadsOn source room segment read new
-  ReadsOn-behind room size count segment new filled read some sound kept least more fills whole reads unread place =
-      let counted = ap length whole in
-      let parted = length-append (kept_bytes segment.kept) read in
-      record {
-        some_unread = omega (arith, some);
-        sound = sound;
-        count = omega arith;
-        reads = reads;
-        unread = omega arith;
-        place = place;
-      }
+  ReadsOn-behind room size count segment new filled read some sound kept least more fills whole reads unread place = grind arith
 
   -- a read that fails
   count_stopped : (room count : ℕ) (segment new : Segment R P parser) (error : Error E) → (segment.unread ≡ 0 → ⊥)
       → segment.damaged ≡ false → count ≡ read_count room segment → IsSame segment new
       → FailsBehind source count segment.decoder.now error new.decoder.now
       → PullsChunk source room segment (Err error) new
-  count_stopped room count segment new (e.Io fault) some sound is same fails = record {
-    some_unread = omega (arith, some);
-    sound = sound;
-    fails = subst (λ (n : ℕ). ReadFails source segment.decoder.now n new.decoder.now) is fails;
-    same = same;
-  }
-  count_stopped room count segment new e.TooLong some sound is same full = record {
-    some_unread = omega (arith, some);
-    sound = sound;
-    full = subst (λ (n : ℕ). offset_limit ≤ segment.decoder.now.offset + n) is full.0;
-    untouched = full.1;
-    same = same;
-  }
-  count_stopped room count segment new e.Waiting some sound is same never = absurd never
-  count_stopped room count segment new (e.Syntax place) some sound is same never = absurd never
+  count_stopped room count segment new error some sound is same fails = grind arith
 
   nothing_fails : (segment new : Segment R P parser) (bytes : List ℕ) (error : Error E) → length bytes ≡ 0
       → ReadsBytes source segment.decoder.now (Err error) bytes new.decoder.now
       → FailsBehind source 0 segment.decoder.now error new.decoder.now
-  nothing_fails segment new bytes (e.Io fault) empty fails = rw empty at fails
-  nothing_fails segment new bytes e.TooLong empty full = (omega (arith, empty, full.1), full.2)
-  nothing_fails segment new bytes e.Waiting empty is = absurd (let none = segment.none_waits in let some = is.0 in cc)
-  nothing_fails segment new bytes (e.Syntax place) empty never = never
+  nothing_fails segment new bytes error empty fails = grind arith
 
   fill_fails : (segment new : Segment R P parser) (front filled : List ℕ) (error : Error E)
       → FillsBehind source front segment.decoder.now (Err error) filled new.decoder.now
       → FailsBehind source (length filled - length front) segment.decoder.now error new.decoder.now
-  fill_fails segment new front filled (e.Io fault) fails = fails
-  fill_fails segment new front filled e.TooLong full = full
-  fill_fails segment new front filled e.Waiting never = never
-  fill_fails segment new front filled (e.Syntax place) never = never
+  fill_fails segment new front filled error fails = grind arith
 
   -- a pull that can't go beyond the kept bytes, and fails
   pub none_stopped : (room size count : ℕ) (segment new : Segment R P parser)
@@ -101,9 +63,7 @@ module _ {R E P : Type 0} {parser : Parser P} (source : Ghosts R E) where
       → (segment.unread ≡ 0 → ⊥) → segment.damaged ≡ false → count ≡ length (kept_bytes segment.kept)
       → size ≡ min room (segment.unread + count) → size ≤ count → IsSame segment new
       → ReadsBytes source segment.decoder.now (Err error) [] new.decoder.now → PullsChunk source room segment answer new
-  none_stopped room size count segment new answer error is some sound kept least short same fails =
-      rw is (count_stopped room 0 segment new error some sound (omega arith) same
-      (nothing_fails segment new [] error refl fails))
+  none_stopped room size count segment new answer error is some sound kept least short same fails = grind arith
 
   -- a pull that fills room behind the kept bytes, and fails
   pub fill_stopped : (room size count : ℕ) (segment new : Segment R P parser) (filled : List ℕ)
@@ -112,16 +72,12 @@ module _ {R E P : Type 0} {parser : Parser P} (source : Ghosts R E) where
       → size ≡ min room (segment.unread + count) → count < size → length filled ≡ size → IsSame segment new
       → FillsBehind source (kept_bytes segment.kept) segment.decoder.now (Err error) filled new.decoder.now
       → PullsChunk source room segment answer new
-  fill_stopped room size count segment new filled answer error is some sound kept least more fills same fails =
-      rw is (count_stopped room (length filled - length (kept_bytes segment.kept)) segment new error some sound
-      (omega arith) same (fill_fails segment new (kept_bytes segment.kept) filled error fails))
+  fill_stopped room size count segment new filled answer error is some sound kept least more fills same fails = grind arith
 
 -- what is handed out and what is left of a body is as long as what was left
 left_behind : (unread unread' : ℕ) (kept kept' read chunk : List ℕ) → unread' + length read ≡ unread
     → kept ++ read ≡ chunk ++ kept' → length chunk + (unread' + length kept') ≡ unread + length kept
-left_behind unread unread' kept kept' read chunk counted parts =
-    let parted = ap length parts in
-    omega (arith, parted, length-append kept read, length-append chunk kept')
+left_behind unread unread' kept kept' read chunk counted parts = grind (arith, length, length-append {A = ℕ})
 
 -- what is left of a body is the chunk, and then what is left behind it
 rest_consumed : (ahead ahead' : Option (List ℕ)) (unread unread' : ℕ) (kept kept' read chunk : List ℕ)
@@ -150,10 +106,7 @@ module _ {R E P : Type 0} {parser : Parser P} (source : Ghosts R E) where
   -- a chunk is what was to come of the body, up to what is to come now
   pub chunk_consumed : (room : ℕ) (segment new : Segment R P parser) (chunk : List ℕ)
       → GivesChunk source room segment chunk new → Consumes (rest source segment) (rest source new) chunk
-  chunk_consumed room segment new chunk gives =
-      rest_consumed (source.ahead segment.decoder.now.reader) (source.ahead new.decoder.now.reader) segment.unread
-      new.unread (kept_bytes segment.kept) (kept_bytes new.kept) gives.read chunk gives.reads.reads.bytes
-      gives.reads.unread (split_parts parser.kind _ chunk _ gives.split)
+  chunk_consumed room segment new chunk gives = grind (arith, rest_consumed, split_parts)
 
   -- a pull that gives a chunk
   pub chunk_pulled : (room : ℕ) (segment new : Segment R P parser) (chunk : Bor (List ℕ))

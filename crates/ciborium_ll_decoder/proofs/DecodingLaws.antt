@@ -1,8 +1,8 @@
 -- What the relations of the decoder's calls have in common.
-use Rattle.std.proofs.Common.{◌≡◌, ℕ, false, ◌⊎◌, List, [], ◌++◌, length, Option, Some, None, IfSome, IsTrue}
-use Rattle.std.proofs.Common.{Result, Ok, Err, IsErrAnd, ◌<◌, ◌≤◌, ◌-◌, ◌^◌}
-use Rattle.std.proofs.Common.{refl, sym, ap, subst, ◌∙◌, inl, inr, arith, append_assoc, append-nil, length-append}
-use Rattle.std.proofs.KnownBytes.{Consumes-nil, Consumes-trans}
+use Rattle.std.proofs.Common.{[], ◌≡◌, ℕ, false, ◌⊎◌, List, ◌++◌, length, Option, Some, None, IfSome, IsTrue, Result}
+use Rattle.std.proofs.Common.{Ok, Err, IsErrAnd, ◌<◌, ◌≤◌, ◌-◌, ◌^◌, refl, sym, ap, subst, ◌∙◌, inl, inr, arith}
+use Rattle.std.proofs.Common.{append_assoc, append-nil, length-append}
+use Rattle.std.proofs.KnownBytes.{Consumes-trans}
 use Rattle.std.specs.Io.KnownBytes.{Consumes, prepend_known}
 use Rattle.ciborium_ll_grammar.specs.declared.hdr.Header.{Header}
 use Rattle.ciborium_ll_io.specs.declared.io.Read.{Ghosts}
@@ -17,13 +17,11 @@ use Rattle.ciborium_ll_decoder.specs.Decoding.{PullsHeader, RefusesTitle, TakesB
 -- the exit of a `?` answers the error that it was given. A caller that names this lemma is spared a search
 pub exit_is : {T E : Type 0} (answer : Result T E) (error : E) → IsErrAnd answer (λ given. given ≡ error)
     → answer ≡ Err error
-exit_is (Ok x) error is = absurd is
-exit_is (Err given) error is = ap Err is
+exit_is answer error is = grind arith
 
 -- a header that waits is no header that does not
 pub waits_for_none : (waiting : Option Header) (header : Header) → waiting ≡ Some header → waiting ≡ None → ⊥
-waits_for_none None header waits none = cc
-waits_for_none (Some other) header waits none = cc
+waits_for_none waiting header waits h3 = grind arith
 
 -- a decoder that read on is nearer to the last offset
 pub nearer : {R : Type 0} (old between new : Decoder R) → old.offset < between.offset → between.offset ≤ new.offset
@@ -32,19 +30,13 @@ nearer old between new risen rises = omega (arith, risen, rises, new.covered)
 
 -- bytes put in front are the next ones
 pub Consumes-prepended : (known : Option (List ℕ)) (front : List ℕ) → Consumes (prepend_known front known) known front
-Consumes-prepended None front = tt
-Consumes-prepended (Some bytes) front = refl
+Consumes-prepended known front = grind arith
 
 -- a waiting header that is taken leaves what was behind it
 pub Consumes-waiting : (waiting waiting' : Option Header) (header : Header) (ahead : Option (List ℕ)) → waiting
     ≡ Some header → waiting' ≡ None
     → Consumes (behind_waiting waiting ahead) (behind_waiting waiting' ahead) (shortest_title header)
-Consumes-waiting waiting waiting' header ahead e e' =
-    subst (λ (w : Option Header). Consumes (behind_waiting w ahead) (behind_waiting waiting' ahead)
-    (shortest_title header)) (sym e)
-    (subst (λ (w : Option Header). Consumes (prepend_known (shortest_title header) ahead) (behind_waiting w ahead)
-    (shortest_title header)) (sym e')
-    (Consumes-prepended ahead (shortest_title header)))
+Consumes-waiting waiting waiting' header ahead e e' = grind arith
 
 -- a header that is given back is the next one
 pub pulls_again : {R E : Type 0} (source : Ghosts R E) (old pulled pushed new : Decoder R) (header : Header)
@@ -77,14 +69,12 @@ pulls_again source old pulled pushed new header (Err e.Waiting) first back secon
 
 -- what holds of every value holds of the one, if there is one
 pub IfSome-all : {A : Type 0} (option : Option A) (P : A → Type 0) → ((value : A) → P value) → IfSome option P
-IfSome-all None P all = tt
-IfSome-all (Some value) P all = all value
+IfSome-all option P all = grind arith
 
 -- what holds of the value of an option, at that value
 pub IfSome-at : {A : Type 0} (option : Option A) (value : A) (P : A → Type 0) → option ≡ Some value
     → IfSome option P → P value
-IfSome-at None value P e holds = absurd cc
-IfSome-at (Some x) value P e holds = let same : x ≡ value = cc in subst P same holds
+IfSome-at option value P e holds = grind arith
 
 -- the title of a waiting header goes first, also with one title more
 waited_pull : {R : Type 0} (old between new : Decoder R) (bytes title : List ℕ) (header : Header)
@@ -105,9 +95,7 @@ waiting_then : {R : Type 0} (old between new : Decoder R) (bytes more : List ℕ
     → ((bytes ≡ []) × (between ≡ old)) ⊎ (between.waiting ≡ None)
     → ((more ≡ []) × (new ≡ between)) ⊎ (new.waiting ≡ None) → ((bytes ++ more ≡ []) × (new ≡ old)) ⊎
     (new.waiting ≡ None)
-waiting_then old between new bytes more first (inr none) = inr none
-waiting_then old between new bytes more (inl a) (inl b) = inl (rw (a.0, b.0) refl, b.1 ∙ a.1)
-waiting_then old between new bytes more (inr none) (inl b) = inr (ap (λ d. d.waiting) b.1 ∙ none)
+waiting_then old between new bytes more first h6 = grind arith
 
 waited_then : {R : Type 0} (old between new : Decoder R) (bytes more : List ℕ) (waiting : Option Header)
     → old.waiting ≡ waiting
@@ -132,40 +120,17 @@ module _ {R E : Type 0} (source : Ghosts R E) where
   -- one call behind others
   pub MovesOn-then : (old between new : Decoder R) → MovesOn source old between → MovesOn source between new
       → MovesOn source old new
-  MovesOn-then old between new first second = record {
-    steady = λ s. second.steady (first.steady s);
-    mode = second.mode ∙ first.mode;
-    refusals = second.refusals ∙ first.refusals;
-    rises = omega (arith, first.rises, second.rises);
-  }
+  MovesOn-then old between new first second = grind arith
 
   -- no bytes
   pub Passes-none : (decoder : Decoder R) → Passes source decoder [] decoder
-  Passes-none decoder = record {
-    consumed = Consumes-nil (view source decoder);
-    offset = omega arith;
-    waiting = inl (refl, refl);
-    waited = IfSome-all decoder.waiting _ (λ h. inl refl);
-    failures = refl;
-    steady = λ s. s;
-    mode = refl;
-  }
+  Passes-none decoder = grind arith
 
   -- one title more
   pub Passes-pulled : (old between new : Decoder R) (bytes : List ℕ) (header : Header)
       (title : PullsTitle source between header new) → Passes source old bytes between
       → (IsSteady source old → IsSteady source new) → Passes source old (bytes ++ title.title) new
-  Passes-pulled old between new bytes header title passed steady = record {
-    consumed = Consumes-trans _ _ _ bytes title.title passed.consumed title.bytes;
-    offset = omega (arith, passed.offset, title.offset, length-append bytes title.title);
-    waiting = inr title.none_waits;
-    waited = waited_pull old between new bytes title.title header old.waiting refl passed.waited
-        (λ same. length_zero bytes (let moved = ap (λ d. d.offset) same in omega (arith, moved, passed.offset)))
-        title.waited;
-    failures = cc (passed.failures, title.failures);
-    steady = steady;
-    mode = title.mode ∙ passed.mode;
-  }
+  Passes-pulled old between new bytes header title passed steady = grind (arith, Consumes-trans, length-append {A = ℕ}, waited_pull, length_zero)
 
   pub Passes-pull : (old between new : Decoder R) (bytes : List ℕ) (header : Header)
       (title : PullsTitle source between header new) → Passes source old bytes between
@@ -191,23 +156,18 @@ module _ {R E : Type 0} (source : Ghosts R E) where
   -- a decoder that isn't strict refuses first bytes alone
   pub lenient_refuses : (old : Decoder R) (place : ℕ) (new : Decoder R) → old.strict ≡ false
       → PullsHeader source old (Err (e.Syntax place)) new → RefusesTitle source old place new
-  lenient_refuses old place new lenient (inl refused) = refused
-  lenient_refuses old place new lenient (inr longer) = absurd (let on = longer.strict in cc)
+  lenient_refuses old place new lenient h4 = grind arith
 
 -- where no header waited none waits
 pub passes_settled : {R E : Type 0} (source : Ghosts R E) (old new : Decoder R) (bytes : List ℕ)
     → Passes source old bytes new → old.waiting ≡ None → new.waiting ≡ None
-passes_settled source old new bytes passed none = elim passed.waiting
-    [ inl same ↦ ap (λ d. d.waiting) same.1 ∙ none | inr settled ↦ settled ]
+passes_settled source old new bytes passed h5 = grind arith
 
 waited_same : {R : Type 0} (old now now' : Decoder R) (bytes : List ℕ) (waiting : Option Header) → old.waiting
     ≡ waiting → now.waiting ≡ None
     → IfSome waiting (λ h. (now ≡ old) ⊎ Begins (shortest_title h) bytes)
     → IfSome waiting (λ h. (now' ≡ old) ⊎ Begins (shortest_title h) bytes)
-waited_same old now now' bytes None e none before = tt
-waited_same old now now' bytes (Some h) e none (inl same) = absurd
-    (let waits : now.waiting ≡ Some h = ap (λ d. d.waiting) same ∙ e in cc)
-waited_same old now now' bytes (Some h) e none (inr begins) = inr begins
+waited_same old now now' bytes waiting e h6 before = grind arith
 
 -- a decoder with the same reader and offset, and with no header that waits either
 pub passes_same : {R E : Type 0} (source : Ghosts R E) (old now now' : Decoder R) (bytes : List ℕ)

@@ -1,8 +1,7 @@
 -- Strings that are no longer than the spelling of their bodies have no open.
-use Rattle.std.proofs.Common.{ℕ, ◌≤◌, List, [], ◌∷◌, ◌++◌, length, Option, Some, ap, ◌∙◌, arith, length-append}
+use Rattle.std.proofs.Common.{[], ℕ, ◌≤◌, List, ◌∷◌, ◌++◌, length, Option, Some, ap, ◌∙◌, arith, length-append}
 use Rattle.ciborium_ll_grammar.specs.Title.{IsTitle, IsStrictTitle, IsSmallSimple, shortest_title}
-use Rattle.ciborium_ll_grammar.specs.Strings.{Kind, Bytes, Text, kind_header, AreStrings}
-use Rattle.ciborium_ll_grammar.specs.Strings.{none as no_strings, more as more_strings}
+use Rattle.ciborium_ll_grammar.specs.Strings.{Kind, kind_header, AreStrings, none as no_strings, more as more_strings}
 use Rattle.ciborium_ll_grammar.specs.Strings.IsString.{definite, indefinite}
 use Rattle.ciborium_ll_grammar.specs.Elements.{pieces, spelling}
 use Rattle.ciborium_ll_grammar.specs.StrictElements.{AreFlat, none, more}
@@ -12,8 +11,7 @@ use Rattle.ciborium_ll_grammar.proofs.ElementLaws.{respell_all, pieces-append, s
 
 -- a string's header is no simple value
 not_small : (k : Kind) (o : Option ℕ) → IsSmallSimple (kind_header k o) → ⊥
-not_small Bytes o small = small
-not_small Text o small = small
+not_small k o small = grind arith
 
 -- a title of a string that is no longer than its header's shortest one is strict
 pub strict_title : (k : Kind) (o : Option ℕ) (t : List ℕ) → IsTitle t (kind_header k o)

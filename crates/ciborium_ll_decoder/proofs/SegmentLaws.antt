@@ -1,7 +1,7 @@
 -- The segments of a string, read one by one behind its open.
-use Rattle.std.proofs.Common.{◌≡◌, ℕ, Bool, zero, suc, ◌<◌, ◌≤◌, ◌⊎◌, List, [], ◌∷◌, ◌++◌, length, Option}
-use Rattle.std.proofs.Common.{Some, None, IsTrue, Result, Ok, refl, sym, ap, subst, ◌∙◌, inl, inr, arith}
-use Rattle.std.proofs.Common.{append_assoc, append-nil, length-append}
+use Rattle.std.proofs.Common.{[], ◌≡◌, ℕ, Bool, ◌<◌, ◌≤◌, ◌⊎◌, List, ◌∷◌, ◌++◌, length, Option, Some, None, IsTrue}
+use Rattle.std.proofs.Common.{Result, Ok, refl, sym, ap, subst, ◌∙◌, inl, inr, arith, append_assoc, append-nil}
+use Rattle.std.proofs.Common.{length-append}
 use Rattle.ciborium_ll_io.specs.declared.io.Read.{Ghosts as Reader}
 use Rattle.ciborium_ll_grammar.specs.declared.hdr.Header.{Header}
 use Rattle.ciborium_ll_decoder.specs.declared.dec.Decoder.{Decoder}
@@ -19,37 +19,24 @@ use Rattle.ciborium_ll_decoder.specs.Finishing.{ReadsRest}
 use Rattle.ciborium_ll_decoder.specs.Segments.{IsRefusedAt, PullsOther, FindsOther, EndsAdvance, AdvancesFrom}
 use Rattle.ciborium_ll_decoder.specs.Segments.{AdvancesTo}
 use Rattle.ciborium_ll_grammar.proofs.TitleLaws.{IsTitle-shortest}
-use Rattle.ciborium_ll_grammar.proofs.StepLaws.{add_string, never}
+use Rattle.ciborium_ll_grammar.proofs.StepLaws.{add_string}
 use Rattle.ciborium_ll_grammar.proofs.ElementLaws.{AreWritable-append, pieces-append, spelling-append}
 use Rattle.ciborium_ll_decoder.proofs.BodyLaws.{sound_body}
 use Rattle.ciborium_ll_decoder.proofs.DecodingLaws.{Passes-none, Passes-pulled, Passes-then, passes_settled}
-use Rattle.ciborium_ll_decoder.proofs.NestLaws.{title_some, nests_none, nest_inside, advance_opened}
-use Rattle.ciborium_ll_decoder.proofs.NestLaws.{open_in_range}
+use Rattle.ciborium_ll_decoder.proofs.NestLaws.{title_some, nests_none, nest_inside, advance_opened, open_in_range}
 
 -- each open takes a byte
 pub opens_counted : (k : Kind) (j : ℕ) (u : List ℕ) (bs : List (List ℕ)) → IsInsideAt k j u bs → j ≤ length u
-opens_counted k j u bs (one_open {title = t} {strings = x} p s) =
-    omega (arith, title_some t (kind_header k None) p, length-append t x)
-opens_counted k j u bs (more_open {opens = i} {outer = y} {title = t} {strings = x} {bodies = ds} q p s) =
-    omega (
-      arith,
-      opens_counted k i y ds q,
-      title_some t (kind_header k None) p,
-      length-append t x,
-      length-append y
-          (t ++ x),
-    )
+opens_counted k j u bs (one_open {title = t} {strings = x} p s) = grind (arith, title_some, length-append {A = ℕ})
+opens_counted k j u bs (more_open {opens = i} {outer = y} {title = t} {strings = x} {bodies = ds} q p s) = grind (arith, title_some, length-append {A = ℕ}, opens_counted k i y ds q)
 
 -- within a string a break is not misplaced
 refused_inside : (strict : Bool) (k : Kind) (opens : ℕ) (header : Header) → 0 < opens
     → IsRefusedAt strict k opens header → IsRefusedIn strict k header
-refused_inside strict k opens header some (inl (inl first)) = absurd (let none = first.0 in omega (arith, some, none))
-refused_inside strict k opens header some (inl (inr other)) = inl other
-refused_inside strict k opens header some (inr nested) = inr (nested.1, nested.2)
+refused_inside strict k opens header some h5 = grind arith
 
 pub some_open : (k : Kind) (opens : ℕ) (u : List ℕ) (bs : List (List ℕ)) → IsInsideAt k opens u bs → 0 < opens
-some_open k zero u bs i = absurd (never k u bs i)
-some_open k (suc opens) u bs i = omega arith
+some_open k opens u bs i = grind arith
 
 -- so it is refused within the string
 pub other_inside : {R E : Type 0} (source : Reader R E) (k : Kind) (strict : Bool) (opens : ℕ) (old : Decoder R) (at :
@@ -57,13 +44,7 @@ pub other_inside : {R E : Type 0} (source : Reader R E) (k : Kind) (strict : Boo
     (progress : Progress) (new : Decoder R) → old.strict ≡ strict → 0 < opens
     → FindsOther source k strict opens old at progress new
     → PullsOther source (IsRefusedIn old.strict k) old at new
-other_inside source k strict opens old at progress new same some found = record {
-  header = found.other.header;
-  pulled = found.other.pulled;
-  refused = refused_inside old.strict k opens found.other.header some
-      (subst (λ (mode : Bool). IsRefusedAt mode k opens found.other.header) (sym same) found.other.refused);
-  place = found.other.place;
-}
+other_inside source k strict opens old at progress new same some found = grind arith
 
 pub sound_none : (k : Kind) → AreWritable k []
 sound_none k = tt
@@ -232,24 +213,9 @@ module _ {R E : Type 0} (source : Reader R E) (k : Kind) where
   -- behind its open a string has one open that isn't closed, and no bodies
   pub so_far_opened : (opened now : Decoder R) (progress : Progress) → opened.waiting ≡ None → progress ≡ p.Open 1
       → now ≡ opened → StringSoFar [] opened progress now
-  so_far_opened opened now progress settled begun same = record {
-    none_waits = settled;
-    far = inr (record {
-      opens = 1;
-      counts = begun;
-      among = subst (λ (d : Decoder R). IsAmong 1 [] opened d) (sym same) (among_first opened);
-    });
-    steady = λ s. subst (λ (d : Decoder R). IsSteady source d) (sym same) s;
-  }
+  so_far_opened opened now progress settled begun same = grind (arith, among_first)
 
   -- a segment takes a byte
   pub announced_rises : (bodies : List (List ℕ)) (opened now new : Decoder R) (body : Body) (progress : Progress)
       → AdvancesAmong bodies opened now (Ok (Some body)) progress new → now.offset < new.offset
-  announced_rises bodies opened now new body progress all =
-      omega (
-        arith,
-        all.rises,
-        all.ends.pulled.offset,
-        title_some all.ends.pulled.title
-            (kind_header k (Some body.length)) all.ends.pulled.is_title,
-      )
+  announced_rises bodies opened now new body progress all = grind arith

@@ -1,7 +1,6 @@
 -- A string that is read to its end.
-use Rattle.std.proofs.Common.{◌≡◌, Bool, true, false, ℕ, zero, suc, ◌+◌, ◌-◌, ◌^◌, ◌<◌, ◌⊎◌, List, [], ◌∷◌, ◌++◌, length, Option}
-use Rattle.std.proofs.Common.{Some}
-use Rattle.std.proofs.Common.{None, Result, Ok, Err, refl, sym, ap, subst, ◌∙◌, inl, inr, arith, append_assoc}
+use Rattle.std.proofs.Common.{[], ◌≡◌, Bool, true, ℕ, zero, suc, ◌+◌, ◌-◌, ◌^◌, ◌<◌, ◌⊎◌, List, ◌∷◌, ◌++◌, length}
+use Rattle.std.proofs.Common.{Option, Some, None, Result, Ok, Err, refl, sym, ap, subst, inl, inr, arith, append_assoc}
 use Rattle.std.proofs.Common.{length-append}
 use Rattle.ciborium_ll_io.specs.declared.io.Read.{Ghosts as Reader}
 use Rattle.ciborium_ll_grammar.specs.declared.hdr.Header.TheVariants as h
@@ -15,7 +14,7 @@ use Rattle.ciborium_ll_grammar.specs.Title.{IsTitle, IsInRange, shortest_title, 
 use Rattle.ciborium_ll_grammar.specs.Strings.{Kind, kind_header, IsString, definite, indefinite}
 use Rattle.ciborium_ll_grammar.proofs.OpenStrings.{IsInsideAt, one_open, more_open}
 use Rattle.ciborium_ll_decoder.specs.Decoding.{Passes, IsSteady, TakesBack}
-use Rattle.ciborium_ll_decoder.specs.Segments.{AdvancesFrom, AdvancesTo}
+use Rattle.ciborium_ll_decoder.specs.Segments.{AdvancesTo}
 use Rattle.ciborium_ll_decoder.specs.Finishing.{ReadsRest, BeginsRest, EndsBody}
 use Rattle.ciborium_ll_decoder.specs.Skipping.{SkipsWhole, SkipsInside, MeetsBody, StopsInside, SkipsString}
 use Rattle.ciborium_ll_grammar.specs.Elements.{spelling, pieces}
@@ -26,7 +25,7 @@ use Rattle.ciborium_ll_grammar.proofs.TitleLaws.{IsTitle-shortest}
 use Rattle.ciborium_ll_grammar.proofs.StepLaws.{counted, never}
 use Rattle.ciborium_ll_decoder.proofs.FlatStrings.{flat}
 use Rattle.ciborium_ll_decoder.proofs.BodyLaws.{sound_body}
-use Rattle.ciborium_ll_decoder.proofs.DecodingLaws.{Passes-none, Passes-then, Passes-pulled, passes_same}
+use Rattle.ciborium_ll_decoder.proofs.DecodingLaws.{Passes-none, Passes-pulled, passes_same}
 use Rattle.ciborium_ll_decoder.proofs.NestLaws.{alone_bytes, open_length, title_some, advance_definite, FindsOnly}
 use Rattle.ciborium_ll_decoder.proofs.SegmentLaws.{StringSoFar, AdvancesAmong, IsAmong, advances_among, segment_added}
 use Rattle.ciborium_ll_decoder.proofs.SegmentLaws.{opens_counted, other_inside, some_open}
@@ -40,15 +39,12 @@ close_string k u bs (more_open {outer = y} {bodies = ds} i p s) = absurd (never 
 -- behind one open that isn't closed, strings in their shortest spelling have no open
 flat_inside : (k : Kind) (u : List ℕ) (bs : List (List ℕ)) → IsInsideAt k (suc zero) u bs
     → AreFlat k (spelling (pieces k bs)) bs
-flat_inside k u bs (one_open {strings = x} p s) =
-    flat k (spelling (pieces k bs)) bs (respell_all k x bs s).strings (omega arith)
-flat_inside k u bs (more_open {outer = y} {bodies = ds} i p s) = absurd (never k y ds i)
+flat_inside k u bs h3 = grind (arith, flat, respell_all, never)
 
 -- where only these are taken
 pub taken_strings : (strict : Bool) (k : Kind) (u : List ℕ) (bs : List (List ℕ)) → (strict ≡ true → AreFlat k u bs)
     → AreTakenStrings strict k u bs
-taken_strings true k u bs flat_ones = flat_ones refl
-taken_strings false k u bs flat_ones = tt
+taken_strings strict k u bs flat_ones = grind arith
 
 -- ---- the end of a body
 
@@ -56,25 +52,10 @@ module _ {R E : Type 0} (source : Reader R E) (k : Kind) (len : ℕ) (old new : 
     (passed : Passes source old [] new) where
   begins_behind : (between : Decoder R) → BeginsRest source k [] len new between
       → BeginsRest source k [] len old between
-  begins_behind between part = record {
-    read = part.read;
-    front = part.front;
-    left = part.left;
-    parts = part.parts;
-    few = part.few;
-    stuck = part.stuck;
-    sound = part.sound;
-    within = part.within;
-    passed = Passes-then source old new between [] part.read passed part.passed;
-  }
+  begins_behind between part = grind arith
 
   reads_behind : (ended : Decoder R) → ReadsRest source k [] len new ended → ReadsRest source k [] len old ended
-  reads_behind ended reads = record {
-    read = reads.read;
-    all = reads.all;
-    sound = reads.sound;
-    passed = Passes-then source old new ended [] reads.read passed reads.passed;
-  }
+  reads_behind ended reads = grind arith
 
   ends_behind : (room place : ℕ) (error : Error E) (ended : Decoder R)
       → EndsBody source k [] len room place new (Err error) ended → EndsBody source k [] len room place old
@@ -126,8 +107,7 @@ module _ {R E : Type 0} (source : Reader R E) (k : Kind) where
       → IsInRange (kind_header k (Some len))
       → EndsBody source k [] len room (opened.offset - title_len (kind_header k (Some len))) opened result new
       → SkipsString source k (Some len) room opened result new
-  definite_skipped len room opened new (Ok done) range reads = whole_body len opened new range reads
-  definite_skipped len room opened new (Err error) range ends = ends
+  definite_skipped len room opened new result range reads = grind (arith, whole_body)
 
   module _ (strict : Bool) (len : ℕ) (opened now new : Decoder R) (progress progress' : Progress)
       (so_far : AloneSoFar len opened progress now) where
@@ -136,29 +116,14 @@ module _ {R E : Type 0} (source : Reader R E) (k : Kind) where
         new
         → FindsOnly source k len opened result progress' new ⊎
         ((result ≡ Ok None) × ReadsRest source k [] len opened new)
-    lone_found result advances = elim so_far.far [
-      | inl due ↦ (
-          let from : AdvancesFrom source k strict 0 now result progress' new = rw due.0 at advances in
-          inl (advance_definite source k strict len opened now new result progress' so_far.in_range due.1 from)
-          )
-      | inr read ↦ (
-          let ended : (result ≡ Ok None) × (progress' ≡ p.Ended) × (new ≡ now) = rw read.0 at advances in
-          inr (ended.0, subst (λ (d : Decoder R). ReadsRest source k [] len opened d) (sym ended.2) read.1)
-          )
-    ]
+    lone_found result advances = grind (arith, advance_definite)
 
     lone_end : AdvancesTo source k strict progress now (Ok None) progress' new → SkipsWhole source k (Some len) opened
         new
-    lone_end advances = elim (lone_found (Ok None) advances) [
-      | inl only ↦ absurd (let found = only.found in cc)
-      | inr read ↦ whole_body len opened new so_far.in_range read.1
-    ]
+    lone_end advances = grind (arith, lone_found, whole_body)
 
     lone_error : (error : Error E) → AdvancesTo source k strict progress now (Err error) progress' new → ⊥
-    lone_error error advances = elim (lone_found (Err error) advances) [
-      | inl only ↦ (let found = only.found in cc)
-      | inr read ↦ (let none = read.0 in cc)
-    ]
+    lone_error error advances = grind (arith, lone_found)
 
     -- the body, and how the decoder stands before it
     record LoneBody (body : Body) : Type 0 where
@@ -169,46 +134,11 @@ module _ {R E : Type 0} (source : Reader R E) (k : Kind) where
       pub rises : now.offset < new.offset
 
     lone_body : (body : Body) → AdvancesTo source k strict progress now (Ok (Some body)) progress' new → LoneBody body
-    lone_body body advances = elim (lone_found (Ok (Some body)) advances) [
-      | inl only ↦ (
-          let found = only.found in
-          let same : body ≡ only.body = cc in
-          let lengths = ap (λ (b : Body). b.length) same ∙ only.length-is in
-          let places = ap (λ (b : Body). b.place) same in
-          record {
-            lengths = lengths;
-            place = omega (arith, places, only.place);
-            passed = passes_same source opened opened new [] (Passes-none source opened) so_far.none_waits
-                only.reader only.offset only.none_waits only.mode;
-            ended = only.ended;
-            rises = elim so_far.far [
-              | inl due ↦ omega (
-                arith,
-                due.1.offset,
-                only.offset,
-                title_some
-                    (shortest_title (kind_header k (Some len))) (kind_header k (Some len))
-                    (IsTitle-shortest (kind_header k (Some len)) so_far.in_range),
-              )
-              | inr read ↦ absurd (let ended : (Ok (Some body) ≡ Ok None) × (progress' ≡ p.Ended) × (new ≡ now) =
-                  rw read.0 at advances in let f = ended.0 in cc)
-            ];
-          }
-          )
-      | inr read ↦ absurd (let f = read.0 in cc)
-    ]
+    lone_body body advances = grind (arith, lone_found, length, passes_same, Passes-none, title_some, IsTitle-shortest)
 
     lone_reads : (body : Body) (ended : Decoder R) → LoneBody body → ReadsRest source k [] body.length new ended
         → AloneSoFar len opened progress' ended
-    lone_reads body ended lone reads = record {
-      none_waits = so_far.none_waits;
-      in_range = so_far.in_range;
-      far = inr (
-        lone.ended,
-        subst (λ (n : ℕ). ReadsRest source k [] n opened ended) lone.lengths
-            (reads_behind source k body.length opened new lone.passed ended reads),
-      );
-    }
+    lone_reads body ended lone reads = grind arith
 
     lone_stops : (room : ℕ) (body : Body) (ended : Decoder R) (error : Error E) → LoneBody body
         → EndsBody source k [] body.length room body.place new (Err error) ended
@@ -222,10 +152,7 @@ module _ {R E : Type 0} (source : Reader R E) (k : Kind) where
 
   body_stops : (room : ℕ) (opened : Decoder R) (error : Error E) (ended : Decoder R)
       → MeetsBody source k room opened error ended → StopsInside source k room opened error ended
-  body_stops room opened (e.Io fault) ended meets = inr meets
-  body_stops room opened (e.Syntax at) ended meets = inr (inr meets)
-  body_stops room opened e.TooLong ended meets = inr meets
-  body_stops room opened e.Waiting ended meets = meets.ends.stops
+  body_stops room opened error ended meets = grind arith
 
   module _ (strict : Bool) (opened now new : Decoder R) (progress progress' : Progress) (mode : strict ≡ opened.strict)
       (bodies : List (List ℕ)) (so_far : StringSoFar source k bodies opened progress now) (settled : 0 < opened.offset)
@@ -237,12 +164,7 @@ module _ {R E : Type 0} (source : Reader R E) (k : Kind) where
 
     taken_among : (left : ℕ) (between : Decoder R) → (a : IsAmong source k left bodies opened between)
         → AreTakenStrings opened.strict k a.strings bodies
-    taken_among left between a =
-        let front = shortest_title (kind_header k None) in
-        taken_strings opened.strict k a.strings bodies (λ on.
-        let tight = a.tight on in
-        let one = subst (λ (n : ℕ). IsInsideAt k n (front ++ a.strings) bodies) tight.0 a.within in
-        subst (λ (z : List ℕ). AreFlat k z bodies) (sym tight.1) (flat_inside k (front ++ a.strings) bodies one))
+    taken_among left between a = grind (arith, taken_strings, flat_inside)
 
     part_of : (left : ℕ) (between : Decoder R) → IsAmong source k left bodies opened between
         → SkipsInside source k opened between
@@ -279,20 +201,7 @@ module _ {R E : Type 0} (source : Reader R E) (k : Kind) where
         → IsAmong source k left bodies opened between → left ≡ 2 ^ 64 - 1 → new.offset
         ≡ between.offset + length title
         → IsTitle title (kind_header k None) → new.offset < 2 ^ 64 → ⊥
-    not_too_deep left between title a most moved t less =
-        let front = shortest_title (kind_header k None) in
-        omega (
-          arith,
-          settled,
-          most,
-          moved,
-          less,
-          a.passed.offset,
-          opens_counted k left _ _ a.within,
-          open_length k,
-          length-append front a.strings,
-          title_some title (kind_header k None) t,
-        )
+    not_too_deep left between title a most moved t less = grind (arith, opens_counted, open_length, length-append {A = ℕ}, title_some)
 
     open_error : (room : ℕ) (error : Error E) → new.offset < 2 ^ 64
         → AdvancesTo source k strict progress now (Err error) progress' new → StopsInside source k room opened error new
@@ -408,14 +317,4 @@ module _ {R E : Type 0} (source : Reader R E) (k : Kind) where
   -- the title of a body takes a byte
   pub found_rises : (strict : Bool) (progress progress' : Progress) (now new : Decoder R) (body : Body)
       → AdvancesTo source k strict progress now (Ok (Some body)) progress' new → now.offset < new.offset
-  found_rises strict (p.Open opens) progress' now new body all =
-      omega (
-        arith,
-        all.passed.offset,
-        all.ends.pulled.offset,
-        title_some all.ends.pulled.title
-            (kind_header k (Some body.length)) all.ends.pulled.is_title,
-      )
-  found_rises strict p.Ended progress' now new body ended = absurd (let f = ended.0 in cc)
-  found_rises strict (p.Damaged at) progress' now new body ended = absurd (let f = ended.0 in cc)
-  found_rises strict p.TooDeep progress' now new body ended = absurd (let f = ended.0 in cc)
+  found_rises strict progress progress' now new body all = grind arith

@@ -1,8 +1,7 @@
 -- A title that a decoder read, by the bytes of its parts.
-use Rattle.std.proofs.Common.{◌≡◌, ℕ, ◌+◌, List, [], ◌∷◌, length, refl, sym, ap, subst}
-use Rattle.std.proofs.Common.{◌∙◌, inl, inr, arith, length-append, get_or, take, ◌*◌, ◌/◌, ◌%◌, ◌++◌, ◌<◌}
-use Rattle.std.proofs.Common.{Option, None, Some, IfSome, Result, Ok, Err, MatchResult, Bool, true, false, IsTrue, rules}
-use Rattle.std.proofs.Common.{if◌then◌else◌, ◌&&◌, ◌-◌, ◌^◌}
+use Rattle.std.proofs.Common.{[], ◌≡◌, ℕ, ◌+◌, List, ◌∷◌, length, refl, sym, ap, subst, ◌∙◌, inl, inr, arith}
+use Rattle.std.proofs.Common.{length-append, get_or, take, ◌*◌, ◌/◌, ◌%◌, ◌++◌, ◌<◌, Option, None, Some, IfSome, Result}
+use Rattle.std.proofs.Common.{Ok, Err, MatchResult, Bool, if◌then◌else◌, ◌&&◌, ◌-◌, ◌^◌}
 use Rattle.std.proofs.lemmas.Bool.Decides.{nat_tests}
 use Rattle.std.proofs.KnownBytes.{Consumes-trans}
 use Rattle.std.specs.Io.KnownBytes.{Consumes}
@@ -30,12 +29,7 @@ first_parts (x ∷ y ∷ read) b l e = absurd (omega (arith, l))
 
 -- a minor of the code 31 has no affix
 no_affix : (b : Minor) → minor_code b ≡ 31 → minor_affix b ≡ []
-no_affix (m.Small n) e = refl
-no_affix (m.One n) e = absurd (omega (arith, e))
-no_affix (m.Two n) e = absurd (omega (arith, e))
-no_affix (m.Four n) e = absurd (omega (arith, e))
-no_affix (m.Eight n) e = absurd (omega (arith, e))
-no_affix m.Open e = refl
+no_affix b e = grind arith
 
 -- a number that stands within the first byte has no affix
 pub small_affix : (minor : ℕ) → minor < 24 → affix_len minor ≡ 0
@@ -47,18 +41,13 @@ open_affix minor is = rw is refl
 
 -- what was consumed is a beginning of what was there
 begins_with : (old new : Option (List ℕ)) (read : List ℕ) → Consumes old new read → IfSome old (Begins read)
-begins_with None new read taken = tt
-begins_with (Some old) None read taken = absurd taken
-begins_with (Some old) (Some new) read taken = (new, taken)
+begins_with old new read taken = grind arith
 
 -- a first byte with less behind it than its affix has
 cut_affix : (old new : Option (List ℕ)) (first : ℕ) → Consumes old new (first ∷ [])
     → IfSome new (λ bytes. length bytes < affix_len (first % 32))
     → IfSome old (λ due. IsCutTitle due × (first ∷ [] ≡ take 1 due))
-cut_affix None new first taken few = tt
-cut_affix (Some old) None first taken few = absurd taken
-cut_affix (Some old) (Some new) first taken few =
-    subst (λ (due : List ℕ). IsCutTitle due × (first ∷ [] ≡ take 1 due)) (sym taken) (few, refl)
+cut_affix old new first taken few = grind arith
 
 module _ {R E : Type 0} (source : Ghosts R E) where
   -- what was read, while no header waited
@@ -73,23 +62,7 @@ module _ {R E : Type 0} (source : Ghosts R E) where
       → opened.reader ≡ old.reader → opened.offset ≡ old.offset
       → opened.strict ≡ old.strict → ReadsAll source opened read between
       → ReadsAll source between (minor_affix b) new → title ≡ read ++ minor_affix b → TitleRead old title new
-  title_read old opened between new read title b none reader offset mode first affix is =
-      let before = view_none old.waiting (source.ahead old.reader) none in
-      let after = view_none new.waiting (source.ahead new.reader) affix.none_waits in
-      let counted = ap length is in
-      let both = Consumes-trans _ _ _ read (minor_affix b) first.bytes affix.bytes in
-      let same = ap source.failures reader in
-      record {
-        bytes = subst (λ (t : List ℕ). Consumes (view source old) (view source new) t) (sym is)
-            (subst (λ (k : Option (List ℕ)). Consumes k (view source new) (read ++ minor_affix b))
-            (ap source.ahead reader ∙ sym before)
-            (subst (λ (k : Option (List ℕ)). Consumes (source.ahead opened.reader) k (read ++ minor_affix b))
-            (sym after) both));
-        offset = omega (arith, first.offset, affix.offset, offset, counted, length-append read (minor_affix b));
-        none_waits = affix.none_waits;
-        failures = affix.failures ∙ (first.failures ∙ same);
-        mode = affix.mode ∙ (first.mode ∙ mode);
-      }
+  title_read old opened between new read title b h7 reader offset mode first affix is = grind (arith, view_none, length, Consumes-trans, length-append {A = ℕ})
 
   -- where a first byte was read, the offset could rise
   pub not_full : (old between : Decoder R) (read : List ℕ) → ReadsAll source old read between → length read ≡ 1
@@ -201,20 +174,14 @@ module _ {R E : Type 0} (source : Ghosts R E) where
   taken_by : (first : ℕ) (old new : Decoder R) (minor : Minor) (answer : Option Minor) (strict longer : Bool)
       → strict ≡ old.strict → longer ≡ longer_parts (first / 32) minor → HoldsAffix source first old minor new
       → answer ≡ (if strict && longer then None else Some minor) → ReadsMinor source first old (Ok answer) new
-  taken_by first old new minor answer true true on long holds is =
-      rw is (inr (record { read = minor; holds = holds; strict = subst IsTrue on (search rules); longer = sym long }))
-  taken_by first old new minor answer true false on long holds is =
-      rw is (record { holds = holds; taken = λ _. sym long })
-  taken_by first old new minor answer false longer off long holds is =
-      rw is (record { holds = holds; taken = λ on. absurd (let never = rw (sym off) at on in cc) })
+  taken_by first old new minor answer strict longer on long holds is = grind arith
 
   -- an affix that was read is taken, but by a strict decoder where a smaller form holds its number
   pub affix_taken : (first : ℕ) (old new : Decoder R) (minor : Minor) (answer : Option Minor)
       → HoldsAffix source first old minor new
       → answer ≡ (if strict_of new && longer_parts (first / 32) minor then None else Some minor)
       → ReadsMinor source first old (Ok answer) new
-  affix_taken first old new minor answer holds is =
-      taken_by first old new minor answer new.strict (longer_parts (first / 32) minor) holds.all.mode refl holds is
+  affix_taken first old new minor answer holds is = grind arith
 
   -- a number that stands within the first byte is taken with it
   pub small_taken : (first number : ℕ) (old new : Decoder R) (read : List ℕ) → first % 32 < 24
@@ -238,14 +205,10 @@ module _ {R E : Type 0} (source : Ghosts R E) where
   empty_unread : (first : ℕ) (old new : Decoder R) (bytes : List ℕ) (error : Error E) → affix_len (first % 32) ≡ 0
       → old.waiting ≡ None → length bytes ≡ 0
       → ReadsBytes source old (Err error) bytes new → ReadsMinor source first old (Err error) new
-  empty_unread first old new bytes (e.Io fault) none waits empty fails = rw none (rw empty at fails)
-  empty_unread first old new bytes e.TooLong none waits empty full = absurd (omega (arith, full.1, empty, old.covered))
-  empty_unread first old new bytes e.Waiting none waits empty is = absurd (let waiting = rw waits at is.0 in cc)
-  empty_unread first old new bytes (e.Syntax place) none waits empty never = absurd never
+  empty_unread first old new bytes error h5 waits empty fails = grind arith
 
   -- the read of no affix failed
   pub none_unread : (first : ℕ) (old new : Decoder R) (bytes : List ℕ) (answer : Result (Option Minor) (Error E))
       (error : Error E) → answer ≡ Err error → affix_len (first % 32) ≡ 0 → old.waiting ≡ None → length bytes ≡ 0
       → ReadsBytes source old (Err error) bytes new → ReadsMinor source first old answer new
-  none_unread first old new bytes answer error is none waits empty fails =
-      rw is (empty_unread first old new bytes error none waits empty fails)
+  none_unread first old new bytes answer error is h7 waits empty fails = grind arith

@@ -1,12 +1,12 @@
 -- A body that one read gives whole.
-use Rattle.std.proofs.Common.{◌≡◌, ◌∙◌, ℕ, ◌<◌, ◌≤◌, List, [], ◌++◌, length, None, Ok, Err, refl, sym, ap, subst}
-use Rattle.std.proofs.Common.{append-nil, length-append, inl, arith}
+use Rattle.std.proofs.Common.{[], ◌≡◌, ℕ, ◌<◌, ◌≤◌, List, length, None, Ok, Err, refl, sym, ap, append-nil}
+use Rattle.std.proofs.Common.{length-append, inl, arith}
 use Rattle.ciborium_ll_text.proofs.Lists.{length_zero}
 use Rattle.ciborium_ll_io.specs.declared.io.Read.{Ghosts as Reader}
 use Rattle.ciborium_ll_decoder.specs.declared.dec.Decoder.{Decoder}
 use Rattle.ciborium_ll_decoder.specs.declared.dec.Error.{Error}
 use Rattle.ciborium_ll_decoder.specs.declared.dec.Error.TheVariants as e
-use Rattle.ciborium_ll_grammar.specs.Strings.{Kind, Bytes, Text, IsWritable}
+use Rattle.ciborium_ll_grammar.specs.Strings.{Kind, Text, IsWritable}
 use Rattle.ciborium_ll_decoder.specs.Decoding.{IsSteady, Passes, ReadsAll, ReadsBytes}
 use Rattle.ciborium_ll_decoder.specs.Finishing.{BeginsRest, EndsBody}
 use Rattle.ciborium_ll_decoder.proofs.DecodingLaws.{Passes-none}
@@ -16,20 +16,15 @@ use Rattle.ciborium_ll_text.proofs.FrontLaws.{IsStuck-nil}
 
 -- any bytes are the body of a byte string
 textual : (kind : Kind) (bytes : List ℕ) → (IsWritable kind bytes → ⊥) → kind ≡ Text
-textual Bytes bytes unsound = absurd (unsound tt)
-textual Text bytes unsound = refl
+textual kind bytes unsound = grind arith
 
 no_text : (kind : Kind) (bytes : List ℕ) → (IsWritable kind bytes → ⊥) → IsCharacters bytes → ⊥
-no_text Bytes bytes unsound whole = unsound tt
-no_text Text bytes unsound whole = unsound whole
+no_text kind bytes unsound whole = grind arith
 
 -- bytes are text just where the longest front that is text is all of them
 pub all_in_front : (bytes front rest : List ℕ) → IsFront bytes front rest → length front ≡ length bytes
     → IsCharacters bytes
-all_in_front bytes front rest found all =
-    let none : rest ≡ [] = length_zero rest (omega (arith, all, ap length found.parts, length-append front rest)) in
-    let same : bytes ≡ front = found.parts ∙ ap (λ (z : List ℕ). front ++ z) none ∙ append-nil front in
-    subst IsCharacters (sym same) found.text
+all_in_front bytes front rest found all = grind (arith, length_zero, length, length-append {A = ℕ}, append-nil {A = ℕ})
 
 pub front_of_all : (bytes front rest : List ℕ) → IsFront bytes front rest → IsCharacters bytes
     → length front ≡ length bytes
@@ -40,12 +35,7 @@ front_of_all bytes front rest found whole =
 module _ {R E : Type 0} (source : Reader R E) (kind : Kind) (len room place : ℕ) (old : Decoder R) where
   -- an empty one takes no read
   pub empty_ends : len ≡ 0 → EndsBody source kind [] len room place old (Ok (tt {0})) old
-  empty_ends none = record {
-    read = [];
-    all = sym none;
-    sound = writable_nil kind;
-    passed = Passes-none source old;
-  }
+  empty_ends h0 = grind arith
 
   -- nothing of it was read
   abbrev begun : BeginsRest source kind [] len old old
@@ -69,12 +59,7 @@ module _ {R E : Type 0} (source : Reader R E) (kind : Kind) (len room place : �
     -- it may be written
     pub whole_ends : IsWritable kind read → ReadsAll source old read new
         → (IsSteady source old → IsSteady source new) → EndsBody source kind [] len room place old (Ok (tt {0})) new
-    whole_ends sound reads steady = record {
-      read = read;
-      all = all;
-      sound = sound;
-      passed = read_passed reads steady;
-    }
+    whole_ends sound reads steady = grind arith
 
     -- it is no text
     pub damaged_ends : len ≤ room → (IsWritable kind read → ⊥) → ReadsAll source old read new
