@@ -13,6 +13,7 @@ use Rattle.ciborium_ll_text.specs.Text.{IsCharacters, IsFront, IsStuck, BeginsNo
 use Rattle.ciborium_ll_decoder.specs.Kept.{kept_bytes}
 use Rattle.ciborium_ll_decoder.specs.Decoding.{Begins, behind_waiting, IsSteady, Passes, ReadsAll}
 use Rattle.ciborium_ll_decoder.specs.Chunks.{IsSplit}
+use Rattle.ciborium_ll_decoder.proofs.DecodingLaws.{Passes-then}
 use Rattle.ciborium_ll_text.proofs.TextLaws.{IsCharacters-append, IsCharacters-rest, no_text_begins}
 
 -- ---- kinds
@@ -43,10 +44,8 @@ few_kept kind kept h2 = grind arith
 pub stuck_is_no_text : (read front kept : List ℕ) → read ≡ front ++ kept → IsCharacters front → IsStuck kept
     → 0 < length kept → IsCharacters read → ⊥
 stuck_is_no_text read front kept e text stuck some whole =
-    let behind = IsCharacters-rest front kept text (subst IsCharacters e whole) in
-    let none = stuck kept [] (sym (append-nil kept)) behind in
-    let l = ap length none in
-    omega (arith, l)
+    let none = stuck kept [] (sym (append-nil kept)) (IsCharacters-rest front kept text (rw e at whole)) in
+    grind arith
 
 -- a front of text that is followed by too much is the beginning of no text
 pub too_much_is_no_text : (read front kept more chunk left : List ℕ) → read ≡ front ++ (kept ++ more)
@@ -63,29 +62,10 @@ pub view_none : (waiting : Option Header) (ahead : Option (List ℕ)) → waitin
     ≡ ahead
 view_none waiting ahead e = grind arith
 
-waited_read : {R : Type 0} (old now new : Decoder R) (bytes read : List ℕ) (waiting : Option Header) → old.waiting
-    ≡ waiting → now.waiting ≡ None
-    → IfSome waiting (λ h. (now ≡ old) ⊎ Begins (shortest_title h) bytes)
-    → IfSome waiting (λ h. (new ≡ old) ⊎ Begins (shortest_title h) (bytes ++ read))
-waited_read old now new bytes read None e none before = tt
-waited_read old now new bytes read (Some h) e none (inl same) =
-    absurd (let waits : now.waiting ≡ Some h = ap (λ d. d.waiting) same ∙ e in cc)
-waited_read old now new bytes read (Some h) e none (inr begins) =
-    inr (begins.0 ++ read, ap (λ (z : List ℕ). z ++ read) begins.1 ∙ append_assoc (shortest_title h) begins.0 read)
-
 -- a read behind what passed
 pub Passes-read : {R E : Type 0} (source : Reader R E) (old now new : Decoder R) (bytes read : List ℕ)
     → Passes source old bytes now → ReadsAll source now read new
     → (IsSteady source now → IsSteady source new) → Passes source old (bytes ++ read) new
 Passes-read source old now new bytes read passed reads steady =
-    let before = view_none now.waiting (source.ahead now.reader) reads.none_waited in
-    let after = view_none new.waiting (source.ahead new.reader) reads.none_waits in
-    record {
-      consumed = Consumes-trans _ _ _ bytes read passed.consumed (rw (before, after) reads.bytes);
-      offset = omega (arith, passed.offset, reads.offset, length-append bytes read);
-      waiting = inr reads.none_waits;
-      waited = waited_read old now new bytes read old.waiting refl reads.none_waited passed.waited;
-      failures = cc (passed.failures, reads.failures);
-      steady = λ s. steady (passed.steady s);
-      mode = reads.mode ∙ passed.mode;
-    }
+    let alone : Passes source now read new = grind arith in
+    Passes-then source old now new bytes read passed alone

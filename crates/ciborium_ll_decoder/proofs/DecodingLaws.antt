@@ -38,6 +38,11 @@ pub Consumes-waiting : (waiting waiting' : Option Header) (header : Header) (ahe
     → Consumes (behind_waiting waiting ahead) (behind_waiting waiting' ahead) (shortest_title header)
 Consumes-waiting waiting waiting' header ahead e e' = grind arith
 
+-- a waiting header is given
+not_again : {R E : Type 0} (source : Ghosts R E) (old new : Decoder R) (header : Header) (error : Error E)
+    → old.waiting ≡ Some header → PullsHeader source old (Err error) new → ⊥
+not_again source old new header error waits pulled = grind arith
+
 -- a header that is given back is the next one
 pub pulls_again : {R E : Type 0} (source : Ghosts R E) (old pulled pushed new : Decoder R) (header : Header)
     (result : Result Header (Error E)) → PullsTitle source old header pulled
@@ -45,27 +50,18 @@ pub pulls_again : {R E : Type 0} (source : Ghosts R E) (old pulled pushed new : 
 pulls_again source old pulled pushed new header (Ok again) first back second =
     let waited = rw back.waits at second.waited in
     let same : header ≡ again = waited.0 in
-    let counted = ap length waited.1 in
-    let taken = ap title_len same in
     record {
       pulled = pulled;
       pushed = pushed;
-      first = subst (λ (h : Header). PullsTitle source old h pulled) same first;
-      back = subst (λ (h : Header). TakesBack source pulled h pushed) same back;
+      first = rw same at first;
+      back = rw same at back;
       second = second;
       reader = waited.2 ∙ back.reader;
-      offset = omega (arith, counted, taken, second.offset, back.offset);
+      offset = grind (arith, waited);
       none_waits = second.none_waits;
     }
-pulls_again source old pulled pushed new header (Err (e.Io fault)) first back second = let a = back.waits in let b =
-    second.none_waited in absurd cc
-pulls_again source old pulled pushed new header (Err (e.Syntax place)) first back (inl second) = let a =
-    back.waits in let b = second.none_waited in absurd cc
-pulls_again source old pulled pushed new header (Err (e.Syntax place)) first back (inr second) = let a =
-    back.waits in let b = second.none_waited in absurd cc
-pulls_again source old pulled pushed new header (Err e.TooLong) first back second = let a = back.waits in let b =
-    second.none_waited in absurd cc
-pulls_again source old pulled pushed new header (Err e.Waiting) first back second = absurd second
+pulls_again source old pulled pushed new header (Err error) first back second =
+    absurd (not_again source pushed new header error back.waits second)
 
 -- what holds of every value holds of the one, if there is one
 pub IfSome-all : {A : Type 0} (option : Option A) (P : A → Type 0) → ((value : A) → P value) → IfSome option P
@@ -76,41 +72,17 @@ pub IfSome-at : {A : Type 0} (option : Option A) (value : A) (P : A → Type 0) 
     → IfSome option P → P value
 IfSome-at option value P e holds = grind arith
 
--- the title of a waiting header goes first, also with one title more
-waited_pull : {R : Type 0} (old between new : Decoder R) (bytes title : List ℕ) (header : Header)
-    (waiting : Option Header) → old.waiting ≡ waiting
-    → IfSome waiting (λ h. (between ≡ old) ⊎ Begins (shortest_title h) bytes) → (between ≡ old → bytes ≡ [])
-    → IfSome between.waiting (λ kept. (kept ≡ header) × (title ≡ shortest_title header) × (new.reader ≡ between.reader))
-    → IfSome waiting (λ h. (new ≡ old) ⊎ Begins (shortest_title h) (bytes ++ title))
-waited_pull old between new bytes title header None e before nil waited = tt
-waited_pull old between new bytes title header (Some h) e (inl same) nil waited =
-    let waits : between.waiting ≡ Some h = ap (λ d. d.waiting) same ∙ e in
-    let w = rw waits at waited in
-    let first : title ≡ shortest_title h = w.1 ∙ ap shortest_title (sym w.0) in
-    inr ([], ap (λ (z : List ℕ). z ++ title) (nil same) ∙ first ∙ sym (append-nil (shortest_title h)))
-waited_pull old between new bytes title header (Some h) e (inr begins) nil waited =
-    inr (begins.0 ++ title, ap (λ (z : List ℕ). z ++ title) begins.1 ∙ append_assoc (shortest_title h) begins.0 title)
+begins_more : (front bytes more : List ℕ) → Begins front bytes → Begins front (bytes ++ more)
+begins_more front bytes more begins =
+    (begins.0 ++ more, rw begins.1 (append_assoc front begins.0 more))
 
-waiting_then : {R : Type 0} (old between new : Decoder R) (bytes more : List ℕ)
-    → ((bytes ≡ []) × (between ≡ old)) ⊎ (between.waiting ≡ None)
-    → ((more ≡ []) × (new ≡ between)) ⊎ (new.waiting ≡ None) → ((bytes ++ more ≡ []) × (new ≡ old)) ⊎
-    (new.waiting ≡ None)
-waiting_then old between new bytes more first h6 = grind arith
-
-waited_then : {R : Type 0} (old between new : Decoder R) (bytes more : List ℕ) (waiting : Option Header)
-    → old.waiting ≡ waiting
-    → IfSome waiting (λ h. (between ≡ old) ⊎ Begins (shortest_title h) bytes) → (between ≡ old → bytes ≡ [])
-    → IfSome between.waiting (λ h. (new ≡ between) ⊎ Begins (shortest_title h) more)
-    → IfSome waiting (λ h. (new ≡ old) ⊎ Begins (shortest_title h) (bytes ++ more))
-waited_then old between new bytes more None e first nil second = tt
-waited_then old between new bytes more (Some h) e (inr begins) nil second =
-    inr (begins.0 ++ more, ap (λ (z : List ℕ). z ++ more) begins.1 ∙ append_assoc (shortest_title h) begins.0 more)
-waited_then old between new bytes more (Some h) e (inl same) nil second =
-    elim (IfSome-at between.waiting h (λ g. (new ≡ between) ⊎ Begins (shortest_title g) more)
-    (ap (λ d. d.waiting) same ∙ e) second) [
-      | inl still ↦ inl (still ∙ same)
-      | inr begins ↦ inr (begins.0, ap (λ (z : List ℕ). z ++ more) (nil same) ∙ begins.1)
-    ]
+-- the title of a waiting header goes first, also with more behind it
+pub waited_more : {D : Type 0} (title : Header → List ℕ) (old between new : D) (bytes more : List ℕ)
+    (waiting waiting' : Option Header) → (between ≡ old → (bytes ≡ []) × (waiting' ≡ waiting))
+    → IfSome waiting (λ h. (between ≡ old) ⊎ Begins (title h) bytes)
+    → IfSome waiting' (λ h. (new ≡ between) ⊎ Begins (title h) more)
+    → IfSome waiting (λ h. (new ≡ old) ⊎ Begins (title h) (bytes ++ more))
+waited_more title old between new bytes more waiting waiting' same first second = grind (arith, begins_more)
 
 module _ {R E : Type 0} (source : Ghosts R E) where
   -- with no call nothing changed
@@ -126,11 +98,16 @@ module _ {R E : Type 0} (source : Ghosts R E) where
   pub Passes-none : (decoder : Decoder R) → Passes source decoder [] decoder
   Passes-none decoder = grind arith
 
+  stayed : (old new : Decoder R) (bytes : List ℕ) → Passes source old bytes new → new ≡ old
+      → (bytes ≡ []) × (new.waiting ≡ old.waiting)
+  stayed old new bytes passed same = grind (arith, length_zero)
+
   -- one title more
   pub Passes-pulled : (old between new : Decoder R) (bytes : List ℕ) (header : Header)
       (title : PullsTitle source between header new) → Passes source old bytes between
       → (IsSteady source old → IsSteady source new) → Passes source old (bytes ++ title.title) new
-  Passes-pulled old between new bytes header title passed steady = grind (arith, Consumes-trans, length-append {A = ℕ}, waited_pull, length_zero)
+  Passes-pulled old between new bytes header title passed steady = 
+      grind (arith, Consumes-trans, length-append {A = ℕ}, stayed, append-nil {A = ℕ}, waited_more shortest_title old between new bytes title.title old.waiting between.waiting)
 
   pub Passes-pull : (old between new : Decoder R) (bytes : List ℕ) (header : Header)
       (title : PullsTitle source between header new) → Passes source old bytes between
@@ -141,17 +118,8 @@ module _ {R E : Type 0} (source : Ghosts R E) where
   -- bytes, and then bytes
   pub Passes-then : (old between new : Decoder R) (bytes more : List ℕ) → Passes source old bytes between
       → Passes source between more new → Passes source old (bytes ++ more) new
-  Passes-then old between new bytes more first second = record {
-    consumed = Consumes-trans _ _ _ bytes more first.consumed second.consumed;
-    offset = omega (arith, first.offset, second.offset, length-append bytes more);
-    waiting = waiting_then old between new bytes more first.waiting second.waiting;
-    waited = waited_then old between new bytes more old.waiting refl first.waited
-        (λ same. length_zero bytes (let moved = ap (λ d. d.offset) same in omega (arith, moved, first.offset)))
-        second.waited;
-    failures = cc (first.failures, second.failures);
-    steady = λ s. second.steady (first.steady s);
-    mode = second.mode ∙ first.mode;
-  }
+  Passes-then old between new bytes more first second =
+      grind (arith, Consumes-trans, length-append {A = ℕ}, stayed, waited_more shortest_title old between new bytes more old.waiting between.waiting)
 
   -- a decoder that isn't strict refuses first bytes alone
   pub lenient_refuses : (old : Decoder R) (place : ℕ) (new : Decoder R) → old.strict ≡ false
@@ -173,16 +141,4 @@ waited_same old now now' bytes waiting e h6 before = grind arith
 pub passes_same : {R E : Type 0} (source : Ghosts R E) (old now now' : Decoder R) (bytes : List ℕ)
     → Passes source old bytes now → now.waiting ≡ None → now'.reader ≡ now.reader → now'.offset ≡ now.offset
     → now'.waiting ≡ None → now'.strict ≡ now.strict → Passes source old bytes now'
-passes_same {R} source old now now' bytes passed none reader offset none' mode =
-    let same : view source now' ≡ view source now = ap
-    (λ (w : Option Header). behind_waiting w (source.ahead now'.reader)) (none' ∙ sym none)
-    ∙ ap (λ (r : R). behind_waiting now.waiting (source.ahead r)) reader in
-    record {
-      consumed = subst (λ (z : Option (List ℕ)). Consumes (view source old) z bytes) (sym same) passed.consumed;
-      offset = offset ∙ passed.offset;
-      waiting = inr none';
-      waited = waited_same old now now' bytes old.waiting refl none passed.waited;
-      failures = ap source.failures reader ∙ passed.failures;
-      steady = λ s. subst (λ (r : R). IsTrue (source.steady r)) (sym reader) (passed.steady s);
-      mode = mode ∙ passed.mode;
-    }
+passes_same source old now now' bytes passed none reader offset none' mode = grind arith

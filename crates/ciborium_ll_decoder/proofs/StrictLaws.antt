@@ -1,6 +1,6 @@
 -- A title that a decoder read, by the bytes of its parts.
 use Rattle.std.proofs.Common.{[], ◌≡◌, ℕ, ◌+◌, List, ◌∷◌, length, refl, sym, ap, subst, ◌∙◌, inl, inr, arith}
-use Rattle.std.proofs.Common.{length-append, get_or, take, ◌*◌, ◌/◌, ◌%◌, ◌++◌, ◌<◌, Option, None, Some, IfSome, Result}
+use Rattle.std.proofs.Common.{append-nil, length-append, get_or, take, ◌*◌, ◌/◌, ◌%◌, ◌++◌, ◌<◌, Option, None, Some, IfSome, Result}
 use Rattle.std.proofs.Common.{Ok, Err, MatchResult, Bool, if◌then◌else◌, ◌&&◌, ◌-◌, ◌^◌}
 use Rattle.std.proofs.lemmas.Bool.Decides.{nat_tests}
 use Rattle.std.proofs.KnownBytes.{Consumes-trans}
@@ -11,21 +11,27 @@ use Rattle.ciborium_ll_decoder.specs.declared.dec.Error.{Error}
 use Rattle.ciborium_ll_decoder.specs.declared.dec.Error.TheVariants as e
 use Rattle.ciborium_ll_decoder.specs.Decoding.{Begins, view, failures_of, IsSteady, PullsHeader, ReadsAll, ReadsMinor}
 use Rattle.ciborium_ll_decoder.specs.Decoding.{HoldsAffix, ReadsAffix, ReadsBytes, RefusesTitle, strict_of}
+use Rattle.ciborium_ll_text.proofs.Lists.{length_zero}
 use Rattle.ciborium_ll_decoder.proofs.BodyLaws.{view_none}
 use Rattle.ciborium_ll_grammar.specs.declared.hdr.Minor.{Minor}
 use Rattle.ciborium_ll_grammar.specs.declared.hdr.Minor.TheVariants as m
-use Rattle.ciborium_ll_grammar.specs.Title.{affix_len, IsCutTitle, IsNeverOpen, IsReserved}
+use Rattle.ciborium_ll_grammar.specs.Title.{affix_len, IsRefused, IsCutTitle, IsNeverOpen, IsReserved}
 use Rattle.ciborium_ll_grammar.specs.Parts.{longer_parts, minor_affix, minor_code, parts_bytes}
 
 -- ---- a title that was read
 
+-- a byte that was read
+one_byte : (read : List ℕ) → length read ≡ 1 → read ≡ get_or read 0 0 ∷ []
+one_byte [] one = absurd (omega (arith, one))
+one_byte (x ∷ []) one = refl
+one_byte (x ∷ y ∷ read) one = absurd (omega (arith, one))
+
 -- a first byte and its affix are the bytes of the parts
 pub first_parts : (read : List ℕ) (b : Minor) → length read ≡ 1 → get_or read 0 0 % 32 ≡ minor_code b
     → parts_bytes (get_or read 0 0 / 32) b ≡ read ++ minor_affix b
-first_parts [] b l e = absurd (omega (arith, l))
-first_parts (x ∷ []) b l e = let byte : 32 * (x / 32) + minor_code b ≡ x = omega (arith, e) in
-    ap (λ (z : ℕ). z ∷ minor_affix b) byte
-first_parts (x ∷ y ∷ read) b l e = absurd (omega (arith, l))
+first_parts read b one code =
+    let byte : 32 * (get_or read 0 0 / 32) + minor_code b ≡ get_or read 0 0 = omega (arith, code) in
+    rw (one_byte read one) (ap (λ (z : ℕ). z ∷ minor_affix b) byte)
 
 -- a minor of the code 31 has no affix
 no_affix : (b : Minor) → minor_code b ≡ 31 → minor_affix b ≡ []
@@ -58,60 +64,48 @@ module _ {R E : Type 0} (source : Ghosts R E) where
     pub failures : failures_of source new ≡ failures_of source old
     pub mode : new.strict ≡ old.strict
 
-  pub title_read : (old opened between new : Decoder R) (read title : List ℕ) (b : Minor) → old.waiting ≡ None
-      → opened.reader ≡ old.reader → opened.offset ≡ old.offset
-      → opened.strict ≡ old.strict → ReadsAll source opened read between
-      → ReadsAll source between (minor_affix b) new → title ≡ read ++ minor_affix b → TitleRead old title new
-  title_read old opened between new read title b h7 reader offset mode first affix is = grind (arith, view_none, length, Consumes-trans, length-append {A = ℕ})
+  pub title_read : (old between new : Decoder R) (read title : List ℕ) (b : Minor) → old.waiting ≡ None
+      → ReadsAll source old read between → ReadsAll source between (minor_affix b) new → title ≡ read ++ minor_affix b
+      → TitleRead old title new
+  title_read old between new read title b none first affix is =
+      grind (arith, view_none, Consumes-trans, length-append {A = ℕ})
 
   -- where a first byte was read, the offset could rise
   pub not_full : (old between : Decoder R) (read : List ℕ) → ReadsAll source old read between → length read ≡ 1
       → old.offset ≡ 2 ^ 64 - 1 → ⊥
   not_full old between read first one full = omega (arith, first.offset, one, full, between.covered)
 
-  -- a first byte of a reserved minor was read
-  pub first_refused : (old opened between new : Decoder R) (read : List ℕ) → old.waiting ≡ None → opened.reader
-      ≡ old.reader → opened.offset ≡ old.offset → ReadsAll source opened read between
-      → length read ≡ 1 → new ≡ between → IsReserved (get_or read 0 0 % 32) → RefusesTitle source old old.offset new
-  first_refused old opened between new [] none reader offset first one same reserved = absurd (omega (arith, one))
-  first_refused old opened between new (x ∷ []) none reader offset first one same reserved =
-      let before = view_none old.waiting (source.ahead old.reader) none in
-      let after = view_none between.waiting (source.ahead between.reader) first.none_waits in
-      rw same (record {
-        byte = x;
-        refused = inl reserved;
+  -- of what was read this byte is refused
+  refuses : (old new : Decoder R) (read : List ℕ) → old.waiting ≡ None → length read ≡ 1 → IsRefused (get_or read 0 0)
+      → TitleRead old read new → RefusesTitle source old old.offset new
+  refuses old new read none one refused title =
+      let byte = one_byte read one in
+      record {
+        byte = get_or read 0 0;
+        refused = refused;
         place = refl;
-        bytes = subst (λ (k : Option (List ℕ)). Consumes k (view source between) (x ∷ []))
-            (ap source.ahead reader ∙ sym before)
-            (subst (λ (k : Option (List ℕ)). Consumes (source.ahead opened.reader) k (x ∷ [])) (sym after) first.bytes);
-        offset = omega (arith, first.offset, offset);
+        bytes = rw byte at title.bytes;
+        offset = grind arith;
         none_waited = none;
-        none_waits = first.none_waits;
-        failures = first.failures ∙ ap source.failures reader;
-      })
-  first_refused old opened between new (x ∷ y ∷ more) none reader offset first one same reserved =
-      absurd (omega (arith, one))
+        none_waits = title.none_waits;
+        failures = title.failures;
+      }
+
+  -- a first byte of a reserved minor was read
+  pub first_refused : (old between new : Decoder R) (read : List ℕ) → old.waiting ≡ None
+      → ReadsAll source old read between → length read ≡ 1 → new ≡ between → IsReserved (get_or read 0 0 % 32)
+      → RefusesTitle source old old.offset new
+  first_refused old between new read none first one same reserved =
+      refuses old new read none one (inl reserved) (grind (arith, view_none))
 
   -- a first byte of a minor of the code 31 was read, and its major type has no indefinite form
   pub open_refused : (old between new : Decoder R) (read : List ℕ) (b : Minor) → old.waiting ≡ None
       → ReadsAll source old read between → ReadsAll source between (minor_affix b) new → length read ≡ 1
       → get_or read 0 0 % 32 ≡ minor_code b → minor_code b ≡ 31 → IsNeverOpen (get_or read 0 0 / 32)
       → RefusesTitle source old old.offset new
-  open_refused old between new [] b none first affix one code is never = absurd (omega (arith, one))
-  open_refused old between new (x ∷ []) b none first affix one code is never =
-      let read = title_read old old between new (x ∷ []) (x ∷ []) b none refl refl refl first affix
-      (ap (λ (z : List ℕ). x ∷ z) (sym (no_affix b is))) in
-      record {
-        byte = x;
-        refused = inr (code ∙ is, never);
-        place = refl;
-        bytes = read.bytes;
-        offset = read.offset;
-        none_waited = none;
-        none_waits = read.none_waits;
-        failures = read.failures;
-      }
-  open_refused old between new (x ∷ y ∷ more) b none first affix one code is never = absurd (omega (arith, one))
+  open_refused old between new read b none first affix one code is never =
+      refuses old new read none one (inr (code ∙ is, never))
+      (title_read old between new read read b none first affix (grind (arith, no_affix, append-nil {A = ℕ})))
 
   -- the affix of a first byte was not read
   affix_unread : (old between new : Decoder R) (x : ℕ) (error : Error E) → old.waiting ≡ None
@@ -163,18 +157,10 @@ module _ {R E : Type 0} (source : Ghosts R E) where
       → ReadsAll source old read between → (IsSteady source old → IsSteady source between) → length read ≡ 1
       → ReadsMinor source (get_or read 0 0) between (Err error) new
       → MatchResult answer P (λ error. PullsHeader source old (Err error) new)
-  affix_stopped P answer error old between new [] is none first steady one affix = absurd (omega (arith, one))
-  affix_stopped P answer error old between new (x ∷ []) is none first steady one affix =
-      rw is (affix_unread old between new x error none first steady affix)
-  affix_stopped P answer error old between new (x ∷ y ∷ more) is none first steady one affix =
-      absurd (omega (arith, one))
+  affix_stopped P answer error old between new read is none first steady one affix =
+      rw is (affix_unread old between new (get_or read 0 0) error none (rw (one_byte read one) at first) steady affix)
 
   -- ---- the affix of a first byte
-
-  taken_by : (first : ℕ) (old new : Decoder R) (minor : Minor) (answer : Option Minor) (strict longer : Bool)
-      → strict ≡ old.strict → longer ≡ longer_parts (first / 32) minor → HoldsAffix source first old minor new
-      → answer ≡ (if strict && longer then None else Some minor) → ReadsMinor source first old (Ok answer) new
-  taken_by first old new minor answer strict longer on long holds is = grind arith
 
   -- an affix that was read is taken, but by a strict decoder where a smaller form holds its number
   pub affix_taken : (first : ℕ) (old new : Decoder R) (minor : Minor) (answer : Option Minor)
@@ -187,25 +173,12 @@ module _ {R E : Type 0} (source : Ghosts R E) where
   pub small_taken : (first number : ℕ) (old new : Decoder R) (read : List ℕ) → first % 32 < 24
       → number ≡ first % 32 → length read ≡ 0 → ReadsAll source old read new
       → ReadsAffix source first old (m.Small number) new
-  small_taken first number old new [] small is empty reads = record {
-    holds = record { is_minor = omega (arith, small, is); code = sym is; all = reads };
-    taken = λ _. refl;
-  }
-  small_taken first number old new (x ∷ more) small is empty reads = absurd (omega (arith, empty))
+  small_taken first number old new read small is empty reads = grind (arith, length_zero)
 
   -- and so is an open
   pub open_taken : (first : ℕ) (old new : Decoder R) (read : List ℕ) → first % 32 ≡ 31 → length read ≡ 0
       → ReadsAll source old read new → ReadsAffix source first old m.Open new
-  open_taken first old new [] is empty reads = record {
-    holds = record { is_minor = tt; code = is; all = reads };
-    taken = λ _. refl;
-  }
-  open_taken first old new (x ∷ more) is empty reads = absurd (omega (arith, empty))
-
-  empty_unread : (first : ℕ) (old new : Decoder R) (bytes : List ℕ) (error : Error E) → affix_len (first % 32) ≡ 0
-      → old.waiting ≡ None → length bytes ≡ 0
-      → ReadsBytes source old (Err error) bytes new → ReadsMinor source first old (Err error) new
-  empty_unread first old new bytes error h5 waits empty fails = grind arith
+  open_taken first old new read is empty reads = grind (arith, length_zero)
 
   -- the read of no affix failed
   pub none_unread : (first : ℕ) (old new : Decoder R) (bytes : List ℕ) (answer : Result (Option Minor) (Error E))

@@ -24,14 +24,13 @@ returns-in_default-clause-header g c =
     let byte : get_or c.read.new.data 0 0 / 32 < 8 = search rules in
     let answer = rw c.in_default.is at c.in_ok-minor.ensures.minor in
     elim answer [
-      | inl reserved ↦ inl (first_refused g.R.Read c.args.self.now _ c.read.new.self c.minor.new.self
-          c.read.new.data none refl refl first one reserved.1 reserved.0)
+      | inl reserved ↦ inl (first_refused g.R.Read c.args.self.now c.read.new.self c.minor.new.self
+          c.read.new.data none first one reserved.1 reserved.0)
       | inr refuses ↦ (
           let minor = refuses.read in
           let h = parts_header _ minor byte refuses.holds.is_minor refuses.longer in
           let is = first_parts c.read.new.data minor one refuses.holds.code in
-          let read = title_read g.R.Read c.args.self.now _ c.read.new.self c.minor.new.self c.read.new.data _ minor
-          none refl refl refl first refuses.holds.all is in
+          let read = title_read g.R.Read c.args.self.now c.read.new.self c.minor.new.self c.read.new.data _ minor none first refuses.holds.all is in
           inr (record {
             strict = search rules;
             header = h.0;
@@ -59,8 +58,7 @@ returns-in-Some-header-clause-header g c =
     let header = c.in-Some-header.header in
     let t = c.in-Some-header.ensures.some in
     let is = first_parts c.read.new.data minor one affix.holds.code in
-    let read = title_read g.R.Read c.args.self.now _ c.read.new.self c.minor.new.self c.read.new.data _ minor none
-    refl refl refl first affix.holds.all is in
+    let read = title_read g.R.Read c.args.self.now c.read.new.self c.minor.new.self c.read.new.data _ minor none first affix.holds.all is in
     record {
       title = parts_bytes (get_or c.read.new.data 0 0 / 32) minor;
       is_title = t;
