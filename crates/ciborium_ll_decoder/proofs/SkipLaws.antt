@@ -13,10 +13,10 @@ use Rattle.ciborium_ll_decoder.specs.declared.seg.Progress.TheVariants as p
 use Rattle.ciborium_ll_grammar.specs.Title.{IsTitle, IsInRange, shortest_title, title_len}
 use Rattle.ciborium_ll_grammar.specs.Strings.{Kind, kind_header, IsString, definite, indefinite}
 use Rattle.ciborium_ll_grammar.proofs.OpenStrings.{IsInsideAt, one_open, more_open}
-use Rattle.ciborium_ll_decoder.specs.Decoding.{Passes, IsSteady, TakesBack}
-use Rattle.ciborium_ll_decoder.specs.Segments.{AdvancesTo}
+use Rattle.ciborium_ll_decoder.specs.Decoding.{PullsHeader, Passes, IsSteady, TakesBack}
+use Rattle.ciborium_ll_decoder.specs.Segments.{AdvancesTo, NestsTooDeep}
 use Rattle.ciborium_ll_decoder.specs.Finishing.{ReadsRest, BeginsRest, EndsBody}
-use Rattle.ciborium_ll_decoder.specs.Skipping.{SkipsWhole, SkipsInside, MeetsBody, StopsInside, SkipsString}
+use Rattle.ciborium_ll_decoder.specs.Skipping.{SkipsWhole, SkipsInside, MeetsNoTitle, MeetsBody, StopsInside, SkipsString}
 use Rattle.ciborium_ll_grammar.specs.Elements.{spelling, pieces}
 use Rattle.ciborium_ll_grammar.specs.Items.{AreTakenStrings}
 use Rattle.ciborium_ll_grammar.specs.StrictElements.{AreFlat}
@@ -50,16 +50,12 @@ taken_strings strict k u bs flat_ones = grind arith
 
 module _ {R E : Type 0} (source : Reader R E) (k : Kind) (len : ℕ) (old new : Decoder R)
     (passed : Passes source old [] new) where
-  begins_behind : (between : Decoder R) → BeginsRest source k [] len new between
-      → BeginsRest source k [] len old between
+  begins_behind : (between : Decoder R) → BeginsRest source k [] len new between → BeginsRest source k [] len old between
   begins_behind between part = grind arith
 
-  reads_behind : (ended : Decoder R) → ReadsRest source k [] len new ended → ReadsRest source k [] len old ended
-  reads_behind ended reads = grind arith
-
   ends_behind : (room place : ℕ) (error : Error E) (ended : Decoder R)
-      → EndsBody source k [] len room place new (Err error) ended → EndsBody source k [] len room place old
-      (Err error) ended
+      → EndsBody source k [] len room place new (Err error) ended
+      → EndsBody source k [] len room place old (Err error) ended
   unfolding begins_behind
   ends_behind room place error ended stops = record {
     between = stops.between;
@@ -90,18 +86,15 @@ module _ {R E : Type 0} (source : Reader R E) (k : Kind) where
   -- it was read, and makes a string
   whole_body : (len : ℕ) (opened new : Decoder R) → IsInRange (kind_header k (Some len))
       → ReadsRest source k [] len opened new → SkipsWhole source k (Some len) opened new
-  whole_body len opened new range reads =
-      let body = reads.read in
-      let title = shortest_title (kind_header k (Some len)) in
-      record {
-        behind = body;
-        bodies = body ∷ [];
-        is_string = definite (subst (λ (n : ℕ). IsTitle title (kind_header k (Some n))) (sym reads.all)
-            (IsTitle-shortest (kind_header k (Some len)) range));
-        taken = tt;
-        sound = sound_body k body reads.sound;
-        passed = reads.passed;
-      }
+  whole_body len opened new range reads = record {
+    behind = reads.read;
+    bodies = reads.read ∷ [];
+    is_string = definite {title = shortest_title (kind_header k (Some len))}
+        (rw reads.all (IsTitle-shortest (kind_header k (Some len)) range));
+    taken = tt;
+    sound = sound_body k reads.read reads.sound;
+    passed = reads.passed;
+  }
 
   pub definite_skipped : (len room : ℕ) (opened new : Decoder R) (result : Result (Unit {0}) (Error E))
       → IsInRange (kind_header k (Some len))
@@ -112,14 +105,14 @@ module _ {R E : Type 0} (source : Reader R E) (k : Kind) where
   module _ (strict : Bool) (len : ℕ) (opened now new : Decoder R) (progress progress' : Progress)
       (so_far : AloneSoFar len opened progress now) where
     -- the only answers: the body first, and then the end
-    lone_found : (result : Result (Option Body) (Error E)) → AdvancesTo source k strict progress now result progress'
-        new
+    lone_found : (result : Result (Option Body) (Error E))
+        → AdvancesTo source k strict progress now result progress' new
         → FindsOnly source k len opened result progress' new ⊎
         ((result ≡ Ok None) × ReadsRest source k [] len opened new)
     lone_found result advances = grind (arith, advance_definite)
 
-    lone_end : AdvancesTo source k strict progress now (Ok None) progress' new → SkipsWhole source k (Some len) opened
-        new
+    lone_end : AdvancesTo source k strict progress now (Ok None) progress' new
+        → SkipsWhole source k (Some len) opened new
     lone_end advances = grind (arith, lone_found, whole_body)
 
     lone_error : (error : Error E) → AdvancesTo source k strict progress now (Err error) progress' new → ⊥
@@ -131,133 +124,99 @@ module _ {R E : Type 0} (source : Reader R E) (k : Kind) where
       pub place : body.place ≡ opened.offset - title_len (kind_header k (Some len))
       pub passed : Passes source opened [] new
       pub ended : progress' ≡ p.Ended
-      pub rises : now.offset < new.offset
+
+    lone_is : (body : Body) → FindsOnly source k len opened (Ok (Some body)) progress' new → opened.waiting ≡ None
+        → LoneBody body
+    lone_is body only none = grind (arith, passes_same source opened opened new [] (Passes-none source opened))
 
     lone_body : (body : Body) → AdvancesTo source k strict progress now (Ok (Some body)) progress' new → LoneBody body
-    lone_body body advances = grind (arith, lone_found, length, passes_same, Passes-none, title_some, IsTitle-shortest)
+    lone_body body advances = elim (lone_found (Ok (Some body)) advances) [
+      | inl only ↦ lone_is body only so_far.none_waits
+      | inr ended ↦ absurd (let f = ended.0 in cc)
+    ]
 
     lone_reads : (body : Body) (ended : Decoder R) → LoneBody body → ReadsRest source k [] body.length new ended
         → AloneSoFar len opened progress' ended
     lone_reads body ended lone reads = grind arith
 
-    lone_stops : (room : ℕ) (body : Body) (ended : Decoder R) (error : Error E) → LoneBody body
-        → EndsBody source k [] body.length room body.place new (Err error) ended
-        → EndsBody source k [] len room (opened.offset - title_len (kind_header k (Some len))) opened (Err error) ended
-    lone_stops room body ended error lone ends =
-        subst (λ (n : ℕ). EndsBody source k [] len room n opened (Err error) ended) lone.place
-        (subst (λ (n : ℕ). EndsBody source k [] n room body.place opened (Err error) ended) lone.lengths
-        (ends_behind source k body.length opened new lone.passed room body.place error ended ends))
-
   -- ---- segments behind an open
+
+  taken_among : {opens : ℕ} {bodies : List (List ℕ)} {opened now : Decoder R}
+      (a : IsAmong source k opens bodies opened now) → AreTakenStrings opened.strict k a.strings bodies
+  taken_among a = grind (arith, taken_strings, flat_inside)
+
+  part_of : {opens : ℕ} {bodies : List (List ℕ)} {opened now : Decoder R} → IsAmong source k opens bodies opened now
+      → SkipsInside source k opened now
+  part_of {bodies} a = record {
+    behind = a.strings;
+    bodies = bodies;
+    inside = counted k _ _ _ a.within;
+    taken = taken_among a;
+    sound = a.sound;
+    passed = a.passed;
+  }
+
+  module _ (bodies : List (List ℕ)) (opened now new : Decoder R) (progress : Progress) where
+    open_end : AdvancesAmong source k bodies opened now (Ok None) progress new → SkipsWhole source k None opened new
+    open_end all =
+        let strings = all.among.strings in
+        let front = shortest_title (kind_header k None) in
+        let break = alone_bytes all.ends.pulled.title h.Break all.ends.pulled.is_title refl in
+        record {
+          behind = strings ++ 0xff ∷ [];
+          bodies = bodies;
+          is_string = rw append_assoc at (close_string k (front ++ strings) bodies (rw all.ends.last at all.among.within));
+          taken = (strings, refl, taken_among all.among);
+          sound = all.among.sound;
+          passed = rw break at (Passes-pulled source opened all.between new strings h.Break all.ends.pulled
+              all.among.passed all.steady);
+        }
+
+    -- so many opens take more bytes than an offset counts
+    not_too_deep : {left : ℕ} {between : Decoder R} → IsAmong source k left bodies opened between → 0 < opened.offset
+        → NestsTooDeep source k left between progress new → new.offset < 2 ^ 64 → ⊥
+    not_too_deep a settled deep less = grind (arith, opens_counted, open_length, length-append {A = ℕ}, title_some)
+
+    no_title : {left : ℕ} {between : Decoder R} (error : Error E) → IsAmong source k left bodies opened between
+        → PullsHeader source between (Err error) new → MeetsNoTitle source k opened error new
+    no_title {between} error a fails = record { between = between; part = part_of a; fails = fails }
+
+    open_error : (room : ℕ) (error : Error E) → 0 < opened.offset → new.offset < 2 ^ 64
+        → AdvancesAmong source k bodies opened now (Err error) progress new
+        → StopsInside source k room opened error new
+    open_error room (e.Io fault) settled less all = inl (no_title (e.Io fault) all.among all.ends.0)
+    open_error room (e.Syntax at) settled less all = elim all.ends [
+      | inl refused ↦ inl (no_title (e.Syntax at) all.among refused.0)
+      | inr other ↦ inr (inl (record {
+        between = all.between;
+        part = part_of all.among;
+        other = other_inside source k opened.strict all.left all.between at progress new all.among.passed.mode
+            (some_open k all.left _ _ all.among.within) other;
+      }))
+    ]
+    open_error room e.TooLong settled less all = elim all.ends [
+      | inl passes ↦ inl (no_title e.TooLong all.among passes.0)
+      | inr deep ↦ absurd (not_too_deep all.among settled deep less)
+    ]
+    open_error room e.Waiting settled less all = absurd all.ends
+
+    meets_body : (room : ℕ) (body : Body) (ended : Decoder R) (error : Error E)
+        → AdvancesAmong source k bodies opened now (Ok (Some body)) progress new
+        → EndsBody source k [] body.length room body.place new (Err error) ended
+        → MeetsBody source k room opened error ended
+    meets_body room body ended error all ends = record {
+      between = all.between;
+      part = part_of all.among;
+      titled = new;
+      len = body.length;
+      pulled = all.ends.pulled;
+      steady = all.steady;
+      ends = rw all.ends.place at ends;
+    }
 
   body_stops : (room : ℕ) (opened : Decoder R) (error : Error E) (ended : Decoder R)
       → MeetsBody source k room opened error ended → StopsInside source k room opened error ended
   body_stops room opened error ended meets = grind arith
-
-  module _ (strict : Bool) (opened now new : Decoder R) (progress progress' : Progress) (mode : strict ≡ opened.strict)
-      (bodies : List (List ℕ)) (so_far : StringSoFar source k bodies opened progress now) (settled : 0 < opened.offset)
-      (steady : IsSteady source now → IsSteady source new) where
-    among : (result : Result (Option Body) (Error E)) → AdvancesTo source k strict progress now result progress' new
-        → AdvancesAmong source k bodies opened now result progress' new
-    among result advances = advances_among source k bodies opened now strict result progress progress' new mode so_far
-        advances steady
-
-    taken_among : (left : ℕ) (between : Decoder R) → (a : IsAmong source k left bodies opened between)
-        → AreTakenStrings opened.strict k a.strings bodies
-    taken_among left between a = grind (arith, taken_strings, flat_inside)
-
-    part_of : (left : ℕ) (between : Decoder R) → IsAmong source k left bodies opened between
-        → SkipsInside source k opened between
-    part_of left between a = record {
-      behind = a.strings;
-      bodies = bodies;
-      inside =
-          counted k left _ _ a.within;
-      taken = taken_among left between a;
-      sound = a.sound;
-      passed = a.passed;
-    }
-
-    open_end : AdvancesTo source k strict progress now (Ok None) progress' new → SkipsWhole source k None opened new
-    open_end advances =
-        let all = among (Ok None) advances in
-        let strings = all.among.strings in
-        let front = shortest_title (kind_header k None) in
-        let break = alone_bytes all.ends.pulled.title h.Break all.ends.pulled.is_title refl in
-        let last = subst (λ (n : ℕ). IsInsideAt k n (front ++ strings) bodies) all.ends.last all.among.within in
-        record {
-          behind = strings ++ 0xff ∷ [];
-          bodies = bodies;
-          is_string = subst (λ (z : List ℕ). IsString k z bodies) (append_assoc front strings (0xff ∷ []))
-              (close_string k (front ++ strings) bodies last);
-          taken = (strings, refl, taken_among all.left all.between all.among);
-          sound = all.among.sound;
-          passed = subst (λ (z : List ℕ). Passes source opened z new) (ap (λ (z : List ℕ). strings ++ z) break)
-              (Passes-pulled source opened all.between new strings h.Break all.ends.pulled all.among.passed all.steady);
-        }
-
-    -- so many opens take more bytes than an offset counts
-    not_too_deep : (left : ℕ) (between : Decoder R) (title : List ℕ)
-        → IsAmong source k left bodies opened between → left ≡ 2 ^ 64 - 1 → new.offset
-        ≡ between.offset + length title
-        → IsTitle title (kind_header k None) → new.offset < 2 ^ 64 → ⊥
-    not_too_deep left between title a most moved t less = grind (arith, opens_counted, open_length, length-append {A = ℕ}, title_some)
-
-    open_error : (room : ℕ) (error : Error E) → new.offset < 2 ^ 64
-        → AdvancesTo source k strict progress now (Err error) progress' new → StopsInside source k room opened error new
-    open_error room (e.Io fault) less advances =
-        let all = among (Err (e.Io fault)) advances in
-        inl (record { between = all.between; part = part_of all.left all.between all.among; fails = all.ends.0 })
-    open_error room (e.Syntax at) less advances =
-        let all = among (Err (e.Syntax at)) advances in
-        let part = part_of all.left all.between all.among in
-        elim all.ends [
-          | inl refused ↦ inl (record { between = all.between; part = part; fails = refused.0 })
-          | inr other ↦ inr (inl (record {
-            between = all.between;
-            part = part;
-            other = other_inside source k opened.strict all.left all.between at progress' new all.among.passed.mode
-                (some_open k all.left _ _ all.among.within) other;
-          }))
-        ]
-    open_error room e.TooLong less advances =
-        let all = among (Err e.TooLong) advances in
-        elim all.ends [
-          | inl passes ↦ inl (record {
-            between = all.between;
-            part = part_of all.left all.between all.among;
-            fails =
-                passes.0;
-          })
-          | inr deep ↦ absurd (not_too_deep all.left all.between deep.pulled.title all.among deep.most
-              deep.pulled.offset deep.pulled.is_title less)
-        ]
-    open_error room e.Waiting less advances = absurd (let all = among (Err e.Waiting) advances in all.ends)
-
-    open_reads : (body : Body) (ended : Decoder R) → AdvancesTo source k strict progress now (Ok (Some body)) progress'
-        new
-        → (IsSteady source new → IsSteady source ended)
-        → (reads : ReadsRest source k [] body.length new ended)
-        → StringSoFar source k (bodies ++ reads.read ∷ []) opened progress' ended
-    open_reads body ended advances steady' reads = segment_added source k bodies opened now new ended body progress'
-        so_far.none_waits (among (Ok (Some body)) advances) reads steady'
-
-    open_stops : (room : ℕ) (body : Body) (ended : Decoder R) (error : Error E)
-        → AdvancesTo source k strict progress now (Ok (Some body)) progress' new
-        → EndsBody source k [] body.length room body.place new (Err error) ended
-        → StopsInside source k room opened error ended
-    open_stops room body ended error advances ends =
-        let all = among (Ok (Some body)) advances in
-        let meets : MeetsBody source k room opened error ended = record {
-          between = all.between;
-          part = part_of all.left all.between all.among;
-          titled = new;
-          len = body.length;
-          pulled = all.ends.pulled;
-          steady = all.steady;
-          ends = subst (λ (n : ℕ). EndsBody source k [] body.length room n new (Err error) ended) all.ends.place ends;
-        } in
-        body_stops room opened error ended meets
 
   -- ---- both
 
@@ -267,7 +226,8 @@ module _ {R E : Type 0} (source : Reader R E) (k : Kind) where
       → AdvancesTo source k strict progress now (Ok None) progress' new → SkipsString source k len room opened
       (Ok (tt {0})) new
   skips_end strict None room opened now new progress progress' mode so_far steady advances =
-      open_end strict opened now new progress progress' mode so_far.0.0 so_far.0.1 so_far.1 steady advances
+      open_end so_far.0.0 opened now new progress' (advances_among source k so_far.0.0 opened now strict (Ok None)
+      progress progress' new mode so_far.0.1 advances steady)
   skips_end strict (Some len) room opened now new progress progress' mode so_far steady advances =
       lone_end strict len opened now new progress progress' so_far advances
 
@@ -277,8 +237,8 @@ module _ {R E : Type 0} (source : Reader R E) (k : Kind) where
       → (IsSteady source now → IsSteady source new) → AdvancesTo source k strict progress now (Err error) progress' new
       → SkipsString source k len room opened (Err error) new
   skips_error strict None room opened now new progress progress' error less mode so_far steady advances =
-      open_error strict opened now new progress progress' mode so_far.0.0 so_far.0.1 so_far.1 steady room error less
-      advances
+      open_error so_far.0.0 opened now new progress' room error so_far.1 less (advances_among source k so_far.0.0 opened
+      now strict (Err error) progress progress' new mode so_far.0.1 advances steady)
   skips_error strict (Some len) room opened now new progress progress' error less mode so_far steady advances =
       absurd (lone_error strict len opened now new progress progress' so_far error advances)
 
@@ -287,14 +247,10 @@ module _ {R E : Type 0} (source : Reader R E) (k : Kind) where
       → (IsSteady source now → IsSteady source new) → (IsSteady source new → IsSteady source ended)
       → AdvancesTo source k strict progress now (Ok (Some body)) progress' new
       → EndsBody source k [] body.length room body.place new (Ok (tt {0})) ended → SkipsSoFar len opened progress' ended
-  skips_body strict None room opened now new ended progress progress' body mode so_far steady steady' advances reads = (
-    (
-      so_far.0.0 ++ reads.read ∷ [],
-      open_reads strict opened now new progress progress' mode so_far.0.0 so_far.0.1 so_far.1 steady body ended advances
-          steady' reads,
-    ),
-    so_far.1,
-  )
+  skips_body strict None room opened now new ended progress progress' body mode so_far steady steady' advances reads =
+      let all = advances_among source k so_far.0.0 opened now strict (Ok (Some body)) progress progress' new mode
+      so_far.0.1 advances steady in
+      ((_, segment_added source k so_far.0.0 opened now new ended body progress' so_far.0.1.none_waits all reads steady'), so_far.1)
   skips_body strict (Some len) room opened now new ended progress progress' body mode so_far steady steady' advances
       reads = lone_reads strict len opened now new progress progress' so_far body ended
       (lone_body strict len opened now new progress progress' so_far body advances) reads
@@ -307,12 +263,12 @@ module _ {R E : Type 0} (source : Reader R E) (k : Kind) where
       → EndsBody source k [] body.length room body.place new (Err error) ended
       → SkipsString source k len room opened (Err error) ended
   skips_stop strict None room opened now new ended progress progress' body error mode so_far steady advances ends =
-      open_stops strict opened now new progress progress' mode so_far.0.0 so_far.0.1 so_far.1 steady room body ended
-      error advances ends
-  skips_stop strict (Some len) room opened now new ended progress progress' body error mode so_far steady advances ends
-      =
-      lone_stops strict len opened now new progress progress' so_far room body ended error
-      (lone_body strict len opened now new progress progress' so_far body advances) ends
+      let all = advances_among source k so_far.0.0 opened now strict (Ok (Some body)) progress progress' new mode
+      so_far.0.1 advances steady in
+      body_stops room opened error ended (meets_body so_far.0.0 opened now new progress' room body ended error all ends)
+  skips_stop strict (Some len) room opened now new ended progress progress' body error mode so_far steady advances ends =
+      let lone = lone_body strict len opened now new progress progress' so_far body advances in
+      ends_behind source k len opened new lone.passed room _ error ended (rw (lone.lengths, lone.place) at ends)
 
   -- the title of a body takes a byte
   pub found_rises : (strict : Bool) (progress progress' : Progress) (now new : Decoder R) (body : Body)
