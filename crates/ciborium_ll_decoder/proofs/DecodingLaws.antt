@@ -1,7 +1,6 @@
 -- What the relations of the decoder's calls have in common.
-use Rattle.std.proofs.Common.{[], ◌≡◌, ℕ, false, ◌⊎◌, List, ◌++◌, length, Option, Some, None, IfSome, IsTrue, Result}
-use Rattle.std.proofs.Common.{Ok, Err, IsErrAnd, ◌<◌, ◌≤◌, ◌-◌, ◌^◌, refl, sym, ap, subst, ◌∙◌, inl, inr, arith}
-use Rattle.std.proofs.Common.{append_assoc, append-nil, length-append}
+use Rattle.std.proofs.Common.{[], ◌≡◌, ℕ, false, ◌⊎◌, List, ◌++◌, Option, Some, None, IfSome, Result, Ok, Err, IsErrAnd}
+use Rattle.std.proofs.Common.{◌<◌, ◌≤◌, ◌-◌, ◌^◌, refl, ◌∙◌, arith, append_assoc, append-nil, length-append}
 use Rattle.std.proofs.KnownBytes.{Consumes-trans}
 use Rattle.std.specs.Io.KnownBytes.{Consumes, prepend_known}
 use Rattle.ciborium_ll_grammar.specs.declared.hdr.Header.{Header}
@@ -10,8 +9,8 @@ use Rattle.ciborium_ll_decoder.specs.declared.dec.Decoder.{Decoder}
 use Rattle.ciborium_ll_decoder.specs.declared.dec.Error.{Error}
 use Rattle.ciborium_ll_decoder.specs.declared.dec.Error.TheVariants as e
 use Rattle.ciborium_ll_text.proofs.Lists.{length_zero}
-use Rattle.ciborium_ll_grammar.specs.Title.{shortest_title, title_len}
-use Rattle.ciborium_ll_decoder.specs.Decoding.{Begins, behind_waiting, view, IsSteady, MovesOn, Passes, PullsTitle}
+use Rattle.ciborium_ll_grammar.specs.Title.{shortest_title}
+use Rattle.ciborium_ll_decoder.specs.Decoding.{Begins, behind_waiting, IsSteady, MovesOn, Passes, PullsTitle}
 use Rattle.ciborium_ll_decoder.specs.Decoding.{PullsHeader, RefusesTitle, TakesBack, PullsAgain}
 
 -- the exit of a `?` answers the error that it was given. A caller that names this lemma is spared a search
@@ -106,7 +105,7 @@ module _ {R E : Type 0} (source : Ghosts R E) where
   pub Passes-pulled : (old between new : Decoder R) (bytes : List ℕ) (header : Header)
       (title : PullsTitle source between header new) → Passes source old bytes between
       → (IsSteady source old → IsSteady source new) → Passes source old (bytes ++ title.title) new
-  Passes-pulled old between new bytes header title passed steady = 
+  Passes-pulled old between new bytes header title passed steady =
       grind (arith, Consumes-trans, length-append {A = ℕ}, stayed, append-nil {A = ℕ}, waited_more shortest_title old between new bytes title.title old.waiting between.waiting)
 
   pub Passes-pull : (old between new : Decoder R) (bytes : List ℕ) (header : Header)

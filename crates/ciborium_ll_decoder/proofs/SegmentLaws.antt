@@ -1,7 +1,6 @@
 -- The segments of a string, read one by one behind its open.
 use Rattle.std.proofs.Common.{[], ◌≡◌, ℕ, Bool, ◌<◌, ◌≤◌, ◌⊎◌, List, ◌∷◌, ◌++◌, length, Option, Some, None, IsTrue}
-use Rattle.std.proofs.Common.{Result, Ok, refl, sym, ap, subst, ◌∙◌, inl, inr, arith, append_assoc, append-nil}
-use Rattle.std.proofs.Common.{length-append}
+use Rattle.std.proofs.Common.{Result, Ok, refl, sym, ap, ◌∙◌, inl, inr, arith, append_assoc, append-nil, length-append}
 use Rattle.ciborium_ll_io.specs.declared.io.Read.{Ghosts as Reader}
 use Rattle.ciborium_ll_grammar.specs.declared.hdr.Header.{Header}
 use Rattle.ciborium_ll_decoder.specs.declared.dec.Decoder.{Decoder}
@@ -9,7 +8,7 @@ use Rattle.ciborium_ll_decoder.specs.declared.dec.Error.{Error}
 use Rattle.ciborium_ll_decoder.specs.declared.seg.Body.{Body}
 use Rattle.ciborium_ll_decoder.specs.declared.seg.Progress.{Progress}
 use Rattle.ciborium_ll_decoder.specs.declared.seg.Progress.TheVariants as p
-use Rattle.ciborium_ll_grammar.specs.Title.{IsTitle, shortest_title}
+use Rattle.ciborium_ll_grammar.specs.Title.{shortest_title}
 use Rattle.ciborium_ll_grammar.specs.Strings.{Kind, kind_header, definite, none}
 use Rattle.ciborium_ll_grammar.proofs.OpenStrings.{IsInsideAt, one_open, more_open}
 use Rattle.ciborium_ll_grammar.specs.Elements.{AreWritable, Piece, spelling, pieces, body_spelling}
@@ -104,25 +103,26 @@ module _ {R E : Type 0} (source : Reader R E) (k : Kind) where
   }
 
   -- opens and breaks further
-  among_nest : (opens : ℕ) (bodies : List (List ℕ)) (opened now : Decoder R) (result : Result (Option Body) (Error E))
-      (progress : Progress) (new : Decoder R) → IsAmong opens bodies opened now
-      → (all : AdvancesFrom source k opened.strict opens now result progress new)
-      → IsAmong all.left bodies opened all.between
-  among_nest opens bodies opened now result progress new among all =
-      let front = shortest_title (kind_header k None) in
-      record {
-        strings = among.strings ++ all.nest;
-        within = subst (λ (z : List ℕ). IsInsideAt k all.left z bodies) (append_assoc front among.strings all.nest)
-            (nest_inside k opens all.left (front ++ among.strings) all.nest bodies among.within all.nests);
-        sound = among.sound;
-        passed = Passes-then source opened now all.between among.strings all.nest among.passed all.passed;
-        tight = λ on.
-            let before = among.tight on in
-            let one = before.0 in
-            let few = all.shallow on in
-            let still = nests_none k opens all.nest all.left all.nests (omega (arith, one, few)) in
-            (still.1 ∙ one, ap (λ (z : List ℕ). among.strings ++ z) still.0 ∙ append-nil among.strings ∙ before.1);
-      }
+  among_nest : {opens : ℕ} {bodies : List (List ℕ)} {opened begun : Decoder R} (now : Decoder R)
+      {result : Result (Option Body) (Error E)} {progress : Progress} {new : Decoder R}
+      → IsAmong opens bodies opened begun → AdvancesFrom source k opened.strict opens begun result progress new
+      → now.offset ≤ begun.offset → (IsSteady source opened → IsSteady source new)
+      → AdvancesAmong bodies opened now result progress new
+  among_nest {opens} {bodies} {opened} {begun} now among all before steady = record {
+    left = all.left;
+    between = all.between;
+    among = record {
+      strings = among.strings ++ all.nest;
+      within = rw append_assoc at (nest_inside k opens all.left (shortest_title (kind_header k None) ++ among.strings)
+          all.nest bodies among.within all.nests);
+      sound = among.sound;
+      passed = Passes-then source opened begun all.between among.strings all.nest among.passed all.passed;
+      tight = grind (arith, nests_none, append-nil {A = ℕ});
+    };
+    ends = all.ends;
+    rises = omega (arith, before, all.passed.offset);
+    steady = steady;
+  }
 
   pub advances_among : (bodies : List (List ℕ)) (opened now : Decoder R) (strict : Bool)
       (result : Result (Option Body) (Error E)) (progress progress' : Progress) (new : Decoder R)
@@ -130,37 +130,36 @@ module _ {R E : Type 0} (source : Reader R E) (k : Kind) where
       → AdvancesTo source k strict progress now result progress' new
       → (IsSteady source now → IsSteady source new) → AdvancesAmong bodies opened now result progress' new
   advances_among bodies opened now strict result progress progress' new same so_far goes_on steady =
-      let advances = subst (λ (mode : Bool). AdvancesTo source k mode progress now result progress' new) same goes_on in
       elim so_far.far [
         | inl start ↦ (
-            let from : AdvancesFrom source k opened.strict 0 now result progress' new = rw start.fresh at advances in
+            let from : AdvancesFrom source k opened.strict 0 now result progress' new = rw (same, start.fresh) at goes_on in
             let all = advance_opened source k opened.strict opened now new result progress' so_far.none_waits
             start.back from in
-            record {
-              left = all.left;
-              between = all.between;
-              among = subst (λ (z : List (List ℕ)). IsAmong all.left z opened all.between) (sym start.nothing)
-                  (among_nest 1 [] opened opened result progress' new (among_first opened) all);
-              ends = all.ends;
-              rises = omega (arith, start.back.offset, all.passed.offset);
-              steady = λ s. steady (so_far.steady s);
-            }
+            rw start.nothing (among_nest now (among_first opened) all (omega (arith, start.back.offset))
+            (λ s. steady (so_far.steady s)))
             )
         | inr way ↦ (
-            let all : AdvancesFrom source k opened.strict way.opens now result progress' new = rw way.counts at
-            advances in
-            record {
-              left = all.left;
-              between = all.between;
-              among = among_nest way.opens bodies opened now result progress' new way.among all;
-              ends = all.ends;
-              rises = omega (arith, all.passed.offset);
-              steady = λ s. steady (so_far.steady s);
-            }
+            let all : AdvancesFrom source k opened.strict way.opens now result progress' new =
+            rw (same, way.counts) at goes_on in
+            among_nest now way.among all (omega arith) (λ s. steady (so_far.steady s))
             )
       ]
 
   -- ---- one segment more
+
+  -- behind an open a segment leaves it open
+  still_open : (opens : ℕ) (u : List ℕ) (bs : List (List ℕ)) (progress : Progress) → IsInsideAt k opens u bs
+      → ((opens ≡ 0) × (progress ≡ p.Ended)) ⊎ ((0 < opens) × (progress ≡ p.Open opens)) → progress ≡ p.Open opens
+  still_open opens u bs progress within after = grind (arith, some_open)
+
+  spelled : (bodies : List (List ℕ)) (b : List ℕ)
+      → spelling (pieces k bodies) ++ (shortest_title (kind_header k (Some (length b))) ++ b)
+      ≡ spelling (pieces k (bodies ++ b ∷ []))
+  spelled bodies b = rw (
+    piece_spelled k bodies b,
+    spelling-append (pieces k bodies) (Piece k b ∷ []),
+    append-nil (body_spelling k b),
+  ) refl
 
   pub segment_added : (bodies : List (List ℕ)) (opened now new ended : Decoder R) (body : Body) (progress : Progress)
       → opened.waiting ≡ None → AdvancesAmong bodies opened now (Ok (Some body)) progress new
@@ -168,43 +167,27 @@ module _ {R E : Type 0} (source : Reader R E) (k : Kind) where
       → StringSoFar (bodies ++ reads.read ∷ []) opened progress ended
   segment_added bodies opened now new ended body progress settled all reads steady =
       let among = all.among in
-      let front = shortest_title (kind_header k None) in
       let t = all.ends.pulled.title in
       let b = reads.read in
-      let lengths : body.length ≡ length b = sym reads.all in
-      let is_title = subst (λ (n : ℕ). IsTitle t (kind_header k (Some n))) lengths all.ends.pulled.is_title in
+      let is_title = rw (sym reads.all) at all.ends.pulled.is_title in
       let pulled = Passes-pulled source opened all.between new among.strings
       (kind_header k (Some body.length)) all.ends.pulled among.passed all.steady in
-      let counts : progress ≡ p.Open all.left = elim all.ends.after [
-        | inl first ↦ absurd (let zero = first.0 in omega (arith, zero, some_open k all.left _ _ among.within))
-        | inr more ↦ more.1
-      ] in
       record {
         none_waits = settled;
         far = inr (record {
           opens = all.left;
-          counts = counts;
+          counts = still_open all.left _ _ progress among.within all.ends.after;
           among = record {
             strings = among.strings ++ (t ++ b);
-            within = subst (λ (z : List ℕ). IsInsideAt k all.left z (bodies ++ b ∷ []))
-                (append_assoc front among.strings (t ++ b))
-                (add_string k all.left (front ++ among.strings) (t ++ b) bodies (b ∷ []) among.within
-                (definite is_title));
+            within = rw append_assoc at (add_string k all.left (shortest_title (kind_header k None) ++ among.strings)
+                (t ++ b) bodies (b ∷ []) among.within (definite is_title));
             sound = AreWritable-append k bodies (b ∷ []) among.sound (sound_body k b reads.sound);
-            passed = subst (λ (z : List ℕ). Passes source opened z ended) (append_assoc among.strings t b)
-                (Passes-then source opened new ended (among.strings ++ t) b pulled reads.passed);
+            passed = rw append_assoc at (Passes-then source opened new ended (among.strings ++ t) b pulled reads.passed);
             tight = λ on.
-                let before = among.tight on in
                 let only = all.ends.pulled.strict (among.passed.mode ∙ on)
                 (passes_settled source opened all.between among.strings among.passed settled) in
-                let first = only.shortest ∙ ap (λ (n : ℕ). shortest_title (kind_header k (Some n))) lengths in
-                let so_far = spelling (pieces k bodies) in (
-                  before.0,
-                  ap (λ (z : List ℕ). z ++ (t ++ b)) before.1 ∙ ap (λ (z : List ℕ). so_far ++ (z ++ b)) first
-                      ∙ ap (λ (z : List ℕ). so_far ++ z) (sym (append-nil (body_spelling k b)))
-                      ∙ sym (spelling-append (pieces k bodies) (Piece k b ∷ []))
-                      ∙ sym (piece_spelled k bodies b),
-                );
+                let before = among.tight on in
+                (before.0, rw (before.1, only.shortest, sym reads.all) (spelled bodies b));
           };
         });
         steady = λ s. steady (all.steady s);

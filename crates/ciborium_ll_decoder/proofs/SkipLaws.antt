@@ -1,7 +1,6 @@
 -- A string that is read to its end.
 use Rattle.std.proofs.Common.{[], ◌≡◌, Bool, true, ℕ, zero, suc, ◌+◌, ◌-◌, ◌^◌, ◌<◌, ◌⊎◌, List, ◌∷◌, ◌++◌, length}
-use Rattle.std.proofs.Common.{Option, Some, None, Result, Ok, Err, refl, sym, ap, subst, inl, inr, arith, append_assoc}
-use Rattle.std.proofs.Common.{length-append}
+use Rattle.std.proofs.Common.{Option, Some, None, Result, Ok, Err, refl, inl, inr, arith, append_assoc, length-append}
 use Rattle.ciborium_ll_io.specs.declared.io.Read.{Ghosts as Reader}
 use Rattle.ciborium_ll_grammar.specs.declared.hdr.Header.TheVariants as h
 use Rattle.ciborium_ll_decoder.specs.declared.dec.Decoder.{Decoder}
@@ -10,13 +9,14 @@ use Rattle.ciborium_ll_decoder.specs.declared.dec.Error.TheVariants as e
 use Rattle.ciborium_ll_decoder.specs.declared.seg.Body.{Body}
 use Rattle.ciborium_ll_decoder.specs.declared.seg.Progress.{Progress}
 use Rattle.ciborium_ll_decoder.specs.declared.seg.Progress.TheVariants as p
-use Rattle.ciborium_ll_grammar.specs.Title.{IsTitle, IsInRange, shortest_title, title_len}
+use Rattle.ciborium_ll_grammar.specs.Title.{IsInRange, shortest_title, title_len}
 use Rattle.ciborium_ll_grammar.specs.Strings.{Kind, kind_header, IsString, definite, indefinite}
 use Rattle.ciborium_ll_grammar.proofs.OpenStrings.{IsInsideAt, one_open, more_open}
 use Rattle.ciborium_ll_decoder.specs.Decoding.{PullsHeader, Passes, IsSteady, TakesBack}
 use Rattle.ciborium_ll_decoder.specs.Segments.{AdvancesTo, NestsTooDeep}
 use Rattle.ciborium_ll_decoder.specs.Finishing.{ReadsRest, BeginsRest, EndsBody}
-use Rattle.ciborium_ll_decoder.specs.Skipping.{SkipsWhole, SkipsInside, MeetsNoTitle, MeetsBody, StopsInside, SkipsString}
+use Rattle.ciborium_ll_decoder.specs.Skipping.{SkipsWhole, SkipsInside, MeetsNoTitle, MeetsBody, StopsInside}
+use Rattle.ciborium_ll_decoder.specs.Skipping.{SkipsString}
 use Rattle.ciborium_ll_grammar.specs.Elements.{spelling, pieces}
 use Rattle.ciborium_ll_grammar.specs.Items.{AreTakenStrings}
 use Rattle.ciborium_ll_grammar.specs.StrictElements.{AreFlat}
