@@ -1,7 +1,8 @@
 -- How the titles of a string lead on, one after the other.
-use Rattle.std.proofs.Common.{Some, Bool, IsTrue, ◌≤◌, ◌≡◌, ℕ, suc, ◌+◌, ◌-◌, ◌<◌, ◌⊎◌, List, ◌++◌, length, Option}
-use Rattle.std.proofs.Common.{None, Result, Ok, refl, ap, subst, ◌∙◌, inl, arith, add-one, length-append}
+use Rattle.std.proofs.Common.{[], inr, Some, Bool, IsTrue, ◌≤◌, ◌≡◌, ℕ, suc, ◌+◌, ◌-◌, ◌⊎◌, List, ◌++◌, length, Option}
+use Rattle.std.proofs.Common.{None, Result, Ok, inl, arith, add-one, length-append}
 use Rattle.ciborium_ll_io.specs.declared.io.Read.{Ghosts}
+use Rattle.ciborium_ll_grammar.specs.declared.hdr.Header.{Header}
 use Rattle.ciborium_ll_decoder.specs.declared.dec.Decoder.{Decoder}
 use Rattle.ciborium_ll_decoder.specs.declared.dec.Error.{Error}
 use Rattle.ciborium_ll_decoder.specs.declared.seg.Body.{Body}
@@ -9,8 +10,8 @@ use Rattle.ciborium_ll_decoder.specs.declared.seg.Progress.{Progress}
 use Rattle.ciborium_ll_decoder.specs.declared.seg.Progress.TheVariants as p
 use Rattle.ciborium_ll_decoder.specs.declared.seg.Parser.{Ghosts as Parser}
 use Rattle.ciborium_ll_decoder.specs.declared.seg.Segment.{Segment}
-use Rattle.ciborium_ll_grammar.specs.Strings.{Kind, kind_header}
-use Rattle.ciborium_ll_decoder.specs.Decoding.{IsSteady, Passes}
+use Rattle.ciborium_ll_grammar.specs.Strings.{Kind}
+use Rattle.ciborium_ll_decoder.specs.Decoding.{IsSteady, Passes, PullsTitle}
 use Rattle.ciborium_ll_decoder.specs.Segments.{Nests, in_place, deeper, back, AdvancesFrom, AdvancesTo, EndsAdvance}
 use Rattle.ciborium_ll_decoder.specs.Segments.{GivesAgain, StepsOver, Deepens, ClosesInner}
 use Rattle.ciborium_ll_decoder.specs.Progress.{opens_of}
@@ -18,116 +19,101 @@ use Rattle.ciborium_ll_decoder.specs.Chunks.{PullsSegment}
 use Rattle.ciborium_ll_decoder.proofs.DecodingLaws.{Passes-none, Passes-pull}
 use Rattle.ciborium_ll_decoder.proofs.NestLaws.{alone_bytes, open_alone, open_length, nests_zero, nests_counted}
 
-two_or_more : (n : ℕ) → 1 < n → (m : ℕ) × (n ≡ suc (suc m))
-two_or_more n l = (n - 2, omega arith)
-
 module _ {R E : Type 0} (source : Ghosts R E) (kind : Kind) (strict : Bool) where
   -- titles that led on were pulled, and so many opens aren't closed
-  pub record LeadsTo (opens : ℕ) (old : Decoder R) (progress : Progress) (now : Decoder R) : Type 0 where
+  pub record LeadsTo (opens : ℕ) (old : Decoder R) (left : ℕ) (now : Decoder R) : Type 0 where
     pub nest : List ℕ
-    pub left : ℕ
     pub nests : Nests kind opens nest left
     pub passed : Passes source old nest now
     pub shallow : IsTrue strict → opens + length nest ≤ 1
-    pub is : progress ≡ p.Open left
 
   -- what the loop over titles keeps: they lead on or ended the string; and where it has an answer that stays, it is
   -- as before
   abbrev pub Reached : Progress → Decoder R → Progress → Decoder R → Type 0
-  Reached (p.Open opens) old progress now = LeadsTo opens old progress now ⊎ AdvancesFrom source kind strict opens old
+  Reached (p.Open opens) old progress now =
+      ((left : ℕ) × (progress ≡ p.Open left) × LeadsTo opens old left now) ⊎ AdvancesFrom source kind strict opens old
       (Ok None) progress now
   Reached p.Ended old progress now = (progress ≡ p.Ended) × (now ≡ old)
   Reached (p.Damaged place) old progress now = (progress ≡ p.Damaged place) × (now ≡ old)
   Reached p.TooDeep old progress now = (progress ≡ p.TooDeep) × (now ≡ old)
 
-  pub Reached-start : (progress : Progress) (decoder : Decoder R) → (IsTrue strict → opens_of progress ≤ 1)
-      → Reached progress decoder progress decoder
-  Reached-start (p.Open opens) decoder few = inl (record {
-    nest = _;
-    left = opens;
+  leads_start : (opens : ℕ) (decoder : Decoder R) → (IsTrue strict → opens ≤ 1) → LeadsTo opens decoder opens decoder
+  leads_start opens decoder few = record {
+    nest = [];
     nests = in_place;
     passed = Passes-none source decoder;
-    shallow = λ on. let at_most = few on in omega (arith, at_most);
-    is = refl;
-  })
-  Reached-start p.Ended decoder few = (refl, refl)
-  Reached-start (p.Damaged place) decoder few = (refl, refl)
-  Reached-start p.TooDeep decoder few = (refl, refl)
+    shallow = grind arith;
+  }
 
-  -- the nest so far, with a title that leads on
-  leads_deeper : (opens left : ℕ) (old now new : Decoder R) (after : Progress)
-      (led : LeadsTo opens old (p.Open left) now) → (IsSteady source now → IsSteady source new)
-      → Deepens source kind strict left now after new → LeadsTo opens old after new
-  leads_deeper opens left old now new after led steady step =
-      let f = led.is in
-      let same : led.left ≡ left = cc in
-      record {
-        nest = led.nest ++ step.pulled.title;
-        left = suc left;
-        nests = deeper (subst (λ (z : ℕ). Nests kind opens led.nest z) same led.nests) step.pulled.is_title;
-        passed = Passes-pull source old now new led.nest _ step.pulled led.passed steady;
-        shallow = λ on.
-            let first = nests_zero kind opens led.nest led.left led.nests (same ∙ step.level on) in
-            let one = ap length (alone_bytes step.pulled.title (kind_header kind None) step.pulled.is_title
-            (open_alone kind)) in
-            let none = ap length first.0 in
-            let zero = first.1 in
-            omega (arith, one, none, zero, open_length kind, length-append led.nest step.pulled.title);
-        is = rw (← add-one) step.after;
-      }
+  pub Reached-start : (progress : Progress) (decoder : Decoder R) → (IsTrue strict → opens_of progress ≤ 1)
+      → Reached progress decoder progress decoder
+  Reached-start progress decoder few = grind (arith, leads_start)
 
-  leads_back : (opens left : ℕ) (old now new : Decoder R) (after : Progress)
-      (led : LeadsTo opens old (p.Open left) now) → (IsSteady source now → IsSteady source new)
-      → ClosesInner source kind left now after new → LeadsTo opens old after new
-  leads_back opens left old now new after led steady step =
-      let f = led.is in
-      let same : led.left ≡ left = cc in
-      let two = two_or_more left step.inner in
-      let one : left - 1 ≡ suc two.0 = omega (arith, two.1) in
-      record {
-        nest = led.nest ++ step.pulled.title;
-        left = suc two.0;
-        nests = back (subst (λ (z : ℕ). Nests kind opens led.nest z) (same ∙ two.1) led.nests) step.pulled.is_title;
-        passed = Passes-pull source old now new led.nest _ step.pulled led.passed steady;
-        shallow = λ on. let shallow = led.shallow on in let inner = step.inner in
-            absurd (omega (arith, shallow, inner, same, nests_counted kind opens led.nest led.left led.nests));
-        is = step.after ∙ ap p.Open one;
-      }
+  module _ (opens left : ℕ) (old now new : Decoder R) (led : LeadsTo opens old left now)
+      (steady : IsSteady source now → IsSteady source new) where
+    -- the nest so far, with a title that leads on
+    leads_on : (left' : ℕ) (header : Header) (pulled : PullsTitle source now header new)
+        → Nests kind opens (led.nest ++ pulled.title) left'
+        → (IsTrue strict → opens + length (led.nest ++ pulled.title) ≤ 1) → LeadsTo opens old left' new
+    leads_on left' header pulled nests shallow = record {
+      nest = led.nest ++ pulled.title;
+      nests = nests;
+      passed = Passes-pull source old now new led.nest header pulled led.passed steady;
+      shallow = shallow;
+    }
+
+    leads_deeper : (after : Progress) → Deepens source kind strict left now after new → LeadsTo opens old (left + 1) new
+    leads_deeper after step = leads_on (left + 1) _ step.pulled (rw add-one (deeper led.nests step.pulled.is_title))
+        (grind (arith, nests_zero, alone_bytes, open_alone, open_length, length-append {A = ℕ}))
+
+    leads_back : (after : Progress) → ClosesInner source kind left now after new → LeadsTo opens old (left - 1) new
+    leads_back after step =
+        let two : left ≡ suc (suc (left - 2)) = omega (arith, step.inner) in
+        let one : suc (left - 2) ≡ left - 1 = omega (arith, step.inner) in
+        leads_on (left - 1) _ step.pulled (rw one at (back (rw two at led.nests) step.pulled.is_title))
+        (grind (arith, nests_counted))
 
   -- the nest so far, and the title that decides
   ends_from : (opens left : ℕ) (old now new : Decoder R) (result : Result (Option Body) (Error E))
-      (after : Progress) → LeadsTo opens old (p.Open left) now
+      (after : Progress) → LeadsTo opens old left now
       → EndsAdvance source kind strict left now result after new → AdvancesFrom source kind strict opens old result
       after new
-  ends_from opens left old now new result after led ends =
-      let f = led.is in
-      let same : led.left ≡ left = cc in
-      record {
-        nest = led.nest;
-        left = left;
-        nests = subst (λ (z : ℕ). Nests kind opens led.nest z) same led.nests;
-        between = now;
-        passed = led.passed;
-        shallow = led.shallow;
-        ends = ends;
-      }
+  ends_from opens left old now new result after led ends = record {
+    nest = led.nest;
+    left = left;
+    nests = led.nests;
+    between = now;
+    passed = led.passed;
+    shallow = led.shallow;
+    ends = ends;
+  }
 
-  -- a string that has ended has no open left
-  not_ended : (opens left : ℕ) (old now : Decoder R) → AdvancesFrom source kind strict opens old (Ok None) (p.Open left)
-      now → ⊥
-  not_ended opens left old now all = let f = all.ends.after in cc
+  -- where titles are due they led there, as a string that has ended has no open left
+  led_to : (opens left : ℕ) (old now : Decoder R) → Reached (p.Open opens) old (p.Open left) now
+      → LeadsTo opens old left now
+  led_to opens left old now (inl led) = let same : led.0 ≡ left = let f = led.1 in cc in rw same at led.2
+  led_to opens left old now (inr all) = absurd (let f = all.ends.after in cc)
 
   pub Reached-step : (first : Progress) (left : ℕ) (old now new : Decoder R) (after : Progress)
       → Reached first old (p.Open left) now → (IsSteady source now → IsSteady source new)
       → StepsOver source kind strict left now (Ok None) after new → Reached first old after new
-  Reached-step first left old now new after r steady step = grind (arith, ends_from, leads_deeper, leads_back, not_ended)
+  Reached-step (p.Open opens) left old now new after r steady step =
+      let led = led_to opens left old now r in
+      elim step [
+        | inl closes ↦ inr (ends_from opens left old now new (Ok None) after led closes)
+        | inr (inl deepens) ↦ inl (left + 1, deepens.after, leads_deeper opens left old now new led steady after deepens)
+        | inr (inr inner) ↦ inl (left - 1, inner.after, leads_back opens left old now new led steady after inner)
+      ]
+  Reached-step first left old now new after r steady step = absurd (let f = r.0 in cc)
 
   -- a title that decides gives the answer
   pub Reached-ends : (first : Progress) (left : ℕ) (old now new : Decoder R)
       (result : Result (Option Body) (Error E)) (after : Progress) → Reached first old (p.Open left) now
       → EndsAdvance source kind strict left now result after new → AdvancesTo source kind strict first old result after
       new
-  Reached-ends first left old now new result after r ends = grind (arith, ends_from, not_ended)
+  Reached-ends (p.Open opens) left old now new result after r ends =
+      ends_from opens left old now new result after (led_to opens left old now r) ends
+  Reached-ends first left old now new result after r ends = absurd (let f = r.0 in cc)
 
   -- behind the title of a body no header waits
   pub none_waits_for_body : (first : Progress) (old : Decoder R) (body : Body) (after : Progress) (new : Decoder R)

@@ -1,11 +1,10 @@
 -- The copy of a body, chunk by chunk.
-use Rattle.std.proofs.Common.{[], ◌≡◌, ℕ, ◌≤◌, List, ◌++◌, length, Result, Ok, Err, refl, sym, ap, subst, ◌∙◌, arith}
-use Rattle.std.proofs.Common.{append_assoc, append-nil, length-append}
+use Rattle.std.proofs.Common.{◌≡◌, ℕ, ◌≤◌, List, length, Result, Ok, Err, refl, ap, arith, append_assoc, append-nil}
+use Rattle.std.proofs.Common.{length-append}
 use Rattle.std.proofs.KnownBytes.{Appends-nil}
 use Rattle.std.specs.Result.{IsErrAnd, MatchResult}
 use Rattle.ciborium_ll_io.specs.declared.io.Read.{Ghosts as Reader}
 use Rattle.ciborium_ll_io.specs.declared.io.Write.{Ghosts as Writer}
-use Rattle.ciborium_ll_decoder.specs.declared.dec.Decoder.{Decoder}
 use Rattle.ciborium_ll_decoder.specs.declared.dec.Error.{Error}
 use Rattle.ciborium_ll_decoder.specs.declared.copy.RecodeError.{RecodeError}
 use Rattle.ciborium_ll_decoder.specs.declared.copy.RecodeError.TheVariants as r
@@ -13,10 +12,9 @@ use Rattle.ciborium_ll_decoder.specs.declared.seg.Body.{Body}
 use Rattle.ciborium_ll_decoder.specs.declared.seg.Parser.{Ghosts as Parser}
 use Rattle.ciborium_ll_decoder.specs.declared.seg.Segment.{Segment}
 use Rattle.ciborium_ll_decoder.specs.Kept.{kept_bytes}
-use Rattle.ciborium_ll_decoder.specs.Decoding.{IsSteady, Passes}
+use Rattle.ciborium_ll_decoder.specs.Decoding.{IsSteady}
 use Rattle.ciborium_ll_io.specs.Writes.{WritesAll, WritesFront}
 use Rattle.ciborium_ll_decoder.specs.Chunks.{IsWhole, GivesChunk, SegmentEnds, PullsChunk}
-use Rattle.ciborium_ll_decoder.specs.Finishing.{StopsRest}
 use Rattle.ciborium_ll_decoder.specs.BodyCopies.{BodyWritten, BodyUnwritten, CopiesBody, sides}
 use Rattle.ciborium_ll_decoder.proofs.BodyLaws.{few_kept, split_parts, three_kept}
 use Rattle.ciborium_ll_decoder.proofs.FinishLaws.{RestSoFar, rest_start, rest_chunk, rest_ends}
@@ -65,41 +63,17 @@ module _ {R E P W F : Type 0} {parser : Parser P} (source : Reader R E) (sink : 
         → BodyUnwritten source sink parser.kind body.length room (sides first.decoder.now writer)
         (sides new.decoder.now writer')
     so_far_unwritten room chunk new writer' gives four steady stopped =
-        let front = so_far.rest.front in
         let more = rest_chunk source first segment so_far.rest room chunk new gives steady in
-        let parts : more.read ≡ front ++ (chunk ++ kept_bytes new.kept) =
-        ap (λ (z : List ℕ). z ++ more.read) (sym whole.kept) ∙ more.parts ∙ append_assoc front chunk
-        (kept_bytes new.kept) in
-        let before = ap length (ap (λ (z : List ℕ). z ++ so_far.rest.read) (sym whole.kept) ∙ so_far.rest.parts) in
-        let split = ap length (split_parts parser.kind (kept_bytes segment.kept ++ gives.read) chunk
-        (kept_bytes new.kept) gives.split) in
+        let before = ap length (rw whole.kept at so_far.rest.parts) in
+        let split = ap length (split_parts parser.kind _ chunk _ gives.split) in
         record {
-          front = front;
+          front = so_far.rest.front;
           chunk = chunk;
           kept = kept_bytes new.kept;
           between = now;
-          passed = subst (λ (z : List ℕ). Passes source first.decoder.now z new.decoder.now) parts more.passed;
-          within = omega (
-            arith,
-            before,
-            so_far.rest.counted,
-            whole.unread,
-            gives.reads.some_unread,
-            length-append front (kept_bytes segment.kept),
-          );
-          filled = omega (
-            arith,
-            before,
-            split,
-            three_kept segment.kept,
-            four,
-            so_far.rest.counted,
-            whole.unread,
-            gives.reads.count,
-            length-append front (kept_bytes segment.kept),
-            length-append (kept_bytes segment.kept) gives.read,
-            length-append chunk (kept_bytes new.kept),
-          );
+          passed = rw (rw (whole.kept, append_assoc) at more.parts) at more.passed;
+          within = omega (arith, before, whole.unread, length-append {A = ℕ});
+          filled = omega (arith, before, split, whole.unread, three_kept segment.kept, length-append {A = ℕ});
           few = few_kept parser.kind new.kept new.text_alone;
           stuck = new.stuck;
           sound = more.sound;
@@ -111,18 +85,13 @@ module _ {R E P W F : Type 0} {parser : Parser P} (source : Reader R E) (sink : 
     pub so_far_whole : (new : Segment R P parser) → SegmentEnds source segment new
         → BodyWritten source sink parser.kind body.length (sides first.decoder.now writer) (sides new.decoder.now now)
     so_far_whole new ends =
-        let parts : so_far.rest.read ≡ so_far.rest.front =
-        ap (λ (z : List ℕ). z ++ so_far.rest.read) (sym whole.kept) ∙ so_far.rest.parts
-        ∙ ap (λ (z : List ℕ). so_far.rest.front ++ z) ends.none_kept ∙ append-nil so_far.rest.front in
-        let counted = ap length parts in
+        let parts = rw (whole.kept, ends.none_kept, append-nil) at so_far.rest.parts in
         record {
           ends = record {
             read = so_far.rest.front;
-            all = omega (arith, counted, so_far.rest.counted, whole.unread, ends.none_unread);
+            all = omega (arith, ap length parts, so_far.rest.counted, whole.unread, ends.none_unread);
             sound = so_far.rest.sound;
-            passed = subst (λ (d : Decoder R). Passes source first.decoder.now so_far.rest.front d) (sym ends.decoder)
-                (subst (λ (z : List ℕ). Passes source first.decoder.now z segment.decoder.now) parts
-                so_far.rest.passed);
+            passed = rw ends.decoder (rw parts at so_far.rest.passed);
           };
           written = so_far.written;
         }
@@ -133,15 +102,6 @@ module _ {R E P W F : Type 0} {parser : Parser P} (source : Reader R E) (sink : 
         → PullsChunk source room segment (Err error) new → CopiesBody source sink parser.kind body.length room
         body.place (sides first.decoder.now writer) (Err (r.Read error)) (sides new.decoder.now now)
     so_far_error room error new four steady pulled =
-        let Stopped : List ℕ → ℕ → ℕ → Type 0 = λ kept unread place.
-        (stops : StopsRest source parser.kind kept unread room place first.decoder.now error new.decoder.now)
-        × (stops.part.front ≡ so_far.rest.front) in
-        let stopped = rest_ends source first segment so_far.rest room error new four whole.sound steady pulled in
-        let behind : Stopped [] body.length body.place =
-        subst (λ (z : List ℕ). Stopped z body.length body.place) whole.kept
-        (subst (λ (n : ℕ). Stopped (kept_bytes first.kept) body.length n) whole.place
-        (subst (λ (n : ℕ). Stopped (kept_bytes first.kept) n first.place) whole.unread stopped)) in
-        record {
-          ends = behind.0;
-          written = subst (λ (z : List ℕ). WritesAll sink writer z now) (sym behind.1) so_far.written;
-        }
+        let stopped = rw (whole.kept, whole.unread, whole.place) at (rest_ends source first segment so_far.rest room error
+        new four whole.sound steady pulled) in
+        record { ends = stopped.0; written = rw stopped.1 so_far.written }

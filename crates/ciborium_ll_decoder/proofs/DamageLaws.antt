@@ -1,9 +1,9 @@
 -- What was read of a body of a text that is none, by all reads together.
-use Rattle.std.proofs.Common.{◌≡◌, ℕ, ◌≤◌, List, ◌++◌, length, sym, ap, subst, ◌∙◌, arith, append_assoc, length-append}
+use Rattle.std.proofs.Common.{◌≡◌, ℕ, ◌≤◌, List, ◌++◌, length, arith, append_assoc, length-append}
 use Rattle.ciborium_ll_io.specs.declared.io.Read.{Ghosts as Reader}
 use Rattle.ciborium_ll_decoder.specs.declared.dec.Decoder.{Decoder}
 use Rattle.ciborium_ll_decoder.specs.declared.dec.Error.TheVariants as e
-use Rattle.ciborium_ll_grammar.specs.Strings.{Kind, Text, IsWritable}
+use Rattle.ciborium_ll_grammar.specs.Strings.{Kind, Text}
 use Rattle.ciborium_ll_text.specs.Text.{IsCharacters}
 use Rattle.ciborium_ll_decoder.specs.Decoding.{Passes}
 use Rattle.ciborium_ll_decoder.specs.Finishing.{IsNoText, StopsRest}
@@ -32,9 +32,9 @@ module _ {R E : Type 0} (source : Reader R E) (kind : Kind) (kept : List ℕ) (u
         read = part.read ++ damage.last;
         front = part.front;
         more = part.left ++ damage.last;
-        parts = sym (append_assoc kept part.read damage.last) ∙ ap (λ (z : List ℕ). z ++ damage.last) part.parts
-            ∙ append_assoc part.front part.left damage.last;
-        sound = subst (λ (k : Kind). IsWritable k part.front) damage.textual part.sound;
+        parts = rw (← append_assoc kept part.read damage.last, part.parts)
+            (append_assoc part.front part.left damage.last);
+        sound = rw damage.textual at part.sound;
         within = omega (arith, stops.filled, damage.all, part.within, length-append part.read damage.last);
         no_text = damage.no_text;
         passed = Passes-then source old stops.between new part.read damage.last part.passed damage.passed;

@@ -1,5 +1,5 @@
 -- Strings that are no longer than the spelling of their bodies have no open.
-use Rattle.std.proofs.Common.{[], ℕ, ◌≤◌, List, ◌∷◌, ◌++◌, length, Option, Some, ap, ◌∙◌, arith, length-append}
+use Rattle.std.proofs.Common.{ℕ, ◌≤◌, List, length, Option, Some, arith, length-append}
 use Rattle.ciborium_ll_grammar.specs.Title.{IsTitle, IsStrictTitle, IsSmallSimple, shortest_title}
 use Rattle.ciborium_ll_grammar.specs.Strings.{Kind, kind_header, AreStrings, none as no_strings, more as more_strings}
 use Rattle.ciborium_ll_grammar.specs.Strings.IsString.{definite, indefinite}
@@ -23,42 +23,12 @@ pub flat : (k : Kind) (w : List ℕ) (bs : List (List ℕ)) → AreStrings k w b
     → AreFlat k w bs
 flat k w bs no_strings l = none
 flat k w bs (more_strings {rest = y} {others = es} (definite {title = t} {body = b} p) ss) l =
-    let x = kind_header k (Some (length b)) in
-    let rest = respell_all k y es ss in
-    let m = rest.shorter in
-    let n = shortest_no_longer t x p in
-    let sizes = length-append (shortest_title x ++ b) (spelling (pieces k es)) in
-    more p (strict_title k (Some (length b)) t p (omega (
-      arith,
-      l,
-      m,
-      sizes,
-      length-append (shortest_title x) b,
-      length-append (t ++ b) y,
-      length-append t b,
-    ))) (flat k y es ss (omega (
-      arith,
-      l,
-      n,
-      sizes,
-      length-append (shortest_title x) b,
-      length-append (t ++ b) y,
-      length-append t b,
-    )))
+    let rest = (respell_all k y es ss).shorter in
+    let title = shortest_no_longer t _ p in
+    more p (strict_title k (Some (length b)) t p (omega (arith, length-append {A = ℕ})))
+    (flat k y es ss (omega (arith, length-append {A = ℕ})))
 flat k w bs (more_strings {rest = y} {others = es} (indefinite {title = t} {strings = z} {bodies = cs} p q) ss) l =
-    let inner = respell_all k z cs q in
-    let rest = respell_all k y es ss in
-    let m = inner.shorter in
-    let n = rest.shorter in
-    let counted = ap length (ap spelling (pieces-append k cs es) ∙ spelling-append (pieces k cs) (pieces k es)) in
-    absurd (omega (
-      arith,
-      l,
-      m,
-      n,
-      counted,
-      length-append (spelling (pieces k cs)) (spelling (pieces k es)),
-      length-append (t ++ (z ++ 0xff ∷ [])) y,
-      length-append t (z ++ 0xff ∷ []),
-      length-append z (0xff ∷ []),
-    ))
+    let inner = (respell_all k z cs q).shorter in
+    let rest = (respell_all k y es ss).shorter in
+    let less = rw (pieces-append, spelling-append) at l in
+    absurd (omega (arith, length-append {A = ℕ}))

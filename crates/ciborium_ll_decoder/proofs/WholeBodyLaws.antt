@@ -7,8 +7,8 @@ use Rattle.ciborium_ll_decoder.specs.declared.dec.Decoder.{Decoder}
 use Rattle.ciborium_ll_decoder.specs.declared.dec.Error.{Error}
 use Rattle.ciborium_ll_decoder.specs.declared.dec.Error.TheVariants as e
 use Rattle.ciborium_ll_grammar.specs.Strings.{Kind, Text, IsWritable}
-use Rattle.ciborium_ll_decoder.specs.Decoding.{IsSteady, Passes, ReadsAll, ReadsBytes}
-use Rattle.ciborium_ll_decoder.specs.Finishing.{BeginsRest, EndsBody}
+use Rattle.ciborium_ll_decoder.specs.Decoding.{IsSteady, ReadsAll, ReadsBytes}
+use Rattle.ciborium_ll_decoder.specs.Finishing.{EndsBody, StopsReading}
 use Rattle.ciborium_ll_decoder.proofs.DecodingLaws.{Passes-none}
 use Rattle.ciborium_ll_decoder.proofs.BodyLaws.{writable_nil, Passes-read}
 use Rattle.ciborium_ll_text.specs.Text.{IsCharacters, IsFront}
@@ -37,25 +37,29 @@ module _ {R E : Type 0} (source : Reader R E) (kind : Kind) (len room place : �
   pub empty_ends : len ≡ 0 → EndsBody source kind [] len room place old (Ok (tt {0})) old
   empty_ends h0 = grind arith
 
-  -- nothing of it was read
-  abbrev begun : BeginsRest source kind [] len old old
-  begun = record {
-    read = [];
-    front = [];
-    left = [];
-    parts = refl;
-    few = omega arith;
-    stuck = IsStuck-nil;
-    sound = writable_nil kind;
-    within = omega arith;
-    passed = Passes-none source old;
+  -- one read of it all is the last one
+  at_once : (count : ℕ) (error : Error E) (new : Decoder R) → count ≡ len → len ≤ room
+      → StopsReading source kind [] len [] place count old error new
+      → EndsBody source kind [] len room place old (Err error) new
+  at_once count error new all held stops = record {
+    between = old;
+    part = record {
+      read = [];
+      front = [];
+      left = [];
+      parts = refl;
+      few = omega arith;
+      stuck = IsStuck-nil;
+      sound = writable_nil kind;
+      within = omega arith;
+      passed = Passes-none source old;
+    };
+    count = count;
+    filled = omega (arith, all, held);
+    stops = stops;
   }
 
   module _ (read : List ℕ) (new : Decoder R) (all : length read ≡ len) where
-    read_passed : ReadsAll source old read new → (IsSteady source old → IsSteady source new)
-        → Passes source old read new
-    read_passed reads steady = Passes-read source old old new [] read (Passes-none source old) reads steady
-
     -- it may be written
     pub whole_ends : IsWritable kind read → ReadsAll source old read new
         → (IsSteady source old → IsSteady source new) → EndsBody source kind [] len room place old (Ok (tt {0})) new
@@ -65,40 +69,19 @@ module _ {R E : Type 0} (source : Reader R E) (kind : Kind) (len room place : �
     pub damaged_ends : len ≤ room → (IsWritable kind read → ⊥) → ReadsAll source old read new
         → (IsSteady source old → IsSteady source new)
         → EndsBody source kind [] len room place old (Err (e.Syntax place)) new
-    damaged_ends held unsound reads steady = record {
-      between = old;
-      part = begun;
-      count = length read;
-      filled = omega (arith, all, held);
-      stops = (
-        refl,
-        record {
-          textual = textual kind read unsound;
-          last = read;
-          all = refl;
-          no_text = inl (all, no_text kind read unsound);
-          passed = read_passed reads steady;
-        },
-      );
-    }
+    damaged_ends held unsound reads steady = at_once (length read) (e.Syntax place) new all held (
+      refl,
+      record {
+        textual = textual kind read unsound;
+        last = read;
+        all = refl;
+        no_text = inl (all, no_text kind read unsound);
+        passed = Passes-read source old old new [] read (Passes-none source old) reads steady;
+      },
+    )
 
   -- the read failed, which is one of no more bytes than the buffer holds
   pub unread_ends : (read : List ℕ) (new : Decoder R) (error : Error E) → old.waiting ≡ None → length read ≡ len
       → 0 < len → len ≤ room → ReadsBytes source old (Err error) read new
       → EndsBody source kind [] len room place old (Err error) new
-  unread_ends read new (e.Io fault) none all some held fails = record {
-    between = old;
-    part = begun;
-    count = length read;
-    filled = omega (arith, all, held);
-    stops = (omega (arith, all, some), fails);
-  }
-  unread_ends read new (e.Syntax at) none all some held fails = absurd fails
-  unread_ends read new e.TooLong none all some held fails = record {
-    between = old;
-    part = begun;
-    count = length read;
-    filled = omega (arith, all, held);
-    stops = (fails.1, fails.2);
-  }
-  unread_ends read new e.Waiting none all some held fails = absurd (let waits = fails.0 in cc)
+  unread_ends read new error none all some held fails = at_once (length read) error new all held (grind arith)

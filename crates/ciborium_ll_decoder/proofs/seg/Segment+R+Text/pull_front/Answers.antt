@@ -60,10 +60,9 @@ returns-then-size-kept-clause-chunk g c =
     let same = c.read_nothing.ensures.same in
     record {
       read = [];
-      reads = ReadsOn-none g.R.Read (length c.args.buffer.now) c.args.self.now c.read_nothing.new.self
-          (omega (arith, c.if-self-eq0.false)) c.if-self.false
-          (omega (arith, c.if-size-kept.true, c.min-size.ensures, c.len-kept.ensures)) same
-          c.in_ok-read_nothing.ensures.read;
+      reads = ReadsOn-none g.R.Read (length c.args.buffer.now) c.min-size.result c.len-kept.result c.args.self.now
+          c.read_nothing.new.self c.if-self-eq0.false c.if-self.false c.len-kept.ensures c.min-size.ensures
+          c.if-size-kept.true same c.in_ok-read_nothing.ensures.read;
       split = subst (λ (k : Kept). IsFront (kept_bytes c.args.self.now.kept ++ []) [] (kept_bytes k))
           (sym same.kept) (IsFront-stuck (kept_bytes c.args.self.now.kept) c.args.self.now.stuck);
       still_sound = same.damaged ∙ c.if-self.false;
@@ -95,8 +94,8 @@ returns-in-None-clause-chunk g c =
       cause = inr (inr (record {
         read = fill.read;
         reads = ReadsOn-behind g.R.Read (length c.args.buffer.now) c.min-size.result c.len-kept.result c.args.self.now _
-            c.fill.new.filled fill.read c.if-self-eq0.false c.if-self.false c.len-kept.ensures c.min-size.ensures
-            c.if-size-kept.false (search rules) fill.whole (rw damage.same fill.reads) (damage.unread ∙ fewer)
+            c.if-self-eq0.false c.if-self.false c.len-kept.ensures c.min-size.ensures c.fill.new.filled
+            c.if-size-kept.false (search rules) fill.read fill.whole (rw damage.same fill.reads) (damage.unread ∙ fewer)
             (damage.place ∙ same.place);
         front = text;
         left = drop (length text) c.fill.new.filled;
@@ -122,8 +121,8 @@ returns-in-Some-clause-chunk g c =
     record {
       read = fill.read;
       reads = ReadsOn-behind g.R.Read (length c.args.buffer.now) c.min-size.result c.len-kept.result c.args.self.now _
-          c.fill.new.filled fill.read c.if-self-eq0.false c.if-self.false c.len-kept.ensures c.min-size.ensures
-          c.if-size-kept.false (search rules) fill.whole fill.reads fewer same.place;
+          c.if-self-eq0.false c.if-self.false c.len-kept.ensures c.min-size.ensures c.fill.new.filled
+          c.if-size-kept.false (search rules) fill.read fill.whole fill.reads fewer same.place;
       split = subst (λ (z : List ℕ). IsFront z text (kept_bytes c.in-Some.rest)) fill.whole
           (subst (λ (z : List ℕ). IsFront c.fill.new.filled text z) (sym behind) c.text_front-state.ensures.front);
       still_sound = same.damaged ∙ c.if-self.false;
@@ -152,16 +151,16 @@ returns-then-size-kept-clause-rest g c =
 pub returns-in_err-read_nothing-clause-chunk : goal.returns-in_err-read_nothing-clause-chunk
 returns-in_err-read_nothing-clause-chunk g c =
     none_stopped g.R.Read (length c.args.buffer.now) c.min-size.result c.len-kept.result c.args.self.now
-    c.read_nothing.new.self _ _ (exit_is c.from_residual.result c.in_err-read_nothing.field-0.0 c.from_residual.ensures.1)
-    c.if-self-eq0.false c.if-self.false c.len-kept.ensures c.min-size.ensures c.if-size-kept.true
+    c.read_nothing.new.self c.if-self-eq0.false c.if-self.false c.len-kept.ensures c.min-size.ensures _ _
+    (exit_is c.from_residual.result c.in_err-read_nothing.field-0.0 c.from_residual.ensures.1) c.if-size-kept.true
     c.read_nothing.ensures.same c.in_err-read_nothing.ensures.read
 
 pub returns-in_err-fill-clause-chunk : goal.returns-in_err-fill-clause-chunk
 returns-in_err-fill-clause-chunk g c =
     let answer = c.from_residual-in_err-fill in
     fill_stopped g.R.Read (length c.args.buffer.now) c.min-size.result c.len-kept.result c.args.self.now
-    c.fill.new.self c.fill.new.filled _ _ (exit_is answer.result c.in_err-fill.field-0.0 answer.ensures.1)
-    c.if-self-eq0.false c.if-self.false c.len-kept.ensures c.min-size.ensures c.if-size-kept.false (search rules)
+    c.fill.new.self c.if-self-eq0.false c.if-self.false c.len-kept.ensures c.min-size.ensures c.fill.new.filled
+    c.if-size-kept.false (search rules) _ _ (exit_is answer.result c.in_err-fill.field-0.0 answer.ensures.1)
     c.fill.ensures.same c.in_err-fill.ensures.filled
 
 pub returns-in_err-read_nothing-clause-left : goal.returns-in_err-read_nothing-clause-left
