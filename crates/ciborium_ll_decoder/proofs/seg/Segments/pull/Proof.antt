@@ -1,6 +1,5 @@
 -- `pull` by hand: the walk in `Proof/Walk.antt`, over `advance` and `segment` as they are proved. It stands apart from
 -- them, so that it isn't checked again where what `advance` rests on changes.
-mod Shapes
 mod Walk
 use contract.Running.{tables, tables_of}
 use denote.Triple.Clauses.{closing}
@@ -11,8 +10,7 @@ use Rattle.ciborium_ll_decoder.proofs.seg.Segments.advance.Met as advance_met
 use Rattle.ciborium_ll_decoder.proofs.seg.Segments.segment.Met as lend_met
 use Rattle.ciborium_ll_decoder.proofs.seg.Segments.pull.Statement.{statement}
 use Rattle.ciborium_ll_decoder.proofs.seg.Segments.pull.Code as code
-use Rattle.ciborium_ll_decoder.proofs.seg.Segments.pull.Proof.Shapes.{arguments, function, ended}
-use Rattle.ciborium_ll_decoder.proofs.seg.Segments.pull.Proof.Walk.{spec, meets}
+use Rattle.ciborium_ll_decoder.proofs.seg.Segments.pull.Proof.Walk.{arguments, function, ended, spec, meets}
 
 pub pull_spec : {M : Type 1} → statement M
 unfolding tables_of
@@ -24,8 +22,8 @@ pull_spec 𝓤 𝓛 𝓜 𝓡 wired R P E R-laws P-laws E-laws reads reads_dict 
     let 𝓣' = tables 𝓤 𝓛.H 𝓜 𝓡 𝓡.env in
     entered 𝓤 𝓛.H (triple_of 𝓛 (ended R P E reads reads_dict kind kind_dict).signature
     (closing 𝓛 (ended R P E reads reads_dict kind kind_dict)
-    (spec R P E R-laws P-laws E-laws reads reads_dict kind kind_dict 𝓛 𝓜 𝓡 advances lends))) 𝓣'.C 𝓣'.Λ
+    (spec R P E reads reads_dict kind kind_dict R-laws P-laws E-laws 𝓛 𝓜 𝓡 advances lends))) 𝓣'.C 𝓣'.Λ
     (#pull (arguments R P E reads reads_dict kind kind_dict))
     (function R P E reads reads_dict kind kind_dict)
     (code.unfolded 𝓤 𝓛.H 𝓜 𝓡 wired (R, (P, (E, tt))) reads_dict kind_dict)
-    (meets R P E R-laws P-laws E-laws reads reads_dict kind kind_dict 𝓛 𝓜 𝓡 advances lends)
+    (meets R P E reads reads_dict kind kind_dict R-laws P-laws E-laws 𝓛 𝓜 𝓡 advances lends)
