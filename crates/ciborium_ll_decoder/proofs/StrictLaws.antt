@@ -70,10 +70,17 @@ module _ {R E : Type 0} (source : Ghosts R E) where
   title_read old between new read title b none first affix is =
       grind (arith, view_none, Consumes-trans, length-append {A = ℕ})
 
+  -- the same, as the bytes of the parts
+  pub parts_read : (old between new : Decoder R) (read : List ℕ) (b : Minor) → old.waiting ≡ None
+      → ReadsAll source old read between → ReadsAll source between (minor_affix b) new → length read ≡ 1
+      → get_or read 0 0 % 32 ≡ minor_code b → TitleRead old (parts_bytes (get_or read 0 0 / 32) b) new
+  parts_read old between new read b none first affix one code =
+      title_read old between new read _ b none first affix (first_parts read b one code)
+
   -- where a first byte was read, the offset could rise
-  pub not_full : (old between : Decoder R) (read : List ℕ) → ReadsAll source old read between → length read ≡ 1
-      → old.offset ≡ 2 ^ 64 - 1 → ⊥
-  not_full old between read first one full = omega (arith, first.offset, one, full, between.covered)
+  pub not_full : {A : Type 0} (old between : Decoder R) (read : List ℕ) → ReadsAll source old read between
+      → length read ≡ 1 → old.offset ≡ 2 ^ 64 - 1 → A
+  not_full old between read first one full = absurd (omega (arith, first.offset, one, full, between.covered))
 
   -- of what was read this byte is refused
   refuses : (old new : Decoder R) (read : List ℕ) → old.waiting ≡ None → length read ≡ 1 → IsRefused (get_or read 0 0)
@@ -112,35 +119,28 @@ module _ {R E : Type 0} (source : Ghosts R E) where
       → ReadsAll source old (x ∷ []) between → (IsSteady source old → IsSteady source between)
       → ReadsMinor source x between (Err error) new → PullsHeader source old (Err error) new
   affix_unread old between new x (e.Io fault) none first steady affix =
-      let before = sym (view_none old.waiting (source.ahead old.reader) none) in
-      let after = sym (view_none new.waiting (source.ahead new.reader) affix.none_waits) in
+      let before = view_none old.waiting (source.ahead old.reader) none in
+      let after = view_none new.waiting (source.ahead new.reader) affix.none_waits in
       record {
         read = x ∷ [];
         within_first = omega arith;
-        began = subst (λ (k : Option (List ℕ)). IfSome k (Begins (x ∷ []))) before (begins_with _ _ _ first.bytes);
+        began = rw before (begins_with _ _ _ first.bytes);
         offset = affix.offset ∙ first.offset;
         fitted = omega (arith, affix.offset, affix.fitted);
         none_waited = none;
         none_waits = affix.none_waits;
-        failures = affix.failures ∙ ap (λ (n : ℕ). n + 1) first.failures;
+        failures = rw (affix.failures, first.failures) refl;
         steady = λ s.
             let cut = affix.steady (steady s) in
-            let kept = subst (λ (k : Option (List ℕ)). Consumes (source.ahead old.reader) k (x ∷ [])) (sym cut.0)
-            first.bytes in (
-              subst (λ (k : Option (List ℕ)). Consumes k (view source new) (x ∷ [])) before
-                  (subst (λ (k : Option (List ℕ)). Consumes (source.ahead old.reader) k (x ∷ [])) after kept),
-              subst (λ (k : Option (List ℕ)). IfSome k (λ due. IsCutTitle due × (x ∷ [] ≡ take 1 due))) before
-                  (cut_affix _ _ x first.bytes cut.1),
-            );
+            rw (before, after, cut.0) (first.bytes, cut_affix _ _ x first.bytes cut.1);
       }
   affix_unread old between new x e.TooLong none first steady affix =
-      let before = sym (view_none old.waiting (source.ahead old.reader) none) in
-      let after = sym (view_none between.waiting (source.ahead between.reader) first.none_waits) in
+      let before = view_none old.waiting (source.ahead old.reader) none in
+      let after = view_none between.waiting (source.ahead between.reader) first.none_waits in
       rw affix.1 (record {
         read = x ∷ [];
         within_first = omega arith;
-        bytes = subst (λ (k : Option (List ℕ)). Consumes k (view source between) (x ∷ [])) before
-            (subst (λ (k : Option (List ℕ)). Consumes (source.ahead old.reader) k (x ∷ [])) after first.bytes);
+        bytes = rw (before, after) first.bytes;
         offset = first.offset;
         full = affix.0;
         untouched = λ e. absurd cc;

@@ -1,10 +1,8 @@
-use Rattle.std.proofs.Common.{◌≡◌, ◌%◌, length, rules, subst}
-use Rattle.ciborium_ll_grammar.specs.TitleRows.{IsAffix}
-use Rattle.ciborium_ll_grammar.specs.declared.hdr.table.Affix.{Affix}
+use Rattle.std.proofs.Common.{◌≡◌, length, rules}
 use Rattle.ciborium_ll_decoder.specs.Decoding.{HoldsAffix}
 use Rattle.ciborium_ll_decoder.proofs.DecodingLaws.{exit_is}
-use Rattle.ciborium_ll_decoder.proofs.StrictLaws.{affix_taken, none_unread, open_affix, open_taken}
-use Rattle.ciborium_ll_decoder.proofs.StrictLaws.{small_affix, small_taken}
+use Rattle.ciborium_ll_decoder.proofs.StrictLaws.{affix_taken, none_unread, open_affix, open_taken, small_affix}
+use Rattle.ciborium_ll_decoder.proofs.StrictLaws.{small_taken}
 use Rattle.ciborium_ll_decoder.proofs.dec.Decoder.minor.Goals as goal
 use Rattle.ciborium_ll_decoder.proofs.dec.Decoder.minor.Goals.{in-One+in_ok-minor-in-One, in-Two+in_ok-minor-in-Two}
 use Rattle.ciborium_ll_decoder.proofs.dec.Decoder.minor.Goals.{in-Four+in_ok-minor-in-Four}
@@ -13,7 +11,7 @@ use Rattle.ciborium_ll_decoder.proofs.dec.Decoder.minor.Goals.{in-Eight+in_ok-mi
 pub returns-in_err-read-in-Within-clause-minor : goal.returns-in_err-read-in-Within-clause-minor
 returns-in_err-read-in-Within-clause-minor g c =
     let error = c.in_err-read-in-Within.field-0.0 in
-    let small = subst (λ (a : Affix). IsAffix a (c.args.first % 32)) c.in-Within.is c.requires.affix in
+    let small = rw c.in-Within.is at c.requires.affix in
     let empty : length c.read.new.data ≡ 0 = search rules in
     none_unread g.R.Read c.args.first c.args.self.now c.read.new.self c.read.new.data c.from_residual.result error
     (exit_is c.from_residual.result error c.from_residual.ensures.1) (small_affix _ small) c.requires.none_waits
@@ -23,7 +21,7 @@ pub returns-in_err-read-in-Open-clause-minor : goal.returns-in_err-read-in-Open-
 returns-in_err-read-in-Open-clause-minor g c =
     let answer = c.from_residual-in_err-read-in-Open in
     let error = c.in_err-read-in-Open.field-0.0 in
-    let is_open = subst (λ (a : Affix). IsAffix a (c.args.first % 32)) c.in-Open.is c.requires.affix in
+    let is_open = rw c.in-Open.is at c.requires.affix in
     let empty : length c.read-in-Open.new.data ≡ 0 = search rules in
     none_unread g.R.Read c.args.first c.args.self.now c.read-in-Open.new.self c.read-in-Open.new.data answer.result error
     (exit_is answer.result error answer.ensures.1) (open_affix _ is_open) c.requires.none_waits
@@ -32,43 +30,39 @@ returns-in_err-read-in-Open-clause-minor g c =
 pub returns-in_err-minor-in-One-clause-minor : goal.returns-in_err-minor-in-One-clause-minor
 returns-in_err-minor-in-One-clause-minor g c =
     let answer = c.from_residual-in_err-minor-in-One in
-    let code = subst (λ (a : Affix). IsAffix a (c.args.first % 32)) c.in-One.is c.requires.affix in
     rw (exit_is answer.result c.in_err-minor-in-One.field-0.0 answer.ensures.1)
-    (c.in_err-minor-in-One.ensures.minor c.args.first code)
+    (c.in_err-minor-in-One.ensures.minor c.args.first (rw c.in-One.is at c.requires.affix))
 
 pub returns-in_err-minor-in-Two-clause-minor : goal.returns-in_err-minor-in-Two-clause-minor
 returns-in_err-minor-in-Two-clause-minor g c =
     let answer = c.from_residual-in_err-minor-in-Two in
-    let code = subst (λ (a : Affix). IsAffix a (c.args.first % 32)) c.in-Two.is c.requires.affix in
     rw (exit_is answer.result c.in_err-minor-in-Two.field-0.0 answer.ensures.1)
-    (c.in_err-minor-in-Two.ensures.minor c.args.first code)
+    (c.in_err-minor-in-Two.ensures.minor c.args.first (rw c.in-Two.is at c.requires.affix))
 
 pub returns-in_err-minor-in-Four-clause-minor : goal.returns-in_err-minor-in-Four-clause-minor
 returns-in_err-minor-in-Four-clause-minor g c =
     let answer = c.from_residual-in_err-minor-in-Four in
-    let code = subst (λ (a : Affix). IsAffix a (c.args.first % 32)) c.in-Four.is c.requires.affix in
     rw (exit_is answer.result c.in_err-minor-in-Four.field-0.0 answer.ensures.1)
-    (c.in_err-minor-in-Four.ensures.minor c.args.first code)
+    (c.in_err-minor-in-Four.ensures.minor c.args.first (rw c.in-Four.is at c.requires.affix))
 
 pub returns-in_err-minor-in-Eight-clause-minor : goal.returns-in_err-minor-in-Eight-clause-minor
 returns-in_err-minor-in-Eight-clause-minor g c =
     let answer = c.from_residual-in_err-minor-in-Eight in
-    let code = subst (λ (a : Affix). IsAffix a (c.args.first % 32)) c.in-Eight.is c.requires.affix in
     rw (exit_is answer.result c.in_err-minor-in-Eight.field-0.0 answer.ensures.1)
-    (c.in_err-minor-in-Eight.ensures.minor c.args.first code)
+    (c.in_err-minor-in-Eight.ensures.minor c.args.first (rw c.in-Eight.is at c.requires.affix))
 
 pub returns-clause-minor : goal.returns-clause-minor
 returns-clause-minor g c =
     let holds : HoldsAffix g.R.Read c.args.first c.args.self.now c.match-affix.minor c.match-affix.self =
     elim c.match-affix.branch [
       | in-One+in_ok-minor-in-One w ↦ rw (w.self-is, w.minor-is) (w.in_ok-minor-in-One.ensures.minor c.args.first
-          (subst (λ (a : Affix). IsAffix a (c.args.first % 32)) w.in-One.is c.requires.affix))
+          (rw w.in-One.is at c.requires.affix))
       | in-Two+in_ok-minor-in-Two w ↦ rw (w.self-is, w.minor-is) (w.in_ok-minor-in-Two.ensures.minor c.args.first
-          (subst (λ (a : Affix). IsAffix a (c.args.first % 32)) w.in-Two.is c.requires.affix))
+          (rw w.in-Two.is at c.requires.affix))
       | in-Four+in_ok-minor-in-Four w ↦ rw (w.self-is, w.minor-is) (w.in_ok-minor-in-Four.ensures.minor c.args.first
-          (subst (λ (a : Affix). IsAffix a (c.args.first % 32)) w.in-Four.is c.requires.affix))
+          (rw w.in-Four.is at c.requires.affix))
       | in-Eight+in_ok-minor-in-Eight w ↦ rw (w.self-is, w.minor-is) (w.in_ok-minor-in-Eight.ensures.minor c.args.first
-          (subst (λ (a : Affix). IsAffix a (c.args.first % 32)) w.in-Eight.is c.requires.affix))
+          (rw w.in-Eight.is at c.requires.affix))
     ] in
     affix_taken g.R.Read c.args.first c.args.self.now c.match-affix.self c.match-affix.minor c.taken.result holds
     c.taken.ensures.taken
@@ -84,14 +78,14 @@ returns-clause-moves_on g c =
 
 pub returns-in-Within-clause-minor : goal.returns-in-Within-clause-minor
 returns-in-Within-clause-minor g c =
-    let small = subst (λ (a : Affix). IsAffix a (c.args.first % 32)) c.in-Within.is c.requires.affix in
+    let small = rw c.in-Within.is at c.requires.affix in
     let empty : length c.read.new.data ≡ 0 = search rules in
     small_taken g.R.Read c.args.first c.from.result c.args.self.now c.read.new.self c.read.new.data small c.from.ensures
     empty c.in_ok-read-in-Within.ensures.bytes
 
 pub returns-in-Open-clause-minor : goal.returns-in-Open-clause-minor
 returns-in-Open-clause-minor g c =
-    let is_open = subst (λ (a : Affix). IsAffix a (c.args.first % 32)) c.in-Open.is c.requires.affix in
+    let is_open = rw c.in-Open.is at c.requires.affix in
     let empty : length c.read-in-Open.new.data ≡ 0 = search rules in
     open_taken g.R.Read c.args.first c.args.self.now c.read-in-Open.new.self c.read-in-Open.new.data is_open empty
     c.in_ok-read-in-Open.ensures.bytes

@@ -1,10 +1,10 @@
-use Rattle.std.proofs.Common.{◌≡◌, ◌/◌, length, length-append, rules, arith, ap, sym, refl, subst, inl, inr, get_or, ◌<◌, ℕ}
+use Rattle.std.proofs.Common.{◌≡◌, ◌/◌, length, length-append, rules, arith, ap, sym, refl, inl, inr, get_or, ◌<◌}
 use Rattle.ciborium_ll_decoder.proofs.DecodingLaws.{exit_is, MovesOn-then}
 use Rattle.ciborium_ll_grammar.specs.Parts.{minor_affix, parts_bytes}
-use Rattle.ciborium_ll_grammar.specs.TitleRows.{IsTitleKind}
 use Rattle.ciborium_ll_grammar.proofs.TitleLaws.{shortest_no_longer}
 use Rattle.ciborium_ll_grammar.proofs.LongerLaws.{parts_header, parts_taken, parts_refused}
-use Rattle.ciborium_ll_decoder.proofs.StrictLaws.{affix_stopped, first_parts, first_refused, not_full, open_refused, title_read}
+use Rattle.ciborium_ll_decoder.proofs.StrictLaws.{parts_read, affix_stopped, first_parts, first_refused, not_full}
+use Rattle.ciborium_ll_decoder.proofs.StrictLaws.{open_refused}
 use Rattle.ciborium_ll_decoder.proofs.dec.Decoder.title.Goals as goal
 
 pub returns-in_err-minor-clause-header : goal.returns-in_err-minor-clause-header
@@ -29,8 +29,8 @@ returns-in_default-clause-header g c =
       | inr refuses ↦ (
           let minor = refuses.read in
           let h = parts_header _ minor byte refuses.holds.is_minor refuses.longer in
-          let is = first_parts c.read.new.data minor one refuses.holds.code in
-          let read = title_read g.R.Read c.args.self.now c.read.new.self c.minor.new.self c.read.new.data _ minor none first refuses.holds.all is in
+          let read = parts_read g.R.Read c.args.self.now c.read.new.self c.minor.new.self c.read.new.data minor none
+          first refuses.holds.all one refuses.holds.code in
           inr (record {
             strict = search rules;
             header = h.0;
@@ -57,8 +57,8 @@ returns-in-Some-header-clause-header g c =
     let minor = c.in-Some.minor in
     let header = c.in-Some-header.header in
     let t = c.in-Some-header.ensures.some in
-    let is = first_parts c.read.new.data minor one affix.holds.code in
-    let read = title_read g.R.Read c.args.self.now c.read.new.self c.minor.new.self c.read.new.data _ minor none first affix.holds.all is in
+    let read = parts_read g.R.Read c.args.self.now c.read.new.self c.minor.new.self c.read.new.data minor none first
+    affix.holds.all one affix.holds.code in
     record {
       title = parts_bytes (get_or c.read.new.data 0 0 / 32) minor;
       is_title = t;
@@ -86,8 +86,7 @@ returns-in-Some-header-clause-covered g c =
 pub header-requires-clause-kind : goal.header-requires-clause-kind
 header-requires-clause-kind g c =
     let affix = rw c.in-Some.is at c.in_ok-minor.ensures.minor in
-    subst (λ (z : ℕ). IsTitleKind c.row_of-row.result.kind (get_or c.read.new.data 0 0 / 32) z) affix.holds.code
-    c.row_of-row.ensures.kind
+    rw affix.holds.code at c.row_of-row.ensures.kind
 
 pub returns-in-None-clause-header : goal.returns-in-None-clause-header
 returns-in-None-clause-header g c =
@@ -104,33 +103,29 @@ returns-in_err-minor-clause-moves_on g c =
     MovesOn-then g.R.Read _ _ _ c.in_ok-read.ensures.moves_on c.minor.ensures.moves_on
 
 pub returns-in_err-minor-clause-full : goal.returns-in_err-minor-clause-full
-returns-in_err-minor-clause-full g c = λ full.
-    absurd (not_full g.R.Read c.args.self.now c.read.new.self c.read.new.data c.in_ok-read.ensures.bytes
-    (search rules) full)
+returns-in_err-minor-clause-full g c =
+    not_full g.R.Read c.args.self.now c.read.new.self c.read.new.data c.in_ok-read.ensures.bytes (search rules)
 
 pub returns-in_default-clause-moves_on : goal.returns-in_default-clause-moves_on
 returns-in_default-clause-moves_on g c =
     MovesOn-then g.R.Read _ _ _ c.in_ok-read.ensures.moves_on c.minor.ensures.moves_on
 
 pub returns-in_default-clause-full : goal.returns-in_default-clause-full
-returns-in_default-clause-full g c = λ full.
-    absurd (not_full g.R.Read c.args.self.now c.read.new.self c.read.new.data c.in_ok-read.ensures.bytes
-    (search rules) full)
+returns-in_default-clause-full g c =
+    not_full g.R.Read c.args.self.now c.read.new.self c.read.new.data c.in_ok-read.ensures.bytes (search rules)
 
 pub returns-in-Some-header-clause-moves_on : goal.returns-in-Some-header-clause-moves_on
 returns-in-Some-header-clause-moves_on g c =
     MovesOn-then g.R.Read _ _ _ c.in_ok-read.ensures.moves_on c.minor.ensures.moves_on
 
 pub returns-in-Some-header-clause-full : goal.returns-in-Some-header-clause-full
-returns-in-Some-header-clause-full g c = λ full.
-    absurd (not_full g.R.Read c.args.self.now c.read.new.self c.read.new.data c.in_ok-read.ensures.bytes
-    (search rules) full)
+returns-in-Some-header-clause-full g c =
+    not_full g.R.Read c.args.self.now c.read.new.self c.read.new.data c.in_ok-read.ensures.bytes (search rules)
 
 pub returns-in-None-clause-moves_on : goal.returns-in-None-clause-moves_on
 returns-in-None-clause-moves_on g c =
     MovesOn-then g.R.Read _ _ _ c.in_ok-read.ensures.moves_on c.minor.ensures.moves_on
 
 pub returns-in-None-clause-full : goal.returns-in-None-clause-full
-returns-in-None-clause-full g c = λ full.
-    absurd (not_full g.R.Read c.args.self.now c.read.new.self c.read.new.data c.in_ok-read.ensures.bytes
-    (search rules) full)
+returns-in-None-clause-full g c =
+    not_full g.R.Read c.args.self.now c.read.new.self c.read.new.data c.in_ok-read.ensures.bytes (search rules)

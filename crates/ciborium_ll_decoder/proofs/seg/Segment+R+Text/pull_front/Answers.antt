@@ -1,13 +1,13 @@
-use Rattle.std.proofs.Common.{ℕ, List, take, rules, arith, sym, ap, subst, inr, ◌∙◌, ◌≡◌, ◌<◌, ◌≤◌, ◌-◌, [], ◌++◌, length, drop}
-use Rattle.std.proofs.Common.{length-append, Result, Ok, Err, IfOk, IsErrAnd}
-use Rattle.std.proofs.lemmas.List.{take_rest}
+use Rattle.std.proofs.Common.{ℕ, List, take, rules, arith, sym, ap, subst, inr, ◌∙◌, ◌≡◌, ◌<◌, ◌≤◌, ◌-◌, [], ◌++◌}
+use Rattle.std.proofs.Common.{length, drop, length-append, Result, Ok, Err, IfOk, IsErrAnd}
+use Rattle.std.proofs.lemmas.List.{take_rest, take_at}
 use Rattle.ciborium_ll_decoder.specs.declared.seg.Kept.{Kept}
 use Rattle.ciborium_ll_decoder.specs.Kept.{kept_bytes}
 use Rattle.ciborium_ll_text.specs.Text.{IsStuck, IsFront}
 use Rattle.ciborium_ll_decoder.proofs.DecodingLaws.{exit_is}
-use Rattle.ciborium_ll_decoder.proofs.ChunkLaws.{fill_stopped, none_stopped, ReadsOn-behind, ReadsOn-none, chunk_left, chunk_consumed}
+use Rattle.ciborium_ll_decoder.proofs.ChunkLaws.{fill_stopped, none_stopped, ReadsOn-behind, ReadsOn-none, chunk_left}
+use Rattle.ciborium_ll_decoder.proofs.ChunkLaws.{chunk_consumed}
 use Rattle.ciborium_ll_text.proofs.FrontLaws.{IsFront-stuck, IsStuck-rest}
-use Rattle.std.proofs.lemmas.List.{take_at}
 use Rattle.ciborium_ll_text.specs.States.{after, IsLastEnd}
 use Rattle.ciborium_ll_text.specs.declared.state.State.TheVariants.{Between}
 use Rattle.ciborium_ll_text.proofs.LastEndLaws.{stuck_end}
