@@ -101,7 +101,12 @@ module _ {R E : Type 0} (source : Ghosts R E) (kind : Kind) (strict : Bool) wher
       let led = led_to opens left old now r in
       elim step [
         | inl closes ↦ inr (ends_from opens left old now new (Ok None) after led closes)
-        | inr (inl deepens) ↦ inl (left + 1, deepens.after, leads_deeper opens left old now new led steady after deepens)
+        | inr (inl deepens) ↦ inl (
+          left + 1,
+          deepens.after,
+          leads_deeper opens left old now new led steady after
+              deepens,
+        )
         | inr (inr inner) ↦ inl (left - 1, inner.after, leads_back opens left old now new led steady after inner)
       ]
   Reached-step first left old now new after r steady step = absurd (let f = r.0 in cc)

@@ -102,6 +102,6 @@ module _ {R E P W F : Type 0} {parser : Parser P} (source : Reader R E) (sink : 
         → PullsChunk source room segment (Err error) new → CopiesBody source sink parser.kind body.length room
         body.place (sides first.decoder.now writer) (Err (r.Read error)) (sides new.decoder.now now)
     so_far_error room error new four steady pulled =
-        let stopped = rw (whole.kept, whole.unread, whole.place) at (rest_ends source first segment so_far.rest room error
-        new four whole.sound steady pulled) in
+        let stopped = rw (whole.kept, whole.unread, whole.place) at (rest_ends source first segment so_far.rest room new
+        steady error four whole.sound pulled) in
         record { ends = stopped.0; written = rw stopped.1 so_far.written }

@@ -106,7 +106,8 @@ module _ {R E : Type 0} (source : Ghosts R E) where
       (title : PullsTitle source between header new) → Passes source old bytes between
       → (IsSteady source old → IsSteady source new) → Passes source old (bytes ++ title.title) new
   Passes-pulled old between new bytes header title passed steady =
-      grind (arith, Consumes-trans, length-append {A = ℕ}, stayed, append-nil {A = ℕ}, waited_more shortest_title old between new bytes title.title old.waiting between.waiting)
+      let waited = waited_more shortest_title old between new bytes title.title old.waiting between.waiting in
+      grind (arith, Consumes-trans, length-append {A = ℕ}, stayed, append-nil {A = ℕ}, waited)
 
   pub Passes-pull : (old between new : Decoder R) (bytes : List ℕ) (header : Header)
       (title : PullsTitle source between header new) → Passes source old bytes between
@@ -118,7 +119,8 @@ module _ {R E : Type 0} (source : Ghosts R E) where
   pub Passes-then : (old between new : Decoder R) (bytes more : List ℕ) → Passes source old bytes between
       → Passes source between more new → Passes source old (bytes ++ more) new
   Passes-then old between new bytes more first second =
-      grind (arith, Consumes-trans, length-append {A = ℕ}, stayed, waited_more shortest_title old between new bytes more old.waiting between.waiting)
+      let waited = waited_more shortest_title old between new bytes more old.waiting between.waiting in
+      grind (arith, Consumes-trans, length-append {A = ℕ}, stayed, waited)
 
   -- a decoder that isn't strict refuses first bytes alone
   pub lenient_refuses : (old : Decoder R) (place : ℕ) (new : Decoder R) → old.strict ≡ false

@@ -1,6 +1,6 @@
 -- What is left of a body, read chunk by chunk.
-use Rattle.std.proofs.Common.{[], ◌≡◌, ℕ, Bool, ◌+◌, ◌≤◌, true, false, List, ◌++◌, length, Option, Result, Ok, Err}
-use Rattle.std.proofs.Common.{refl, sym, ◌∙◌, inr, arith, append_assoc, append-nil, length-append}
+use Rattle.std.proofs.Common.{[], ◌≡◌, ℕ, Bool, ◌+◌, ◌≤◌, true, false, List, ◌++◌, length, Option, Ok, Err, refl, sym}
+use Rattle.std.proofs.Common.{◌∙◌, inr, arith, append_assoc, append-nil, length-append}
 use Rattle.std.specs.Borrow.{Bor}
 use Rattle.std.specs.Option.{is_some}
 use Rattle.ciborium_ll_io.specs.declared.io.Read.{Ghosts as Reader}
@@ -8,7 +8,7 @@ use Rattle.ciborium_ll_decoder.specs.declared.dec.Error.{Error}
 use Rattle.ciborium_ll_decoder.specs.declared.dec.Error.TheVariants as e
 use Rattle.ciborium_ll_decoder.specs.declared.seg.Parser.{Ghosts as Parser}
 use Rattle.ciborium_ll_decoder.specs.declared.seg.Segment.{Segment}
-use Rattle.ciborium_ll_grammar.specs.Strings.{Kind, Bytes, Text, IsWritable}
+use Rattle.ciborium_ll_grammar.specs.Strings.{Text, IsWritable}
 use Rattle.ciborium_ll_decoder.specs.Kept.{kept_bytes}
 use Rattle.ciborium_ll_decoder.specs.Decoding.{IsSteady, Passes}
 use Rattle.ciborium_ll_decoder.specs.Chunks.{GivesChunk, EndsInCharacter, KeepsTooMuch, PullsChunk, read_count}
@@ -20,10 +20,6 @@ use Rattle.ciborium_ll_decoder.proofs.BodyLaws.{stuck_is_no_text, too_much_is_no
 -- a segment is damaged or not
 pub not_both : (damaged : Bool) → damaged ≡ true → damaged ≡ false → ⊥
 not_both damaged one other = cc
-
--- what is no byte string is a text
-kind_text : (kind : Kind) → (kind ≡ Bytes → ⊥) → kind ≡ Text
-kind_text kind other = grind arith
 
 module _ {R E P : Type 0} {parser : Parser P} (source : Reader R E) where
   -- of the rest of the first segment these bytes were read, and those behind the chunks are kept
@@ -58,13 +54,10 @@ module _ {R E P : Type 0} {parser : Parser P} (source : Reader R E) where
     rest_chunk room chunk new gives steady = record {
       read = so_far.read ++ gives.read;
       front = so_far.front ++ chunk;
-      parts = rw (
-        ← append_assoc (kept_bytes first.kept) so_far.read gives.read,
-        so_far.parts,
-        append_assoc so_far.front (kept_bytes segment.kept) gives.read,
-        split_parts parser.kind _ _ _ gives.split,
-      )
-          (sym (append_assoc so_far.front chunk (kept_bytes new.kept)));
+      parts = rw (← append_assoc (kept_bytes first.kept) so_far.read gives.read, so_far.parts)
+          (append_assoc so_far.front (kept_bytes segment.kept) gives.read
+          ∙ rw (split_parts parser.kind _ _ _ gives.split)
+          (sym (append_assoc so_far.front chunk (kept_bytes new.kept))));
       sound = writable_chunk parser.kind so_far.front _ chunk _ so_far.sound gives.split;
       counted = omega (arith, so_far.counted, gives.reads.unread, length-append so_far.read gives.read);
       passed = Passes-read source first.decoder.now segment.decoder.now new.decoder.now so_far.read gives.read
@@ -74,90 +67,77 @@ module _ {R E P : Type 0} {parser : Parser P} (source : Reader R E) where
       still = λ damaged. absurd (not_both new.damaged damaged gives.still_sound);
     }
 
-    -- the same of a pull that gave a chunk
-    pub rest_pulled : (room : ℕ) (chunk : Option (Bor (List ℕ))) (new : Segment R P parser)
-        → PullsChunk source room segment (Ok chunk) new → is_some chunk ≡ true
-        → (IsSteady source segment.decoder.now → IsSteady source new.decoder.now) → RestSoFar first new
-    rest_pulled room chunk new pulled some steady = grind (arith, rest_chunk)
+    module _ (room : ℕ) (new : Segment R P parser)
+        (steady : IsSteady source segment.decoder.now → IsSteady source new.decoder.now) where
+      -- the same of a pull that gave a chunk
+      pub rest_pulled : (chunk : Option (Bor (List ℕ))) → PullsChunk source room segment (Ok chunk) new
+          → is_some chunk ≡ true → RestSoFar first new
+      rest_pulled chunk pulled some = grind (arith, rest_chunk)
 
-    damaged_end : (count : ℕ) (new : Segment R P parser) → count ≡ 0 → EndsInCharacter source segment new
-        → GivesNoText source parser.kind (kept_bytes first.kept) first.unread so_far.read count segment.decoder.now
-        new.decoder.now
-    damaged_end count new none ends =
-        grind (arith, Passes-none, length-append {A = ℕ}, stuck_is_no_text, append-nil {A = ℕ})
+      damaged_end : (count : ℕ) → count ≡ 0 → EndsInCharacter source segment new
+          → GivesNoText source parser.kind (kept_bytes first.kept) first.unread so_far.read count segment.decoder.now
+          new.decoder.now
+      damaged_end count none ends =
+          grind (arith, Passes-none, length-append {A = ℕ}, stuck_is_no_text, append-nil {A = ℕ})
 
-    textual_middle : (room : ℕ) (new : Segment R P parser) → KeepsTooMuch source room segment new
-        → parser.kind ≡ Text
-    textual_middle room new keeps = grind arith
+      textual_middle : KeepsTooMuch source room segment new → parser.kind ≡ Text
+      textual_middle keeps = grind arith
 
-    damaged_middle : (room : ℕ) (new : Segment R P parser)
-        → (IsSteady source segment.decoder.now → IsSteady source new.decoder.now)
-        → (keeps : KeepsTooMuch source room segment new)
-        → GivesNoText source parser.kind (kept_bytes first.kept) first.unread so_far.read (read_count room segment)
-        segment.decoder.now new.decoder.now
-    damaged_middle room new steady keeps =
-        let is = textual_middle room new keeps in
+      damaged_middle : KeepsTooMuch source room segment new
+          → GivesNoText source parser.kind (kept_bytes first.kept) first.unread so_far.read (read_count room segment)
+          segment.decoder.now new.decoder.now
+      damaged_middle keeps =
+          let is = textual_middle keeps in
+          record {
+            textual = is;
+            last = keeps.read;
+            all = keeps.reads.count;
+            no_text = inr (too_much_is_no_text _ so_far.front (kept_bytes segment.kept) keeps.read keeps.front
+                keeps.left
+                (rw (← append_assoc (kept_bytes first.kept) so_far.read keeps.read, so_far.parts)
+                (append_assoc so_far.front (kept_bytes segment.kept) keeps.read)) (rw is at so_far.sound)
+                (rw is at keeps.split) keeps.too_much);
+            passed = Passes-read source segment.decoder.now segment.decoder.now new.decoder.now [] keeps.read
+                (Passes-none source segment.decoder.now) keeps.reads.reads steady;
+          }
+
+      -- a pull that fails is a read that stops that of the body
+      stops_reading : (error : Error E) → 4 ≤ room → first.damaged ≡ false
+          → PullsChunk source room segment (Err error) new
+          → StopsReading source parser.kind (kept_bytes first.kept) first.unread so_far.read first.place
+          (read_count room segment) segment.decoder.now error new.decoder.now
+      stops_reading (e.Io fault) four undamaged fails = grind (arith, three_kept)
+      stops_reading (e.Syntax at) four undamaged finds = grind (arith, damaged_end, damaged_middle)
+      stops_reading e.TooLong four undamaged passes = (passes.full, passes.untouched)
+      stops_reading e.Waiting four undamaged never = absurd never
+
+      -- of a body that was sound before it is the last one
+      pub rest_ends : (error : Error E) → 4 ≤ room → first.damaged ≡ false
+          → PullsChunk source room segment (Err error) new
+          → (stops : StopsRest source parser.kind (kept_bytes first.kept) first.unread room first.place
+          first.decoder.now error new.decoder.now) × (stops.part.front ≡ so_far.front)
+      rest_ends error four undamaged pulled = (
         record {
-          textual = is;
-          last = keeps.read;
-          all = keeps.reads.count;
-          no_text = inr (too_much_is_no_text _ so_far.front (kept_bytes segment.kept) keeps.read keeps.front keeps.left
-              (rw (← append_assoc (kept_bytes first.kept) so_far.read keeps.read, so_far.parts)
-              (append_assoc so_far.front (kept_bytes segment.kept) keeps.read)) (rw is at so_far.sound)
-              (rw is at keeps.split) keeps.too_much);
-          passed = Passes-read source segment.decoder.now segment.decoder.now new.decoder.now [] keeps.read
-              (Passes-none source segment.decoder.now) keeps.reads.reads steady;
-        }
+          between = segment.decoder.now;
+          part = record {
+            read = so_far.read;
+            front = so_far.front;
+            left = kept_bytes segment.kept;
+            parts = so_far.parts;
+            few = few_kept parser.kind segment.kept segment.text_alone;
+            stuck = segment.stuck;
+            sound = so_far.sound;
+            within = omega (arith, so_far.counted);
+            passed = so_far.passed;
+          };
+          count = read_count room segment;
+          filled = omega (arith, four, so_far.counted, three_kept segment.kept);
+          stops = stops_reading error four undamaged pulled;
+        },
+        refl,
+      )
 
-    -- a pull that fails is a read that stops that of the body
-    stops_reading : (room : ℕ) (error : Error E) (new : Segment R P parser) → 4 ≤ room → first.damaged ≡ false
-        → (IsSteady source segment.decoder.now → IsSteady source new.decoder.now)
-        → PullsChunk source room segment (Err error) new
-        → StopsReading source parser.kind (kept_bytes first.kept) first.unread so_far.read first.place
-        (read_count room segment) segment.decoder.now error new.decoder.now
-    stops_reading room (e.Io fault) new four undamaged steady fails = grind (arith, three_kept)
-    stops_reading room (e.Syntax at) new four undamaged steady finds = grind (arith, damaged_end, damaged_middle)
-    stops_reading room e.TooLong new four undamaged steady passes = (passes.full, passes.untouched)
-    stops_reading room e.Waiting new four undamaged steady never = absurd never
-
-    -- of a body that was sound before it is the last one
-    pub rest_ends : (room : ℕ) (error : Error E) (new : Segment R P parser) → 4 ≤ room → first.damaged ≡ false
-        → (IsSteady source segment.decoder.now → IsSteady source new.decoder.now)
-        → PullsChunk source room segment (Err error) new
-        → (stops : StopsRest source parser.kind (kept_bytes first.kept) first.unread room first.place
-        first.decoder.now error new.decoder.now) × (stops.part.front ≡ so_far.front)
-    rest_ends room error new four undamaged steady pulled = (
-      record {
-        between = segment.decoder.now;
-        part = record {
-          read = so_far.read;
-          front = so_far.front;
-          left = kept_bytes segment.kept;
-          parts = so_far.parts;
-          few = few_kept parser.kind segment.kept segment.text_alone;
-          stuck = segment.stuck;
-          sound = so_far.sound;
-          within = omega (arith, so_far.counted);
-          passed = so_far.passed;
-        };
-        count = read_count room segment;
-        filled = omega (arith, four, so_far.counted, three_kept segment.kept);
-        stops = stops_reading room error new four undamaged steady pulled;
-      },
-      refl,
-    )
-
-    -- and of any
-    pub rest_error : (room : ℕ) (error : Error E) (new : Segment R P parser) → 4 ≤ room
-        → (IsSteady source segment.decoder.now → IsSteady source new.decoder.now)
-        → PullsChunk source room segment (Err error) new → Finishes source room first (Err error) new.decoder.now
-    rest_error room error new four steady fails = grind (arith, rest_ends)
-
-    -- the same of whatever a pull and the loop gave, if both are one error
-    pub rest_stopped : (room buffer : ℕ) (result : Result (Option (Bor (List ℕ))) (Error E))
-        (answer : Result Unit (Error E)) (error : Error E)
-        (new : Segment R P parser) → PullsChunk source room segment result new → result ≡ Err error → answer
-        ≡ Err error → room ≡ buffer → 4 ≤ buffer
-        → (IsSteady source segment.decoder.now → IsSteady source new.decoder.now)
-        → Finishes source buffer first answer new.decoder.now
-    rest_stopped room buffer result answer error new pulled failed answered same four steady = grind (arith, rest_error)
+      -- and of any
+      pub rest_error : (error : Error E) → 4 ≤ room → PullsChunk source room segment (Err error) new
+          → Finishes source room first (Err error) new.decoder.now
+      rest_error error four fails = grind (arith, rest_ends)

@@ -1,7 +1,6 @@
 -- Opens and breaks in a row, and the first title of a string. What titles of one byte are is handed on.
 use Rattle.std.proofs.Common.{[], ◌≡◌, ℕ, suc, ◌+◌, ◌≤◌, Bool, ◌⊎◌, List, ◌++◌, length, Option, Some, None, Result, Ok}
 use Rattle.std.proofs.Common.{refl, sym, ap, ◌∙◌, inl, inr, arith, append_assoc, append-nil, length-append}
-use Rattle.std.specs.Io.KnownBytes.{Consumes, prepend_known}
 use Rattle.ciborium_ll_io.specs.declared.io.Read.{Ghosts}
 use Rattle.ciborium_ll_decoder.specs.declared.dec.Decoder.{Decoder}
 use Rattle.ciborium_ll_decoder.specs.declared.dec.Error.{Error}
@@ -14,7 +13,6 @@ use Rattle.ciborium_ll_grammar.proofs.OpenStrings.{IsInsideAt}
 use Rattle.ciborium_ll_decoder.specs.Decoding.{Begins, Passes, TakesBack}
 use Rattle.ciborium_ll_decoder.specs.Segments.{Nests, in_place, deeper, back, IsRefusedAt, FindsBody, EndsAdvance}
 use Rattle.ciborium_ll_decoder.specs.Segments.{AdvancesFrom}
-use Rattle.ciborium_ll_text.proofs.Lists.{same_front}
 use Rattle.ciborium_ll_grammar.proofs.TitleLaws.{one_title, IsTitle-shortest}
 pub use Rattle.ciborium_ll_grammar.proofs.AloneLaws.{alone_bytes, open_alone, open_length, open_in_range, title_some}
 use Rattle.ciborium_ll_grammar.proofs.StepLaws.{add_open, close_inner}
@@ -30,9 +28,11 @@ nests_zero k opens nest left n e = grind arith
 -- each open takes a byte
 pub nests_counted : (k : Kind) (opens : ℕ) (nest : List ℕ) (left : ℕ) → Nests k opens nest left → left
     ≤ opens + length nest
-nests_counted k opens nest left in_place = grind (arith)
-nests_counted k opens nest left (deeper {bytes = x} {title = t} {left = j} n p) = grind (arith, title_some, length-append {A = ℕ}, nests_counted k opens x j n)
-nests_counted k opens nest left (back {bytes = x} {title = t} {left = j} n p) = grind (arith, length-append {A = ℕ}, suc, nests_counted k opens x (suc (suc j)) n)
+nests_counted k opens nest left in_place = grind arith
+nests_counted k opens nest left (deeper {bytes = x} {title = t} {left = j} n p) =
+    grind (arith, title_some, length-append {A = ℕ}, nests_counted k opens x j n)
+nests_counted k opens nest left (back {bytes = x} {title = t} {left = j} n p) =
+    grind (arith, length-append {A = ℕ}, nests_counted k opens x (suc (suc j)) n)
 
 -- none leads nowhere
 pub nests_none : (k : Kind) (opens : ℕ) (nest : List ℕ) (left : ℕ) → Nests k opens nest left → length nest ≡ 0
@@ -45,8 +45,10 @@ nests_none k opens nest left n e = grind (arith, title_some, length-append {A = 
 pub nest_inside : (k : Kind) (opens left : ℕ) (u nest : List ℕ) (bs : List (List ℕ)) → IsInsideAt k opens u bs
     → Nests k opens nest left → IsInsideAt k left (u ++ nest) bs
 nest_inside k opens left u nest bs i in_place = grind (arith, append-nil {A = ℕ})
-nest_inside k opens left u nest bs i (deeper {bytes = x} {title = t} n p) = grind (arith, append_assoc {A = ℕ}, add_open, nest_inside k opens _ u x bs i n)
-nest_inside k opens left u nest bs i (back {bytes = x} {title = t} n p) = grind (arith, append_assoc {A = ℕ}, alone_bytes, close_inner, nest_inside k opens _ u x bs i n)
+nest_inside k opens left u nest bs i (deeper {bytes = x} {title = t} n p) =
+    grind (arith, append_assoc {A = ℕ}, add_open, nest_inside k opens _ u x bs i n)
+nest_inside k opens left u nest bs i (back {bytes = x} {title = t} n p) =
+    grind (arith, append_assoc {A = ℕ}, alone_bytes, close_inner, nest_inside k opens _ u x bs i n)
 
 -- the first title of opens and breaks in a row, where nothing is open before
 pub record FirstOpen (k : Kind) (nest : List ℕ) (left : ℕ) : Type 0 where
@@ -108,20 +110,22 @@ module _ {R E : Type 0} (source : Ghosts R E) (k : Kind) where
   waiting_first strict len old new result progress range waits all =
       let title = shortest_title (kind_header k len) in
       let is_title = IsTitle-shortest (kind_header k len) range in
-      let waited = IfSome-at old.waiting (kind_header k len) (λ h. (all.between ≡ old) ⊎ Begins (shortest_title h) all.nest) waits
+      let waited = IfSome-at old.waiting _ (λ h. (all.between ≡ old) ⊎ Begins (shortest_title h) all.nest) waits
       all.passed.waited in
       elim (nest_first k all.nest all.left all.nests) [
         | inl none ↦ elim waited [
           | inl same ↦ inl (waiting_found strict len old new result progress waits (rw (same, none.1) at all.ends))
           | inr begins ↦ absurd (let e = ap length (sym none.0 ∙ begins.1) in
-              omega (arith, e, title_some title _ is_title, length-append title begins.0))
+              omega (arith, e, title_some title _ is_title, length-append {A = ℕ}))
         ]
         | inr first ↦ elim waited [
           | inl same ↦ absurd (let moved = ap (λ d. d.offset) same in let e = ap length first.whole in
-              omega (arith, moved, e, all.passed.offset, title_some first.title _ first.is_title, length-append first.title first.more))
-          | inr begins ↦ (let one = one_title first.title title first.more begins.0 (kind_header k None) (kind_header k len)
-              first.is_title is_title (sym first.whole ∙ begins.1) in
-              inr (sym (same_length k None len one.1), first, one.0))
+              omega (arith, moved, e, title_some first.title _ first.is_title, length-append {A = ℕ}))
+          | inr begins ↦ (
+              let one = one_title first.title title first.more begins.0 _ _ first.is_title is_title
+              (sym first.whole ∙ begins.1) in
+              inr (sym (same_length k None len one.1), first, one.0)
+              )
         ]
       ]
 
@@ -138,6 +142,11 @@ module _ {R E : Type 0} (source : Ghosts R E) (k : Kind) where
     pub mode : new.strict ≡ pulled.strict
     pub ended : progress ≡ p.Ended
 
+  only_found : (len : ℕ) (pulled pushed new : Decoder R) (body : Body) (progress : Progress)
+      → TakesBack source pulled (kind_header k (Some len)) pushed → Some len ≡ Some body.length
+      → FindsBody source k 0 pushed body progress new → FindsOnly len pulled (Ok (Some body)) progress new
+  only_found len pulled pushed new body progress taken lengths found = grind arith
+
   pub advance_definite : (strict : Bool) (len : ℕ) (pulled pushed new : Decoder R) (result : Result (Option Body) (Error
       E))
       (progress : Progress) → IsInRange (kind_header k (Some len))
@@ -146,33 +155,9 @@ module _ {R E : Type 0} (source : Ghosts R E) (k : Kind) where
       new → FindsOnly len pulled result progress new
   advance_definite strict len pulled pushed new result progress range taken all =
       elim (waiting_first strict (Some len) pushed new result progress range taken.waits all) [
-        | inl only ↦ (
-            let found = only.3 in
-            let waited = rw taken.waits at found.pulled.waited in
-            let counted = ap length waited.1 in
-            let shortest = ap title_len waited.0 in
-            record {
-              body = only.0;
-              found = only.1;
-              length-is = let lengths = only.2 in cc;
-              place = omega (arith, found.place, taken.offset);
-              reader = waited.2 ∙ taken.reader;
-              offset = omega (arith, found.pulled.offset, counted, shortest, taken.offset);
-              none_waits = found.pulled.none_waits;
-              mode = found.pulled.mode ∙ taken.mode;
-              ended = elim found.after [ inl lone ↦ lone.1 | inr more ↦ absurd (omega (arith, more.0)) ];
-            }
-            )
+        | inl only ↦ rw only.1 (only_found len pulled pushed new only.0 progress taken only.2 only.3)
         | inr first ↦ absurd (let none = first.0 in cc)
       ]
-
-  -- bytes behind a front that was put there are those behind it
-  consumed_behind : (ahead known : Option (List ℕ)) (front more : List ℕ)
-      → Consumes (prepend_known front ahead) known (front ++ more) → Consumes ahead known more
-  consumed_behind None known front more c = tt
-  consumed_behind (Some xs) None front more c = c
-  consumed_behind (Some xs) (Some ys) front more c =
-      (same_front front front xs (more ++ ys) refl (c ∙ append_assoc front more ys)).1
 
   -- what was passed with the waiting open, behind it
   passes_behind : (pulled pushed between : Decoder R) (more : List ℕ) → pulled.waiting ≡ None
@@ -198,10 +183,7 @@ module _ {R E : Type 0} (source : Ghosts R E) (k : Kind) where
               nests = first.behind;
               between = all.between;
               passed = passes_behind pulled pushed all.between first.more none taken (rw whole at all.passed);
-              shallow = λ on.
-                  let one = all.shallow on in
-                  let counted = ap length whole in
-                  omega (arith, one, counted, open_length k, length-append (shortest_title (kind_header k None)) first.more);
+              shallow = grind (arith, open_length);
               ends = all.ends;
             }
             )

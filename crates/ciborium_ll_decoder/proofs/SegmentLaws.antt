@@ -11,7 +11,7 @@ use Rattle.ciborium_ll_decoder.specs.declared.seg.Progress.TheVariants as p
 use Rattle.ciborium_ll_grammar.specs.Title.{shortest_title}
 use Rattle.ciborium_ll_grammar.specs.Strings.{Kind, kind_header, definite, none}
 use Rattle.ciborium_ll_grammar.proofs.OpenStrings.{IsInsideAt, one_open, more_open}
-use Rattle.ciborium_ll_grammar.specs.Elements.{AreWritable, Piece, spelling, pieces, body_spelling}
+use Rattle.ciborium_ll_grammar.specs.Elements.{AreWritable, Piece, spelling, pieces}
 use Rattle.ciborium_ll_grammar.specs.Faults.{IsRefusedIn}
 use Rattle.ciborium_ll_decoder.specs.Decoding.{Passes, IsSteady, TakesBack}
 use Rattle.ciborium_ll_decoder.specs.Finishing.{ReadsRest}
@@ -27,7 +27,8 @@ use Rattle.ciborium_ll_decoder.proofs.NestLaws.{title_some, nests_none, nest_ins
 -- each open takes a byte
 pub opens_counted : (k : Kind) (j : ℕ) (u : List ℕ) (bs : List (List ℕ)) → IsInsideAt k j u bs → j ≤ length u
 opens_counted k j u bs (one_open {title = t} {strings = x} p s) = grind (arith, title_some, length-append {A = ℕ})
-opens_counted k j u bs (more_open {opens = i} {outer = y} {title = t} {strings = x} {bodies = ds} q p s) = grind (arith, title_some, length-append {A = ℕ}, opens_counted k i y ds q)
+opens_counted k j u bs (more_open {opens = i} {outer = y} {title = t} {strings = x} {bodies = ds} q p s) =
+    grind (arith, title_some, length-append {A = ℕ}, opens_counted k i y ds q)
 
 -- within a string a break is not misplaced
 refused_inside : (strict : Bool) (k : Kind) (opens : ℕ) (header : Header) → 0 < opens
@@ -132,7 +133,8 @@ module _ {R E : Type 0} (source : Reader R E) (k : Kind) where
   advances_among bodies opened now strict result progress progress' new same so_far goes_on steady =
       elim so_far.far [
         | inl start ↦ (
-            let from : AdvancesFrom source k opened.strict 0 now result progress' new = rw (same, start.fresh) at goes_on in
+            let from : AdvancesFrom source k opened.strict 0 now result progress' new =
+            rw (same, start.fresh) at goes_on in
             let all = advance_opened source k opened.strict opened now new result progress' so_far.none_waits
             start.back from in
             rw start.nothing (among_nest now (among_first opened) all (omega (arith, start.back.offset))
@@ -155,11 +157,7 @@ module _ {R E : Type 0} (source : Reader R E) (k : Kind) where
   spelled : (bodies : List (List ℕ)) (b : List ℕ)
       → spelling (pieces k bodies) ++ (shortest_title (kind_header k (Some (length b))) ++ b)
       ≡ spelling (pieces k (bodies ++ b ∷ []))
-  spelled bodies b = rw (
-    piece_spelled k bodies b,
-    spelling-append (pieces k bodies) (Piece k b ∷ []),
-    append-nil (body_spelling k b),
-  ) refl
+  spelled bodies b = rw (piece_spelled k bodies b, spelling-append, append-nil) refl
 
   pub segment_added : (bodies : List (List ℕ)) (opened now new ended : Decoder R) (body : Body) (progress : Progress)
       → opened.waiting ≡ None → AdvancesAmong bodies opened now (Ok (Some body)) progress new
@@ -182,7 +180,8 @@ module _ {R E : Type 0} (source : Reader R E) (k : Kind) where
             within = rw append_assoc at (add_string k all.left (shortest_title (kind_header k None) ++ among.strings)
                 (t ++ b) bodies (b ∷ []) among.within (definite is_title));
             sound = AreWritable-append k bodies (b ∷ []) among.sound (sound_body k b reads.sound);
-            passed = rw append_assoc at (Passes-then source opened new ended (among.strings ++ t) b pulled reads.passed);
+            passed = rw append_assoc at (Passes-then source opened new ended (among.strings ++ t) b pulled
+                reads.passed);
             tight = λ on.
                 let only = all.ends.pulled.strict (among.passed.mode ∙ on)
                 (passes_settled source opened all.between among.strings among.passed settled) in

@@ -50,7 +50,8 @@ taken_strings strict k u bs flat_ones = grind arith
 
 module _ {R E : Type 0} (source : Reader R E) (k : Kind) (len : ℕ) (old new : Decoder R)
     (passed : Passes source old [] new) where
-  begins_behind : (between : Decoder R) → BeginsRest source k [] len new between → BeginsRest source k [] len old between
+  begins_behind : (between : Decoder R) → BeginsRest source k [] len new between → BeginsRest source k [] len old
+      between
   begins_behind between part = grind arith
 
   ends_behind : (room place : ℕ) (error : Error E) (ended : Decoder R)
@@ -165,7 +166,8 @@ module _ {R E : Type 0} (source : Reader R E) (k : Kind) where
         record {
           behind = strings ++ 0xff ∷ [];
           bodies = bodies;
-          is_string = rw append_assoc at (close_string k (front ++ strings) bodies (rw all.ends.last at all.among.within));
+          is_string = rw append_assoc at (close_string k (front ++ strings) bodies
+              (rw all.ends.last at all.among.within));
           taken = (strings, refl, taken_among all.among);
           sound = all.among.sound;
           passed = rw break at (Passes-pulled source opened all.between new strings h.Break all.ends.pulled
@@ -249,8 +251,14 @@ module _ {R E : Type 0} (source : Reader R E) (k : Kind) where
       → EndsBody source k [] body.length room body.place new (Ok (tt {0})) ended → SkipsSoFar len opened progress' ended
   skips_body strict None room opened now new ended progress progress' body mode so_far steady steady' advances reads =
       let all = advances_among source k so_far.0.0 opened now strict (Ok (Some body)) progress progress' new mode
-      so_far.0.1 advances steady in
-      ((_, segment_added source k so_far.0.0 opened now new ended body progress' so_far.0.1.none_waits all reads steady'), so_far.1)
+      so_far.0.1 advances steady in (
+        (
+          _,
+          segment_added source k so_far.0.0 opened now new ended body progress' so_far.0.1.none_waits all reads
+              steady',
+        ),
+        so_far.1,
+      )
   skips_body strict (Some len) room opened now new ended progress progress' body mode so_far steady steady' advances
       reads = lone_reads strict len opened now new progress progress' so_far body ended
       (lone_body strict len opened now new progress progress' so_far body advances) reads
@@ -266,7 +274,8 @@ module _ {R E : Type 0} (source : Reader R E) (k : Kind) where
       let all = advances_among source k so_far.0.0 opened now strict (Ok (Some body)) progress progress' new mode
       so_far.0.1 advances steady in
       body_stops room opened error ended (meets_body so_far.0.0 opened now new progress' room body ended error all ends)
-  skips_stop strict (Some len) room opened now new ended progress progress' body error mode so_far steady advances ends =
+  skips_stop strict (Some len) room opened now new ended progress progress' body error mode so_far steady advances
+      ends =
       let lone = lone_body strict len opened now new progress progress' so_far body advances in
       ends_behind source k len opened new lone.passed room _ error ended (rw (lone.lengths, lone.place) at ends)
 

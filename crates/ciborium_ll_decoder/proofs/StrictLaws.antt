@@ -1,7 +1,7 @@
 -- A title that a decoder read, by the bytes of its parts.
-use Rattle.std.proofs.Common.{[], ◌≡◌, ℕ, ◌+◌, List, ◌∷◌, length, refl, sym, ap, subst, ◌∙◌, inl, inr, arith}
-use Rattle.std.proofs.Common.{append-nil, length-append, get_or, take, ◌*◌, ◌/◌, ◌%◌, ◌++◌, ◌<◌, Option, None, Some}
-use Rattle.std.proofs.Common.{IfSome, Result, Ok, Err, MatchResult, if◌then◌else◌, ◌&&◌, ◌-◌, ◌^◌}
+use Rattle.std.proofs.Common.{[], ◌≡◌, ℕ, ◌+◌, List, ◌∷◌, length, refl, ap, ◌∙◌, inl, inr, arith, append-nil}
+use Rattle.std.proofs.Common.{length-append, get_or, take, ◌*◌, ◌/◌, ◌%◌, ◌++◌, ◌<◌, Option, None, Some, IfSome, Result}
+use Rattle.std.proofs.Common.{Ok, Err, MatchResult, if◌then◌else◌, ◌&&◌, ◌-◌, ◌^◌}
 use Rattle.std.proofs.lemmas.Bool.Decides.{nat_tests}
 use Rattle.std.proofs.KnownBytes.{Consumes-trans}
 use Rattle.std.specs.Io.KnownBytes.{Consumes}

@@ -1,6 +1,6 @@
 use Rattle.std.proofs.Common.{rules, refl, subst, ◌≡◌, ℕ, None, Ok, Err, length}
 use Rattle.ciborium_ll_decoder.specs.declared.copy.RecodeError.TheVariants as r
-use Rattle.ciborium_ll_decoder.specs.Chunks.{GivesChunk, PullsChunk}
+use Rattle.ciborium_ll_decoder.specs.Chunks.{PullsChunk}
 use Rattle.ciborium_ll_decoder.proofs.DecodingLaws.{exit_is, MovesOn-none, MovesOn-then}
 use Rattle.ciborium_ll_decoder.proofs.BodyCopyLaws.{so_far_start, so_far_chunk, so_far_unwritten, so_far_whole}
 use Rattle.ciborium_ll_decoder.proofs.BodyCopyLaws.{so_far_error, write_refused}
@@ -52,8 +52,7 @@ returns-in_err-chunk-clause-copied g c =
 pub returns-in_err-map_err-clause-copied : goal.returns-in_err-map_err-clause-copied
 returns-in_err-map_err-clause-copied g c =
     let pulled = c.in_ok-chunk.ensures in
-    let gives = subst (λ (room : ℕ). GivesChunk g.R.Read room c.chunks.segment c.in-Some.chunk.now
-    c.chunk.new.segment) c.chunks.auto.buffer (rw c.in-Some.is at pulled.chunk) in
+    let gives = rw c.chunks.auto.buffer at (rw c.in-Some.is at pulled.chunk) in
     let error = c.in_err-map_err.field-0.0 in
     let same = exit_is c.from_residual-in_err-map_err.result error c.from_residual-in_err-map_err.ensures.1 in
     let failed = write_refused c.write_all.result c.map_err.result error c.in_err-map_err.was (search rules) in

@@ -81,7 +81,14 @@ returns-in-Some-header-clause-covered g c =
     let title = parts_bytes (get_or c.read.new.data 0 0 / 32) minor in
     let least = shortest_no_longer title c.in-Some-header.header c.in-Some-header.ensures.some in
     let parted = ap length (first_parts c.read.new.data minor one affix.holds.code) in
-    omega (arith, least, parted, length-append c.read.new.data (minor_affix minor), first.offset, affix.holds.all.offset)
+    omega (
+      arith,
+      least,
+      parted,
+      length-append c.read.new.data (minor_affix minor),
+      first.offset,
+      affix.holds.all.offset,
+    )
 
 pub header-requires-clause-kind : goal.header-requires-clause-kind
 header-requires-clause-kind g c =

@@ -1,59 +1,46 @@
-use Rattle.std.proofs.Common.{ℕ, List, take, rules, arith, sym, ap, subst, inr, ◌∙◌, ◌≡◌, ◌<◌, ◌≤◌, ◌-◌, [], ◌++◌}
-use Rattle.std.proofs.Common.{length, drop, length-append, Result, Ok, Err, IfOk, IsErrAnd}
+use Rattle.std.proofs.Common.{ℕ, List, take, rules, arith, sym, ap, inr, ◌∙◌, ◌≡◌, ◌<◌, ◌≤◌, ◌-◌, [], ◌++◌, length}
+use Rattle.std.proofs.Common.{drop, length-append, Result, IfOk, IsErrAnd}
 use Rattle.std.proofs.lemmas.List.{take_rest, take_at}
-use Rattle.ciborium_ll_decoder.specs.declared.seg.Kept.{Kept}
 use Rattle.ciborium_ll_decoder.specs.Kept.{kept_bytes}
-use Rattle.ciborium_ll_text.specs.Text.{IsStuck, IsFront}
+use Rattle.ciborium_ll_text.specs.Text.{IsFront}
 use Rattle.ciborium_ll_decoder.proofs.DecodingLaws.{exit_is}
 use Rattle.ciborium_ll_decoder.proofs.ChunkLaws.{fill_stopped, none_stopped, ReadsOn-behind, ReadsOn-none, chunk_left}
 use Rattle.ciborium_ll_decoder.proofs.ChunkLaws.{chunk_consumed}
 use Rattle.ciborium_ll_text.proofs.FrontLaws.{IsFront-stuck, IsStuck-rest}
-use Rattle.ciborium_ll_text.specs.States.{after, IsLastEnd}
-use Rattle.ciborium_ll_text.specs.declared.state.State.TheVariants.{Between}
 use Rattle.ciborium_ll_text.proofs.LastEndLaws.{stuck_end}
 use Rattle.ciborium_ll_decoder.proofs.seg.Segment+R+Text.pull_front.Goals as goal
 
 -- a front of the bytes is no longer than they are
 front_within : (bytes front rest : List ℕ) → IsFront bytes front rest → length front ≤ length bytes
-front_within bytes front rest is = let parted = ap length is.parts in omega (arith, parted, length-append front rest)
+front_within bytes front rest is = grind (arith, length-append {A = ℕ})
 
 -- the kept bytes stand in front of what was filled
 kept_in_front : (count : ℕ) (filled kept read : List ℕ) → filled ≡ kept ++ read → count ≡ length kept
     → take count filled ≡ kept
-kept_in_front count filled kept read whole counted =
-    ap (λ (z : List ℕ). take count z) whole ∙ take_at kept read count (sym counted)
+kept_in_front count filled kept read whole counted = rw whole (take_at kept read count (sym counted))
 
 kept_within : (count : ℕ) (filled kept read : List ℕ) → filled ≡ kept ++ read → count ≡ length kept
     → count ≤ length filled
-kept_within count filled kept read whole counted =
-    let parted = ap length whole in omega (arith, parted, counted, length-append kept read)
+kept_within count filled kept read whole counted = grind (arith, length-append {A = ℕ})
 
 -- an error is no chunk
 no_chunk : {T E : Type 0} (answer : Result T E) (error : E) (P : T → Type 0) → IsErrAnd answer (λ given. given ≡ error)
     → IfOk answer P
-no_chunk (Ok chunk) error P is = absurd is
-no_chunk (Err given) error P is = tt
+no_chunk answer error P is = grind arith
 
 pub text_front-state-requires-clause-within : goal.text_front-state-requires-clause-within
 text_front-state-requires-clause-within g c =
-    let fill = c.in_ok-fill.ensures.filled in
-    kept_within c.len-kept.result c.fill.new.filled (kept_bytes c.args.self.now.kept) fill.read fill.whole
-    c.len-kept.ensures
+    kept_within c.len-kept.result c.fill.new.filled _ _ c.in_ok-fill.ensures.filled.whole c.len-kept.ensures
 
 pub text_front-state-requires-clause-told : goal.text_front-state-requires-clause-told
 text_front-state-requires-clause-told g c =
-    let fill = c.in_ok-fill.ensures.filled in
-    let kept = kept_bytes c.args.self.now.kept in
-    let front = kept_in_front c.len-kept.result c.fill.new.filled kept fill.read fill.whole c.len-kept.ensures in
-    c.fill.new.self.told ∙ (ap (λ (k : Kept). after Between (kept_bytes k)) c.fill.ensures.same.kept
-    ∙ ap (after Between) (sym front))
+    rw (kept_in_front c.len-kept.result c.fill.new.filled _ _ c.in_ok-fill.ensures.filled.whole c.len-kept.ensures)
+    (rw c.fill.ensures.same.kept at c.fill.new.self.told)
 
 pub text_front-state-requires-clause-stuck : goal.text_front-state-requires-clause-stuck
 text_front-state-requires-clause-stuck g c =
-    let fill = c.in_ok-fill.ensures.filled in
-    let kept = kept_bytes c.args.self.now.kept in
-    let front = kept_in_front c.len-kept.result c.fill.new.filled kept fill.read fill.whole c.len-kept.ensures in
-    subst (λ (z : List ℕ). IsLastEnd z 0) (sym front) (stuck_end kept c.args.self.now.stuck)
+    rw (kept_in_front c.len-kept.result c.fill.new.filled _ _ c.in_ok-fill.ensures.filled.whole c.len-kept.ensures)
+    (stuck_end _ c.args.self.now.stuck)
 
 pub returns-then-size-kept-clause-chunk : goal.returns-then-size-kept-clause-chunk
 returns-then-size-kept-clause-chunk g c =
@@ -63,20 +50,19 @@ returns-then-size-kept-clause-chunk g c =
       reads = ReadsOn-none g.R.Read (length c.args.buffer.now) c.min-size.result c.len-kept.result c.args.self.now
           c.read_nothing.new.self c.if-self-eq0.false c.if-self.false c.len-kept.ensures c.min-size.ensures
           c.if-size-kept.true same c.in_ok-read_nothing.ensures.read;
-      split = subst (λ (k : Kept). IsFront (kept_bytes c.args.self.now.kept ++ []) [] (kept_bytes k))
-          (sym same.kept) (IsFront-stuck (kept_bytes c.args.self.now.kept) c.args.self.now.stuck);
+      split = rw same.kept (IsFront-stuck (kept_bytes c.args.self.now.kept) c.args.self.now.stuck);
       still_sound = same.damaged ∙ c.if-self.false;
     }
 
 pub invariant_of-self-clause-stuck : goal.invariant_of-self-clause-stuck
 invariant_of-self-clause-stuck g c =
-    let kept = c.in-Some.ensures.some ∙ take_rest c.fill.new.filled (length c.text_front-state.result.0.now) in
-    subst IsStuck (sym kept) (IsStuck-rest _ _ _ c.text_front-state.ensures.front)
+    rw (c.in-Some.ensures.some ∙ take_rest c.fill.new.filled (length c.text_front-state.result.0.now))
+    (IsStuck-rest _ _ _ c.text_front-state.ensures.front)
 
 pub invariant_of-self-clause-told : goal.invariant_of-self-clause-told
 invariant_of-self-clause-told g c =
-    let kept = c.in-Some.ensures.some ∙ take_rest c.fill.new.filled (length c.text_front-state.result.0.now) in
-    c.text_front-state.ensures.state ∙ ap (after Between) (sym kept)
+    rw (c.in-Some.ensures.some ∙ take_rest c.fill.new.filled (length c.text_front-state.result.0.now))
+    c.text_front-state.ensures.state
 
 pub returns-in-None-clause-chunk : goal.returns-in-None-clause-chunk
 returns-in-None-clause-chunk g c =
@@ -123,8 +109,7 @@ returns-in-Some-clause-chunk g c =
       reads = ReadsOn-behind g.R.Read (length c.args.buffer.now) c.min-size.result c.len-kept.result c.args.self.now _
           c.if-self-eq0.false c.if-self.false c.len-kept.ensures c.min-size.ensures c.fill.new.filled
           c.if-size-kept.false (search rules) fill.read fill.whole fill.reads fewer same.place;
-      split = subst (λ (z : List ℕ). IsFront z text (kept_bytes c.in-Some.rest)) fill.whole
-          (subst (λ (z : List ℕ). IsFront c.fill.new.filled text z) (sym behind) c.text_front-state.ensures.front);
+      split = rw (← fill.whole, behind) c.text_front-state.ensures.front;
       still_sound = same.damaged ∙ c.if-self.false;
     }
 

@@ -1,7 +1,8 @@
-use Rattle.std.proofs.Common.{rules, refl, ◌≡◌, true}
+use Rattle.std.proofs.Common.{rules, refl, ◌≡◌, true, subst, ℕ, Err}
 use Rattle.std.specs.Option.{is_some}
+use Rattle.ciborium_ll_decoder.specs.Chunks.{PullsChunk}
 use Rattle.ciborium_ll_decoder.proofs.DecodingLaws.{exit_is, MovesOn-none, MovesOn-then}
-use Rattle.ciborium_ll_decoder.proofs.FinishLaws.{rest_start, rest_pulled, rest_stopped}
+use Rattle.ciborium_ll_decoder.proofs.FinishLaws.{rest_start, rest_pulled, rest_error}
 use Rattle.ciborium_ll_decoder.proofs.seg.Segment.drain.Goals as goal
 
 pub chunks-init : goal.chunks-init
@@ -18,14 +19,16 @@ chunks-preserved g c =
     let some : is_some c.in_ok-chunk.field-0 ≡ true = search rules in
     record {
       same = search rules;
-      so_far = rest_pulled g.R.Read _ c.chunks.self kept.so_far _ c.in_ok-chunk.field-0 c.chunk.new.segment pulled.chunk
-          some pulled.moves_on.steady;
+      so_far = rest_pulled g.R.Read _ c.chunks.self kept.so_far _ c.chunk.new.segment pulled.moves_on.steady
+          c.in_ok-chunk.field-0 pulled.chunk some;
       moves_on = MovesOn-then g.R.Read _ _ _ kept.moves_on pulled.moves_on;
     }
 
 pub returns-in_err-chunk-clause-finishes : goal.returns-in_err-chunk-clause-finishes
 returns-in_err-chunk-clause-finishes g c =
-    let same = exit_is c.from_residual.result c.in_err-chunk.field-0.0 c.from_residual.ensures.1 in
-    rest_stopped g.R.Read _ c.chunks.self c.chunks.invariant.so_far _ _ c.chunk.result c.from_residual.result
-    c.in_err-chunk.field-0.0 c.chunk.new.segment c.chunk.ensures.chunk c.in_err-chunk.was same c.chunks.auto.buffer
-    c.requires.room c.chunk.ensures.moves_on.steady
+    let pulled = c.in_err-chunk.ensures in
+    let chunk = subst (λ (room : ℕ). PullsChunk g.R.Read room c.chunks.self (Err c.in_err-chunk.field-0.0)
+    c.chunk.new.segment) c.chunks.auto.buffer pulled.chunk in
+    rw (exit_is c.from_residual.result c.in_err-chunk.field-0.0 c.from_residual.ensures.1)
+    (rest_error g.R.Read _ c.chunks.self c.chunks.invariant.so_far _ c.chunk.new.segment pulled.moves_on.steady
+    c.in_err-chunk.field-0.0 c.requires.room chunk)

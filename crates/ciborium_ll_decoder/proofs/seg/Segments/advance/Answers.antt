@@ -41,7 +41,8 @@ returns-in_err-body g c =
       advances = rw same (Reached-ends g.R.Read g.P.Parser.kind c.args.self.now.strict c.args.self.now.progress
           c.in-Open.opens _ _ _ (Err c.in_err-body.field-0.0) _ reached step);
       mode = c.in_err-body.ensures.mode ∙ c.titles.invariant.mode;
-      opens = let counted = rw c.in-Open.is at c.titles.invariant.opens in omega (arith, counted, c.in_err-body.ensures.opens);
+      opens = let counted =
+          rw c.in-Open.is at c.titles.invariant.opens in omega (arith, counted, c.in_err-body.ensures.opens);
       moves_on = MovesOn-then g.R.Read _ _ _ c.titles.invariant.moves_on c.in_err-body.ensures.moves_on;
     }
 
@@ -54,7 +55,8 @@ returns-in-Some g c =
       advances = Reached-ends g.R.Read g.P.Parser.kind c.args.self.now.strict c.args.self.now.progress c.in-Open.opens _
           _ _ (Ok (Some c.in-Some.body)) _ reached step;
       mode = c.in_ok-body.ensures.mode ∙ c.titles.invariant.mode;
-      opens = let counted = rw c.in-Open.is at c.titles.invariant.opens in omega (arith, counted, c.in_ok-body.ensures.opens);
+      opens = let counted =
+          rw c.in-Open.is at c.titles.invariant.opens in omega (arith, counted, c.in_ok-body.ensures.opens);
       moves_on = MovesOn-then g.R.Read _ _ _ c.titles.invariant.moves_on c.in_ok-body.ensures.moves_on;
     }
 

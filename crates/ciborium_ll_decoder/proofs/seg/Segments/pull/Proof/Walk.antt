@@ -294,7 +294,8 @@ module _ (R P E : RattleType) (reads : read.Ghosts R.Denot E.Denot) (reads_dict 
             ((with_decoder new, new), (λ d. (new, advanced, holds, refl)), advanced) $
             use0 𝓛 (raw (fact 𝓤 (GivesAgain old.progress answer)))
             (fact_i 𝓤 _ (emp 𝓤) (given_again reads kind.kind old.strict old.progress old.decoder.now answer pulls)) $
-            use0 𝓛 (raw (fact 𝓤 (Pulls answer))) (fact_i 𝓤 _ (emp 𝓤) pulls) $ join ! $ move ! (1 ∷ 0 ∷ []) $ join ! $ done !
+            use0 𝓛 (raw (fact 𝓤 (Pulls answer))) (fact_i 𝓤 _ (emp 𝓤) pulls) $ join ! $ move ! (1 ∷ 0 ∷ []) $ join !
+            $ done !
 
         walk : lifetimes.1.1.0 ⊑ R.lives → lifetimes.1.1.1.0 ⊑ P.lives → lifetimes.1.1.1.1.0 ⊑ E.lives
             → ent 𝓤 (on_entry 𝓛 ended.signature lifetimes shares bound.0.3 bound.0.4)
@@ -360,7 +361,8 @@ module _ (R P E : RattleType) (reads : read.Ghosts R.Denot E.Denot) (reads_dict 
             some (λ (news : String × Unit {0}). ‵ (lasts (advance.ended R P E reads reads_dict kind kind_dict)
             given_advance.0.0 given_advance.0.3 news) ⊛
             raw (fact 𝓤 (IsAdvanced reads kind.kind old answer news.0)))))) (id⊢ 𝓤 _) $
-            await ! tt $ pick ! (λ answer. split ! $ split ! $ move ! (2 ∷ []) $ pick ! (λ news. split ! $ move ! (1 ∷ []) $
+            await ! tt $ pick ! (λ answer. split ! $ split ! $ move ! (2 ∷ []) $ pick ! (λ news. split ! $ move !
+            (1 ∷ []) $
             heard ! _ (λ promised.
             let new : String = news.0 in
             -- [the loan's last value; the tokens; the answer; the way back; the way to end]
@@ -482,7 +484,16 @@ module _ (R P E : RattleType) (reads : read.Ghosts R.Denot E.Denot) (reads_dict 
             sets_last ! (agg ! (and_then ! (lit ! tt) (and_then ! (get ! refl) (no_more !)))) refl
             (tt, (record { fits = lit< tt }, ((record { fits = lit< tt }, tt), tt))) $
             exec ! 𝓣.C 𝓣.Λ locals leaving (at_ret locals Post) $
-            sets ! (of_opd ! (get ! refl)) refl (tt, (record { fits = lit< tt }, ((record { fits = lit< tt }, tt), tt))) $
+            sets ! (of_opd ! (get ! refl)) refl (
+              tt,
+              (
+                record {
+                  fits =
+                      lit< tt;
+                },
+                ((record { fits = lit< tt }, tt), tt),
+              ),
+            ) $
             returns ! (look_at ! 0 refl) $ free_all ! refl $ by !
             (leaves out (Ok None) new found tt (new.decoder.now, goes_on (Ok None) new found)))
             -- the arm of an error: it is handed on, nothing is lent, and the string's last value is what `advance` left
