@@ -38,12 +38,10 @@ module _ {R E : Type 0} (source : Ghosts R E) (kind : Kind) (strict : Bool) wher
   Reached p.TooDeep old progress now = (progress ≡ p.TooDeep) × (now ≡ old)
 
   leads_start : (opens : ℕ) (decoder : Decoder R) → (IsTrue strict → opens ≤ 1) → LeadsTo opens decoder opens decoder
-  leads_start opens decoder few = record {
-    nest = [];
-    nests = in_place;
-    passed = Passes-none source decoder;
-    shallow = grind arith;
-  }
+  leads_start opens decoder few =
+      let passed = Passes-none source decoder in
+      let none : Nests kind opens [] opens = in_place in
+      search arith
 
   pub Reached-start : (progress : Progress) (decoder : Decoder R) → (IsTrue strict → opens_of progress ≤ 1)
       → Reached progress decoder progress decoder
@@ -55,12 +53,7 @@ module _ {R E : Type 0} (source : Ghosts R E) (kind : Kind) (strict : Bool) wher
     leads_on : (left' : ℕ) (header : Header) (pulled : PullsTitle source now header new)
         → Nests kind opens (led.nest ++ pulled.title) left'
         → (IsTrue strict → opens + length (led.nest ++ pulled.title) ≤ 1) → LeadsTo opens old left' new
-    leads_on left' header pulled nests shallow = record {
-      nest = led.nest ++ pulled.title;
-      nests = nests;
-      passed = Passes-pull source old now new led.nest header pulled led.passed steady;
-      shallow = shallow;
-    }
+    leads_on left' header pulled nests shallow = search (Passes-pull, arith)
 
     leads_deeper : (after : Progress) → Deepens source kind strict left now after new → LeadsTo opens old (left + 1) new
     leads_deeper after step = leads_on (left + 1) _ step.pulled (rw add-one (deeper led.nests step.pulled.is_title))
@@ -78,15 +71,7 @@ module _ {R E : Type 0} (source : Ghosts R E) (kind : Kind) (strict : Bool) wher
       (after : Progress) → LeadsTo opens old left now
       → EndsAdvance source kind strict left now result after new → AdvancesFrom source kind strict opens old result
       after new
-  ends_from opens left old now new result after led ends = record {
-    nest = led.nest;
-    left = left;
-    nests = led.nests;
-    between = now;
-    passed = led.passed;
-    shallow = led.shallow;
-    ends = ends;
-  }
+  ends_from opens left old now new result after led ends = search
 
   -- where titles are due they led there, as a string that has ended has no open left
   led_to : (opens left : ℕ) (old now : Decoder R) → Reached (p.Open opens) old (p.Open left) now

@@ -87,15 +87,12 @@ module _ {R E : Type 0} (source : Reader R E) (k : Kind) where
   -- it was read, and makes a string
   whole_body : (len : ℕ) (opened new : Decoder R) → IsInRange (kind_header k (Some len))
       → ReadsRest source k [] len opened new → SkipsWhole source k (Some len) opened new
-  whole_body len opened new range reads = record {
-    behind = reads.read;
-    bodies = reads.read ∷ [];
-    is_string = definite {title = shortest_title (kind_header k (Some len))}
-        (rw reads.all (IsTitle-shortest (kind_header k (Some len)) range));
-    taken = tt;
-    sound = sound_body k reads.read reads.sound;
-    passed = reads.passed;
-  }
+  whole_body len opened new range reads =
+      let title = shortest_title (kind_header k (Some len)) in
+      let is_string : IsString k (title ++ reads.read) (reads.read ∷ []) =
+      definite {title = title} (rw reads.all (IsTitle-shortest (kind_header k (Some len)) range)) in
+      let sound = sound_body k reads.read reads.sound in
+      search
 
   pub definite_skipped : (len room : ℕ) (opened new : Decoder R) (result : Result (Unit {0}) (Error E))
       → IsInRange (kind_header k (Some len))
@@ -148,14 +145,10 @@ module _ {R E : Type 0} (source : Reader R E) (k : Kind) where
 
   part_of : {opens : ℕ} {bodies : List (List ℕ)} {opened now : Decoder R} → IsAmong source k opens bodies opened now
       → SkipsInside source k opened now
-  part_of {bodies} a = record {
-    behind = a.strings;
-    bodies = bodies;
-    inside = counted k _ _ _ a.within;
-    taken = taken_among a;
-    sound = a.sound;
-    passed = a.passed;
-  }
+  part_of a =
+      let inside = counted k _ _ _ a.within in
+      let taken = taken_among a in
+      search
 
   module _ (bodies : List (List ℕ)) (opened now new : Decoder R) (progress : Progress) where
     open_end : AdvancesAmong source k bodies opened now (Ok None) progress new → SkipsWhole source k None opened new
@@ -206,15 +199,10 @@ module _ {R E : Type 0} (source : Reader R E) (k : Kind) where
         → AdvancesAmong source k bodies opened now (Ok (Some body)) progress new
         → EndsBody source k [] body.length room body.place new (Err error) ended
         → MeetsBody source k room opened error ended
-    meets_body room body ended error all ends = record {
-      between = all.between;
-      part = part_of all.among;
-      titled = new;
-      len = body.length;
-      pulled = all.ends.pulled;
-      steady = all.steady;
-      ends = rw all.ends.place at ends;
-    }
+    meets_body room body ended error all ends =
+        let placed = rw all.ends.place at ends in
+        let part = part_of all.among in
+        search
 
   body_stops : (room : ℕ) (opened : Decoder R) (error : Error E) (ended : Decoder R)
       → MeetsBody source k room opened error ended → StopsInside source k room opened error ended

@@ -1,5 +1,5 @@
 -- A title that a decoder read, by the bytes of its parts.
-use Rattle.std.proofs.Common.{[], ◌≡◌, ℕ, ◌+◌, List, ◌∷◌, length, refl, ap, ◌∙◌, inl, inr, arith, append-nil}
+use Rattle.std.proofs.Common.{IsTrue, [], ◌≡◌, ℕ, ◌+◌, List, ◌∷◌, length, refl, ap, ◌∙◌, inl, inr, arith, append-nil}
 use Rattle.std.proofs.Common.{length-append, get_or, take, ◌*◌, ◌/◌, ◌%◌, ◌++◌, ◌<◌, Option, None, Some, IfSome, Result}
 use Rattle.std.proofs.Common.{Ok, Err, MatchResult, if◌then◌else◌, ◌&&◌, ◌-◌, ◌^◌}
 use Rattle.std.proofs.lemmas.Bool.Decides.{nat_tests}
@@ -9,13 +9,16 @@ use Rattle.ciborium_ll_io.specs.declared.io.Read.{Ghosts}
 use Rattle.ciborium_ll_decoder.specs.declared.dec.Decoder.{Decoder}
 use Rattle.ciborium_ll_decoder.specs.declared.dec.Error.{Error}
 use Rattle.ciborium_ll_decoder.specs.declared.dec.Error.TheVariants as e
-use Rattle.ciborium_ll_decoder.specs.Decoding.{Begins, view, failures_of, IsSteady, PullsHeader, ReadsAll, ReadsMinor}
-use Rattle.ciborium_ll_decoder.specs.Decoding.{HoldsAffix, ReadsAffix, ReadsBytes, RefusesTitle, strict_of}
+use Rattle.ciborium_ll_decoder.specs.Decoding.{PullsTitle, RefusesLonger, Begins, view, failures_of, IsSteady}
+use Rattle.ciborium_ll_decoder.specs.Decoding.{PullsHeader, ReadsAll, ReadsMinor, HoldsAffix, ReadsAffix, ReadsBytes}
+use Rattle.ciborium_ll_decoder.specs.Decoding.{RefusesTitle, strict_of}
 use Rattle.ciborium_ll_text.proofs.Lists.{length_zero}
 use Rattle.ciborium_ll_decoder.proofs.BodyLaws.{view_none}
 use Rattle.ciborium_ll_grammar.specs.declared.hdr.Minor.{Minor}
 use Rattle.ciborium_ll_grammar.specs.declared.hdr.Minor.TheVariants as m
-use Rattle.ciborium_ll_grammar.specs.Title.{affix_len, IsRefused, IsCutTitle, IsNeverOpen, IsReserved}
+use Rattle.ciborium_ll_grammar.specs.declared.hdr.Header.{Header}
+use Rattle.ciborium_ll_grammar.specs.Title.{IsTitle, IsStrictTitle, affix_len, IsRefused, IsCutTitle, IsNeverOpen}
+use Rattle.ciborium_ll_grammar.specs.Title.{IsReserved}
 use Rattle.ciborium_ll_grammar.specs.Parts.{longer_parts, minor_affix, minor_code, parts_bytes}
 
 -- ---- a title that was read
@@ -82,21 +85,22 @@ module _ {R E : Type 0} (source : Ghosts R E) where
       → length read ≡ 1 → old.offset ≡ 2 ^ 64 - 1 → A
   not_full old between read first one full = absurd (omega (arith, first.offset, one, full, between.covered))
 
+  -- a title that was read
+  pub title_pulled : (old new : Decoder R) (title : List ℕ) (header : Header) → IsTitle title header
+      → old.waiting ≡ None → (IsTrue old.strict → IsStrictTitle title header) → TitleRead old title new
+      → PullsTitle source old header new
+  title_pulled old new title header is_title none strict read = search arith
+
+  -- and refused, as its header has a shorter one
+  pub title_refused : (old new : Decoder R) (title : List ℕ) (header : Header) → IsTitle title header
+      → old.waiting ≡ None → IsTrue old.strict → (IsStrictTitle title header → ⊥) → TitleRead old title new
+      → RefusesLonger source old old.offset new
+  title_refused old new title header is_title none strict refused read = search
+
   -- of what was read this byte is refused
   refuses : (old new : Decoder R) (read : List ℕ) → old.waiting ≡ None → length read ≡ 1 → IsRefused (get_or read 0 0)
       → TitleRead old read new → RefusesTitle source old old.offset new
-  refuses old new read none one refused title =
-      let byte = one_byte read one in
-      record {
-        byte = get_or read 0 0;
-        refused = refused;
-        place = refl;
-        bytes = rw byte at title.bytes;
-        offset = grind arith;
-        none_waited = none;
-        none_waits = title.none_waits;
-        failures = title.failures;
-      }
+  refuses old new read none one refused title = search (one_byte, arith)
 
   -- a first byte of a reserved minor was read
   pub first_refused : (old between new : Decoder R) (read : List ℕ) → old.waiting ≡ None

@@ -1,10 +1,10 @@
-use Rattle.std.proofs.Common.{◌≡◌, ◌/◌, length, length-append, rules, arith, ap, sym, refl, inl, inr, get_or, ◌<◌}
+use Rattle.std.proofs.Common.{◌≡◌, ◌/◌, length, length-append, rules, arith, ap, sym, inl, inr, get_or, ◌<◌}
 use Rattle.ciborium_ll_decoder.proofs.DecodingLaws.{exit_is, MovesOn-then}
 use Rattle.ciborium_ll_grammar.specs.Parts.{minor_affix, parts_bytes}
 use Rattle.ciborium_ll_grammar.proofs.TitleLaws.{shortest_no_longer}
 use Rattle.ciborium_ll_grammar.proofs.LongerLaws.{parts_header, parts_taken, parts_refused}
 use Rattle.ciborium_ll_decoder.proofs.StrictLaws.{parts_read, affix_stopped, first_parts, first_refused, not_full}
-use Rattle.ciborium_ll_decoder.proofs.StrictLaws.{open_refused}
+use Rattle.ciborium_ll_decoder.proofs.StrictLaws.{open_refused, title_pulled, title_refused}
 use Rattle.ciborium_ll_decoder.proofs.dec.Decoder.title.Goals as goal
 
 pub returns-in_err-minor-clause-header : goal.returns-in_err-minor-clause-header
@@ -31,19 +31,8 @@ returns-in_default-clause-header g c =
           let h = parts_header _ minor byte refuses.holds.is_minor refuses.longer in
           let read = parts_read g.R.Read c.args.self.now c.read.new.self c.minor.new.self c.read.new.data minor none
           first refuses.holds.all one refuses.holds.code in
-          inr (record {
-            strict = search rules;
-            header = h.0;
-            title = parts_bytes (get_or c.read.new.data 0 0 / 32) minor;
-            is_title = h.1;
-            not_strict = parts_refused _ minor h.0 byte refuses.holds.is_minor h.1 refuses.longer;
-            place = refl;
-            bytes = read.bytes;
-            offset = read.offset;
-            none_waited = none;
-            none_waits = read.none_waits;
-            failures = read.failures;
-          })
+          inr (title_refused g.R.Read c.args.self.now c.minor.new.self _ h.0 h.1 none (search rules)
+          (parts_refused _ minor h.0 byte refuses.holds.is_minor h.1 refuses.longer) read)
           )
     ]
 
@@ -59,18 +48,8 @@ returns-in-Some-header-clause-header g c =
     let t = c.in-Some-header.ensures.some in
     let read = parts_read g.R.Read c.args.self.now c.read.new.self c.minor.new.self c.read.new.data minor none first
     affix.holds.all one affix.holds.code in
-    record {
-      title = parts_bytes (get_or c.read.new.data 0 0 / 32) minor;
-      is_title = t;
-      bytes = read.bytes;
-      offset = read.offset;
-      none_waits = read.none_waits;
-      failures = read.failures;
-      waited = rw none tt;
-      mode = read.mode;
-      strict = λ on waits. parts_taken _ minor header byte affix.holds.is_minor t
-          (affix.taken (rw (sym first.mode) at on));
-    }
+    title_pulled g.R.Read c.args.self.now c.minor.new.self _ header t none
+    (λ on. parts_taken _ minor header byte affix.holds.is_minor t (affix.taken (rw (sym first.mode) at on))) read
 
 pub returns-in-Some-header-clause-covered : goal.returns-in-Some-header-clause-covered
 returns-in-Some-header-clause-covered g c =
