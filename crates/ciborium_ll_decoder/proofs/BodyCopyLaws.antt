@@ -1,5 +1,5 @@
 -- The copy of a body, chunk by chunk.
-use Rattle.std.proofs.Common.{◌≡◌, ℕ, ◌≤◌, List, length, Result, Ok, Err, refl, ap, arith, append_assoc, append-nil}
+use Rattle.std.proofs.Common.{min, ◌+◌, ◌-◌, ◌<◌, ◌≡◌, ℕ, ◌≤◌, List, length, Result, Ok, Err, refl, ap, arith, append_assoc, append-nil}
 use Rattle.std.proofs.Common.{length-append}
 use Rattle.std.proofs.KnownBytes.{Appends-nil}
 use Rattle.std.specs.Result.{IsErrAnd, MatchResult}
@@ -66,20 +66,12 @@ module _ {R E P W F : Type 0} {parser : Parser P} (source : Reader R E) (sink : 
         let more = rest_chunk source first segment so_far.rest room chunk new gives steady in
         let before = ap length (rw whole.kept at so_far.rest.parts) in
         let split = ap length (split_parts parser.kind _ chunk _ gives.split) in
-        record {
-          front = so_far.rest.front;
-          chunk = chunk;
-          kept = kept_bytes new.kept;
-          between = now;
-          passed = rw (rw (whole.kept, append_assoc) at more.parts) at more.passed;
-          within = omega (arith, before, whole.unread, length-append {A = ℕ});
-          filled = omega (arith, before, split, whole.unread, three_kept segment.kept, length-append {A = ℕ});
-          few = few_kept parser.kind new.kept new.text_alone;
-          stuck = new.stuck;
-          sound = more.sound;
-          written = so_far.written;
-          stopped = stopped;
-        }
+        let passed = rw (rw (whole.kept, append_assoc) at more.parts) at more.passed in
+        let within : length so_far.rest.front < body.length =
+        omega (arith, before, whole.unread, length-append {A = ℕ}) in
+        let filled : length chunk + length (kept_bytes new.kept) ≡ min room (body.length - length so_far.rest.front) =
+        omega (arith, before, split, whole.unread, three_kept segment.kept, length-append {A = ℕ}) in
+        search few_kept
 
     -- the body has ended
     pub so_far_whole : (new : Segment R P parser) → SegmentEnds source segment new

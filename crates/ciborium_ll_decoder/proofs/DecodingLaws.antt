@@ -48,17 +48,11 @@ pub pulls_again : {R E : Type 0} (source : Ghosts R E) (old pulled pushed new : 
     → TakesBack source pulled header pushed → PullsHeader source pushed result new → PullsAgain source old result new
 pulls_again source old pulled pushed new header (Ok again) first back second =
     let waited = rw back.waits at second.waited in
-    let same : header ≡ again = waited.0 in
-    record {
-      pulled = pulled;
-      pushed = pushed;
-      first = rw same at first;
-      back = rw same at back;
-      second = second;
-      reader = waited.2 ∙ back.reader;
-      offset = grind (arith, waited);
-      none_waits = second.none_waits;
-    }
+    let pulls = rw waited.0 at first in
+    let takes = rw waited.0 at back in
+    let reader = waited.2 ∙ back.reader in
+    let offset : new.offset ≡ pulled.offset = grind (arith, waited) in
+    search
 pulls_again source old pulled pushed new header (Err error) first back second =
     absurd (not_again source pushed new header error back.waits second)
 

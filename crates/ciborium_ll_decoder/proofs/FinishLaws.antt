@@ -106,10 +106,7 @@ module _ {R E P : Type 0} {parser : Parser P} (source : Reader R E) where
           → PullsChunk source room segment (Err error) new
           → StopsReading source parser.kind (kept_bytes first.kept) first.unread so_far.read first.place
           (read_count room segment) segment.decoder.now error new.decoder.now
-      stops_reading (e.Io fault) four undamaged fails = grind (arith, three_kept)
-      stops_reading (e.Syntax at) four undamaged finds = grind (arith, damaged_end, damaged_middle)
-      stops_reading e.TooLong four undamaged passes = (passes.full, passes.untouched)
-      stops_reading e.Waiting four undamaged never = absurd never
+      stops_reading error four undamaged pulled = search (three_kept, damaged_end, damaged_middle, arith)
 
       -- of a body that was sound before it is the last one
       pub rest_ends : (error : Error E) → 4 ≤ room → first.damaged ≡ false

@@ -1,5 +1,5 @@
 -- Opens and breaks in a row, and the first title of a string. What titles of one byte are is handed on.
-use Rattle.std.proofs.Common.{[], ◌≡◌, ℕ, suc, ◌+◌, ◌≤◌, Bool, ◌⊎◌, List, ◌++◌, length, Option, Some, None, Result, Ok}
+use Rattle.std.proofs.Common.{IsTrue, [], ◌≡◌, ℕ, suc, ◌+◌, ◌≤◌, Bool, ◌⊎◌, List, ◌++◌, length, Option, Some, None, Result, Ok}
 use Rattle.std.proofs.Common.{refl, sym, ap, ◌∙◌, inl, inr, arith, append_assoc, append-nil, length-append}
 use Rattle.ciborium_ll_io.specs.declared.io.Read.{Ghosts}
 use Rattle.ciborium_ll_decoder.specs.declared.dec.Decoder.{Decoder}
@@ -177,14 +177,8 @@ module _ {R E : Type 0} (source : Ghosts R E) (k : Kind) where
             let first = opened.1 in
             let whole : all.nest ≡ shortest_title (kind_header k None) ++ first.more =
             first.whole ∙ ap (λ (z : List ℕ). z ++ first.more) opened.2 in
-            record {
-              nest = first.more;
-              left = all.left;
-              nests = first.behind;
-              between = all.between;
-              passed = passes_behind pulled pushed all.between first.more none taken (rw whole at all.passed);
-              shallow = grind (arith, open_length);
-              ends = all.ends;
-            }
+            let passed = passes_behind pulled pushed all.between first.more none taken (rw whole at all.passed) in
+            let shallow : IsTrue strict → 1 + length first.more ≤ 1 = grind (arith, open_length) in
+            search
             )
       ]

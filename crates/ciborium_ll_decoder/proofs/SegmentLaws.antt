@@ -109,21 +109,15 @@ module _ {R E : Type 0} (source : Reader R E) (k : Kind) where
       → IsAmong opens bodies opened begun → AdvancesFrom source k opened.strict opens begun result progress new
       → now.offset ≤ begun.offset → (IsSteady source opened → IsSteady source new)
       → AdvancesAmong bodies opened now result progress new
-  among_nest {opens} {bodies} {opened} {begun} now among all before steady = record {
-    left = all.left;
-    between = all.between;
-    among = record {
-      strings = among.strings ++ all.nest;
-      within = rw append_assoc at (nest_inside k opens all.left (shortest_title (kind_header k None) ++ among.strings)
-          all.nest bodies among.within all.nests);
-      sound = among.sound;
-      passed = Passes-then source opened begun all.between among.strings all.nest among.passed all.passed;
-      tight = grind (arith, nests_none, append-nil {A = ℕ});
-    };
-    ends = all.ends;
-    rises = omega (arith, before, all.passed.offset);
-    steady = steady;
-  }
+  among_nest {opens} {bodies} {opened} {begun} now among all before steady =
+      let within = rw append_assoc at (nest_inside k opens all.left (shortest_title (kind_header k None) ++ among.strings)
+      all.nest bodies among.within all.nests) in
+      let passed = Passes-then source opened begun all.between among.strings all.nest among.passed all.passed in
+      let tight : IsTrue opened.strict → (all.left ≡ 1) × (among.strings ++ all.nest ≡ spelling (pieces k bodies)) =
+      grind (arith, nests_none, append-nil {A = ℕ}) in
+      let further : IsAmong all.left bodies opened all.between = search in
+      let rises : now.offset ≤ all.between.offset = omega (arith, before, all.passed.offset) in
+      search
 
   pub advances_among : (bodies : List (List ℕ)) (opened now : Decoder R) (strict : Bool)
       (result : Result (Option Body) (Error E)) (progress progress' : Progress) (new : Decoder R)
@@ -170,27 +164,19 @@ module _ {R E : Type 0} (source : Reader R E) (k : Kind) where
       let is_title = rw (sym reads.all) at all.ends.pulled.is_title in
       let pulled = Passes-pulled source opened all.between new among.strings
       (kind_header k (Some body.length)) all.ends.pulled among.passed all.steady in
-      record {
-        none_waits = settled;
-        far = inr (record {
-          opens = all.left;
-          counts = still_open all.left _ _ progress among.within all.ends.after;
-          among = record {
-            strings = among.strings ++ (t ++ b);
-            within = rw append_assoc at (add_string k all.left (shortest_title (kind_header k None) ++ among.strings)
-                (t ++ b) bodies (b ∷ []) among.within (definite is_title));
-            sound = AreWritable-append k bodies (b ∷ []) among.sound (sound_body k b reads.sound);
-            passed = rw append_assoc at (Passes-then source opened new ended (among.strings ++ t) b pulled
-                reads.passed);
-            tight = λ on.
-                let only = all.ends.pulled.strict (among.passed.mode ∙ on)
-                (passes_settled source opened all.between among.strings among.passed settled) in
-                let before = among.tight on in
-                (before.0, rw (before.1, only.shortest, sym reads.all) (spelled bodies b));
-          };
-        });
-        steady = λ s. steady (all.steady s);
-      }
+      let counts = still_open all.left _ _ progress among.within all.ends.after in
+      let within = rw append_assoc at (add_string k all.left (shortest_title (kind_header k None) ++ among.strings)
+      (t ++ b) bodies (b ∷ []) among.within (definite is_title)) in
+      let sound = AreWritable-append k bodies (b ∷ []) among.sound (sound_body k b reads.sound) in
+      let passed = rw append_assoc at (Passes-then source opened new ended (among.strings ++ t) b pulled reads.passed) in
+      let tight : IsTrue opened.strict → (all.left ≡ 1)
+          × (among.strings ++ (t ++ b) ≡ spelling (pieces k (bodies ++ b ∷ []))) = λ on.
+          let only = all.ends.pulled.strict (among.passed.mode ∙ on)
+          (passes_settled source opened all.between among.strings among.passed settled) in
+          let before = among.tight on in
+          (before.0, rw (before.1, only.shortest, sym reads.all) (spelled bodies b)) in
+      let steadily : IsSteady source opened → IsSteady source ended = λ s. steady (all.steady s) in
+      search inr
 
   -- behind its open a string has one open that isn't closed, and no bodies
   pub so_far_opened : (opened now : Decoder R) (progress : Progress) → opened.waiting ≡ None → progress ≡ p.Open 1
