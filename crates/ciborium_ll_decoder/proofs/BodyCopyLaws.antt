@@ -1,6 +1,6 @@
 -- The copy of a body, chunk by chunk.
-use Rattle.std.proofs.Common.{min, ◌+◌, ◌-◌, ◌<◌, ◌≡◌, ℕ, ◌≤◌, List, length, Result, Ok, Err, refl, ap, arith, append_assoc, append-nil}
-use Rattle.std.proofs.Common.{length-append}
+use Rattle.std.proofs.Common.{min, ◌+◌, ◌-◌, ◌<◌, ◌≡◌, ℕ, ◌≤◌, List, length, Result, Ok, Err, ap, arith, append_assoc}
+use Rattle.std.proofs.Common.{append-nil, length-append}
 use Rattle.std.proofs.KnownBytes.{Appends-nil}
 use Rattle.std.specs.Result.{IsErrAnd, MatchResult}
 use Rattle.ciborium_ll_io.specs.declared.io.Read.{Ghosts as Reader}
@@ -35,14 +35,8 @@ module _ {R E P W F : Type 0} {parser : Parser P} (source : Reader R E) (sink : 
       pub written : WritesAll sink writer rest.front writer'
 
   pub so_far_start : (segment : Segment R P parser) (writer : W) → BodySoFar segment writer segment writer
-  so_far_start segment writer = record {
-    rest = rest_start source segment;
-    written = record {
-      appended = Appends-nil (sink.written writer);
-      room = Shrinks-zero (sink.room writer);
-      failures = refl;
-    };
-  }
+  so_far_start segment writer =
+      record { rest = rest_start source segment; written = search (Appends-nil, Shrinks-zero) }
 
   module _ (first segment : Segment R P parser) (writer now : W) (so_far : BodySoFar first writer segment now) where
     pub so_far_chunk : (room : ℕ) (chunk : List ℕ) (new : Segment R P parser) (writer' : W)
@@ -83,7 +77,7 @@ module _ {R E P W F : Type 0} {parser : Parser P} (source : Reader R E) (sink : 
             read = so_far.rest.front;
             all = omega (arith, ap length parts, so_far.rest.counted, whole.unread, ends.none_unread);
             sound = so_far.rest.sound;
-            passed = rw ends.decoder (rw parts at so_far.rest.passed);
+            passed = rw (parts, ← ends.decoder) at so_far.rest.passed;
           };
           written = so_far.written;
         }

@@ -1,6 +1,6 @@
 -- Opens and breaks in a row, and the first title of a string. What titles of one byte are is handed on.
-use Rattle.std.proofs.Common.{IsTrue, [], ◌≡◌, ℕ, suc, ◌+◌, ◌≤◌, Bool, ◌⊎◌, List, ◌++◌, length, Option, Some, None, Result, Ok}
-use Rattle.std.proofs.Common.{refl, sym, ap, ◌∙◌, inl, inr, arith, append_assoc, append-nil, length-append}
+use Rattle.std.proofs.Common.{IsTrue, [], ◌≡◌, ℕ, suc, ◌+◌, ◌≤◌, Bool, ◌⊎◌, List, ◌++◌, length, Option, Some, None}
+use Rattle.std.proofs.Common.{Result, Ok, refl, sym, ap, ◌∙◌, inl, inr, arith, append_assoc, append-nil, length-append}
 use Rattle.ciborium_ll_io.specs.declared.io.Read.{Ghosts}
 use Rattle.ciborium_ll_decoder.specs.declared.dec.Decoder.{Decoder}
 use Rattle.ciborium_ll_decoder.specs.declared.dec.Error.{Error}
@@ -67,13 +67,11 @@ pub nest_first : (k : Kind) (nest : List ℕ) (left : ℕ) → Nests k 0 nest le
 nest_first k nest left in_place = inl (refl, refl)
 nest_first k nest left (deeper {bytes = x} {title = t} {left = j} n p) =
     elim (nest_first k x j n) [
-      | inl none ↦ inr (record {
-        title = t;
-        more = [];
-        is_title = p;
-        whole = rw none.0 (sym (append-nil t));
-        behind = rw none.1 in_place;
-      })
+      | inl none ↦ (
+          let whole : x ++ t ≡ t ++ [] = rw none.0 (sym (append-nil t)) in
+          let behind : Nests k 1 [] (suc j) = rw none.1 in_place in
+          search inr
+          )
       | inr first ↦ inr (first_then k x t j left first (deeper first.behind p))
     ]
 nest_first k nest left (back {bytes = x} {title = t} {left = j} n p) =

@@ -110,7 +110,8 @@ module _ {R E : Type 0} (source : Reader R E) (k : Kind) where
       → now.offset ≤ begun.offset → (IsSteady source opened → IsSteady source new)
       → AdvancesAmong bodies opened now result progress new
   among_nest {opens} {bodies} {opened} {begun} now among all before steady =
-      let within = rw append_assoc at (nest_inside k opens all.left (shortest_title (kind_header k None) ++ among.strings)
+      let within =
+      rw append_assoc at (nest_inside k opens all.left (shortest_title (kind_header k None) ++ among.strings)
       all.nest bodies among.within all.nests) in
       let passed = Passes-then source opened begun all.between among.strings all.nest among.passed all.passed in
       let tight : IsTrue opened.strict → (all.left ≡ 1) × (among.strings ++ all.nest ≡ spelling (pieces k bodies)) =
@@ -168,13 +169,14 @@ module _ {R E : Type 0} (source : Reader R E) (k : Kind) where
       let within = rw append_assoc at (add_string k all.left (shortest_title (kind_header k None) ++ among.strings)
       (t ++ b) bodies (b ∷ []) among.within (definite is_title)) in
       let sound = AreWritable-append k bodies (b ∷ []) among.sound (sound_body k b reads.sound) in
-      let passed = rw append_assoc at (Passes-then source opened new ended (among.strings ++ t) b pulled reads.passed) in
+      let passed =
+      rw append_assoc at (Passes-then source opened new ended (among.strings ++ t) b pulled reads.passed) in
       let tight : IsTrue opened.strict → (all.left ≡ 1)
-          × (among.strings ++ (t ++ b) ≡ spelling (pieces k (bodies ++ b ∷ []))) = λ on.
-          let only = all.ends.pulled.strict (among.passed.mode ∙ on)
-          (passes_settled source opened all.between among.strings among.passed settled) in
-          let before = among.tight on in
-          (before.0, rw (before.1, only.shortest, sym reads.all) (spelled bodies b)) in
+      × (among.strings ++ (t ++ b) ≡ spelling (pieces k (bodies ++ b ∷ []))) = λ on.
+      let only = all.ends.pulled.strict (among.passed.mode ∙ on)
+      (passes_settled source opened all.between among.strings among.passed settled) in
+      let before = among.tight on in
+      (before.0, rw (before.1, only.shortest, sym reads.all) (spelled bodies b)) in
       let steadily : IsSteady source opened → IsSteady source ended = λ s. steady (all.steady s) in
       search inr
 

@@ -156,16 +156,12 @@ module _ {R E : Type 0} (source : Reader R E) (k : Kind) where
         let strings = all.among.strings in
         let front = shortest_title (kind_header k None) in
         let break = alone_bytes all.ends.pulled.title h.Break all.ends.pulled.is_title refl in
-        record {
-          behind = strings ++ 0xff ∷ [];
-          bodies = bodies;
-          is_string = rw append_assoc at (close_string k (front ++ strings) bodies
-              (rw all.ends.last at all.among.within));
-          taken = (strings, refl, taken_among all.among);
-          sound = all.among.sound;
-          passed = rw break at (Passes-pulled source opened all.between new strings h.Break all.ends.pulled
-              all.among.passed all.steady);
-        }
+        let is_string = rw append_assoc at (close_string k (front ++ strings) bodies
+        (rw all.ends.last at all.among.within)) in
+        let passed = rw break at (Passes-pulled source opened all.between new strings h.Break all.ends.pulled
+        all.among.passed all.steady) in
+        let taken = taken_among all.among in
+        search
 
     -- so many opens take more bytes than an offset counts
     not_too_deep : {left : ℕ} {between : Decoder R} → IsAmong source k left bodies opened between → 0 < opened.offset
@@ -182,12 +178,12 @@ module _ {R E : Type 0} (source : Reader R E) (k : Kind) where
     open_error room (e.Io fault) settled less all = inl (no_title (e.Io fault) all.among all.ends.0)
     open_error room (e.Syntax at) settled less all = elim all.ends [
       | inl refused ↦ inl (no_title (e.Syntax at) all.among refused.0)
-      | inr other ↦ inr (inl (record {
-        between = all.between;
-        part = part_of all.among;
-        other = other_inside source k opened.strict all.left all.between at progress new all.among.passed.mode
-            (some_open k all.left _ _ all.among.within) other;
-      }))
+      | inr other ↦ (
+          let part = part_of all.among in
+          let refused = other_inside source k opened.strict all.left all.between at progress new all.among.passed.mode
+          (some_open k all.left _ _ all.among.within) other in
+          search (inl, inr)
+          )
     ]
     open_error room e.TooLong settled less all = elim all.ends [
       | inl passes ↦ inl (no_title e.TooLong all.among passes.0)
