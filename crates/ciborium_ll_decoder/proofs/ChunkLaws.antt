@@ -10,7 +10,6 @@ use Rattle.ciborium_ll_decoder.specs.declared.seg.Segment.{Segment}
 use Rattle.ciborium_ll_decoder.specs.Kept.{kept_bytes}
 use Rattle.std.specs.Borrow.{Bor}
 use Rattle.ciborium_ll_decoder.specs.declared.dec.Error.{Error}
-use Rattle.ciborium_ll_decoder.specs.declared.dec.Error.TheVariants as e
 use Rattle.ciborium_ll_decoder.specs.Chunks.{FillsBehind, GivesChunk, IsPulled, IsSame, PullsChunk, ReadsOn, left_of}
 use Rattle.ciborium_ll_decoder.specs.Chunks.{rest, segment_reference}
 use Rattle.ciborium_ll_decoder.proofs.BodyLaws.{split_parts}

@@ -1,5 +1,3 @@
-use Rattle.std.proofs.Common.{◌-◌}
-use Rattle.ciborium_ll_grammar.specs.Title.{title_len}
 use Rattle.ciborium_ll_decoder.proofs.seg.chunked.finish_body.Goals as goal
 
 pub returns-then-len-buffer : goal.returns-then-len-buffer
