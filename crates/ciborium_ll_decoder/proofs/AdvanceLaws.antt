@@ -67,10 +67,9 @@ module _ {R E : Type 0} (source : Ghosts R E) (kind : Kind) (strict : Bool) wher
         (grind (arith, nests_counted))
 
   -- the nest so far, and the title that decides
-  ends_from : (opens left : ℕ) (old now new : Decoder R) (result : Result (Option Body) (Error E))
-      (after : Progress) → LeadsTo opens old left now
-      → EndsAdvance source kind strict left now result after new → AdvancesFrom source kind strict opens old result
-      after new
+  ends_from : (opens left : ℕ) (old now new : Decoder R) (result : Result (Option Body) (Error E)) (after : Progress)
+      → LeadsTo opens old left now → EndsAdvance source kind strict left now result after new
+      → AdvancesFrom source kind strict opens old result after new
   ends_from opens left old now new result after led ends = search
 
   -- where titles are due they led there, as a string that has ended has no open left
@@ -112,7 +111,6 @@ module _ {R E : Type 0} (source : Ghosts R E) (kind : Kind) (strict : Bool) wher
 
 module _ {R E P : Type 0} {parser : Parser P} (source : Ghosts R E) (kind : Kind) (strict : Bool) where
   -- what `pull` answers where an answer stays
-  pub given_again : (progress : Progress) (old : Decoder R)
-      (result : Result (Option (Segment R P parser)) (Error E)) → PullsSegment source kind strict progress old result
-      → GivesAgain progress result
+  pub given_again : (progress : Progress) (old : Decoder R) (result : Result (Option (Segment R P parser)) (Error E))
+      → PullsSegment source kind strict progress old result → GivesAgain progress result
   given_again progress old result pulls = grind arith

@@ -1,16 +1,17 @@
 -- What the relations of the decoder's calls have in common.
-use Rattle.std.proofs.Common.{[], ◌≡◌, ℕ, false, ◌⊎◌, List, ◌++◌, Option, Some, None, IfSome, Result, Ok, Err, IsErrAnd}
-use Rattle.std.proofs.Common.{◌<◌, ◌≤◌, ◌-◌, ◌^◌, refl, ◌∙◌, arith, append_assoc, append-nil, length-append}
+use Rattle.std.proofs.Common.{ap, refl, ◌+◌, [], ◌≡◌, ℕ, false, ◌⊎◌, List, ◌++◌, Option, Some, None, IfSome, Result, Ok}
+use Rattle.std.proofs.Common.{Err, IsErrAnd, ◌<◌, ◌≤◌, ◌-◌, ◌^◌, ◌∙◌, arith, append_assoc, append-nil, length-append}
 use Rattle.std.proofs.KnownBytes.{Consumes-trans}
-use Rattle.std.specs.Io.KnownBytes.{Consumes, prepend_known}
+use Rattle.std.specs.Io.KnownBytes.{Consumes}
 use Rattle.ciborium_ll_grammar.specs.declared.hdr.Header.{Header}
 use Rattle.ciborium_ll_io.specs.declared.io.Read.{Ghosts}
 use Rattle.ciborium_ll_decoder.specs.declared.dec.Decoder.{Decoder}
 use Rattle.ciborium_ll_decoder.specs.declared.dec.Error.{Error}
 use Rattle.ciborium_ll_decoder.specs.declared.dec.Error.TheVariants as e
 use Rattle.ciborium_ll_text.proofs.Lists.{length_zero}
-use Rattle.ciborium_ll_grammar.specs.Title.{shortest_title}
-use Rattle.ciborium_ll_decoder.specs.Decoding.{Begins, behind_waiting, IsSteady, MovesOn, Passes, PullsTitle}
+use Rattle.ciborium_ll_grammar.specs.Title.{shortest_title, title_len, IsInRange, IsStrictTitle}
+use Rattle.ciborium_ll_grammar.proofs.TitleLaws.{IsTitle-shortest}
+use Rattle.ciborium_ll_decoder.specs.Decoding.{Strictly, view, Begins, IsSteady, MovesOn, Passes, PullsTitle}
 use Rattle.ciborium_ll_decoder.specs.Decoding.{PullsHeader, RefusesTitle, TakesBack, PullsAgain}
 
 -- the exit of a `?` answers the error that it was given. A caller that names this lemma is spared a search
@@ -27,15 +28,18 @@ pub nearer : {R : Type 0} (old between new : Decoder R) → old.offset < between
     → 2 ^ 64 - new.offset < 2 ^ 64 - old.offset
 nearer old between new risen rises = omega (arith, risen, rises, new.covered)
 
--- bytes put in front are the next ones
-pub Consumes-prepended : (known : Option (List ℕ)) (front : List ℕ) → Consumes (prepend_known front known) known front
-Consumes-prepended known front = grind arith
-
 -- a waiting header that is taken leaves what was behind it
-pub Consumes-waiting : (waiting waiting' : Option Header) (header : Header) (ahead : Option (List ℕ)) → waiting
-    ≡ Some header → waiting' ≡ None
-    → Consumes (behind_waiting waiting ahead) (behind_waiting waiting' ahead) (shortest_title header)
-Consumes-waiting waiting waiting' header ahead e e' = grind arith
+pub waiting_pulled : {R E : Type 0} (source : Ghosts R E) (old new : Decoder R) (header : Header) → IsInRange header
+    → old.waiting ≡ Some header → new.waiting ≡ None → new.reader ≡ old.reader
+    → new.offset ≡ old.offset + title_len header → new.strict ≡ old.strict → PullsTitle source old header new
+waiting_pulled source old new header range waits taken reader offset mode =
+    let is_title = IsTitle-shortest header range in
+    let bytes : Consumes (view source old) (view source new) (shortest_title header) = grind arith in
+    let failures = ap source.failures reader in
+    let waited : IfSome old.waiting (λ kept. (kept ≡ header) × (shortest_title header ≡ shortest_title header)
+    × (new.reader ≡ old.reader)) = simp waits (refl, refl, reader) in
+    let strictly : Strictly old (IsStrictTitle (shortest_title header) header) = grind arith in
+    search
 
 -- a waiting header is given
 not_again : {R E : Type 0} (source : Ghosts R E) (old new : Decoder R) (header : Header) (error : Error E)
@@ -125,12 +129,6 @@ module _ {R E : Type 0} (source : Ghosts R E) where
 pub passes_settled : {R E : Type 0} (source : Ghosts R E) (old new : Decoder R) (bytes : List ℕ)
     → Passes source old bytes new → old.waiting ≡ None → new.waiting ≡ None
 passes_settled source old new bytes passed h5 = grind arith
-
-waited_same : {R : Type 0} (old now now' : Decoder R) (bytes : List ℕ) (waiting : Option Header) → old.waiting
-    ≡ waiting → now.waiting ≡ None
-    → IfSome waiting (λ h. (now ≡ old) ⊎ Begins (shortest_title h) bytes)
-    → IfSome waiting (λ h. (now' ≡ old) ⊎ Begins (shortest_title h) bytes)
-waited_same old now now' bytes waiting e h6 before = grind arith
 
 -- a decoder with the same reader and offset, and with no header that waits either
 pub passes_same : {R E : Type 0} (source : Ghosts R E) (old now now' : Decoder R) (bytes : List ℕ)

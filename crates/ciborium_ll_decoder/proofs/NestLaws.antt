@@ -93,9 +93,8 @@ module _ {R E : Type 0} (source : Ghosts R E) (k : Kind) where
   -- a waiting header of the kind is that of a body
   waiting_found : (strict : Bool) (len : Option ℕ) (old new : Decoder R) (result : Result (Option Body) (Error E))
       (progress : Progress) → old.waiting ≡ Some (kind_header k len)
-      → EndsAdvance source k strict 0 old result progress new
-      → (body : Body) × (result ≡ Ok (Some body)) × (len ≡ Some body.length)
-      × FindsBody source k 0 old body progress new
+      → EndsAdvance source k strict 0 old result progress new → (body : Body) × (result ≡ Ok (Some body))
+      × (len ≡ Some body.length) × FindsBody source k 0 old body progress new
   waiting_found strict len old new result progress waits ends = grind (arith, same_length, well_placed)
 
   -- `advance` over a waiting header of the kind: it is that of a body, or an open, which goes first
@@ -145,12 +144,10 @@ module _ {R E : Type 0} (source : Ghosts R E) (k : Kind) where
       → FindsBody source k 0 pushed body progress new → FindsOnly len pulled (Ok (Some body)) progress new
   only_found len pulled pushed new body progress taken lengths found = grind arith
 
-  pub advance_definite : (strict : Bool) (len : ℕ) (pulled pushed new : Decoder R) (result : Result (Option Body) (Error
-      E))
-      (progress : Progress) → IsInRange (kind_header k (Some len))
-      → TakesBack source pulled (kind_header k (Some len)) pushed → AdvancesFrom source k strict 0 pushed result
-      progress
-      new → FindsOnly len pulled result progress new
+  pub advance_definite : (strict : Bool) (len : ℕ) (pulled pushed new : Decoder R)
+      (result : Result (Option Body) (Error E)) (progress : Progress) → IsInRange (kind_header k (Some len))
+      → TakesBack source pulled (kind_header k (Some len)) pushed
+      → AdvancesFrom source k strict 0 pushed result progress new → FindsOnly len pulled result progress new
   advance_definite strict len pulled pushed new result progress range taken all =
       elim (waiting_first strict (Some len) pushed new result progress range taken.waits all) [
         | inl only ↦ rw only.1 (only_found len pulled pushed new only.0 progress taken only.2 only.3)

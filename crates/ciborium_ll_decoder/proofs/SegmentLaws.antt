@@ -2,7 +2,6 @@
 use Rattle.std.proofs.Common.{[], ◌≡◌, ℕ, Bool, ◌<◌, ◌≤◌, ◌⊎◌, List, ◌∷◌, ◌++◌, length, Option, Some, None, IsTrue}
 use Rattle.std.proofs.Common.{Result, Ok, refl, sym, ap, ◌∙◌, inl, inr, arith, append_assoc, append-nil, length-append}
 use Rattle.ciborium_ll_io.specs.declared.io.Read.{Ghosts as Reader}
-use Rattle.ciborium_ll_grammar.specs.declared.hdr.Header.{Header}
 use Rattle.ciborium_ll_decoder.specs.declared.dec.Decoder.{Decoder}
 use Rattle.ciborium_ll_decoder.specs.declared.dec.Error.{Error}
 use Rattle.ciborium_ll_decoder.specs.declared.seg.Body.{Body}
@@ -15,8 +14,7 @@ use Rattle.ciborium_ll_grammar.specs.Elements.{AreWritable, Piece, spelling, pie
 use Rattle.ciborium_ll_grammar.specs.Faults.{IsRefusedIn}
 use Rattle.ciborium_ll_decoder.specs.Decoding.{Passes, IsSteady, TakesBack}
 use Rattle.ciborium_ll_decoder.specs.Finishing.{ReadsRest}
-use Rattle.ciborium_ll_decoder.specs.Segments.{IsRefusedAt, PullsOther, FindsOther, EndsAdvance, AdvancesFrom}
-use Rattle.ciborium_ll_decoder.specs.Segments.{AdvancesTo}
+use Rattle.ciborium_ll_decoder.specs.Segments.{PullsOther, FindsOther, EndsAdvance, AdvancesFrom, AdvancesTo}
 use Rattle.ciborium_ll_grammar.proofs.TitleLaws.{IsTitle-shortest}
 use Rattle.ciborium_ll_grammar.proofs.StepLaws.{add_string}
 use Rattle.ciborium_ll_grammar.proofs.ElementLaws.{AreWritable-append, pieces-append, spelling-append}
@@ -30,20 +28,13 @@ opens_counted k j u bs (one_open {title = t} {strings = x} p s) = grind (arith, 
 opens_counted k j u bs (more_open {opens = i} {outer = y} {title = t} {strings = x} {bodies = ds} q p s) =
     grind (arith, title_some, length-append {A = ℕ}, opens_counted k i y ds q)
 
--- within a string a break is not misplaced
-refused_inside : (strict : Bool) (k : Kind) (opens : ℕ) (header : Header) → 0 < opens
-    → IsRefusedAt strict k opens header → IsRefusedIn strict k header
-refused_inside strict k opens header some h5 = grind arith
-
 pub some_open : (k : Kind) (opens : ℕ) (u : List ℕ) (bs : List (List ℕ)) → IsInsideAt k opens u bs → 0 < opens
 some_open k opens u bs i = grind arith
 
--- so it is refused within the string
-pub other_inside : {R E : Type 0} (source : Reader R E) (k : Kind) (strict : Bool) (opens : ℕ) (old : Decoder R) (at :
-    ℕ)
-    (progress : Progress) (new : Decoder R) → old.strict ≡ strict → 0 < opens
-    → FindsOther source k strict opens old at progress new
-    → PullsOther source (IsRefusedIn old.strict k) old at new
+-- within a string a break is not misplaced, and what is refused there is refused within the string
+pub other_inside : {R E : Type 0} (source : Reader R E) (k : Kind) (strict : Bool) (opens : ℕ) (old : Decoder R)
+    (at : ℕ) (progress : Progress) (new : Decoder R) → old.strict ≡ strict → 0 < opens
+    → FindsOther source k strict opens old at progress new → PullsOther source (IsRefusedIn old.strict k) old at new
 other_inside source k strict opens old at progress new same some found = grind arith
 
 pub sound_none : (k : Kind) → AreWritable k []

@@ -1,6 +1,6 @@
 -- A string that is read to its end.
-use Rattle.std.proofs.Common.{[], ◌≡◌, Bool, true, ℕ, zero, suc, ◌-◌, ◌^◌, ◌<◌, ◌⊎◌, List, ◌∷◌, ◌++◌}
-use Rattle.std.proofs.Common.{Option, Some, None, Result, Ok, Err, refl, inl, inr, arith, append_assoc, length-append}
+use Rattle.std.proofs.Common.{[], ◌≡◌, Bool, true, ℕ, zero, suc, ◌-◌, ◌^◌, ◌<◌, ◌⊎◌, List, ◌∷◌, ◌++◌, Option, Some}
+use Rattle.std.proofs.Common.{None, Result, Ok, Err, refl, inl, inr, arith, append_assoc, length-append}
 use Rattle.ciborium_ll_io.specs.declared.io.Read.{Ghosts as Reader}
 use Rattle.ciborium_ll_grammar.specs.declared.hdr.Header.TheVariants as h
 use Rattle.ciborium_ll_decoder.specs.declared.dec.Decoder.{Decoder}
@@ -173,8 +173,7 @@ module _ {R E : Type 0} (source : Reader R E) (k : Kind) where
     no_title {between} error a fails = record { between = between; part = part_of a; fails = fails }
 
     open_error : (room : ℕ) (error : Error E) → 0 < opened.offset → new.offset < 2 ^ 64
-        → AdvancesAmong source k bodies opened now (Err error) progress new
-        → StopsInside source k room opened error new
+        → AdvancesAmong source k bodies opened now (Err error) progress new → StopsInside source k room opened error new
     open_error room (e.Io fault) settled less all = inl (no_title (e.Io fault) all.among all.ends.0)
     open_error room (e.Syntax at) settled less all = elim all.ends [
       | inl refused ↦ inl (no_title (e.Syntax at) all.among refused.0)
@@ -208,9 +207,8 @@ module _ {R E : Type 0} (source : Reader R E) (k : Kind) where
 
   pub skips_end : (strict : Bool) (len : Option ℕ) (room : ℕ) (opened now new : Decoder R)
       (progress progress' : Progress) → strict ≡ opened.strict → SkipsSoFar len opened progress now
-      → (IsSteady source now → IsSteady source new)
-      → AdvancesTo source k strict progress now (Ok None) progress' new → SkipsString source k len room opened
-      (Ok (tt {0})) new
+      → (IsSteady source now → IsSteady source new) → AdvancesTo source k strict progress now (Ok None) progress' new
+      → SkipsString source k len room opened (Ok (tt {0})) new
   skips_end strict None room opened now new progress progress' mode so_far steady advances =
       open_end so_far.0.0 opened now new progress' (advances_among source k so_far.0.0 opened now strict (Ok None)
       progress progress' new mode so_far.0.1 advances steady)
@@ -249,9 +247,8 @@ module _ {R E : Type 0} (source : Reader R E) (k : Kind) where
 
   pub skips_stop : (strict : Bool) (len : Option ℕ) (room : ℕ) (opened now new ended : Decoder R)
       (progress progress' : Progress) (body : Body) (error : Error E) → strict ≡ opened.strict
-      → SkipsSoFar len opened progress now
-      → (IsSteady source now → IsSteady source new) → AdvancesTo source k strict progress now (Ok (Some body)) progress'
-      new
+      → SkipsSoFar len opened progress now → (IsSteady source now → IsSteady source new)
+      → AdvancesTo source k strict progress now (Ok (Some body)) progress' new
       → EndsBody source k [] body.length room body.place new (Err error) ended
       → SkipsString source k len room opened (Err error) ended
   skips_stop strict None room opened now new ended progress progress' body error mode so_far steady advances ends =

@@ -174,9 +174,8 @@ module _ {R E : Type 0} (source : Ghosts R E) where
   affix_taken first old new minor answer holds is = grind arith
 
   -- a number that stands within the first byte is taken with it
-  pub small_taken : (first number : ℕ) (old new : Decoder R) (read : List ℕ) → first % 32 < 24
-      → number ≡ first % 32 → length read ≡ 0 → ReadsAll source old read new
-      → ReadsAffix source first old (m.Small number) new
+  pub small_taken : (first number : ℕ) (old new : Decoder R) (read : List ℕ) → first % 32 < 24 → number ≡ first % 32
+      → length read ≡ 0 → ReadsAll source old read new → ReadsAffix source first old (m.Small number) new
   small_taken first number old new read small is empty reads = grind (arith, length_zero)
 
   -- and so is an open

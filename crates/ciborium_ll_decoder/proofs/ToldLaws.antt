@@ -1,18 +1,13 @@
 -- What is left of bytes that are told, where some of them are read.
-use Rattle.std.specs.Prelude.{if◌then◌else◌}
-use Rattle.std.proofs.Common.{◌≡◌, ℕ, Bool, ◌≤◌, List, ◌∷◌, ◌++◌, take, drop, Option, Some, sym, ap, arith}
+use Rattle.std.proofs.Common.{◌≡◌, ℕ, ◌≤◌, List, ◌∷◌, ◌++◌, take, drop, Option, Some, sym, ap, arith}
 use Rattle.std.specs.Io.KnownBytes.{Consumes}
 use Rattle.ciborium_ll_decoder.specs.Decoding.{next_read}
 
 pub consumes_told : (known known' : Option (List ℕ)) (due bytes : List ℕ) → known ≡ Some due
-    → Consumes known known' bytes
-    → (rest : List ℕ) × (known' ≡ Some rest) × (due ≡ bytes ++ rest)
+    → Consumes known known' bytes → (rest : List ℕ) × (known' ≡ Some rest) × (due ≡ bytes ++ rest)
 consumes_told known known' due bytes e c = grind arith
 
 -- no read inside a title is of more than 8 bytes
-either_small : (b : Bool) (x y : ℕ) → x ≤ 8 → y ≤ 8 → (if b then x else y) ≤ 8
-either_small b x y p q = grind arith
-
 pub next_read_small : (read : List ℕ) → next_read read ≤ 8
 next_read_small read = grind arith
 
