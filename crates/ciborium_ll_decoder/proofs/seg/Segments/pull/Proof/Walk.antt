@@ -94,10 +94,6 @@ body_of length place = record { length = length; place = place }
 module _ {M : Type 1} {𝓤 : Ura M} (𝓛 : Logic 𝓤) where
   open 𝓛 use {H}
 
-  -- the code b runs, and then what q asks
-  abbrev pub then_runs : Calls 𝓤 H → Loops 𝓤 H → Env 𝓤 H → Code → Then 𝓤 H → Then 𝓤 H
-  then_runs C Λ locals b q = any_q (after_seq 𝓤 H (Wp 𝓤 H C Λ locals b (post 𝓤 H q)) (post 𝓤 H q))
-
   -- what is owned of x is owned of `Ok(x)`
   pub ok_of : (X Y : RattleType) (x : X.Denot) (value : Val) → ent 𝓤 (sem 𝓛 (X.own_val x (value ∷ [])))
       (sem 𝓛 ((result.the_row X Y).own_val (Ok x) (live 0 (of_list (value ∷ [])) ∷ [])))
@@ -252,6 +248,11 @@ module _ (R P E : RattleType) (reads : read.Ghosts R.Denot E.Denot) (reads_dict 
         abbrev Post : Val → SProp 𝓤
         Post = (walk_of 𝓛 ended stayed spec).post bound
 
+        -- what runs behind the `match`
+        abbrev behind : Env 𝓤 H → Then 𝓤 H
+        behind locals =
+            let rest = post 𝓤 H (at_ret locals Post) in any_q (after_seq 𝓤 H (Wp 𝓤 H 𝓣.C 𝓣.Λ locals leaving rest) rest)
+
         -- the rows as the clause names them
         abbrev StringIn : RattleType
         StringIn = segments.the_row (record { mir = named 1; lft = [] }) (param 0 R) (param 1 P) kind
@@ -329,17 +330,15 @@ module _ (R P E : RattleType) (reads : read.Ghosts R.Denot E.Denot) (reads_dict 
             let Advances = triple_of 𝓛 (advance.signature R P E reads reads_dict kind kind_dict)
             (advance.spec R P E reads reads_dict kind kind_dict 𝓛 𝓜.mem 𝓡.returns) in
             let in_outer : call ⊑ outer = meet_⊑_right (fresh ∷ []) outer in
+            let to : (l : Lft) → outer ⊑ l → call ⊑ l = λ l bound. ⊑_trans call outer l in_outer bound in
+            let third = to lifetimes.1.1.1.0 within.1.1.0 in
+            let inside : AllOutlive 5 ended.signature.outlives (call, lifetimes.1) =
+            (to inner within.0, (to lifetimes.1.1.0 within.1.0, (third, (within.1.1.1.0, tt)))) in
             let given_advance : Advances.Ghost = (
               (
                 (call, lifetimes.1),
                 (left shares.0, shares.1),
-                (
-                  ⊑_trans call outer inner in_outer within.0,
-                  (
-                    ⊑_trans call outer lifetimes.1.1.0 in_outer within.1.0,
-                    (⊑_trans call outer lifetimes.1.1.1.0 in_outer within.1.1.0, (within.1.1.1.0, tt)),
-                  ),
-                ),
+                inside,
                 (reference again old, tt),
                 (vptr block at ∷ [], tt),
               ),
@@ -393,28 +392,19 @@ module _ (R P E : RattleType) (reads : read.Ghosts R.Denot E.Denot) (reads_dict 
             (((body_laws.the_row_laws).lawful 𝓛).typed b (u ∷ []) is_body).0 in
             drop ! $ lands_as ! is_value refl (subst (Good (layout Advance))
             is_value good_answer) $
-            first ! $ switches_on ! (get_tag ! (vrt ! refl (fld ! refl (stop !))) (whole !)) $ exec ! 𝓣.C 𝓣.Λ locals
-            (arm_body 0 matching) (then_runs 𝓛 𝓣.C 𝓣.Λ locals leaving (at_ret locals Post)) $
+            first ! $ switches_on ! (get_tag ! (vrt ! refl (fld ! refl (stop !))) (whole !)) $
+            exec ! 𝓣.C 𝓣.Λ locals (arm_body 0 matching) (behind locals) $
             switches_on ! (load ! (from ! (vrt ! refl (fld ! refl (vrt ! refl (fld ! refl (stop !))))))
             (look_tag ! 16 (in_variant ! 0 0 refl refl (whole !)))) $
-            exec ! 𝓣.C 𝓣.Λ locals (arm_body 0 (arm_body 0 matching))
-            (then_runs 𝓛 𝓣.C 𝓣.Λ locals leaving (at_ret locals Post)) $
+            exec ! 𝓣.C 𝓣.Λ locals (arm_body 0 (arm_body 0 matching)) (behind locals) $
             sets ! (of_opd ! (get_in ! (vrt ! refl (fld ! refl (vrt ! refl (fld ! refl (stop !)))))
             (in_variant ! 1 0 refl refl (in_variant ! 0 0 refl refl (whole !))))) refl good_body $
             sets ! (addr ! (through ! refl (stop !))) refl (tt, tt) $
             -- lent on: the reference itself, to `segment`, with the body
             let Lends = triple_of 𝓛 (lend.signature R P E reads reads_dict kind kind_dict)
             (lend.spec R P E reads reads_dict kind kind_dict 𝓛 𝓜.mem 𝓡.returns) in
-            let given_segment : Lends.Ghost = (
-              (
-                lifetimes,
-                shares,
-                within,
-                (reference name new, (b, tt)),
-                (vptr block at ∷ [], (u ∷ [], tt)),
-              ),
-              tt,
-            ) in
+            let given_segment : Lends.Ghost =
+            ((lifetimes, shares, within, (reference name new, (b, tt)), (vptr block at ∷ [], (u ∷ [], tt))), tt) in
             use0 𝓛 (raw (fact 𝓤 (waiting_of new.decoder.now ≡ None))) (fact_i 𝓤 _ (emp 𝓤) none_waits) $
             use0 𝓛 (raw (fact 𝓤 (lifetimes.1.1.1.1.0 ⊑ E.lives))) (fact_i 𝓤 _ (emp 𝓤) in-E) $ join ! $ use0 𝓛
             (raw (fact 𝓤 (lifetimes.1.1.1.0 ⊑ P.lives))) (fact_i 𝓤 _ (emp 𝓤) in-P) $ join ! $ use0 𝓛
@@ -474,12 +464,11 @@ module _ (R P E : RattleType) (reads : read.Ghosts R.Denot E.Denot) (reads_dict 
             use1 𝓛 (‵ (Pull.own_val (Ok None) (out ∷ []))) (ok_of 𝓛 (option.the_row Part) Fault None (live 0 vnil)) $
             move ! (2 ∷ 0 ∷ 1 ∷ []) $
             lands_as ! is_value refl (tt, (record { fits = lit< tt }, ((record { fits = lit< tt }, tt), tt))) $
-            first ! $ switches_on ! (get_tag ! (vrt ! refl (fld ! refl (stop !))) (whole !)) $ exec ! 𝓣.C 𝓣.Λ locals
-            (arm_body 0 matching) (then_runs 𝓛 𝓣.C 𝓣.Λ locals leaving (at_ret locals Post)) $
+            first ! $ switches_on ! (get_tag ! (vrt ! refl (fld ! refl (stop !))) (whole !)) $
+            exec ! 𝓣.C 𝓣.Λ locals (arm_body 0 matching) (behind locals) $
             switches_on ! (load ! (from ! (vrt ! refl (fld ! refl (vrt ! refl (fld ! refl (stop !))))))
             (look_tag ! 17 (in_variant ! 0 0 refl refl (whole !)))) $
-            exec ! 𝓣.C 𝓣.Λ locals (arm_body 1 (arm_body 0 matching))
-            (then_runs 𝓛 𝓣.C 𝓣.Λ locals leaving (at_ret locals Post)) $
+            exec ! 𝓣.C 𝓣.Λ locals (arm_body 1 (arm_body 0 matching)) (behind locals) $
             sets ! (agg ! (and_then ! (lit ! tt) (no_more !))) refl (tt, (record { fits = lit< tt }, tt)) $
             sets_last ! (agg ! (and_then ! (lit ! tt) (and_then ! (get ! refl) (no_more !)))) refl
             (tt, (record { fits = lit< tt }, ((record { fits = lit< tt }, tt), tt))) $
@@ -513,8 +502,8 @@ module _ (R P E : RattleType) (reads : read.Ghosts R.Denot E.Denot) (reads_dict 
             -- [the tokens; the result; the string's last value]
             lands_as ! is_value refl (subst (Good (layout Advance)) is_value
             good_answer) $
-            first ! $ switches_on ! (get_tag ! (vrt ! refl (fld ! refl (stop !))) (whole !)) $ exec ! 𝓣.C 𝓣.Λ locals
-            (arm_body 1 matching) (then_runs 𝓛 𝓣.C 𝓣.Λ locals leaving (at_ret locals Post)) $
+            first ! $ switches_on ! (get_tag ! (vrt ! refl (fld ! refl (stop !))) (whole !)) $
+            exec ! 𝓣.C 𝓣.Λ locals (arm_body 1 matching) (behind locals) $
             sets ! (of_opd ! (get_in ! (vrt ! refl (fld ! refl (stop !))) (in_variant ! 1 0 refl refl (whole !)))) refl
             good_error $ sets ! (of_opd ! (get ! refl)) refl good_error $
             -- given back: `Err(error)`
