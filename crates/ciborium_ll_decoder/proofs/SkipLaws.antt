@@ -13,9 +13,9 @@ use Rattle.ciborium_ll_grammar.specs.Title.{IsInRange, shortest_title, title_len
 use Rattle.ciborium_ll_grammar.specs.Strings.{Kind, kind_header, IsString, definite, indefinite}
 use Rattle.ciborium_ll_grammar.proofs.OpenStrings.{IsInsideAt, one_open, more_open}
 use Rattle.ciborium_ll_decoder.specs.Decoding.{PullsHeader, Passes, IsSteady, TakesBack}
-use Rattle.ciborium_ll_decoder.specs.Segments.{AdvancesTo, NestsTooDeep}
+use Rattle.ciborium_ll_decoder.specs.Segments.{FindsOther, AdvancesTo, NestsTooDeep}
 use Rattle.ciborium_ll_decoder.specs.Finishing.{ReadsRest, BeginsRest, EndsBody}
-use Rattle.ciborium_ll_decoder.specs.Skipping.{SkipsWhole, SkipsInside, MeetsNoTitle, MeetsBody, StopsInside}
+use Rattle.ciborium_ll_decoder.specs.Skipping.{SkipsWhole, SkipsInside, MeetsNoTitle, MeetsOther, MeetsBody, StopsInside}
 use Rattle.ciborium_ll_decoder.specs.Skipping.{SkipsString}
 use Rattle.ciborium_ll_grammar.specs.Elements.{spelling, pieces}
 use Rattle.ciborium_ll_grammar.specs.Items.{AreTakenStrings}
@@ -50,9 +50,8 @@ taken_strings strict k u bs flat_ones = grind arith
 
 module _ {R E : Type 0} (source : Reader R E) (k : Kind) (len : ℕ) (old new : Decoder R)
     (passed : Passes source old [] new) where
-  begins_behind : (between : Decoder R) → BeginsRest source k [] len new between → BeginsRest source k [] len old
-      between
-  begins_behind between part = grind arith
+  begins_behind : (now : Decoder R) → BeginsRest source k [] len new now → BeginsRest source k [] len old now
+  begins_behind now part = grind arith
 
   ends_behind : (room place : ℕ) (error : Error E) (ended : Decoder R)
       → EndsBody source k [] len room place new (Err error) ended
@@ -172,17 +171,20 @@ module _ {R E : Type 0} (source : Reader R E) (k : Kind) where
         → PullsHeader source between (Err error) new → MeetsNoTitle source k opened error new
     no_title {between} error a fails = record { between = between; part = part_of a; fails = fails }
 
+    meets_other : {left : ℕ} {between : Decoder R} (at : ℕ) → IsAmong source k left bodies opened between
+        → FindsOther source k opened.strict left between at progress new → MeetsOther source k opened at new
+    meets_other at a other =
+        let part = part_of a in
+        let refused = other_inside source k opened.strict _ _ at progress new a.passed.mode
+        (some_open k _ _ _ a.within) other in
+        search
+
     open_error : (room : ℕ) (error : Error E) → 0 < opened.offset → new.offset < 2 ^ 64
         → AdvancesAmong source k bodies opened now (Err error) progress new → StopsInside source k room opened error new
     open_error room (e.Io fault) settled less all = inl (no_title (e.Io fault) all.among all.ends.0)
     open_error room (e.Syntax at) settled less all = elim all.ends [
       | inl refused ↦ inl (no_title (e.Syntax at) all.among refused.0)
-      | inr other ↦ (
-          let part = part_of all.among in
-          let refused = other_inside source k opened.strict all.left all.between at progress new all.among.passed.mode
-          (some_open k all.left _ _ all.among.within) other in
-          search (inl, inr)
-          )
+      | inr other ↦ inr (inl (meets_other at all.among other))
     ]
     open_error room e.TooLong settled less all = elim all.ends [
       | inl passes ↦ inl (no_title e.TooLong all.among passes.0)
@@ -233,14 +235,10 @@ module _ {R E : Type 0} (source : Reader R E) (k : Kind) where
       → EndsBody source k [] body.length room body.place new (Ok (tt {0})) ended → SkipsSoFar len opened progress' ended
   skips_body strict None room opened now new ended progress progress' body mode so_far steady steady' advances reads =
       let all = advances_among source k so_far.0.0 opened now strict (Ok (Some body)) progress progress' new mode
-      so_far.0.1 advances steady in (
-        (
-          _,
-          segment_added source k so_far.0.0 opened now new ended body progress' so_far.0.1.none_waits all reads
-              steady',
-        ),
-        so_far.1,
-      )
+      so_far.0.1 advances steady in
+      let more = segment_added source k so_far.0.0 opened now new ended body progress' so_far.0.1.none_waits all reads
+      steady' in
+      ((_, more), so_far.1)
   skips_body strict (Some len) room opened now new ended progress progress' body mode so_far steady steady' advances
       reads = lone_reads strict len opened now new progress progress' so_far body ended
       (lone_body strict len opened now new progress progress' so_far body advances) reads
