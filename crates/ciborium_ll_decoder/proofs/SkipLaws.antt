@@ -1,6 +1,6 @@
 -- A string that is read to its end.
-use Rattle.std.proofs.Common.{[], ◌≡◌, Bool, true, ℕ, zero, suc, ◌-◌, ◌^◌, ◌<◌, ◌⊎◌, List, ◌∷◌, ◌++◌, Option, Some}
-use Rattle.std.proofs.Common.{None, Result, Ok, Err, refl, inl, inr, arith, append_assoc, length-append}
+use Rattle.std.proofs.Common.{[], ◌≡◌, Bool, ℕ, zero, suc, ◌-◌, ◌^◌, ◌<◌, ◌⊎◌, List, ◌∷◌, ◌++◌, Option, Some, None}
+use Rattle.std.proofs.Common.{Result, Ok, Err, refl, inl, inr, arith, append_assoc, length-append}
 use Rattle.ciborium_ll_io.specs.declared.io.Read.{Ghosts as Reader}
 use Rattle.ciborium_ll_grammar.specs.declared.hdr.Header.TheVariants as h
 use Rattle.ciborium_ll_decoder.specs.declared.dec.Decoder.{Decoder}
@@ -15,8 +15,8 @@ use Rattle.ciborium_ll_grammar.proofs.OpenStrings.{IsInsideAt, one_open, more_op
 use Rattle.ciborium_ll_decoder.specs.Decoding.{PullsHeader, Passes, IsSteady, TakesBack}
 use Rattle.ciborium_ll_decoder.specs.Segments.{FindsOther, AdvancesTo, NestsTooDeep}
 use Rattle.ciborium_ll_decoder.specs.Finishing.{ReadsRest, BeginsRest, EndsBody}
-use Rattle.ciborium_ll_decoder.specs.Skipping.{SkipsWhole, SkipsInside, MeetsNoTitle, MeetsOther, MeetsBody, StopsInside}
-use Rattle.ciborium_ll_decoder.specs.Skipping.{SkipsString}
+use Rattle.ciborium_ll_decoder.specs.Skipping.{SkipsWhole, SkipsInside, MeetsNoTitle, MeetsOther, MeetsBody}
+use Rattle.ciborium_ll_decoder.specs.Skipping.{StopsInside, SkipsString}
 use Rattle.ciborium_ll_grammar.specs.Elements.{spelling, pieces}
 use Rattle.ciborium_ll_grammar.specs.Items.{AreTakenStrings}
 use Rattle.ciborium_ll_grammar.specs.StrictElements.{AreFlat}
@@ -40,11 +40,6 @@ close_string k u bs (more_open {outer = y} {bodies = ds} i p s) = absurd (never 
 flat_inside : (k : Kind) (u : List ℕ) (bs : List (List ℕ)) → IsInsideAt k (suc zero) u bs
     → AreFlat k (spelling (pieces k bs)) bs
 flat_inside k u bs h3 = grind (arith, flat, respell_all, never)
-
--- where only these are taken
-pub taken_strings : (strict : Bool) (k : Kind) (u : List ℕ) (bs : List (List ℕ)) → (strict ≡ true → AreFlat k u bs)
-    → AreTakenStrings strict k u bs
-taken_strings strict k u bs flat_ones = grind arith
 
 -- ---- the end of a body
 
@@ -138,9 +133,10 @@ module _ {R E : Type 0} (source : Reader R E) (k : Kind) where
 
   -- ---- segments behind an open
 
+  -- where only these are taken
   taken_among : {opens : ℕ} {bodies : List (List ℕ)} {opened now : Decoder R}
       (a : IsAmong source k opens bodies opened now) → AreTakenStrings opened.strict k a.strings bodies
-  taken_among a = grind (arith, taken_strings, flat_inside)
+  taken_among a = grind (arith, flat_inside)
 
   part_of : {opens : ℕ} {bodies : List (List ℕ)} {opened now : Decoder R} → IsAmong source k opens bodies opened now
       → SkipsInside source k opened now

@@ -1,7 +1,7 @@
 -- A title that a decoder read, by the bytes of its parts.
 use Rattle.std.proofs.Common.{IsTrue, [], ◌≡◌, ℕ, ◌+◌, List, ◌∷◌, length, refl, ap, ◌∙◌, inl, inr, arith, append-nil}
-use Rattle.std.proofs.Common.{length-append, get_or, take, ◌*◌, ◌/◌, ◌%◌, ◌++◌, ◌<◌, Option, None, Some, IfSome, Result}
-use Rattle.std.proofs.Common.{Ok, Err, MatchResult, if◌then◌else◌, ◌&&◌, ◌-◌, ◌^◌}
+use Rattle.std.proofs.Common.{length-append, get_or, ◌*◌, ◌/◌, ◌%◌, ◌++◌, ◌<◌, Option, None, Some, Result, Ok, Err}
+use Rattle.std.proofs.Common.{MatchResult, if◌then◌else◌, ◌&&◌, ◌-◌, ◌^◌}
 use Rattle.std.proofs.lemmas.Bool.Decides.{nat_tests}
 use Rattle.std.proofs.KnownBytes.{Consumes-trans}
 use Rattle.std.specs.Io.KnownBytes.{Consumes}
@@ -9,16 +9,15 @@ use Rattle.ciborium_ll_io.specs.declared.io.Read.{Ghosts}
 use Rattle.ciborium_ll_decoder.specs.declared.dec.Decoder.{Decoder}
 use Rattle.ciborium_ll_decoder.specs.declared.dec.Error.{Error}
 use Rattle.ciborium_ll_decoder.specs.declared.dec.Error.TheVariants as e
-use Rattle.ciborium_ll_decoder.specs.Decoding.{PullsTitle, RefusesLonger, Begins, view, failures_of, IsSteady}
-use Rattle.ciborium_ll_decoder.specs.Decoding.{PullsHeader, ReadsAll, ReadsMinor, HoldsAffix, ReadsAffix, ReadsBytes}
-use Rattle.ciborium_ll_decoder.specs.Decoding.{RefusesTitle, strict_of}
+use Rattle.ciborium_ll_decoder.specs.Decoding.{PullsTitle, RefusesLonger, view, failures_of, IsSteady, PullsHeader}
+use Rattle.ciborium_ll_decoder.specs.Decoding.{ReadsAll, ReadsMinor, HoldsAffix, ReadsAffix, ReadsBytes, RefusesTitle}
+use Rattle.ciborium_ll_decoder.specs.Decoding.{strict_of}
 use Rattle.ciborium_ll_text.proofs.Lists.{length_zero}
 use Rattle.ciborium_ll_decoder.proofs.BodyLaws.{view_none}
 use Rattle.ciborium_ll_grammar.specs.declared.hdr.Minor.{Minor}
 use Rattle.ciborium_ll_grammar.specs.declared.hdr.Minor.TheVariants as m
 use Rattle.ciborium_ll_grammar.specs.declared.hdr.Header.{Header}
-use Rattle.ciborium_ll_grammar.specs.Title.{IsTitle, IsStrictTitle, affix_len, IsRefused, IsCutTitle, IsNeverOpen}
-use Rattle.ciborium_ll_grammar.specs.Title.{IsReserved}
+use Rattle.ciborium_ll_grammar.specs.Title.{IsTitle, IsStrictTitle, affix_len, IsRefused, IsNeverOpen, IsReserved}
 use Rattle.ciborium_ll_grammar.specs.Parts.{longer_parts, minor_affix, minor_code, parts_bytes}
 
 -- ---- a title that was read
@@ -36,10 +35,6 @@ first_parts read b one code =
     let byte : 32 * (get_or read 0 0 / 32) + minor_code b ≡ get_or read 0 0 = omega (arith, code) in
     rw (one_byte read one) (ap (λ (z : ℕ). z ∷ minor_affix b) byte)
 
--- a minor of the code 31 has no affix
-no_affix : (b : Minor) → minor_code b ≡ 31 → minor_affix b ≡ []
-no_affix b e = grind arith
-
 -- a number that stands within the first byte has no affix
 pub small_affix : (minor : ℕ) → minor < 24 → affix_len minor ≡ 0
 small_affix minor small = grind (arith, nat_tests)
@@ -47,16 +42,6 @@ small_affix minor small = grind (arith, nat_tests)
 -- nor has the minor of an open
 pub open_affix : (minor : ℕ) → minor ≡ 31 → affix_len minor ≡ 0
 open_affix minor is = rw is refl
-
--- what was consumed is a beginning of what was there
-begins_with : (old new : Option (List ℕ)) (read : List ℕ) → Consumes old new read → IfSome old (Begins read)
-begins_with old new read taken = grind arith
-
--- a first byte with less behind it than its affix has
-cut_affix : (old new : Option (List ℕ)) (first : ℕ) → Consumes old new (first ∷ [])
-    → IfSome new (λ bytes. length bytes < affix_len (first % 32))
-    → IfSome old (λ due. IsCutTitle due × (first ∷ [] ≡ take 1 due))
-cut_affix old new first taken few = grind arith
 
 module _ {R E : Type 0} (source : Ghosts R E) where
   -- what was read, while no header waited
@@ -116,7 +101,7 @@ module _ {R E : Type 0} (source : Ghosts R E) where
       → RefusesTitle source old old.offset new
   open_refused old between new read b none first affix one code is never =
       refuses old new read none one (inr (code ∙ is, never))
-      (title_read old between new read read b none first affix (grind (arith, no_affix, append-nil {A = ℕ})))
+      (title_read old between new read read b none first affix (grind (arith, append-nil {A = ℕ})))
 
   -- the affix of a first byte was not read
   affix_unread : (old between new : Decoder R) (x : ℕ) (error : Error E) → old.waiting ≡ None
@@ -128,7 +113,7 @@ module _ {R E : Type 0} (source : Ghosts R E) where
       record {
         read = x ∷ [];
         within_first = omega arith;
-        began = rw before (begins_with _ _ _ first.bytes);
+        began = rw before (let taken = first.bytes in grind arith);
         offset = affix.offset ∙ first.offset;
         fitted = omega (arith, affix.offset, affix.fitted);
         none_waited = none;
@@ -136,7 +121,7 @@ module _ {R E : Type 0} (source : Ghosts R E) where
         failures = rw (affix.failures, first.failures) refl;
         steady = λ s.
             let cut = affix.steady (steady s) in
-            rw (before, after, cut.0) (first.bytes, cut_affix _ _ x first.bytes cut.1);
+            let taken = first.bytes in rw (before, after, cut.0) (taken, grind arith);
       }
   affix_unread old between new x e.TooLong none first steady affix =
       let before = view_none old.waiting (source.ahead old.reader) none in

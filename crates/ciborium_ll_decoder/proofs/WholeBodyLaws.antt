@@ -6,20 +6,13 @@ use Rattle.ciborium_ll_io.specs.declared.io.Read.{Ghosts as Reader}
 use Rattle.ciborium_ll_decoder.specs.declared.dec.Decoder.{Decoder}
 use Rattle.ciborium_ll_decoder.specs.declared.dec.Error.{Error}
 use Rattle.ciborium_ll_decoder.specs.declared.dec.Error.TheVariants as e
-use Rattle.ciborium_ll_grammar.specs.Strings.{Kind, Text, IsWritable}
+use Rattle.ciborium_ll_grammar.specs.Strings.{Kind, IsWritable}
 use Rattle.ciborium_ll_decoder.specs.Decoding.{IsSteady, ReadsAll, ReadsBytes}
 use Rattle.ciborium_ll_decoder.specs.Finishing.{EndsBody, StopsReading}
 use Rattle.ciborium_ll_decoder.proofs.DecodingLaws.{Passes-none}
 use Rattle.ciborium_ll_decoder.proofs.BodyLaws.{writable_nil, Passes-read}
 use Rattle.ciborium_ll_text.specs.Text.{IsCharacters, IsFront}
 use Rattle.ciborium_ll_text.proofs.FrontLaws.{IsStuck-nil}
-
--- any bytes are the body of a byte string
-textual : (kind : Kind) (bytes : List ℕ) → (IsWritable kind bytes → ⊥) → kind ≡ Text
-textual kind bytes unsound = grind arith
-
-no_text : (kind : Kind) (bytes : List ℕ) → (IsWritable kind bytes → ⊥) → IsCharacters bytes → ⊥
-no_text kind bytes unsound whole = grind arith
 
 -- bytes are text just where the longest front that is text is all of them
 pub all_in_front : (bytes front rest : List ℕ) → IsFront bytes front rest → length front ≡ length bytes
@@ -72,10 +65,10 @@ module _ {R E : Type 0} (source : Reader R E) (kind : Kind) (len room place : �
     damaged_ends held unsound reads steady = at_once (length read) (e.Syntax place) new all held (
       refl,
       record {
-        textual = textual kind read unsound;
+        textual = grind arith;
         last = read;
         all = refl;
-        no_text = inl (all, no_text kind read unsound);
+        no_text = inl (all, grind arith);
         passed = Passes-read source old old new [] read (Passes-none source old) reads steady;
       },
     )
