@@ -79,14 +79,11 @@ module _ {R E P : Type 0} {parser : Parser P} (source : Reader R E) where
       damaged_end count none ends =
           grind (arith, Passes-none, length-append {A = ℕ}, stuck_is_no_text, append-nil {A = ℕ})
 
-      textual_middle : KeepsTooMuch source room segment new → parser.kind ≡ Text
-      textual_middle keeps = grind arith
-
       damaged_middle : KeepsTooMuch source room segment new
           → GivesNoText source parser.kind (kept_bytes first.kept) first.unread so_far.read (read_count room segment)
           segment.decoder.now new.decoder.now
       damaged_middle keeps =
-          let is = textual_middle keeps in
+          let is : parser.kind ≡ Text = grind arith in
           record {
             textual = is;
             last = keeps.read;

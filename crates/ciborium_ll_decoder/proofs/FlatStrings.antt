@@ -1,6 +1,6 @@
 -- Strings that are no longer than the spelling of their bodies have no open.
 use Rattle.std.proofs.Common.{ℕ, ◌≤◌, List, length, Option, Some, arith, length-append}
-use Rattle.ciborium_ll_grammar.specs.Title.{IsTitle, IsStrictTitle, IsSmallSimple, shortest_title}
+use Rattle.ciborium_ll_grammar.specs.Title.{IsTitle, IsStrictTitle, shortest_title}
 use Rattle.ciborium_ll_grammar.specs.Strings.{Kind, kind_header, AreStrings, none as no_strings, more as more_strings}
 use Rattle.ciborium_ll_grammar.specs.Strings.IsString.{definite, indefinite}
 use Rattle.ciborium_ll_grammar.specs.Elements.{pieces, spelling}
@@ -9,14 +9,10 @@ use Rattle.ciborium_ll_grammar.proofs.TitleLaws.{shortest_no_longer}
 use Rattle.ciborium_ll_grammar.proofs.TightLaws.{tight_title}
 use Rattle.ciborium_ll_grammar.proofs.ElementLaws.{respell_all, pieces-append, spelling-append}
 
--- a string's header is no simple value
-not_small : (k : Kind) (o : Option ℕ) → IsSmallSimple (kind_header k o) → ⊥
-not_small k o small = grind arith
-
 -- a title of a string that is no longer than its header's shortest one is strict
 pub strict_title : (k : Kind) (o : Option ℕ) (t : List ℕ) → IsTitle t (kind_header k o)
     → length t ≤ length (shortest_title (kind_header k o)) → IsStrictTitle t (kind_header k o)
-strict_title k o t p l = record { shortest = tight_title t (kind_header k o) p l; meant = not_small k o }
+strict_title k o t p l = record { shortest = tight_title t (kind_header k o) p l; meant = grind arith }
 
 -- strings that are no longer than their pieces have no open
 pub flat : (k : Kind) (w : List ℕ) (bs : List (List ℕ)) → AreStrings k w bs → length w ≤ length (spelling (pieces k bs))

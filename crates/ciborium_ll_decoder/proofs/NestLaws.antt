@@ -11,8 +11,7 @@ use Rattle.ciborium_ll_grammar.specs.Title.{IsTitle, shortest_title, title_len, 
 use Rattle.ciborium_ll_grammar.specs.Strings.{Kind, kind_header}
 use Rattle.ciborium_ll_grammar.proofs.OpenStrings.{IsInsideAt}
 use Rattle.ciborium_ll_decoder.specs.Decoding.{Begins, Passes, TakesBack}
-use Rattle.ciborium_ll_decoder.specs.Segments.{Nests, in_place, deeper, back, IsRefusedAt, FindsBody, EndsAdvance}
-use Rattle.ciborium_ll_decoder.specs.Segments.{AdvancesFrom}
+use Rattle.ciborium_ll_decoder.specs.Segments.{Nests, in_place, deeper, back, FindsBody, EndsAdvance, AdvancesFrom}
 use Rattle.ciborium_ll_grammar.proofs.TitleLaws.{one_title, IsTitle-shortest}
 pub use Rattle.ciborium_ll_grammar.proofs.AloneLaws.{alone_bytes, open_alone, open_length, open_in_range, title_some}
 use Rattle.ciborium_ll_grammar.proofs.StepLaws.{add_open, close_inner}
@@ -85,17 +84,13 @@ nest_first k nest left (back {bytes = x} {title = t} {left = j} n p) =
 same_length : (k : Kind) (a b : Option ℕ) → kind_header k a ≡ kind_header k b → a ≡ b
 same_length k a b e = grind arith
 
--- a header of the kind may stand at the front of a string
-well_placed : (strict : Bool) (k : Kind) (length : Option ℕ) → IsRefusedAt strict k 0 (kind_header k length) → ⊥
-well_placed strict k length refused = grind arith
-
 module _ {R E : Type 0} (source : Ghosts R E) (k : Kind) where
   -- a waiting header of the kind is that of a body
   waiting_found : (strict : Bool) (len : Option ℕ) (old new : Decoder R) (result : Result (Option Body) (Error E))
       (progress : Progress) → old.waiting ≡ Some (kind_header k len)
       → EndsAdvance source k strict 0 old result progress new → (body : Body) × (result ≡ Ok (Some body))
       × (len ≡ Some body.length) × FindsBody source k 0 old body progress new
-  waiting_found strict len old new result progress waits ends = grind (arith, same_length, well_placed)
+  waiting_found strict len old new result progress waits ends = grind (arith, same_length)
 
   -- `advance` over a waiting header of the kind: it is that of a body, or an open, which goes first
   waiting_first : (strict : Bool) (len : Option ℕ) (old new : Decoder R) (result : Result (Option Body) (Error E))

@@ -135,11 +135,6 @@ module _ {R E : Type 0} (source : Reader R E) (k : Kind) where
 
   -- ---- one segment more
 
-  -- behind an open a segment leaves it open
-  still_open : (opens : ℕ) (u : List ℕ) (bs : List (List ℕ)) (progress : Progress) → IsInsideAt k opens u bs
-      → ((opens ≡ 0) × (progress ≡ p.Ended)) ⊎ ((0 < opens) × (progress ≡ p.Open opens)) → progress ≡ p.Open opens
-  still_open opens u bs progress within after = grind (arith, some_open)
-
   spelled : (bodies : List (List ℕ)) (b : List ℕ)
       → spelling (pieces k bodies) ++ (shortest_title (kind_header k (Some (length b))) ++ b)
       ≡ spelling (pieces k (bodies ++ b ∷ []))
@@ -156,7 +151,7 @@ module _ {R E : Type 0} (source : Reader R E) (k : Kind) where
       let is_title = rw (sym reads.all) at all.ends.pulled.is_title in
       let pulled = Passes-pulled source opened all.between new among.strings
       (kind_header k (Some body.length)) all.ends.pulled among.passed all.steady in
-      let counts = still_open all.left _ _ progress among.within all.ends.after in
+      let counts : progress ≡ p.Open all.left = grind (arith, some_open) in
       let within = rw append_assoc at (add_string k all.left (shortest_title (kind_header k None) ++ among.strings)
       (t ++ b) bodies (b ∷ []) among.within (definite is_title)) in
       let sound = AreWritable-append k bodies (b ∷ []) among.sound (sound_body k b reads.sound) in
