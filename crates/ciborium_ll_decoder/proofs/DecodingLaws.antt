@@ -33,13 +33,7 @@ pub waiting_pulled : {R E : Type 0} (source : Ghosts R E) (old new : Decoder R) 
     → old.waiting ≡ Some header → new.waiting ≡ None → new.reader ≡ old.reader
     → new.offset ≡ old.offset + title_len header → new.strict ≡ old.strict → PullsTitle source old header new
 waiting_pulled source old new header range waits taken reader offset mode =
-    let is_title = IsTitle-shortest header range in
-    let bytes : Consumes (view source old) (view source new) (shortest_title header) = grind arith in
-    let failures = ap source.failures reader in
-    let waited : IfSome old.waiting (λ kept. (kept ≡ header) × (shortest_title header ≡ shortest_title header)
-    × (new.reader ≡ old.reader)) = simp waits (refl, refl, reader) in
-    let strictly : Strictly old (IsStrictTitle (shortest_title header) header) = grind arith in
-    search
+    search (IsTitle-shortest, arith)
 
 -- a waiting header is given
 not_again : {R E : Type 0} (source : Ghosts R E) (old new : Decoder R) (header : Header) (error : Error E)

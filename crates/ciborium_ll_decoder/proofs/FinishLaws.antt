@@ -84,18 +84,13 @@ module _ {R E P : Type 0} {parser : Parser P} (source : Reader R E) where
           segment.decoder.now new.decoder.now
       damaged_middle keeps =
           let is : parser.kind ≡ Text = grind arith in
-          record {
-            textual = is;
-            last = keeps.read;
-            all = keeps.reads.count;
-            no_text = inr (too_much_is_no_text _ so_far.front (kept_bytes segment.kept) keeps.read keeps.front
-                keeps.left
-                (rw (← append_assoc (kept_bytes first.kept) so_far.read keeps.read, so_far.parts)
-                (append_assoc so_far.front (kept_bytes segment.kept) keeps.read)) (rw is at so_far.sound)
-                (rw is at keeps.split) keeps.too_much);
-            passed = Passes-read source segment.decoder.now segment.decoder.now new.decoder.now [] keeps.read
-                (Passes-none source segment.decoder.now) keeps.reads.reads steady;
-          }
+          let no_text = too_much_is_no_text (kept_bytes first.kept ++ (so_far.read ++ keeps.read)) so_far.front (kept_bytes segment.kept) keeps.read keeps.front keeps.left
+          (rw (← append_assoc (kept_bytes first.kept) so_far.read keeps.read, so_far.parts)
+          (append_assoc so_far.front (kept_bytes segment.kept) keeps.read)) (rw is at so_far.sound)
+          (rw is at keeps.split) keeps.too_much in
+          let passed = Passes-read source segment.decoder.now segment.decoder.now new.decoder.now [] keeps.read
+          (Passes-none source segment.decoder.now) keeps.reads.reads steady in
+          search inr
 
       -- a pull that fails is a read that stops that of the body
       stops_reading : (error : Error E) → 4 ≤ room → first.damaged ≡ false

@@ -126,17 +126,8 @@ module _ {R E : Type 0} (source : Ghosts R E) where
   affix_unread old between new x e.TooLong none first steady affix =
       let before = view_none old.waiting (source.ahead old.reader) none in
       let after = view_none between.waiting (source.ahead between.reader) first.none_waits in
-      rw affix.1 (record {
-        read = x ∷ [];
-        within_first = omega arith;
-        bytes = rw (before, after) first.bytes;
-        offset = first.offset;
-        full = affix.0;
-        untouched = λ e. absurd cc;
-        none_waited = none;
-        none_waits = first.none_waits;
-        failures = first.failures;
-      })
+      let bytes : Consumes (view source old) (view source between) (x ∷ []) = rw (before, after) first.bytes in
+      rw affix.1 (search arith)
   affix_unread old between new x e.Waiting none first steady affix = absurd affix
   affix_unread old between new x (e.Syntax place) none first steady affix = absurd affix
 

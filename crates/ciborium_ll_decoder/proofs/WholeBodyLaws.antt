@@ -6,7 +6,7 @@ use Rattle.ciborium_ll_io.specs.declared.io.Read.{Ghosts as Reader}
 use Rattle.ciborium_ll_decoder.specs.declared.dec.Decoder.{Decoder}
 use Rattle.ciborium_ll_decoder.specs.declared.dec.Error.{Error}
 use Rattle.ciborium_ll_decoder.specs.declared.dec.Error.TheVariants as e
-use Rattle.ciborium_ll_grammar.specs.Strings.{Kind, IsWritable}
+use Rattle.ciborium_ll_grammar.specs.Strings.{Kind, Text, IsWritable}
 use Rattle.ciborium_ll_decoder.specs.Decoding.{IsSteady, ReadsAll, ReadsBytes}
 use Rattle.ciborium_ll_decoder.specs.Finishing.{EndsBody, StopsReading}
 use Rattle.ciborium_ll_decoder.proofs.DecodingLaws.{Passes-none}
@@ -62,16 +62,11 @@ module _ {R E : Type 0} (source : Reader R E) (kind : Kind) (len room place : �
     pub damaged_ends : len ≤ room → (IsWritable kind read → ⊥) → ReadsAll source old read new
         → (IsSteady source old → IsSteady source new)
         → EndsBody source kind [] len room place old (Err (e.Syntax place)) new
-    damaged_ends held unsound reads steady = at_once (length read) (e.Syntax place) new all held (
-      refl,
-      record {
-        textual = grind arith;
-        last = read;
-        all = refl;
-        no_text = inl (all, grind arith);
-        passed = Passes-read source old old new [] read (Passes-none source old) reads steady;
-      },
-    )
+    damaged_ends held unsound reads steady =
+        let passed = Passes-read source old old new [] read (Passes-none source old) reads steady in
+        let textual : kind ≡ Text = grind arith in
+        let no_text : IsCharacters read → ⊥ = grind arith in
+        at_once (length read) (e.Syntax place) new all held (refl, search inl)
 
   -- the read failed, which is one of no more bytes than the buffer holds
   pub unread_ends : (read : List ℕ) (new : Decoder R) (error : Error E) → old.waiting ≡ None → length read ≡ len
