@@ -1,18 +1,17 @@
 -- What the relations of the decoder's calls have in common.
-use Rattle.std.proofs.Common.{ap, refl, ◌+◌, [], ◌≡◌, ℕ, false, ◌⊎◌, List, ◌++◌, Option, Some, None, IfSome, Result, Ok}
+use Rattle.std.proofs.Common.{refl, ◌+◌, [], ◌≡◌, ℕ, false, ◌⊎◌, List, ◌++◌, Option, Some, None, IfSome, Result, Ok}
 use Rattle.std.proofs.Common.{Err, IsErrAnd, ◌<◌, ◌≤◌, ◌-◌, ◌^◌, ◌∙◌, arith, append_assoc, append-nil, length-append}
 use Rattle.std.proofs.KnownBytes.{Consumes-trans}
-use Rattle.std.specs.Io.KnownBytes.{Consumes}
 use Rattle.ciborium_ll_grammar.specs.declared.hdr.Header.{Header}
 use Rattle.ciborium_ll_io.specs.declared.io.Read.{Ghosts}
 use Rattle.ciborium_ll_decoder.specs.declared.dec.Decoder.{Decoder}
 use Rattle.ciborium_ll_decoder.specs.declared.dec.Error.{Error}
 use Rattle.ciborium_ll_decoder.specs.declared.dec.Error.TheVariants as e
 use Rattle.ciborium_ll_text.proofs.Lists.{length_zero}
-use Rattle.ciborium_ll_grammar.specs.Title.{shortest_title, title_len, IsInRange, IsStrictTitle}
+use Rattle.ciborium_ll_grammar.specs.Title.{shortest_title, title_len, IsInRange}
 use Rattle.ciborium_ll_grammar.proofs.TitleLaws.{IsTitle-shortest}
-use Rattle.ciborium_ll_decoder.specs.Decoding.{Strictly, view, Begins, IsSteady, MovesOn, Passes, PullsTitle}
-use Rattle.ciborium_ll_decoder.specs.Decoding.{PullsHeader, RefusesTitle, TakesBack, PullsAgain}
+use Rattle.ciborium_ll_decoder.specs.Decoding.{Begins, IsSteady, MovesOn, Passes, PullsTitle, PullsHeader, RefusesTitle}
+use Rattle.ciborium_ll_decoder.specs.Decoding.{TakesBack, PullsAgain}
 
 -- the exit of a `?` answers the error that it was given. A caller that names this lemma is spared a search
 pub exit_is : {T E : Type 0} (answer : Result T E) (error : E) → IsErrAnd answer (λ given. given ≡ error)

@@ -107,17 +107,7 @@ module _ {R E P : Type 0} {parser : Parser P} (source : Reader R E) where
       rest_ends error four undamaged pulled = (
         record {
           between = segment.decoder.now;
-          part = record {
-            read = so_far.read;
-            front = so_far.front;
-            left = kept_bytes segment.kept;
-            parts = so_far.parts;
-            few = few_kept parser.kind segment.kept segment.text_alone;
-            stuck = segment.stuck;
-            sound = so_far.sound;
-            within = omega (arith, so_far.counted);
-            passed = so_far.passed;
-          };
+          part = search (few_kept, arith);
           count = read_count room segment;
           filled = omega (arith, four, so_far.counted, three_kept segment.kept);
           stops = stops_reading error four undamaged pulled;

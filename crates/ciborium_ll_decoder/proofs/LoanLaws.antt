@@ -1,5 +1,5 @@
 -- A string that lends its decoder on, and gets it back.
-use Rattle.std.proofs.Common.{◌≡◌, ℕ, ◌≤◌, Bool, IsTrue, ap}
+use Rattle.std.proofs.Common.{◌≡◌, ◌≤◌, IsTrue, ap}
 use Rattle.std.proofs.Props.{props}
 use Rattle.std.specs.Borrow.{MutBor}
 use Rattle.ciborium_ll_decoder.specs.declared.dec.Decoder.{Decoder}
@@ -7,15 +7,13 @@ use Rattle.ciborium_ll_decoder.specs.declared.seg.Parser.{Ghosts as Parser}
 use Rattle.ciborium_ll_decoder.specs.declared.seg.Segments.{Segments}
 use Rattle.ciborium_ll_decoder.specs.Progress.{opens_of}
 
--- that a strict string has one open at most is one fact, however it was shown
-shallow_once : (strict : Bool) (opens : ℕ) → IsProp (IsTrue strict → opens ≤ 1)
-shallow_once strict opens = hlevel props
-
--- but for its decoder the string is the same
+-- but for its decoder the string is the same: that a strict string has one open at most is one fact, however it was
+-- shown
 pub string_back : {R P : Type 0} {parser : Parser P} (s : Segments R P parser) (lent : MutBor (Decoder R))
     (few : IsTrue s.strict → opens_of s.progress ≤ 1)
     → record s { decoder = lent; shallow = few } ≡ record s { decoder = lent }
 string_back s lent few =
+    let once : IsProp (IsTrue s.strict → opens_of s.progress ≤ 1) = hlevel props in
     ap (λ (fact : IsTrue s.strict → opens_of s.progress ≤ 1).
     let same : Segments _ _ _ = record s { decoder = lent; shallow = fact } in same)
-    (shallow_once s.strict (opens_of s.progress) few s.shallow)
+    (once few s.shallow)

@@ -86,13 +86,12 @@ module _ {R E : Type 0} (source : Reader R E) (k : Kind) where
 
   -- the first open alone
   among_first : (opened : Decoder R) → IsAmong 1 [] opened opened
-  among_first opened = record {
-    strings = [];
-    within = one_open (IsTitle-shortest (kind_header k None) (open_in_range k)) none;
-    sound = sound_none k;
-    passed = Passes-none source opened;
-    tight = λ on. (refl, refl);
-  }
+  among_first opened =
+      let title = shortest_title (kind_header k None) in
+      let within : IsInsideAt k 1 (title ++ []) [] =
+      one_open (IsTitle-shortest (kind_header k None) (open_in_range k)) none in
+      let passed = Passes-none source opened in
+      search (sound_none, arith)
 
   -- opens and breaks further
   among_nest : {opens : ℕ} {bodies : List (List ℕ)} {opened begun : Decoder R} (now : Decoder R)

@@ -140,10 +140,7 @@ module _ {R E : Type 0} (source : Reader R E) (k : Kind) where
 
   part_of : {opens : ℕ} {bodies : List (List ℕ)} {opened now : Decoder R} → IsAmong source k opens bodies opened now
       → SkipsInside source k opened now
-  part_of a =
-      let inside = counted k _ _ _ a.within in
-      let taken = taken_among a in
-      search
+  part_of a = search (counted, taken_among)
 
   module _ (bodies : List (List ℕ)) (opened now new : Decoder R) (progress : Progress) where
     open_end : AdvancesAmong source k bodies opened now (Ok None) progress new → SkipsWhole source k None opened new
@@ -169,11 +166,7 @@ module _ {R E : Type 0} (source : Reader R E) (k : Kind) where
 
     meets_other : {left : ℕ} {between : Decoder R} (at : ℕ) → IsAmong source k left bodies opened between
         → FindsOther source k opened.strict left between at progress new → MeetsOther source k opened at new
-    meets_other at a other =
-        let part = part_of a in
-        let refused = other_inside source k opened.strict _ _ at progress new a.passed.mode
-        (some_open k _ _ _ a.within) other in
-        search
+    meets_other at a other = search (part_of, other_inside, some_open, arith)
 
     open_error : (room : ℕ) (error : Error E) → 0 < opened.offset → new.offset < 2 ^ 64
         → AdvancesAmong source k bodies opened now (Err error) progress new → StopsInside source k room opened error new
@@ -192,10 +185,7 @@ module _ {R E : Type 0} (source : Reader R E) (k : Kind) where
         → AdvancesAmong source k bodies opened now (Ok (Some body)) progress new
         → EndsBody source k [] body.length room body.place new (Err error) ended
         → MeetsBody source k room opened error ended
-    meets_body room body ended error all ends =
-        let placed = rw all.ends.place at ends in
-        let part = part_of all.among in
-        search
+    meets_body room body ended error all ends = let placed = rw all.ends.place at ends in search part_of
 
   body_stops : (room : ℕ) (opened : Decoder R) (error : Error E) (ended : Decoder R)
       → MeetsBody source k room opened error ended → StopsInside source k room opened error ended

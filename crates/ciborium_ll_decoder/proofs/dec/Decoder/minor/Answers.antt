@@ -23,8 +23,7 @@ returns-in_err-read-in-Open-clause-minor g c =
     let error = c.in_err-read-in-Open.field-0.0 in
     let is_open = rw c.in-Open.is at c.requires.affix in
     let empty : length c.read-in-Open.new.data ≡ 0 = search rules in
-    none_unread g.R.Read c.args.first c.args.self.now c.read-in-Open.new.self c.read-in-Open.new.data answer.result
-    error
+    none_unread g.R.Read c.args.first c.args.self.now c.read-in-Open.new.self _ answer.result error
     (exit_is answer.result error answer.ensures.1) (open_affix _ is_open) c.requires.none_waits
     empty c.in_err-read-in-Open.ensures.bytes
 

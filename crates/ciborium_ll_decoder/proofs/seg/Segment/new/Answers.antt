@@ -7,7 +7,6 @@ invariant_of-result g c = record {
   counted = search rules;
   none_waits = c.requires;
   stuck = IsStuck-nil;
-  told =
-      refl;
+  told = refl;
   text_alone = λ _. refl;
 }

@@ -8,13 +8,9 @@ invariant_of-result g c = record {
   counted = search rules;
   none_waits = c.requires;
   stuck = IsStuck-nil;
-  told =
-      refl;
+  told = refl;
   text_alone = λ _. refl;
 }
 
 pub returns : goal.returns
-returns g c = (
-  (refl, λ w. string_back c.args.self.now _ _),
-  search rules,
-)
+returns g c = ((refl, λ w. string_back c.args.self.now _ _), search rules)
