@@ -72,15 +72,10 @@ module _ {R E P W F : Type 0} {parser : Parser P} (source : Reader R E) (sink : 
         → BodyWritten source sink parser.kind body.length (sides first.decoder.now writer) (sides new.decoder.now now)
     so_far_whole new ends =
         let parts = rw (whole.kept, ends.none_kept, append-nil) at so_far.rest.parts in
-        record {
-          ends = record {
-            read = so_far.rest.front;
-            all = omega (arith, ap length parts, so_far.rest.counted, whole.unread, ends.none_unread);
-            sound = so_far.rest.sound;
-            passed = rw (parts, ← ends.decoder) at so_far.rest.passed;
-          };
-          written = so_far.written;
-        }
+        let passed = rw (parts, ← ends.decoder) at so_far.rest.passed in
+        let all : length so_far.rest.front ≡ body.length =
+        omega (arith, ap length parts, so_far.rest.counted, whole.unread, ends.none_unread) in
+        record { ends = search; written = so_far.written }
 
     -- a pull that fails ends the copy
     pub so_far_error : (room : ℕ) (error : Error E) (new : Segment R P parser) → 4 ≤ room

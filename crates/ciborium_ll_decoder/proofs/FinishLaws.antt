@@ -84,7 +84,8 @@ module _ {R E P : Type 0} {parser : Parser P} (source : Reader R E) where
           segment.decoder.now new.decoder.now
       damaged_middle keeps =
           let is : parser.kind ≡ Text = grind arith in
-          let no_text = too_much_is_no_text (kept_bytes first.kept ++ (so_far.read ++ keeps.read)) so_far.front (kept_bytes segment.kept) keeps.read keeps.front keeps.left
+          let no_text = too_much_is_no_text (kept_bytes first.kept ++ (so_far.read ++ keeps.read)) so_far.front
+          (kept_bytes segment.kept) keeps.read keeps.front keeps.left
           (rw (← append_assoc (kept_bytes first.kept) so_far.read keeps.read, so_far.parts)
           (append_assoc so_far.front (kept_bytes segment.kept) keeps.read)) (rw is at so_far.sound)
           (rw is at keeps.split) keeps.too_much in
