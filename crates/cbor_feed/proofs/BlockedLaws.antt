@@ -14,7 +14,7 @@ use Rattle.cbor_feed.specs.declared.phase.Phase.TheVariants as p
 use Rattle.cbor_feed.specs.declared.phase.Within.{Within}
 use Rattle.cbor_feed.specs.declared.phase.Within.TheVariants as w
 use Rattle.cbor_feed.specs.declared.phase.Fault.{Fault}
-use Rattle.cbor_feed.specs.Blocked.{blocked, is_value}
+use Rattle.cbor_feed.specs.Blocked.{blocked, is_single}
 use Rattle.cbor_feed.specs.Spots.{Spot, at_phase, settled, string_done, item_done, item_entered, refused}
 use Rattle.cbor_feed.specs.Steps.{SomeTaken, NoneTaken, titled, TitleStep, cut, early, whole, none}
 
@@ -32,12 +32,12 @@ string_sound i spot fault is = grind (arith, settled_sound)
 -- ---- a number, a float or a simple value
 
 -- it may stand wherever an item is due
-pub value_free : (d place : ℕ) (kind : TitleKind) → is_value kind ≡ true → blocked w.Nothing d place kind ≡ None
+pub value_free : (d place : ℕ) (kind : TitleKind) → is_single kind ≡ true → blocked w.Nothing d place kind ≡ None
 value_free d place kind v = grind arith
 
 -- where its title announces bytes, its first byte tells it
 pub value_entered : (byte : ℕ) (v t : List ℕ) (x : Header) (kind : TitleKind) (spot : Spot) → IsTitle t x → t ≡ byte ∷ v
-    → 0 < affix_len (byte % 32) → IsTitleKind kind (byte / 32) (byte % 32) → is_value kind ≡ true
+    → 0 < affix_len (byte % 32) → IsTitleKind kind (byte / 32) (byte % 32) → is_single kind ≡ true
     → item_entered x spot ≡ item_done spot
 value_entered byte v t x kind spot q e more i value =
     let o = numbered_title byte v t x q e more in

@@ -13,7 +13,7 @@ use Rattle.ciborium_ll_grammar.specs.TitleRows.{IsTitleKind}
 use Rattle.ciborium_ll_grammar.proofs.AffixLaws.{announced, refused_affix, title_or_refused}
 use Rattle.cbor_feed.specs.declared.phase.Phase.TheVariants as p
 use Rattle.cbor_feed.specs.declared.phase.Within.{Within}
-use Rattle.cbor_feed.specs.Blocked.{blocked, is_value}
+use Rattle.cbor_feed.specs.Blocked.{blocked, is_single}
 use Rattle.cbor_feed.specs.Spots.{Spot, entered, at_phase, body_placed, bytes_due, item_done, item_entered, text_due}
 use Rattle.cbor_feed.specs.Steps.{Leads, TitleStep, stay, go, with_byte, counted_by}
 use Rattle.cbor_feed.proofs.BlockedLaws.{blocked_none, step_whole, value_entered, value_free}
@@ -209,7 +209,7 @@ below_bytes : (xs : List ℕ) → Below xs → AreBytes xs
 below_bytes [] below = tt
 below_bytes (x ∷ xs) below = (below 0 (omega arith), below_bytes xs (below_rest x xs below))
 
-pub value_item : (xs : List ℕ) (n : ℕ) (kind : TitleKind) → Below xs → is_value kind ≡ true → 1 < n → n ≤ length xs
+pub value_item : (xs : List ℕ) (n : ℕ) (kind : TitleKind) → Below xs → is_single kind ≡ true → 1 < n → n ≤ length xs
     → n ≡ 1 + affix_len (slice_index xs 0 % 32) → IsTitleKind kind (slice_index xs 0 / 32) (slice_index xs 0 % 32)
     → IsPlainItem false (take n xs)
 value_item [] n kind below value more le long is = absurd (omega arith)

@@ -21,7 +21,7 @@ use Rattle.ciborium_ll_grammar.proofs.LongerLaws.{minor_as, taken}
 use Rattle.ciborium_ll_titles.proofs.TitleKinds.{kind_names, kind_of}
 use Rattle.cbor_feed.specs.declared.phase.Within.TheVariants as w
 use Rattle.cbor_feed.specs.declared.plain.TheConstants.{LENS, TEXT_LENS}
-use Rattle.cbor_feed.specs.Blocked.{blocked, is_value}
+use Rattle.cbor_feed.specs.Blocked.{blocked, is_single}
 use Rattle.cbor_feed.specs.Plain.{ArePlain, IsPlainItem, IsSpan, IsValueMajor, more}
 use Rattle.cbor_feed.specs.Spots.{Spot, item_done, item_entered}
 use Rattle.cbor_feed.proofs.ItemLeads.{bytes_item, one_long, text_item, title_item, value_item}
@@ -100,7 +100,7 @@ strings_free d place = grind (arith, nat_tests)
 record ValueMajor (code : ℕ) : Type 0 where
   major : Major
   is : major_code major ≡ code
-  value : is_value (kind_of major) ≡ true
+  value : is_single (kind_of major) ≡ true
   ends : (n : ℕ) (u : Spot) → item_entered (numbered_header major Small n) u ≡ item_done u
 
 major_of : (code : ℕ) → IsValueMajor code → ValueMajor code

@@ -21,8 +21,8 @@ blocked (w.Text more) depth place kind = Some (f.Syntax place)
 
 -- a title of this kind that has a number is one of an item by itself: a number, a float or a simple value (RFC 7049,
 -- 2.1 and 2.3)
-abbrev pub is_value : TitleKind → Bool
-is_value k.Positive = true
-is_value k.Negative = true
-is_value k.Other = true
-is_value kind = false
+abbrev pub is_single : TitleKind → Bool
+is_single k.Positive = true
+is_single k.Negative = true
+is_single k.Other = true
+is_single kind = false

@@ -5,7 +5,7 @@ ghost use Rattle.ciborium_ll_grammar.specs.Title.{IsTitle, affix_len};
 ghost use Rattle.ciborium_ll_grammar.specs.Items.{IsTakenTitle};
 ghost use Rattle.cbor_feed.specs.Steps.{NoneTaken, SomeTaken};
 ghost use Rattle.cbor_feed.specs.Longer.{BeginsLonger, HasZero};
-ghost use Rattle.cbor_feed.specs.Blocked.{blocked, is_value};
+ghost use Rattle.cbor_feed.specs.Blocked.{blocked, is_single};
 
 use crate::phase::{Fault, Within};
 use ciborium_ll_grammar::hdr::Header;
@@ -85,8 +85,8 @@ pub(crate) fn blocked(within: Within, depth: usize, place: usize, kind: TitleKin
 
 /// Whether a title of this kind that has a number is one of an item by itself: a number, a float or a simple value.
 #[inline(always)]
-pub(crate) fn is_value(kind: TitleKind) -> bool
-    ensures { result ≡ is_value kind }
+pub(crate) fn is_single(kind: TitleKind) -> bool
+    ensures { result ≡ is_single kind }
 {
     matches!(
         kind,

@@ -5,7 +5,7 @@ ghost use Rattle.cbor_feed.specs.Telling.{has_left};
 ghost use Rattle.ciborium_ll_text.specs.States.{may_end};
 ghost use Rattle.ciborium_ll_grammar.specs.Title.{affix_len};
 ghost use Rattle.cbor_feed.specs.Opens.{open_count};
-ghost use Rattle.cbor_feed.specs.Blocked.{blocked, is_value};
+ghost use Rattle.cbor_feed.specs.Blocked.{blocked, is_single};
 
 mod nests;
 
@@ -14,7 +14,7 @@ use crate::level::Level;
 use crate::levels::Levels;
 use crate::phase::{Fault, Phase, Within};
 use crate::plain::is_short_ascii;
-use crate::title::{begins_none, blocked, header_of, is_value};
+use crate::title::{begins_none, blocked, header_of, is_single};
 use ciborium_ll_grammar::hdr::Header;
 use ciborium_ll_grammar::hdr::table::{Affix, TitleKind, row_of};
 use ciborium_ll_text::state::{State, text_front};
@@ -506,7 +506,7 @@ impl Walk<'_> {
         requires fresh { length self.old.front ≡ 0 }
         requires due { self.old.within ≡ w.Nothing }
         requires any { self.old.strict ≡ false }
-        requires value { is_value kind ≡ true }
+        requires value { is_single kind ≡ true }
         requires within { len ≤ length bytes.now }
         requires room { self.old.offset + length bytes.now ≤ usize.MAX }
         requires more { 1 < len }
@@ -546,7 +546,7 @@ impl Walk<'_> {
             return self.short_run(bytes);
         }
         let len = 1 + row.affix.len();
-        if !self.strict && is_value(row.kind) && 1 < len && len <= bytes.len() {
+        if !self.strict && is_single(row.kind) && 1 < len && len <= bytes.len() {
             return (len, self.value_taken(bytes, len, row.kind));
         }
         (self.title_run(bytes), false)
