@@ -13,7 +13,7 @@ use Rattle.ciborium_ll_grammar.specs.Items.{Completes, positive, byte_string, te
 use Rattle.ciborium_ll_grammar.specs.Items.{array, pairs, open_array, open_pairs, AreItems, no_items, more_items}
 use Rattle.ciborium_ll_grammar.specs.Items.{IsTakenTitle}
 use Rattle.ciborium_ll_grammar.proofs.TitleLaws.{one_title, IsTitle-shortest}
-use Rattle.ciborium_ll_grammar.proofs.StringLaws.{break_title, not_break, one_string, string_not_break, mixed, same_len}
+use Rattle.ciborium_ll_grammar.proofs.StringLaws.{break_title, not_break, one_string, string_not_break, mixed, same_string}
 use Rattle.ciborium_ll_decoder.proofs.NestLaws.{open_in_range}
 use Rattle.ciborium_ll_grammar.proofs.ElementLaws.{bytes_writable}
 use Rattle.ciborium_ll_grammar.proofs.ItemLaws.{one_item}
@@ -178,7 +178,7 @@ flat_goes {k = k} none (more {title = y} {body = b} {rest = z} q g f) t r v x p 
     let both : t ++ r ≡ y ++ (b ++ (z ++ 0xff ∷ v)) = simp append_assoc at e in (
       strict_first _ _ p q g both,
       λ same. mixed (length b)
-          (same_len k _ None (sym (one_title t y r _ x _ p q both).1 ∙ same)),
+          (same_string k k _ None (sym (one_title t y r _ x _ p q both).1 ∙ same)).1,
     )
 flat_goes {k = k} (more {title = y} {body = b} {rest = z} q g f) none t r v x p e =
     absurd (string_not_break k (y ++ b) (z ++ (t ++ r)) v (b ∷ []) (definite q)
