@@ -1,9 +1,10 @@
 -- Opens and breaks in a row, and the first title of a string. What titles of one byte are is handed on.
-use Rattle.std.proofs.Common.{IsTrue, [], ◌≡◌, ℕ, suc, ◌+◌, ◌≤◌, Bool, ◌⊎◌, List, ◌++◌, length, Option, Some, None}
+use Rattle.std.proofs.Common.{Err, IsTrue, [], ◌≡◌, ℕ, suc, ◌+◌, ◌≤◌, Bool, ◌⊎◌, List, ◌++◌, length, Option, Some, None}
 use Rattle.std.proofs.Common.{Result, Ok, refl, sym, ap, ◌∙◌, inl, inr, arith, append_assoc, append-nil, length-append}
 use Rattle.ciborium_ll_io.specs.declared.io.Read.{Ghosts}
 use Rattle.ciborium_ll_decoder.specs.declared.dec.Decoder.{Decoder}
 use Rattle.ciborium_ll_decoder.specs.declared.dec.Error.{Error}
+use Rattle.ciborium_ll_decoder.specs.declared.dec.Error.TheVariants as e
 use Rattle.ciborium_ll_decoder.specs.declared.seg.Body.{Body}
 use Rattle.ciborium_ll_decoder.specs.declared.seg.Progress.{Progress}
 use Rattle.ciborium_ll_decoder.specs.declared.seg.Progress.TheVariants as p
@@ -90,7 +91,13 @@ module _ {R E : Type 0} (source : Ghosts R E) (k : Kind) where
       (progress : Progress) → old.waiting ≡ Some (kind_header k len)
       → EndsAdvance source k strict 0 old result progress new → (body : Body) × (result ≡ Ok (Some body))
       × (len ≡ Some body.length) × FindsBody source k 0 old body progress new
-  waiting_found strict len old new result progress waits ends = grind (arith, same_length)
+  waiting_found strict len old new (Ok (Some body)) progress waits ends =
+      (body, refl, same_length k len (Some body.length) (rw waits at ends.pulled.waited).0, ends)
+  waiting_found strict len old new (Ok None) progress waits ends = absurd (let f = ends.last in cc)
+  waiting_found strict len old new (Err (e.Io fault)) progress waits ends = absurd cc
+  waiting_found strict len old new (Err (e.Syntax place)) progress waits ends = grind (arith, same_length)
+  waiting_found strict len old new (Err e.TooLong) progress waits ends = grind arith
+  waiting_found strict len old new (Err e.Waiting) progress waits ends = absurd ends
 
   -- `advance` over a waiting header of the kind: it is that of a body, or an open, which goes first
   waiting_first : (strict : Bool) (len : Option ℕ) (old new : Decoder R) (result : Result (Option Body) (Error E))

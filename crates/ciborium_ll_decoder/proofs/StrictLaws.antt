@@ -1,7 +1,7 @@
 -- A title that a decoder read, by the bytes of its parts.
-use Rattle.std.proofs.Common.{IfSome, take, IsTrue, [], ◌≡◌, ℕ, ◌+◌, List, ◌∷◌, length, refl, ap, ◌∙◌, inl, inr, arith}
-use Rattle.std.proofs.Common.{append-nil, length-append, get_or, ◌*◌, ◌/◌, ◌%◌, ◌++◌, ◌<◌, Option, None, Some, Result}
-use Rattle.std.proofs.Common.{Ok, Err, MatchResult, if◌then◌else◌, ◌&&◌, ◌-◌, ◌^◌}
+use Rattle.std.proofs.Common.{IsTrue, [], ◌≡◌, ℕ, ◌+◌, List, ◌∷◌, length, refl, ap, ◌∙◌, inl, inr, arith, append-nil}
+use Rattle.std.proofs.Common.{length-append, get_or, ◌*◌, ◌/◌, ◌%◌, ◌++◌, ◌<◌, Option, None, Some, Result, Ok, Err}
+use Rattle.std.proofs.Common.{MatchResult, if◌then◌else◌, ◌&&◌, ◌-◌, ◌^◌}
 use Rattle.std.proofs.lemmas.Bool.Decides.{nat_tests}
 use Rattle.std.proofs.KnownBytes.{Consumes-trans}
 use Rattle.std.specs.Io.KnownBytes.{Consumes}
@@ -9,16 +9,15 @@ use Rattle.ciborium_ll_io.specs.declared.io.Read.{Ghosts}
 use Rattle.ciborium_ll_decoder.specs.declared.dec.Decoder.{Decoder}
 use Rattle.ciborium_ll_decoder.specs.declared.dec.Error.{Error}
 use Rattle.ciborium_ll_decoder.specs.declared.dec.Error.TheVariants as e
-use Rattle.ciborium_ll_decoder.specs.Decoding.{Begins, PullsTitle, RefusesLonger, view, failures_of, IsSteady}
-use Rattle.ciborium_ll_decoder.specs.Decoding.{PullsHeader, ReadsAll, ReadsMinor, HoldsAffix, ReadsAffix, ReadsBytes}
-use Rattle.ciborium_ll_decoder.specs.Decoding.{RefusesTitle, strict_of}
+use Rattle.ciborium_ll_decoder.specs.Decoding.{PullsTitle, RefusesLonger, view, failures_of, IsSteady, PullsHeader}
+use Rattle.ciborium_ll_decoder.specs.Decoding.{ReadsAll, ReadsMinor, HoldsAffix, ReadsAffix, ReadsBytes, RefusesTitle}
+use Rattle.ciborium_ll_decoder.specs.Decoding.{strict_of}
 use Rattle.ciborium_ll_text.proofs.Lists.{length_zero}
 use Rattle.ciborium_ll_decoder.proofs.BodyLaws.{view_none}
 use Rattle.ciborium_ll_grammar.specs.declared.hdr.Minor.{Minor}
 use Rattle.ciborium_ll_grammar.specs.declared.hdr.Minor.TheVariants as m
 use Rattle.ciborium_ll_grammar.specs.declared.hdr.Header.{Header}
-use Rattle.ciborium_ll_grammar.specs.Title.{IsCutTitle, IsTitle, IsStrictTitle, affix_len, IsRefused, IsNeverOpen}
-use Rattle.ciborium_ll_grammar.specs.Title.{IsReserved}
+use Rattle.ciborium_ll_grammar.specs.Title.{IsTitle, IsStrictTitle, affix_len, IsRefused, IsNeverOpen, IsReserved}
 use Rattle.ciborium_ll_grammar.specs.Parts.{longer_parts, minor_affix, minor_code, parts_bytes}
 
 -- ---- a title that was read
@@ -112,11 +111,17 @@ module _ {R E : Type 0} (source : Ghosts R E) where
       let before = view_none old.waiting (source.ahead old.reader) none in
       let after = view_none new.waiting (source.ahead new.reader) affix.none_waits in
       let taken = first.bytes in
-      let began : IfSome (view source old) (Begins (x ∷ [])) = rw before (grind arith) in
-      let steadily : IsSteady source old → Consumes (view source old) (view source new) (x ∷ [])
-      × IfSome (view source old) (λ due. IsCutTitle due × (x ∷ [] ≡ take 1 due)) = λ s.
-      let cut = affix.steady (steady s) in rw (before, after, cut.0) (taken, grind arith) in
-      search arith
+      record {
+        read = x ∷ [];
+        within_first = omega arith;
+        began = rw before (grind arith);
+        offset = affix.offset ∙ first.offset;
+        fitted = omega (arith, affix.offset, affix.fitted);
+        none_waited = none;
+        none_waits = affix.none_waits;
+        failures = rw (affix.failures, first.failures) refl;
+        steady = λ s. let cut = affix.steady (steady s) in rw (before, after, cut.0) (taken, grind arith);
+      }
   affix_unread old between new x e.TooLong none first steady affix =
       let before = view_none old.waiting (source.ahead old.reader) none in
       let after = view_none between.waiting (source.ahead between.reader) first.none_waits in
