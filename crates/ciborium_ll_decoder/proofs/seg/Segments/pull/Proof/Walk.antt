@@ -16,7 +16,7 @@ use base.Logic.{SProp, ent, sep, emp, id⊢}
 use base.Fml.{Lft, GName, Fml, ftrue, flft, fdead, fres}
 use base.Share.{left, right}
 use borrow.Within.Token.{Rest, within_token, within_end}
-use prog.Wp.{Env, WpFn, Wp, after_seq, Calls, Loops}
+use prog.Wp.{Env, WpFn, Wp, after_seq}
 use prog.Model.{Model}
 use types.Logic.{Logic, sem}
 use types.Part.{whole, agg}
