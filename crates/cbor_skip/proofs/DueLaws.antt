@@ -13,7 +13,8 @@ use Rattle.ciborium_ll_grammar.specs.Items.{Completes, positive, byte_string, te
 use Rattle.ciborium_ll_grammar.specs.Items.{array, pairs, open_array, open_pairs, AreItems, no_items, more_items}
 use Rattle.ciborium_ll_grammar.specs.Items.{IsTakenTitle}
 use Rattle.ciborium_ll_grammar.proofs.TitleLaws.{one_title, IsTitle-shortest}
-use Rattle.ciborium_ll_grammar.proofs.StringLaws.{break_title, not_break, one_string, string_not_break, mixed, same_string}
+use Rattle.ciborium_ll_grammar.proofs.StringLaws.{break_title, not_break, one_string, string_not_break, mixed}
+use Rattle.ciborium_ll_grammar.proofs.StringLaws.{same_string}
 use Rattle.ciborium_ll_decoder.proofs.NestLaws.{open_in_range}
 use Rattle.ciborium_ll_grammar.proofs.ElementLaws.{bytes_writable}
 use Rattle.ciborium_ll_grammar.proofs.ItemLaws.{one_item}

@@ -26,7 +26,7 @@ none_left state may = grind (arith, nat_tests)
 -- what may end behind bytes may end in front of them
 pub may_back : (xs : List ℕ) (state : State) (left k : ℕ) → k ≡ length xs + left → may_end (after state xs) left ≡ true
     → may_end state k ≡ true
-may_back [] state left k e may = subst (λ (z : ℕ). may_end state z ≡ true) (let same : left ≡ k = omega (arith, e) in same) may
+may_back [] state left k e may = let same : left ≡ k = omega (arith, e) in rw same at may
 may_back (x ∷ xs) state left k e may =
     grind (arith, nat_tests, one_more_due, may_back xs (after_byte state x) left (length xs + left) refl may)
 

@@ -83,9 +83,14 @@ cut_character x d =
     let some = some_at x n d1 in
     let second : get_or x (n - 1) 0 < 0xc0 → due x (n - 1) ≡ due x n + 1 =
     later_at x n (n - 1) (omega arith) (omega arith) d1 in
-    let more : get_or x (n - 1) 0 < 0xc0 → 1 < n = λ h. omega (arith, second h, some_at x (n - 1) (omega (arith, second h))) in
+    let more : get_or x (n - 1) 0 < 0xc0 → 1 < n = λ h.
+    omega (arith, second h, some_at x (n - 1) (omega (arith, second h))) in
     let third : get_or x (n - 1) 0 < 0xc0 → get_or x (n - 2) 0 < 0xc0 → due x (n - 2) ≡ due x n + 2 = λ h k.
-    omega (arith, second h, later_at x (n - 1) (n - 2) (omega (arith, more h)) (omega arith) (omega (arith, second h)) k) in
+    omega (
+      arith,
+      second h,
+      later_at x (n - 1) (n - 2) (omega (arith, more h)) (omega arith) (omega (arith, second h)) k,
+    ) in
     let most : get_or x (n - 1) 0 < 0xc0 → get_or x (n - 2) 0 < 0xc0 → 2 < n = λ h k.
     omega (arith, third h k, some_at x (n - 2) (omega (arith, third h k))) in
     record {

@@ -151,13 +151,13 @@ comes_first : {lowest highest : ℕ} {others : List (ℕ × ℕ)} {to : State} (
     → Comes ((lowest, highest) ∷ others) x
 comes_first state [] inner step more e = absurd (inner e)
 comes_first {lowest} {highest} {others} {to} state (b ∷ x) inner step more e =
-    go (after_next lowest highest to b) (next_view lowest highest to b) (ap (λ (z : State). after z x) (sym (step b)) ∙ e)
+    go (after_next lowest highest to b) (next_view lowest highest to b) (rw step at e)
   where
     go : (next : State) → Next lowest highest to b next → after next x ≡ s.Between
         → Comes ((lowest, highest) ∷ others) (b ∷ x)
     go next (inside p) e =
         let m = more x e in
-        record { tail = b ∷ m.tail; rest = m.rest; is = ap (λ (z : List ℕ). b ∷ z) m.is; within = cons p m.within; ends = m.ends }
+        record { tail = b ∷ m.tail; rest = m.rest; is = cc m.is; within = cons p m.within; ends = m.ends }
     go next outside e = no_end x e
 
 -- none is due, or one, or two
@@ -183,7 +183,8 @@ comes s.BehindF4 x e = comes_first s.BehindF4 x (λ e. cc) (λ b. refl) comes_tw
 comes s.Damaged x e = no_end x e
 
 -- a first byte and those that are due behind it are of one row
-one_row : (a : ℕ) (state : State) (tail : List ℕ) → First a state → AreWithin (ranges state) tail → IsCharacter (a ∷ tail)
+one_row : (a : ℕ) (state : State) (tail : List ℕ) → First a state → AreWithin (ranges state) tail
+    → IsCharacter (a ∷ tail)
 one_row a s.Between tail (ascii p) nil = row1 p
 one_row a s.OneDue tail (two p) (cons q nil) = row2 p q
 one_row a s.BehindE0 tail (e0 p) (cons q (cons r nil)) = row3 p q r

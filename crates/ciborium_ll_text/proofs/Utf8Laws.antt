@@ -12,11 +12,16 @@ use Rattle.ciborium_ll_text.specs.Text.{row9, joined, IsCharacters}
 
 -- ---- each row is written for a character
 
+ruleset tests = (arith, nat_tests)
+
 -- std writes these bytes for this character
 pub record IsWritten (bytes : List ℕ) : Type 0 where
   pub char : ℕ
   pub ok : scalar char ≡ true
   pub is : encode char ≡ bytes
+
+wrote : {bytes : List ℕ} (char : ℕ) → scalar char ≡ true → encode char ≡ bytes → IsWritten bytes
+wrote char ok is = record { char = char; ok = ok; is = is }
 
 -- the number of a character of two bytes
 abbrev two : ℕ → ℕ → ℕ
@@ -33,15 +38,15 @@ four a b c d = (a - 240) * 262144 + ((b - 128) * 4096 + ((c - 128) * 64 + (d - 1
 -- each row is written for a character
 pub written : (bytes : List ℕ) → IsCharacter bytes → IsWritten bytes
 unfolding encode
-written bytes (row1 {a} p) = record { char = a; ok = grind (arith, nat_tests); is = grind (arith, nat_tests) }
-written bytes (row2 {a} {b} p q) = record { char = two a b; ok = grind (arith, nat_tests); is = grind (arith, nat_tests) }
-written bytes (row3 {a} {b} {c} p q r) = record { char = three a b c; ok = grind (arith, nat_tests); is = grind (arith, nat_tests) }
-written bytes (row4 {a} {b} {c} p q r) = record { char = three a b c; ok = grind (arith, nat_tests); is = grind (arith, nat_tests) }
-written bytes (row5 {a} {b} {c} p q r) = record { char = three a b c; ok = grind (arith, nat_tests); is = grind (arith, nat_tests) }
-written bytes (row6 {a} {b} {c} p q r) = record { char = three a b c; ok = grind (arith, nat_tests); is = grind (arith, nat_tests) }
-written bytes (row7 {a} {b} {c} {d} p q r s) = record { char = four a b c d; ok = grind (arith, nat_tests); is = grind (arith, nat_tests) }
-written bytes (row8 {a} {b} {c} {d} p q r s) = record { char = four a b c d; ok = grind (arith, nat_tests); is = grind (arith, nat_tests) }
-written bytes (row9 {a} {b} {c} {d} p q r s) = record { char = four a b c d; ok = grind (arith, nat_tests); is = grind (arith, nat_tests) }
+written bytes (row1 {a} p) = wrote a (grind tests) (grind tests)
+written bytes (row2 {a} {b} p q) = wrote (two a b) (grind tests) (grind tests)
+written bytes (row3 {a} {b} {c} p q r) = wrote (three a b c) (grind tests) (grind tests)
+written bytes (row4 {a} {b} {c} p q r) = wrote (three a b c) (grind tests) (grind tests)
+written bytes (row5 {a} {b} {c} p q r) = wrote (three a b c) (grind tests) (grind tests)
+written bytes (row6 {a} {b} {c} p q r) = wrote (three a b c) (grind tests) (grind tests)
+written bytes (row7 {a} {b} {c} {d} p q r s) = wrote (four a b c d) (grind tests) (grind tests)
+written bytes (row8 {a} {b} {c} {d} p q r s) = wrote (four a b c d) (grind tests) (grind tests)
+written bytes (row9 {a} {b} {c} {d} p q r s) = wrote (four a b c d) (grind tests) (grind tests)
 
 -- ---- what is written for each character is a row
 

@@ -33,7 +33,8 @@ returns-in-Err g c = record {
   shows = λ depth start nests items title stands p level at all.
       let so_far = c.parts.invariant.within depth start nests items title stands p level at in
       let row = taken_bytes c.read_title.new.self in
-      let takes = taken_all g.R.Read _ row _ _ c.new-taken.ensures (rw c.offset-place.ensures.same at c.read_title.ensures.keeps) in
+      let takes = taken_all g.R.Read _ row _ _ c.new-taken.ensures
+      (rw c.offset-place.ensures.same at c.read_title.ensures.keeps) in
       let place = c.offset-place.ensures.value in
       record {
         bytes = so_far.bytes ++ row;
@@ -58,7 +59,8 @@ returns-in-Other g c = record {
   shows = λ depth start nests items title stands p level at all.
       let so_far = c.parts.invariant.within depth start nests items title stands p level at in
       let row = taken_bytes c.read_title.new.self in
-      let takes = taken_all g.R.Read _ row _ _ c.new-taken.ensures (rw c.offset-place.ensures.same at c.read_title.ensures.keeps) in
+      let takes = taken_all g.R.Read _ row _ _ c.new-taken.ensures
+      (rw c.offset-place.ensures.same at c.read_title.ensures.keeps) in
       let place = c.offset-place.ensures.value in
       record {
         bytes = so_far.bytes ++ row;
@@ -94,7 +96,8 @@ returns-in_err-body-in-Piece g c =
       shows = λ depth start nests items title stands p level at all.
           let so_far = c.parts.invariant.within depth start nests items title stands p level at in
           let row = taken_bytes c.read_title.new.self in
-          let takes = taken_all g.R.Read _ row _ _ c.new-taken.ensures (rw c.offset-place.ensures.same at c.read_title.ensures.keeps) in
+          let takes = taken_all g.R.Read _ row _ _ c.new-taken.ensures
+          (rw c.offset-place.ensures.same at c.read_title.ensures.keeps) in
           let place = c.offset-place.ensures.value in
           let titled : IsTitle row c.in-Ok.header = c.in-Ok.ensures.title in
           let is = c.in-Piece.ensures in
@@ -128,7 +131,8 @@ parts-preserved-in-Continue-branch-2 g c = record {
   within = λ depth start nests items title stands p level at.
       let so_far = c.parts.invariant.within depth start nests items title stands p level at in
       let row = taken_bytes c.read_title.new.self in
-      let takes = taken_all g.R.Read _ row _ _ c.new-taken.ensures (rw c.offset-place.ensures.same at c.read_title.ensures.keeps) in
+      let takes = taken_all g.R.Read _ row _ _ c.new-taken.ensures
+      (rw c.offset-place.ensures.same at c.read_title.ensures.keeps) in
       let place = c.offset-place.ensures.value in
       let titled : IsTitle row c.in-Ok.header = c.in-Ok.ensures.title in
       let is = c.in-Piece.ensures in
@@ -153,7 +157,8 @@ parts-preserved-in-Continue-branch-2 g c = record {
   above = c.parts.invariant.above;
   below =
       let row = taken_bytes c.read_title.new.self in
-      let takes = taken_all g.R.Read _ row _ _ c.new-taken.ensures (rw c.offset-place.ensures.same at c.read_title.ensures.keeps) in
+      let takes = taken_all g.R.Read _ row _ _ c.new-taken.ensures
+      (rw c.offset-place.ensures.same at c.read_title.ensures.keeps) in
       let moved = takes.offset in
       let rises = c.body.ensures.rises in
       let inner = c.parts.invariant.below in
@@ -165,7 +170,8 @@ parts-preserved-in-Open g c = record {
   within = λ depth start nests items title stands p level at.
       let so_far = c.parts.invariant.within depth start nests items title stands p level at in
       let row = taken_bytes c.read_title.new.self in
-      let takes = taken_all g.R.Read _ row _ _ c.new-taken.ensures (rw c.offset-place.ensures.same at c.read_title.ensures.keeps) in
+      let takes = taken_all g.R.Read _ row _ _ c.new-taken.ensures
+      (rw c.offset-place.ensures.same at c.read_title.ensures.keeps) in
       let place = c.offset-place.ensures.value in
       let titled : IsTitle row c.in-Ok.header = c.in-Ok.ensures.title in
       let title_row = subst (λ (x : Header). IsTitle row x) c.in-Open.ensures.0 titled in
@@ -178,7 +184,8 @@ parts-preserved-in-Open g c = record {
   above = let inner = c.parts.invariant.above in omega (arith, inner);
   below =
       let row = taken_bytes c.read_title.new.self in
-      let takes = taken_all g.R.Read _ row _ _ c.new-taken.ensures (rw c.offset-place.ensures.same at c.read_title.ensures.keeps) in
+      let takes = taken_all g.R.Read _ row _ _ c.new-taken.ensures
+      (rw c.offset-place.ensures.same at c.read_title.ensures.keeps) in
       let moved = takes.offset in
       let some = title_some row c.in-Ok.header c.in-Ok.ensures.title in
       let inner = c.parts.invariant.below in
@@ -190,7 +197,8 @@ returns-then-at-level g c = record {
   shows = λ depth start nests items title stands p level at all.
       let so_far = c.parts.invariant.within depth start nests items title stands p level at in
       let row = taken_bytes c.read_title.new.self in
-      let takes = taken_all g.R.Read _ row _ _ c.new-taken.ensures (rw c.offset-place.ensures.same at c.read_title.ensures.keeps) in
+      let takes = taken_all g.R.Read _ row _ _ c.new-taken.ensures
+      (rw c.offset-place.ensures.same at c.read_title.ensures.keeps) in
       let place = c.offset-place.ensures.value in
       let titled : IsTitle row c.in-Ok.header = c.in-Ok.ensures.title in
       let is = only_break c.args.strict (kind_of c.args.kind) c.in-Ok.header c.part_of-part.result
@@ -216,7 +224,8 @@ parts-preserved g c = record {
   within = λ depth start nests items title stands p level at.
       let so_far = c.parts.invariant.within depth start nests items title stands p level at in
       let row = taken_bytes c.read_title.new.self in
-      let takes = taken_all g.R.Read _ row _ _ c.new-taken.ensures (rw c.offset-place.ensures.same at c.read_title.ensures.keeps) in
+      let takes = taken_all g.R.Read _ row _ _ c.new-taken.ensures
+      (rw c.offset-place.ensures.same at c.read_title.ensures.keeps) in
       let place = c.offset-place.ensures.value in
       let titled : IsTitle row c.in-Ok.header = c.in-Ok.ensures.title in
       let is = only_break c.args.strict (kind_of c.args.kind) c.in-Ok.header c.part_of-part.result
@@ -240,7 +249,8 @@ parts-preserved g c = record {
       omega (arith, at, inner, other);
   below =
       let row = taken_bytes c.read_title.new.self in
-      let takes = taken_all g.R.Read _ row _ _ c.new-taken.ensures (rw c.offset-place.ensures.same at c.read_title.ensures.keeps) in
+      let takes = taken_all g.R.Read _ row _ _ c.new-taken.ensures
+      (rw c.offset-place.ensures.same at c.read_title.ensures.keeps) in
       let moved = takes.offset in
       let is = only_break c.args.strict (kind_of c.args.kind) c.in-Ok.header c.part_of-part.result
       c.part_of-part.ensures c.in_default-part.not-Piece c.in_default-part.not-Open c.in_default.not-Other in
@@ -263,34 +273,39 @@ title_level-at-requires g c = record { some = level_some _ _ c.parts.invariant.a
 pub overflow_add-inner-in-Piece : goal.overflow_add-inner-in-Piece
 overflow_add-inner-in-Piece g c =
     let row = taken_bytes c.read_title.new.self in
-    let takes = taken_all g.R.Read _ row _ _ c.new-taken.ensures (rw c.offset-place.ensures.same at c.read_title.ensures.keeps) in
+    let takes = taken_all g.R.Read _ row _ _ c.new-taken.ensures
+    (rw c.offset-place.ensures.same at c.read_title.ensures.keeps) in
     let some = title_some row c.in-Ok.header c.in-Ok.ensures.title in
     level_fits _ _ _ _ _ c.parts.invariant.below takes.offset some c.read_title.new.decoder.covered
 
 pub parts-smaller-in-Continue-branch-2 : goal.parts-smaller-in-Continue-branch-2
 parts-smaller-in-Continue-branch-2 g c =
     let row = taken_bytes c.read_title.new.self in
-    let takes = taken_all g.R.Read _ row _ _ c.new-taken.ensures (rw c.offset-place.ensures.same at c.read_title.ensures.keeps) in
+    let takes = taken_all g.R.Read _ row _ _ c.new-taken.ensures
+    (rw c.offset-place.ensures.same at c.read_title.ensures.keeps) in
     let some = title_some row c.in-Ok.header c.in-Ok.ensures.title in
     comes_nearer _ _ _ _ _ takes.offset some c.body.ensures.rises c.body.new.decoder.covered
 
 pub overflow_add-inner-in-Open : goal.overflow_add-inner-in-Open
 overflow_add-inner-in-Open g c =
     let row = taken_bytes c.read_title.new.self in
-    let takes = taken_all g.R.Read _ row _ _ c.new-taken.ensures (rw c.offset-place.ensures.same at c.read_title.ensures.keeps) in
+    let takes = taken_all g.R.Read _ row _ _ c.new-taken.ensures
+    (rw c.offset-place.ensures.same at c.read_title.ensures.keeps) in
     let some = title_some row c.in-Ok.header c.in-Ok.ensures.title in
     level_fits _ _ _ _ _ c.parts.invariant.below takes.offset some c.read_title.new.decoder.covered
 
 pub parts-smaller-in-Open : goal.parts-smaller-in-Open
 parts-smaller-in-Open g c =
     let row = taken_bytes c.read_title.new.self in
-    let takes = taken_all g.R.Read _ row _ _ c.new-taken.ensures (rw c.offset-place.ensures.same at c.read_title.ensures.keeps) in
+    let takes = taken_all g.R.Read _ row _ _ c.new-taken.ensures
+    (rw c.offset-place.ensures.same at c.read_title.ensures.keeps) in
     let some = title_some row c.in-Ok.header c.in-Ok.ensures.title in
     comes_nearer _ _ _ _ _ takes.offset some (le_refl _) c.read_title.new.decoder.covered
 
 pub parts-smaller : goal.parts-smaller
 parts-smaller g c =
     let row = taken_bytes c.read_title.new.self in
-    let takes = taken_all g.R.Read _ row _ _ c.new-taken.ensures (rw c.offset-place.ensures.same at c.read_title.ensures.keeps) in
+    let takes = taken_all g.R.Read _ row _ _ c.new-taken.ensures
+    (rw c.offset-place.ensures.same at c.read_title.ensures.keeps) in
     let some = title_some row c.in-Ok.header c.in-Ok.ensures.title in
     comes_nearer _ _ _ _ _ takes.offset some (le_refl _) c.read_title.new.decoder.covered
