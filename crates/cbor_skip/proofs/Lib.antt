@@ -1,4 +1,5 @@
 pub mod DueLaws
+pub mod FailureLaws
 pub mod ItemRuns
 pub mod ItemSteps
 pub mod RemainingLaws

@@ -1,4 +1,5 @@
 pub mod Due
+pub mod Failures
 pub mod ItemFaults
 pub mod Remaining
 pub mod Skipping
