@@ -2,6 +2,7 @@ mod BodyShowLaws
 mod FloatLaws
 mod ItemTextLaws
 mod ItemLaws
+mod MoveLaws
 mod QuoteLaws
 mod QuotedLaws
 mod ShowLaws

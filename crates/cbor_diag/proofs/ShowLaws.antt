@@ -67,26 +67,6 @@ module _ {E F : Type 0} where
       → OnReading Other result
   reading_string One Other result whole stops holds = grind arith
 
--- a fact where the answer is Ok
-pub when_ok : {T F : Type 0} (P : Type 0) (result : Result T F) → P → OnOk result P
-when_ok P result holds = grind arith
-
--- a fact of Ok alone where the answer is an error
-pub when_err : {T F : Type 0} (P : Type 0) (result : Result T F) → IsErr result → OnOk result P
-when_err P result fails = grind arith
-
-module _ {R E : Type 0} (source : Ghosts R E) where
-  -- behind a whole string the decoder moved on, whose header was pushed back
-  pub whole_moves : (kind : Kind) (len : Option ℕ) (opened pushed new : Decoder R)
-      → SkipsWhole source kind len opened new → MovesOn source pushed new → refusals_of pushed ≡ refusals_of opened
-      → MovesOn source opened new
-  whole_moves kind len opened pushed new whole moves same = grind arith
-
-  -- a decoder that moved on, and where the answer is Ok once more
-  pub moved_then : {T F : Type 0} (old mid new : Decoder R) (result : Result T F) → MovesOn source old mid
-      → OnOk result (MovesOn source mid new) → OnOk result (MovesOn source old new)
-  moved_then old mid new result first next = grind (arith, MovesOn-then)
-
 -- what a write of a text answered, as the answer of a show
 pub said_text : {E W F : Type 0} (sink : Sink W F) (old new : W) (answer : Result (Unit {0}) F)
     (result : Result (Unit {0}) (DiagError E F)) (text : List ℕ) → result ≡ said_of answer
@@ -96,7 +76,7 @@ said_text sink old new answer result text same wrote = grind arith
 module _ {R E W F : Type 0} (source : Ghosts R E) (sink : Sink W F) where
   -- what a write of a float's text answered, as the answer of a show
   pub float_said : (header : Header) (float : Raw) (old new : Sides R W) (answer : Result (Unit {0}) F)
-      (result : Result (Unit {0}) (DiagError E F)) → header ≡ h.Float float → result ≡ said_of answer
-      → ShowsOne sink (IsFloatText float) old.writer answer new.writer
+      (result : Result (Unit {0}) (DiagError E F)) → header ≡ h.Float float → new.decoder ≡ old.decoder
+      → result ≡ said_of answer → ShowsOne sink (IsFloatText float) old.writer answer new.writer
       → ShowsHeader source sink header old result new
-  float_said header float old new answer result is same shown = grind arith
+  float_said header float old new answer result is still same shown = grind arith

@@ -1,17 +1,18 @@
 -- What a show of an item does to its decoder, as long as the writer does not fail, and what it writes of a header.
-use Rattle.std.specs.Prelude.{ℕ, Bool, List, Option, Some, None, Result, Ok, Err, OnOk}
+use Rattle.std.specs.Prelude.{◌≡◌, ℕ, Bool, List, Option, Some, None, Result, Ok, Err}
 use Rattle.ciborium_ll.specs.Types.Read.{Ghosts}
 use Rattle.ciborium_ll.specs.Types.Write.{Ghosts as Sink}
 use Rattle.ciborium_ll.specs.Types.Header.{Header}
 use Rattle.ciborium_ll.specs.Types.Header.TheVariants as h
 use Rattle.ciborium_ll.specs.Types.Decoder.{Decoder}
 use Rattle.ciborium_ll.specs.Types.Error.{Error}
-use Rattle.ciborium_ll.specs.Decoding.{MovesOn}
+use Rattle.ciborium_ll.specs.Decoding.{MovesOn, failures_of}
 use Rattle.ciborium_ll.specs.Encoding.{WritesBytes}
 use Rattle.ciborium_ll.specs.Sides.{Sides}
 use Rattle.ciborium_ll.specs.Strings.{Bytes, Text}
 use Rattle.cbor_skip.specs.declared.SkipError.{SkipError}
 use Rattle.cbor_skip.specs.declared.SkipError.TheVariants as s
+use Rattle.cbor_skip.specs.Failures.{CountsItemFailure}
 use Rattle.cbor_skip.specs.Skipping.{ReadsItem, SkipsItem, StopsItem}
 use Rattle.cbor_diag.specs.declared.DiagError.{DiagError}
 use Rattle.cbor_diag.specs.declared.DiagError.TheVariants as d
@@ -45,17 +46,25 @@ module _ {E F : Type 0} where
   OnString Holds (Err (d.Read (s.Deep at))) = ⊥
   OnString Holds (Err (d.Write fault)) = Unit {0}
 
+  -- How often the reader failed, by the answer of a show: once where the error of the read says so. Where the writer
+  -- failed, the reader did not
+  abbrev pub CountsShown : {T : Type 0} → Result T (DiagError E F) → ℕ → ℕ → Type 0
+  CountsShown (Ok done) old new = new ≡ old
+  CountsShown (Err (d.Read error)) old new = CountsItemFailure error old new
+  CountsShown (Err (d.Write fault)) old new = new ≡ old
+
 module _ {R E : Type 0} (source : Ghosts R E) where
   -- The read of one item, by its answer. `outer` says whether a break may stand in its place
   abbrev pub ReadsFrom : Bool → ℕ → ℕ → Decoder R → Result (Unit {0}) (SkipError E) → Decoder R → Type 0
   ReadsFrom outer depth room old (Ok done) new = ReadsItem source depth old new
   ReadsFrom outer depth room old (Err error) new = StopsItem source outer depth room old error new
 
-  -- what `diagnose` does to its decoder, as long as the writer does not fail, and what it keeps
+  -- what `diagnose` reads, if the writer does not fail, and what it keeps, whatever it answers
   pub record ReadsShown {F : Type 0} (depth : ℕ) (old : Decoder R) (result : Result (Unit {0}) (DiagError E F))
       (new : Decoder R) : Type 0 where
     pub reads : OnReading (λ answer. SkipsItem source depth 64 old answer new) result
-    pub moves_on : OnOk result (MovesOn source old new)
+    pub failures : CountsShown result (failures_of source old) (failures_of source new)
+    pub moves_on : MovesOn source old new
 
 module _ {E W F : Type 0} (sink : Sink W F) where
   -- the text was written, all of it, or a beginning where the writer failed
@@ -66,11 +75,17 @@ module _ {E W F : Type 0} (sink : Sink W F) where
   ShowsText (Some text) old (Err (d.Read error)) new = ⊥
 
 module _ {R E W F : Type 0} (source : Ghosts R E) (sink : Sink W F) where
+  -- behind the header of an integer, a simple value or a float its text was written, and nothing was read
+  pub record ShowsAlone (text : Option (List ℕ)) (old : Sides R W) (result : Result (Unit {0}) (DiagError E F))
+      (new : Sides R W) : Type 0 where
+    pub written : ShowsText sink text old.writer result new.writer
+    pub unread : new.decoder ≡ old.decoder
+
   -- behind the header of an integer, a simple value, a float or a string its item was read and its text written: of a
   -- float a text that fits, and of a string that of the bodies that were read
   abbrev pub ShowsHeader : Header → Sides R W → Result (Unit {0}) (DiagError E F) → Sides R W → Type 0
   ShowsHeader (h.Float float) old result new =
-      (text : List ℕ) × IsFloatText float text × ShowsText sink (Some text) old.writer result new.writer
+      (text : List ℕ) × IsFloatText float text × ShowsAlone (Some text) old result new
   ShowsHeader (h.Bytes len) old result new = ShowsString source sink Bytes q.Hex len 64 old result new
   ShowsHeader (h.Text len) old result new = ShowsString source sink Text q.Text len 64 old result new
-  ShowsHeader header old result new = ShowsText sink (header_notation header) old.writer result new.writer
+  ShowsHeader header old result new = ShowsAlone (header_notation header) old result new

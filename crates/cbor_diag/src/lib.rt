@@ -47,7 +47,11 @@ impl<E, F> From<Error<E>> for DiagError<E, F> {
 /// Where the writer does not fail the item is read as `cbor_skip::skip_item` reads it: `Ok` says that one whole item
 /// was there, each body of a text UTF-8, and the decoder is behind it; `Read` carries the error that `skip_item`
 /// answers, and the decoder is where that leaves it. `Write` carries the writer's error, and behind it it is said up to
-/// which header the item was read, and of strings alone how far.
+/// which header the item was read, and of strings how far. Behind the header of an integer, a float or a simple value
+/// nothing is read.
+///
+/// Whatever the answer, the decoder moves on as [`Decoder`] says. The reader fails once if the answer carries
+/// `Error::Io`, and otherwise it does not fail.
 ///
 /// `Ok` says as well that the text of the whole item was written, and just that. Of an integer or a simple value it is
 /// the digits in base 10, or the name, or `simple(N)`. Of a float it is digits that are read as its value, or `NaN`,

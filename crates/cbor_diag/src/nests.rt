@@ -1,6 +1,6 @@
 //! Items, and what tags, arrays and maps contain.
 
-ghost use Rattle.std.specs.Prelude.{◌≡◌, ◌≤◌, ◌+◌, ◌++◌, Bool, Err, None, Ok, OnOk, if◌then◌else◌};
+ghost use Rattle.std.specs.Prelude.{◌≡◌, ◌≤◌, ◌+◌, ◌++◌, Bool, Err, None, Ok, if◌then◌else◌};
 ghost use Rattle.ciborium_ll.specs.Types.Decoder.{Decoder as AnyDecoder};
 ghost use Rattle.ciborium_ll.specs.Title.{title_len};
 ghost use Rattle.ciborium_ll.specs.Decoding.{IsSteady, MovesOn, PullsTitle, offset_of, waiting_of};
@@ -36,7 +36,7 @@ pub(crate) fn show_within<R: Read, W: Write>(
     ensures reads { OnReading (λ answer. SkipsWithin R.Read header depth 64 decoder.old answer decoder.new) result }
     ensures shown { ShowsWithin R.Read W.Write line.layout line.level header (sides decoder.old writer.old) result
         (sides decoder.new writer.new) }
-    ensures moves_on { OnOk result (MovesOn R.Read decoder.old decoder.new) }
+    ensures moves_on { MovesOn R.Read decoder.old decoder.new }
 {
     let mut remaining = Remaining::behind(header);
     let mut is_first = true;
@@ -87,7 +87,7 @@ pub(crate) fn show_item<R: Read, W: Write>(
         → OnReading (λ answer. ReadsFrom R.Read outer depth 64 before answer decoder.new) result }
     ensures shown { ShowsRest R.Read W.Write line.layout line.level header (sides decoder.old writer.old) result
         (sides decoder.new writer.new) }
-    ensures moves_on { OnOk result (MovesOn R.Read decoder.old decoder.new) }
+    ensures moves_on { MovesOn R.Read decoder.old decoder.new }
 {
     match header {
         Header::Tag(_) | Header::Array(_) | Header::Map(_) => {

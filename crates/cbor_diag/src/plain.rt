@@ -34,7 +34,7 @@ pub(crate) fn show_plain<R: Read, W: Write>(
         (sides decoder.new writer.new) }
     ensures shown { (layout : Layout) (level : ℕ) → OnOk result (RestShown R.Read W.Write layout level header
         (sides decoder.old writer.old) (sides decoder.new writer.new)) }
-    ensures moves_on { OnOk result (MovesOn R.Read decoder.old decoder.new) }
+    ensures moves_on { MovesOn R.Read decoder.old decoder.new }
 {
     match header {
         Header::Positive(number) => said(show_positive(writer, number)),

@@ -1,11 +1,11 @@
 //! Strings, in quotes.
 
-ghost use Rattle.std.specs.Prelude.{◌≡◌, ◌≤◌, ℕ, [], Option, None, Some, IfErr, OnOk};
+ghost use Rattle.std.specs.Prelude.{◌≡◌, ◌≤◌, ℕ, [], Option, None, Some, IfErr};
 ghost use Rattle.ciborium_ll.specs.Types.Decoder.{Decoder as AnyDecoder};
 ghost use Rattle.ciborium_ll.specs.Types.Header.TheVariants as Header;
 ghost use Rattle.ciborium_ll.specs.Title.{IsInRange, title_len};
 ghost use Rattle.ciborium_ll.specs.Strings.{Bytes as byte_strings, Text as text_strings, kind_header};
-ghost use Rattle.ciborium_ll.specs.Decoding.{MovesOn, TakesBack, offset_of, refusals_of, strict_of, waiting_of};
+ghost use Rattle.ciborium_ll.specs.Decoding.{MovesOn, TakesBack, offset_of, strict_of, waiting_of};
 ghost use Rattle.ciborium_ll.specs.Finishing.{EndsBody};
 ghost use Rattle.ciborium_ll.specs.Segments.{IsAtBeginning, progress_of, string_decoder, string_reference};
 ghost use Rattle.ciborium_ll.specs.Segments.{string_strict};
@@ -37,7 +37,7 @@ pub(crate) fn show_bytes<R: Read, W: Write>(
     ensures reads { OnString (λ answer. SkipsString R.Read byte_strings len 64 decoder.old answer decoder.new) result }
     ensures text { ShowsString R.Read W.Write byte_strings Quotes.Hex len 64 (sides decoder.old writer.old) result
         (sides decoder.new writer.new) }
-    ensures moves_on { OnOk result (MovesOn R.Read decoder.old decoder.new) }
+    ensures moves_on { MovesOn R.Read decoder.old decoder.new }
 {
     let mut segments = decoder.bytes(len);
     show_segments(&mut segments, writer, Quotes::Hex, len.is_none())
@@ -54,7 +54,7 @@ pub(crate) fn show_text<R: Read, W: Write>(
     ensures reads { OnString (λ answer. SkipsString R.Read text_strings len 64 decoder.old answer decoder.new) result }
     ensures text { ShowsString R.Read W.Write text_strings Quotes.Text len 64 (sides decoder.old writer.old) result
         (sides decoder.new writer.new) }
-    ensures moves_on { OnOk result (MovesOn R.Read decoder.old decoder.new) }
+    ensures moves_on { MovesOn R.Read decoder.old decoder.new }
 {
     let mut segments = decoder.text(len);
     show_segments(&mut segments, writer, Quotes::Text, len.is_none())
@@ -73,11 +73,7 @@ fn show_segments<R: Read, W: Write, P: Chunked>(
         → waiting_of opened ≡ None → TakesBack R.Read opened (kind_header P.kind len) (string_decoder segments.old)
         → string_strict segments.old ≡ strict_of opened
         → OnString (λ answer. SkipsString R.Read P.kind len 64 opened answer (string_decoder segments.new)) result }
-    ensures moves_on { (opened : AnyDecoder R) (len : Option ℕ) → IsInRange (kind_header P.kind len)
-        → waiting_of opened ≡ None → TakesBack R.Read opened (kind_header P.kind len) (string_decoder segments.old)
-        → string_strict segments.old ≡ strict_of opened
-        → refusals_of (string_decoder segments.old) ≡ refusals_of opened
-        → OnOk result (MovesOn R.Read opened (string_decoder segments.new)) }
+    ensures moves_on { MovesOn R.Read (string_decoder segments.old) (string_decoder segments.new) }
     ensures text { (opened : AnyDecoder R) (len : Option ℕ) → IsInRange (kind_header P.kind len)
         → waiting_of opened ≡ None → TakesBack R.Read opened (kind_header P.kind len) (string_decoder segments.old)
         → is_open ≡ is_indefinite len → ShowsString R.Read W.Write P.kind quotes len 64

@@ -26,7 +26,7 @@ module _ {R E : Type 0} (source : Ghosts R E) where
         → StopsReading source kind [] len read place count old error new → FailsOn error old new
     reading_fails len read place count error old new stops = grind arith
 
-    body_fails : (len room place : ℕ) (error : Error E) (old new : Decoder R)
+    pub body_fails : (len room place : ℕ) (error : Error E) (old new : Decoder R)
         → EndsBody source kind [] len room place old (Err error) new → FailsOn error old new
     body_fails len room place error old new stops =
         let last = reading_fails len stops.part.read place stops.count error stops.between new stops.stops in

@@ -6,7 +6,7 @@ use Rattle.cbor_skip.specs.Remaining.{closes}
 use Rattle.cbor_skip.specs.Skipping.{SkipsWithin}
 use Rattle.cbor_skip.proofs.ItemSteps.{none_read, one_more, stops_here, pull_stops, stops_within, ended, closed}
 use Rattle.cbor_diag.specs.Showing.{ReadsFrom}
-use Rattle.cbor_diag.proofs.ShowLaws.{break_said, reading_stops, reading_unread, when_err, when_ok}
+use Rattle.cbor_diag.proofs.ShowLaws.{break_said, reading_stops, reading_unread}
 use Rattle.cbor_diag.proofs.ItemLaws.{ItemRead, nest_deep, nest_of, nest_read, nest_stops}
 use Rattle.ciborium_ll.specs.Decoding.{PullsHeader}
 use Rattle.cbor_diag.specs.ItemStops.{deep}
@@ -37,12 +37,11 @@ show_item-returns-in_ok-is_empty-in-Tag-clause-reads g t c = λ before outer at 
     c.said-in-Tag.ensures.writing
 
 pub show_item-returns-in_err-said-in-Tag-clause-moves_on : goal.show_item-returns-in_err-said-in-Tag-clause-moves_on
-show_item-returns-in_err-said-in-Tag-clause-moves_on g t c = when_err _ _ c.from_residual.ensures.0
+show_item-returns-in_err-said-in-Tag-clause-moves_on g t c = MovesOn-none g.R.Read c.args.decoder.now
 
 pub show_item-returns-in_err-is_empty-in-Tag-clause-moves_on :
     goal.show_item-returns-in_err-is_empty-in-Tag-clause-moves_on
-show_item-returns-in_err-is_empty-in-Tag-clause-moves_on g t c =
-    when_err _ _ c.from_residual-in_err-is_empty-in-Tag.ensures.0
+show_item-returns-in_err-is_empty-in-Tag-clause-moves_on g t c = c.show_within.ensures.moves_on
 
 pub show_item-returns-in_err-said-in-Tag-clause-reads : goal.show_item-returns-in_err-said-in-Tag-clause-reads
 show_item-returns-in_err-said-in-Tag-clause-reads g t c = λ before outer at pulled steady.
@@ -79,8 +78,8 @@ show_within-returns-in-Break-clause-reads g t c =
 
 pub show_within-returns-in-Break-clause-moves_on : goal.show_within-returns-in-Break-clause-moves_on
 show_within-returns-in-Break-clause-moves_on g t c =
-    when_ok _ c.at_break.result (MovesOn-then g.R.Read _ _ _ c.items.invariant.moves_on
-    (rw c.offset-place.ensures.same at c.in_ok-next.ensures.moves_on))
+    MovesOn-then g.R.Read _ _ _ c.items.invariant.moves_on
+    (rw c.offset-place.ensures.same at c.in_ok-next.ensures.moves_on)
 
 pub show_within-returns-in_err-show_item-clause-reads : goal.show_within-returns-in_err-show_item-clause-reads
 show_within-returns-in_err-show_item-clause-reads g t c =
@@ -106,17 +105,23 @@ show_within-items-preserved g t c =
       items = items_more c.items.invariant.items c.is_value.ensures pulled led
           (c.after_item-remaining.ensures c.args.header) first.steady c.in_ok-show_item.ensures.shown;
       moves_on = MovesOn-then g.R.Read _ _ _ c.items.invariant.moves_on
-          (MovesOn-then g.R.Read _ _ _ first c.in_ok-show_item.ensures.moves_on);
+          (MovesOn-then g.R.Read _ _ _ first c.show_item.ensures.moves_on);
     }
 
 pub show_within-returns-in_err-next-clause-moves_on : goal.show_within-returns-in_err-next-clause-moves_on
-show_within-returns-in_err-next-clause-moves_on g t c = when_err _ _ c.from_residual.ensures.0
+show_within-returns-in_err-next-clause-moves_on g t c =
+    MovesOn-then g.R.Read _ _ _ c.items.invariant.moves_on
+    (rw c.offset-place.ensures.same at c.in_err-next.ensures.moves_on)
 
 pub show_within-returns-in_err-said-clause-moves_on : goal.show_within-returns-in_err-said-clause-moves_on
-show_within-returns-in_err-said-clause-moves_on g t c = when_err _ _ c.from_residual-in_err-said.ensures.0
+show_within-returns-in_err-said-clause-moves_on g t c =
+    MovesOn-then g.R.Read _ _ _ c.items.invariant.moves_on
+    (rw c.offset-place.ensures.same at c.in_ok-next.ensures.moves_on)
 
 pub show_within-returns-in_err-show_item-clause-moves_on : goal.show_within-returns-in_err-show_item-clause-moves_on
-show_within-returns-in_err-show_item-clause-moves_on g t c = when_err _ _ c.from_residual-in_err-show_item.ensures.0
+show_within-returns-in_err-show_item-clause-moves_on g t c =
+    MovesOn-then g.R.Read _ _ _ c.items.invariant.moves_on
+    (MovesOn-then g.R.Read _ _ _ (rw c.offset-place.ensures.same at c.in_ok-next.ensures.moves_on) c.show_item.ensures.moves_on)
 
 pub show_within-returns-in_err-said-clause-reads : goal.show_within-returns-in_err-said-clause-reads
 show_within-returns-in_err-said-clause-reads g t c =
@@ -194,7 +199,7 @@ show_within-items-smaller g t c =
     let pulled = rw c.offset-place.ensures.same at c.in_ok-next.ensures.header in
     let some = title_some pulled.title c.in_ok-next.next pulled.is_title in
     nearer c.items.decoder c.pull.new.self c.show_item.new.decoder (omega (arith, pulled.offset, some))
-    c.in_ok-show_item.ensures.moves_on.rises
+    c.show_item.ensures.moves_on.rises
 
 -- ---- what the calls require
 
@@ -209,5 +214,7 @@ show_within-after_item-remaining-requires g t c = sym c.items-test.ensures
 
 pub show_item-returns-in_ok-is_empty-in-Tag-clause-moves_on :
     goal.show_item-returns-in_ok-is_empty-in-Tag-clause-moves_on
-show_item-returns-in_ok-is_empty-in-Tag-clause-moves_on g t c =
-    when_ok _ c.said-in-Tag.result c.in_ok-is_empty-in-Tag.ensures.moves_on
+show_item-returns-in_ok-is_empty-in-Tag-clause-moves_on g t c = c.show_within.ensures.moves_on
+
+pub show_item-returns-then-depth-eq0-clause-moves_on : goal.show_item-returns-then-depth-eq0-clause-moves_on
+show_item-returns-then-depth-eq0-clause-moves_on g t c = MovesOn-none g.R.Read c.args.decoder.now

@@ -1,10 +1,10 @@
-use Rattle.std.proofs.Common.{ap}
+use Rattle.std.proofs.Common.{ap, refl}
 use Rattle.ciborium_ll.specs.Items.{positive, negative, float, simple}
 use Rattle.ciborium_ll.specs.Strings.{Bytes, Text}
 use Rattle.ciborium_ll.proofs.DecodingLaws.{MovesOn-none}
 use Rattle.cbor_diag.specs.ItemTexts.{scalar, float as float_text}
 use Rattle.cbor_diag.specs.Notation.{header_notation}
-use Rattle.cbor_diag.proofs.ShowLaws.{float_said, said_text, when_ok}
+use Rattle.cbor_diag.proofs.ShowLaws.{float_said, said_text}
 use Rattle.cbor_diag.proofs.ItemLaws.{scalar_read, string_read}
 use Rattle.cbor_diag.proofs.ItemTextLaws.{plain_said, string_shown}
 use Rattle.cbor_diag.proofs.plain.show_plain.Goals as goal
@@ -15,12 +15,14 @@ returns-in-Positive-clause-reads g c = λ before outer depth pulled steady.
     (rw c.in-Positive.is positive) pulled c.said.ensures.writing
 
 pub returns-in-Positive-clause-text : goal.returns-in-Positive-clause-text
-returns-in-Positive-clause-text g c =
-    rw c.in-Positive.is (said_text g.W.Write _ _ c.show_positive.result c.said.result _
-    c.said.ensures.same c.show_positive.ensures)
+returns-in-Positive-clause-text g c = rw c.in-Positive.is (record {
+  written = said_text g.W.Write _ _ c.show_positive.result c.said.result _
+      c.said.ensures.same c.show_positive.ensures;
+  unread = refl;
+})
 
 pub returns-in-Positive-clause-moves_on : goal.returns-in-Positive-clause-moves_on
-returns-in-Positive-clause-moves_on g c = when_ok _ c.said.result (MovesOn-none g.R.Read c.args.decoder.now)
+returns-in-Positive-clause-moves_on g c = MovesOn-none g.R.Read c.args.decoder.now
 
 pub returns-in-Positive-clause-shown : goal.returns-in-Positive-clause-shown
 returns-in-Positive-clause-shown g c = λ layout level.
@@ -33,12 +35,14 @@ returns-in-Negative-clause-reads g c = λ before outer depth pulled steady.
     (rw c.in-Negative.is negative) pulled c.said-in-Negative.ensures.writing
 
 pub returns-in-Negative-clause-text : goal.returns-in-Negative-clause-text
-returns-in-Negative-clause-text g c =
-    rw c.in-Negative.is (said_text g.W.Write _ _ c.show_negative.result c.said-in-Negative.result _
-    c.said-in-Negative.ensures.same c.show_negative.ensures)
+returns-in-Negative-clause-text g c = rw c.in-Negative.is (record {
+  written = said_text g.W.Write _ _ c.show_negative.result c.said-in-Negative.result _
+      c.said-in-Negative.ensures.same c.show_negative.ensures;
+  unread = refl;
+})
 
 pub returns-in-Negative-clause-moves_on : goal.returns-in-Negative-clause-moves_on
-returns-in-Negative-clause-moves_on g c = when_ok _ c.said-in-Negative.result (MovesOn-none g.R.Read c.args.decoder.now)
+returns-in-Negative-clause-moves_on g c = MovesOn-none g.R.Read c.args.decoder.now
 
 pub returns-in-Negative-clause-shown : goal.returns-in-Negative-clause-shown
 returns-in-Negative-clause-shown g c = λ layout level.
@@ -51,12 +55,14 @@ returns-in-Simple-clause-reads g c = λ before outer depth pulled steady.
     (rw c.in-Simple.is simple) pulled c.said-in-Simple.ensures.writing
 
 pub returns-in-Simple-clause-text : goal.returns-in-Simple-clause-text
-returns-in-Simple-clause-text g c =
-    rw c.in-Simple.is (said_text g.W.Write _ _ c.show_simple.result c.said-in-Simple.result _
-    c.said-in-Simple.ensures.same c.show_simple.ensures)
+returns-in-Simple-clause-text g c = rw c.in-Simple.is (record {
+  written = said_text g.W.Write _ _ c.show_simple.result c.said-in-Simple.result _
+      c.said-in-Simple.ensures.same c.show_simple.ensures;
+  unread = refl;
+})
 
 pub returns-in-Simple-clause-moves_on : goal.returns-in-Simple-clause-moves_on
-returns-in-Simple-clause-moves_on g c = when_ok _ c.said-in-Simple.result (MovesOn-none g.R.Read c.args.decoder.now)
+returns-in-Simple-clause-moves_on g c = MovesOn-none g.R.Read c.args.decoder.now
 
 pub returns-in-Simple-clause-shown : goal.returns-in-Simple-clause-shown
 returns-in-Simple-clause-shown g c = λ layout level.
@@ -71,10 +77,10 @@ returns-in-Float-clause-reads g c = λ before outer depth pulled steady.
 pub returns-in-Float-clause-text : goal.returns-in-Float-clause-text
 returns-in-Float-clause-text g c =
     float_said g.R.Read g.W.Write c.args.header c.in-Float.float _ _ c.show_float.result c.said-in-Float.result
-    c.in-Float.is c.said-in-Float.ensures.same c.show_float.ensures
+    c.in-Float.is refl c.said-in-Float.ensures.same c.show_float.ensures
 
 pub returns-in-Float-clause-moves_on : goal.returns-in-Float-clause-moves_on
-returns-in-Float-clause-moves_on g c = when_ok _ c.said-in-Float.result (MovesOn-none g.R.Read c.args.decoder.now)
+returns-in-Float-clause-moves_on g c = MovesOn-none g.R.Read c.args.decoder.now
 
 pub returns-in-Float-clause-shown : goal.returns-in-Float-clause-shown
 returns-in-Float-clause-shown g c = λ layout level.

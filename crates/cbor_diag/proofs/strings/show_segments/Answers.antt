@@ -3,7 +3,7 @@ use Rattle.ciborium_ll.specs.Finishing.{EndsBody}
 use Rattle.ciborium_ll.specs.Skipping.{SkipsString}
 use Rattle.ciborium_ll.proofs.DecodingLaws.{exit_is, MovesOn-then}
 use Rattle.ciborium_ll.proofs.SkipLaws.{skips_end, skips_error, skips_body, skips_stop, found_rises}
-use Rattle.cbor_diag.proofs.ShowLaws.{string_unread, string_whole, string_stops, when_ok, whole_moves}
+use Rattle.cbor_diag.proofs.ShowLaws.{string_unread, string_whole, string_stops}
 use Rattle.cbor_diag.proofs.StringShowLaws.{text_closed, text_fails, text_more, text_stops, text_unled}
 use Rattle.cbor_diag.proofs.strings.show_segments.Goals as goal
 
@@ -79,15 +79,21 @@ returns-in_err-show_body-clause-reads g c = λ opened len range settled back mea
     (rw c.in-Some.is at c.in_ok-body.ensures.advances) ends) c.in_err-show_body.ensures.reads)
 
 pub returns-in_default-clause-moves_on : goal.returns-in_default-clause-moves_on
-returns-in_default-clause-moves_on g c = λ opened len range settled back meant same.
-    let none : c.in_ok-body.field-0 ≡ None = search rules in
-    let now = c.segments.segments in
-    let new = c.advance.new.self in
-    when_ok _ c.close.result (whole_moves g.R.Read g.P.Parser.kind len opened _ new.decoder.now (skips_end g.R.Read
-    g.P.Parser.kind now.strict len 64 opened now.decoder.now new.decoder.now now.progress new.progress
-    (c.segments.invariant.mode ∙ meant) (c.segments.invariant.so_far opened len range settled back meant)
-    c.advance.ensures.moves_on.steady (rw none at c.in_ok-body.ensures.advances))
-    (MovesOn-then g.R.Read _ _ _ c.segments.invariant.moves_on c.advance.ensures.moves_on) same)
+returns-in_default-clause-moves_on g c =
+    MovesOn-then g.R.Read _ _ _ c.segments.invariant.moves_on c.advance.ensures.moves_on
+
+pub returns-in_err-body-clause-moves_on : goal.returns-in_err-body-clause-moves_on
+returns-in_err-body-clause-moves_on g c =
+    MovesOn-then g.R.Read _ _ _ c.segments.invariant.moves_on c.advance.ensures.moves_on
+
+pub returns-in_err-open-clause-moves_on : goal.returns-in_err-open-clause-moves_on
+returns-in_err-open-clause-moves_on g c =
+    MovesOn-then g.R.Read _ _ _ c.segments.invariant.moves_on c.advance.ensures.moves_on
+
+pub returns-in_err-show_body-clause-moves_on : goal.returns-in_err-show_body-clause-moves_on
+returns-in_err-show_body-clause-moves_on g c =
+    MovesOn-then g.R.Read _ _ _ c.segments.invariant.moves_on
+    (MovesOn-then g.R.Read _ _ _ c.advance.ensures.moves_on c.show_body.ensures.moves_on)
 
 pub returns-in_default-clause-text : goal.returns-in_default-clause-text
 returns-in_default-clause-text g c = λ opened len range settled back form.

@@ -1,0 +1,97 @@
+-- How far a show moves its decoder on, and how often the reader fails in it.
+use Rattle.std.proofs.Common.{◌≡◌, ◌≤◌, ◌∙◌, ℕ, List, Option, Result, Ok, Err, refl, arith}
+use Rattle.ciborium_ll.specs.Types.Read.{Ghosts}
+use Rattle.ciborium_ll.specs.Types.Write.{Ghosts as Sink}
+use Rattle.ciborium_ll.specs.Types.Decoder.{Decoder}
+use Rattle.ciborium_ll.specs.Types.Error.{Error}
+use Rattle.ciborium_ll.specs.Types.Header.{Header}
+use Rattle.ciborium_ll.specs.Strings.{Kind}
+use Rattle.ciborium_ll.specs.Decoding.{MovesOn, TakesBack, failures_of}
+use Rattle.ciborium_ll.specs.Sides.{Sides}
+use Rattle.cbor_skip.specs.declared.SkipError.TheVariants as s
+use Rattle.cbor_skip.specs.Skipping.{SkipsItem}
+use Rattle.cbor_skip.proofs.FailureLaws.{body_fails, pull_fails, stop_fails}
+use Rattle.cbor_diag.specs.declared.DiagError.{DiagError}
+use Rattle.cbor_diag.specs.declared.DiagError.TheVariants as d
+use Rattle.cbor_diag.specs.declared.layout.Layout.{Layout}
+use Rattle.cbor_diag.specs.declared.strings.quotes.Quotes.{Quotes}
+use Rattle.cbor_diag.specs.ItemStops.{ItemStops, RestStops, ShowsItem, WithinStops, behind, closing, deep, item, lead}
+use Rattle.cbor_diag.specs.ItemStops.{no_item, opening, plain, title, within}
+use Rattle.cbor_diag.specs.Showing.{CountsShown, IsWriting, OnReading, ShowsHeader}
+use Rattle.cbor_diag.specs.StringShows.{BodyStopped, ShowsString, StringStops, StringUnshown}
+use Rattle.cbor_diag.specs.StringShows.StringStops.{at_title, in_body}
+
+module _ {R E : Type 0} (source : Ghosts R E) where
+  -- a decoder that took its header back, and read on behind it
+  pub moved_back : (header : Header) (opened pushed new : Decoder R) → TakesBack source opened header pushed
+      → MovesOn source pushed new → opened.offset ≤ new.offset → MovesOn source opened new
+  moved_back header opened pushed new back moves rises = grind arith
+
+module _ {R E W F : Type 0} (source : Ghosts R E) (sink : Sink W F) where
+  -- ---- strings
+
+  module _ (kind : Kind) (quotes : Quotes) (len : Option ℕ) where
+    body_rises : (text : List ℕ → List ℕ) (count room place : ℕ) (old new : Sides R W) (error : Error E)
+        → BodyStopped source sink kind count room place text old error new → old.decoder.offset ≤ new.decoder.offset
+    body_rises text count room place old new error stops =
+        (body_fails source kind count room place error old.decoder new.decoder stops.ends).rises
+
+    stop_rises : (room : ℕ) (old new : Sides R W) (error : Error E)
+        → StringStops source sink kind quotes len room old error new → old.decoder.offset ≤ new.decoder.offset
+    stop_rises room old new error stops = grind (arith, pull_fails, body_rises)
+
+    -- the offset does not fall
+    pub string_rises : (room : ℕ) (old new : Sides R W) (result : Result (Unit {0}) (DiagError E F))
+        → ShowsString source sink kind quotes len room old result new → old.decoder.offset ≤ new.decoder.offset
+    string_rises room old new result shows = grind (arith, stop_rises)
+
+    -- where the writer failed, the reader did not
+    string_unfailed : (old new : Sides R W) → StringUnshown source sink kind quotes len old new
+        → failures_of source new.decoder ≡ failures_of source old.decoder
+    string_unfailed old new shows = grind arith
+
+  -- ---- items
+
+  header_unfailed : (header : Header) (old new : Sides R W) (error : DiagError E F) → IsWriting error
+      → ShowsHeader source sink header old (Err error) new
+      → failures_of source new.decoder ≡ failures_of source old.decoder
+  header_unfailed header old new error writing shows = grind (arith, string_unfailed)
+
+  module _ (layout : Layout) where
+    mutual
+      rest_unfailed : (level : ℕ) (header : Header) (old new : Sides R W) (error : DiagError E F) → IsWriting error
+          → RestStops source sink layout level header old error new
+          → failures_of source new.decoder ≡ failures_of source old.decoder
+      rest_unfailed level header old new error writing (plain shows) =
+          header_unfailed header old new error writing shows
+      rest_unfailed level header old new error writing deep = absurd writing
+      rest_unfailed level header old new error writing (opening stopped) = refl
+      rest_unfailed level header old new error writing (within {opened = w} opens stops) =
+          within_unfailed _ header _ new error writing stops
+      rest_unfailed level header old new error writing (closing opens shown stopped) = shown.passed.failures
+
+      within_unfailed : (level : ℕ) (header : Header) (old new : Sides R W) (error : DiagError E F) → IsWriting error
+          → WithinStops source sink layout level header old error new
+          → failures_of source new.decoder ≡ failures_of source old.decoder
+      within_unfailed level header old new error writing (title begun came) = absurd writing
+      within_unfailed level header old new error writing (lead begun pulled stopped) =
+          pulled.failures ∙ begun.passed.failures
+      within_unfailed level header old new error writing (item begun pulled leads stops) =
+          rest_unfailed level _ _ new error writing stops ∙ (pulled.failures ∙ begun.passed.failures)
+
+    item_unfailed : (old new : Sides R W) (error : DiagError E F) → IsWriting error
+        → ItemStops source sink layout old error new
+        → failures_of source new.decoder ≡ failures_of source old.decoder
+    item_unfailed old new error writing (no_item came) = absurd writing
+    item_unfailed old new error writing (behind pulled stops) =
+        rest_unfailed 0 _ _ new error writing stops ∙ pulled.failures
+
+    -- how often the reader failed
+    pub item_failures : (depth : ℕ) (old new : Sides R W) (result : Result (Unit {0}) (DiagError E F))
+        → OnReading (λ answer. SkipsItem source depth 64 old.decoder answer new.decoder) result
+        → ShowsItem source sink layout old result new
+        → CountsShown result (failures_of source old.decoder) (failures_of source new.decoder)
+    item_failures depth old new (Ok done) reads shows = reads.passed.failures
+    item_failures depth old new (Err (d.Read error)) reads shows = grind (arith, stop_fails)
+    item_failures depth old new (Err (d.Write fault)) reads shows =
+        item_unfailed old new (d.Write fault) tt shows
