@@ -8,7 +8,6 @@ use Rattle.ciborium_ll.specs.Types.Header.{Header}
 use Rattle.ciborium_ll.specs.Strings.{Kind}
 use Rattle.ciborium_ll.specs.Decoding.{MovesOn, TakesBack, failures_of}
 use Rattle.ciborium_ll.specs.Sides.{Sides}
-use Rattle.cbor_skip.specs.declared.SkipError.TheVariants as s
 use Rattle.cbor_skip.specs.Skipping.{SkipsItem}
 use Rattle.cbor_skip.proofs.FailureLaws.{body_fails, pull_fails, stop_fails}
 use Rattle.cbor_diag.specs.declared.DiagError.{DiagError}
@@ -19,7 +18,6 @@ use Rattle.cbor_diag.specs.ItemStops.{ItemStops, RestStops, ShowsItem, WithinSto
 use Rattle.cbor_diag.specs.ItemStops.{no_item, opening, plain, title, within}
 use Rattle.cbor_diag.specs.Showing.{CountsShown, IsWriting, OnReading, ShowsHeader}
 use Rattle.cbor_diag.specs.StringShows.{BodyStopped, ShowsString, StringStops, StringUnshown}
-use Rattle.cbor_diag.specs.StringShows.StringStops.{at_title, in_body}
 
 module _ {R E : Type 0} (source : Ghosts R E) where
   -- a decoder that took its header back, and read on behind it

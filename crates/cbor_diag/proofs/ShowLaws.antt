@@ -1,19 +1,14 @@
 -- What is said of a read, by the answer of a show.
-use Rattle.std.proofs.Common.{◌≡◌, if◌then◌else◌, ℕ, Bool, true, false, List, Option, Some, Result, Ok, Err, IsErr}
-use Rattle.std.proofs.Common.{IfErr, OnOk, arith}
+use Rattle.std.proofs.Common.{◌≡◌, if◌then◌else◌, ℕ, Bool, true, false, List, Some, Result, Ok, Err}
+use Rattle.std.proofs.Common.{IfErr, arith}
 use Rattle.ciborium_ll.specs.Types.Read.{Ghosts}
-use Rattle.ciborium_ll.specs.Types.Decoder.{Decoder}
 use Rattle.ciborium_ll.specs.Types.Float.{Float as Raw}
 use Rattle.ciborium_ll.specs.Types.Header.{Header}
 use Rattle.ciborium_ll.specs.Types.Header.TheVariants as h
 use Rattle.ciborium_ll.specs.Types.Error.{Error}
-use Rattle.ciborium_ll.specs.Strings.{Kind}
 use Rattle.ciborium_ll.specs.Types.Write.{Ghosts as Sink}
-use Rattle.ciborium_ll.specs.Decoding.{MovesOn, refusals_of}
 use Rattle.ciborium_ll.specs.Encoding.{WritesBytes}
 use Rattle.ciborium_ll.specs.Sides.{Sides}
-use Rattle.ciborium_ll.specs.Skipping.{SkipsWhole}
-use Rattle.ciborium_ll.proofs.DecodingLaws.{MovesOn-then}
 use Rattle.cbor_skip.specs.declared.SkipError.{SkipError}
 use Rattle.cbor_skip.specs.declared.SkipError.TheVariants as s
 use Rattle.cbor_diag.specs.declared.DiagError.{DiagError}

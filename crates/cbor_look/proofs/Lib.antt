@@ -3,6 +3,7 @@ pub mod SequenceLaws
 pub mod SingleLaws
 pub mod TakingLaws
 pub mod RowLaws
+pub mod LeaveLaws
 mod RowTextLaws
 pub mod PullLaws
 pub mod LeftLaws
@@ -10,6 +11,7 @@ mod PartLaws
 pub mod DumpLaws
 pub mod WalkLaws
 pub mod TitleLaws
+pub mod ButLaws
 pub mod StringLaws
 pub mod PieceLaws
 pub mod StopLaws

@@ -148,20 +148,17 @@ module _ {R E : Type 0} (source : Ghosts R E) where
         passes_alike source strict old between so_far.bytes (so_far.passed alike.none_waits) alike
 
     -- what was read before a fault
-    pub within_fails : {W : Type 0} (error : Error E) (why : DumpError E W) (then_drawn : Option (List Line))
-        (row : List ℕ) (offset : ℕ) (new : Decoder R) → SaysFault error why → IsTaken why
-        → TakesBytes source between row new → offset ≡ between.offset
+    pub within_fault : (error : Error E) (then_drawn : Option (List Line)) (row : List ℕ) (offset : ℕ)
+        (new : Decoder R) → TakesBytes source between row new → offset ≡ between.offset
         → Draws middle then_drawn (fault_lines inner offset row)
         → (0 < length row → IsTitleFault (ending_of strict error) kind (suc so_far.opens) row)
         → length row ≤ most_bytes → HasBytesAtFault error row
         → (IsIdle source between → IfSome (view source new) (LeavesBehind error row))
-        → Shows source depth start drawn then_drawn (items ++ title) (so_far.bytes ++ row) (ending_before strict why)
-        old new
+        → Shows source depth start drawn then_drawn (items ++ title) (so_far.bytes ++ row) (ending_of strict error) old
+        new
     unfolding due_within
-    within_fails error why then_drawn row offset new says taken takes at drawn_fault fault few some left =
-        shows_says source strict error why depth start drawn then_drawn (items ++ title) (so_far.bytes ++ row) old new
-        says taken
-        (shows_then source depth start drawn middle then_drawn (items ++ title) so_far.bytes row old between new
+    within_fault error then_drawn row offset new takes at drawn_fault fault few some left =
+        shows_then source depth start drawn middle then_drawn (items ++ title) so_far.bytes row old between new
         so_far.shows
         (shows_fault source strict error depth start middle then_drawn ((items ++ title) ++ so_far.bytes) inner offset
         row between new takes drawn_fault (at ∙ here)
@@ -171,7 +168,21 @@ module _ {R E : Type 0} (source : Ghosts R E) where
           due = due_within;
           fault = fault any;
           level = so_far.level;
-        })) few some left))
+        })) few some left)
+
+    -- by what was answered
+    pub within_fails : {W : Type 0} (error : Error E) (why : DumpError E W) (then_drawn : Option (List Line))
+        (row : List ℕ) (offset : ℕ) (new : Decoder R) → SaysFault error why → IsTaken why
+        → TakesBytes source between row new → offset ≡ between.offset
+        → Draws middle then_drawn (fault_lines inner offset row)
+        → (0 < length row → IsTitleFault (ending_of strict error) kind (suc so_far.opens) row)
+        → length row ≤ most_bytes → HasBytesAtFault error row
+        → (IsIdle source between → IfSome (view source new) (LeavesBehind error row))
+        → Shows source depth start drawn then_drawn (items ++ title) (so_far.bytes ++ row) (ending_before strict why)
+        old new
+    within_fails error why then_drawn row offset new says taken takes at drawn_fault fault few some left =
+        shows_says source strict error why depth start drawn then_drawn (items ++ title) (so_far.bytes ++ row) old new
+        says taken (within_fault error then_drawn row offset new takes at drawn_fault fault few some left)
 
     -- a title
     pub within_title : (then_drawn : Option (List Line)) (row : List ℕ) (x : Header) (offset level : ℕ)

@@ -1,6 +1,6 @@
 -- What `check` read: items one behind the other, and what stands behind them.
 use Rattle.std.proofs.lemmas.Bool.Decides.{nat_tests}
-use Rattle.std.proofs.Common.{◌≡◌, ℕ, suc, Bool, List, [], ◌∷◌, ◌++◌, length, Some, Result, Ok, Err}
+use Rattle.std.proofs.Common.{◌≡◌, ℕ, suc, ◌+◌, Bool, false, List, [], ◌∷◌, ◌++◌, length, Some, Result, Ok, Err}
 use Rattle.std.proofs.Common.{IsOk, IfOk, ◌↔◌, refl, sym, ap, subst, ◌∙◌, inl, inr, arith, append-nil}
 use Rattle.std.proofs.Common.{length-append}
 use Rattle.std.proofs.Math.Seq.{drop-nil}
@@ -9,21 +9,23 @@ use Rattle.ciborium_ll.specs.Types.Decoder.{Decoder}
 use Rattle.ciborium_ll.specs.Types.Error.TheVariants as e
 use Rattle.ciborium_ll.specs.Items.{AreItems, no_items}
 use Rattle.ciborium_ll.specs.Faults.{Answer, Short, Syntax}
-use Rattle.ciborium_ll.specs.Decoding.{view}
+use Rattle.ciborium_ll.specs.Decoding.{failures_of, view}
 use Rattle.ciborium_ll.proofs.DecodingLaws.{Passes-none, Passes-then}
 use Rattle.ciborium_ll.proofs.CopyingTold.{consumes_told}
 use Rattle.ciborium_ll.proofs.NestLaws.{title_some}
 use Rattle.cbor_skip.specs.declared.SkipError.{SkipError}
 use Rattle.cbor_skip.specs.declared.SkipError.TheVariants as s
+use Rattle.cbor_skip.specs.Failures.{CountsItemFailure}
 use Rattle.cbor_skip.specs.ItemFaults.{ItemInFront}
 use Rattle.cbor_skip.specs.Skipping.{ReadsItem, SkipsItem, strictness}
 use Rattle.cbor_skip.specs.SkippingTold.{IsReadyToSkip, MeetsItemFault, SkipsTold}
+use Rattle.cbor_skip.proofs.FailureLaws.{stop_fails}
 use Rattle.cbor_skip.proofs.ItemSteps.{items_item}
 use Rattle.cbor_skip.proofs.SkippingToldLaws.{ready_mode, skip_told, skip_exactly}
 use Rattle.cbor_skip.proofs.StrictnessLaws.{items_looser, none_behind, passed_keeps}
 use Rattle.cbor_look.specs.declared.sequence.Sequence.{Sequence}
 use Rattle.cbor_look.specs.declared.sequence.Stopped.{Stopped}
-use Rattle.cbor_look.specs.Sequences.{IsSequence, IsEnd, EndsSequence, ReadsItems, ChecksItems}
+use Rattle.cbor_look.specs.Sequences.{IsSequence, IsEnd, EndsSequence, ReadsItems, ChecksItems, CountsCheck}
 use Rattle.cbor_look.specs.Sequences.{ChecksTold}
 use Rattle.cbor_look.proofs.ItemRows.{items_counted, rows_meet, due_first, fault_first, first_fault}
 use Rattle.cbor_look.proofs.ItemRows.{nothing}
@@ -75,6 +77,17 @@ module _ {R E : Type 0} (source : Ghosts R E) where
             (subst (λ (n : ℕ). IsEnd stopped.error place n) (sym there)
             (subst (λ (n : ℕ). IsEnd stopped.error n new.offset) (sym here) is_end)));
       }
+
+  -- how often the reader failed
+  pub check_failures : (depth room : ℕ) (old new : Decoder R) (result : Result (Sequence E) (Stopped E))
+      → ChecksItems source depth room old result new
+      → CountsCheck result (failures_of source old) (failures_of source new)
+  check_failures depth room old new (Ok sequence) finds =
+      let last = stop_fails source false depth room (s.Read (e.Io sequence.«end»)) finds.between new finds.fails in
+      last ∙ ap (λ (n : ℕ). n + 1) finds.reads.passed.failures
+  check_failures depth room old new (Err stopped) finds =
+      let last = stop_fails source false depth room stopped.error finds.between new finds.fails in
+      subst (λ (n : ℕ). CountsItemFailure stopped.error n (failures_of source new)) finds.reads.passed.failures last
 
   -- ---- where the bytes are told
 

@@ -1,6 +1,6 @@
 -- What `check_one` read: an item, and what stands behind it.
 use Rattle.std.proofs.lemmas.Bool.Decides.{nat_tests}
-use Rattle.std.proofs.Common.{◌≡◌, ℕ, ◌+◌, Bool, List, [], ◌++◌, length, Some, Result, Ok, Err}
+use Rattle.std.proofs.Common.{◌≡◌, ℕ, ◌+◌, Bool, false, List, [], ◌++◌, length, Some, Result, Ok, Err}
 use Rattle.std.proofs.Common.{IsOk, ◌↔◌, refl, sym, ap, subst, ◌∙◌, arith, append-nil, length-append}
 use Rattle.std.proofs.lemmas.List.{length-take}
 use Rattle.ciborium_ll.specs.Types.Read.{Ghosts}
@@ -9,17 +9,18 @@ use Rattle.ciborium_ll.specs.Types.Decoder.{Decoder}
 use Rattle.ciborium_ll.specs.Types.Error.{Error}
 use Rattle.ciborium_ll.specs.Types.Error.TheVariants as e
 use Rattle.ciborium_ll.specs.Items.{AreItems, IsItem}
-use Rattle.ciborium_ll.specs.Decoding.{view, PullsHeader}
+use Rattle.ciborium_ll.specs.Decoding.{failures_of, view, PullsHeader}
 use Rattle.ciborium_ll.proofs.CopyingTold.{consumes_told, next_read_small}
 use Rattle.ciborium_ll.proofs.ItemLaws.{one_item}
 use Rattle.ciborium_ll.proofs.NestLaws.{title_some}
 use Rattle.cbor_skip.specs.Skipping.{ReadsItem, strictness}
 use Rattle.cbor_skip.specs.SkippingTold.{IsReadyToSkip}
+use Rattle.cbor_skip.proofs.FailureLaws.{pull_fails, stop_fails}
 use Rattle.cbor_skip.proofs.SkippingToldLaws.{ready_mode, skip_told, skip_exactly}
 use Rattle.cbor_look.specs.declared.sequence.Sequence.{Sequence}
 use Rattle.cbor_look.specs.declared.single.NotOne.{NotOne}
 use Rattle.cbor_look.specs.declared.single.NotOne.TheVariants as n
-use Rattle.cbor_look.specs.Singles.{EndsOne, ChecksOne, ChecksOneTold}
+use Rattle.cbor_look.specs.Singles.{EndsOne, ChecksOne, ChecksOneTold, CountsOne}
 use Rattle.cbor_look.proofs.ItemRows.{nothing}
 
 module _ {R E : Type 0} (source : Ghosts R E) where
@@ -47,6 +48,21 @@ module _ {R E : Type 0} (source : Ghosts R E) where
         pulls = subst (λ (x : Result Header (Error E)). PullsHeader source between x new) (sym is.1) pulls;
         no_end = λ fault fails still. is.2 fault (sym is.1 ∙ fails) (there ∙ (still ∙ sym here));
       }
+
+  -- how often the reader failed
+  more_failures : (old between new : Decoder R) (at : ℕ) (next : Result Header (Error E))
+      → failures_of source between ≡ failures_of source old → PullsHeader source between next new
+      → CountsOne {E = E} (Err (n.More at next)) (failures_of source old) (failures_of source new)
+  more_failures old between new at next same pulls = grind (arith, pull_fails)
+
+  pub one_failures : (depth room : ℕ) (old new : Decoder R) (result : Result (Sequence E) (NotOne E))
+      → ChecksOne source depth room old result new
+      → CountsOne result (failures_of source old) (failures_of source new)
+  one_failures depth room old new (Ok sequence) finds =
+      finds.fails.failures ∙ ap (λ (n : ℕ). n + 1) finds.reads.passed.failures
+  one_failures depth room old new (Err (n.Item error)) stops = stop_fails source false depth room error old new stops
+  one_failures depth room old new (Err (n.More at next)) finds =
+      more_failures old finds.between new at next finds.reads.passed.failures finds.pulls
 
   module _ (depth room : ℕ) (old : Decoder R) (due : List ℕ) (ready : IsReadyToSkip source room old due) where
     -- where no byte is left, the pull finds the end

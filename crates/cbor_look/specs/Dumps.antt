@@ -1,6 +1,6 @@
 -- What `dump` and its parts do with the lines: their bytes, joined, are those that were consumed, and each stands at
 -- its level.
-use Rattle.std.specs.Prelude.{◌≡◌, ℕ, ◌+◌, ◌<◌, ◌≤◌, List, [], ◌∷◌, ◌++◌, length, Option, Some, None, IfSome, Result}
+use Rattle.std.specs.Prelude.{◌≡◌, ◌⊎◌, ℕ, ◌+◌, ◌<◌, ◌≤◌, List, [], ◌∷◌, ◌++◌, length, Option, Some, None, IfSome, Result}
 use Rattle.std.specs.Prelude.{Ok, Err}
 use Rattle.ciborium_ll.specs.Types.Read.{Ghosts}
 use Rattle.ciborium_ll.specs.Types.Decoder.{Decoder}
@@ -11,8 +11,8 @@ use Rattle.cbor_look.specs.declared.dump.DumpError.{DumpError}
 use Rattle.cbor_look.specs.declared.dump.DumpError.TheVariants as d
 use Rattle.cbor_look.specs.declared.rows.Meaning.TheVariants as m
 use Rattle.ciborium_ll.specs.Decoding.{offset_limit, view, Passes}
-use Rattle.cbor_look.specs.Takings.{EndsRow, IsIdle, RefusesRead, TakesBytes, most_bytes}
-use Rattle.cbor_look.specs.Levels.{Line, Ending, bytes_of, AllStand}
+use Rattle.cbor_look.specs.Takings.{EndsRow, IsIdle, ReadsOn, RefusesRead, StopsBy, TakesBytes, most_bytes}
+use Rattle.cbor_look.specs.Levels.{Line, Ending, Meant, bytes_of, AllStand}
 use Rattle.cbor_look.specs.Endings.{EndAs, LeavesAs, bytes_at_fault}
 
 -- each line was taken, though a fault stands behind them
@@ -35,10 +35,20 @@ abbrev pub IsRefusal : {E W : Type 0} → DumpError E W → Type 0
 IsRefusal (d.Item error) = ⊥
 IsRefusal (d.Rows fault) = Unit {0}
 
+-- so it is of what was answered
+abbrev pub IsRefused : {A E W : Type 0} → Result A (DumpError E W) → Type 0
+IsRefused (Ok value) = ⊥
+IsRefused (Err error) = IsRefusal error
+
 -- an error is that of the end: the reader failed, where outside of all nests no byte of a title came
 abbrev pub IsEndOf : {E : Type 0} → Error E → ℕ → ℕ → Type 0
 IsEndOf (e.Io fault) level len = (level ≡ 0) × (len ≡ 0)
 IsEndOf error level len = ⊥
+
+-- an error is that of a title of which nothing more is read
+abbrev pub IsAlone : {E W : Type 0} → DumpError E W → Type 0
+IsAlone (d.Item (s.Read error)) = ⊥
+IsAlone error = Unit {0}
 
 -- what a dump answers where the read of a title failed so, of which so many bytes came: at its end, outside of all
 -- nests, that the sequence ends, and else why it is at fault
@@ -59,6 +69,16 @@ Draws None new lines = Unit {0}
 Draws (Some old) None lines = ⊥
 Draws (Some old) (Some new) lines = new ≡ old ++ lines
 
+-- the lines so far, and this one behind them
+abbrev pub with_line : Option (List Line) → Line → Option (List Line)
+with_line None line = None
+with_line (Some lines) line = Some (lines ++ line ∷ [])
+
+-- a row was refused. If it had been taken, the lines would have grown by these
+pub record DrawsBut (old new : Option (List Line)) (lines : List Line) : Type 0 where
+  pub row : Line
+  pub draws : Draws old (with_line new row) lines
+
 -- what was read before a fault: a line, where there is some
 abbrev pub fault_lines : ℕ → ℕ → List ℕ → List Line
 fault_lines level offset [] = []
@@ -75,6 +95,30 @@ pub record Lines (depth start : ℕ) (old new : Option (List Line)) (before byte
   pub joined : bytes_of lines ≡ bytes
   pub ends : EndAs ending lines
 
+-- a row of these bytes was refused. If it had been taken, it would stand at its level
+pub record LinesBut (depth start : ℕ) (old new : Option (List Line)) (before bytes : List ℕ) : Type 0 where
+  pub row : Line
+  pub lines : Lines depth start old (with_line new row) before bytes Meant
+
+module _ {R E W : Type 0} (source : Ghosts R E) where
+  -- how a dump, or a part of it, leaves its decoder by the error: as the read does that ended it. If a row was refused,
+  -- no read failed, or what was read before one failed stands in that row
+  abbrev pub StopsDump : DumpError E W → Decoder R → Decoder R → Type 0
+  StopsDump (d.Item (s.Read error)) old new = StopsBy source error old new
+  StopsDump (d.Item (s.Break at)) old new = ReadsOn source old new
+  StopsDump (d.Item (s.Deep at)) old new = ReadsOn source old new
+  StopsDump (d.Rows fault) old new = ReadsOn source old new ⊎ ((error : Error E) × StopsBy source error old new)
+
+  -- how a part of a dump leaves its decoder
+  abbrev pub LeavesPart : Result (Unit {0}) (DumpError E W) → Decoder R → Decoder R → Type 0
+  LeavesPart (Ok done) old new = ReadsOn source old new
+  LeavesPart (Err error) old new = StopsDump error old new
+
+  -- how a dump leaves its decoder: at its end the reader failed once
+  abbrev pub LeavesDecoder : Result E (DumpError E W) → Decoder R → Decoder R → Type 0
+  LeavesDecoder (Ok fault) old new = StopsBy source (e.Io fault) old new
+  LeavesDecoder (Err error) old new = StopsDump error old new
+
 module _ {R E : Type 0} (source : Ghosts R E) where
   -- lines were drawn of just the bytes that were consumed; where bytes that are told end too early, it is said how many
   -- of them are left
@@ -90,6 +134,23 @@ module _ {R E : Type 0} (source : Ghosts R E) where
     pub lines : Lines depth start drawn then_drawn before (row ++ bytes) ending
     pub takes : TakesBytes source old bytes new
     pub left : IsIdle source old → IfSome (view source new) (LeavesAs ending (bytes_at_fault lines.lines))
+
+  -- A row was refused. The bytes of the rows before it and its own are just those that were consumed, and each stands
+  -- at its level: as `Shows` says, if the row had been taken
+  pub record ShowsBut (depth start : ℕ) (drawn then_drawn : Option (List Line)) (before : List ℕ) (old new : Decoder R)
+      : Type 0 where
+    pub row : Line
+    pub how : Ending
+    pub bytes : List ℕ
+    pub shows : Shows depth start drawn (with_line then_drawn row) before bytes how old new
+
+  -- the bytes of a title were consumed before, and then a row was refused, the title's or one behind it
+  pub record ShowsBehindBut (depth start : ℕ) (drawn then_drawn : Option (List Line)) (before title : List ℕ)
+      (old new : Decoder R) : Type 0 where
+    pub row : Line
+    pub how : Ending
+    pub bytes : List ℕ
+    pub shows : ShowsBehind depth start drawn (with_line then_drawn row) before title bytes how old new
 
   -- What was left behind a dump is shown at the level: in a line, where there is some, are just bytes that were
   -- consumed, and no more than a line has. They came one by one, until the line was full or a read failed, behind which

@@ -7,6 +7,7 @@ use Rattle.ciborium_ll.specs.Items.{AreItems}
 use Rattle.ciborium_ll.specs.Decoding.{view, Passes}
 use Rattle.cbor_skip.specs.declared.SkipError.{SkipError}
 use Rattle.cbor_skip.specs.declared.SkipError.TheVariants as s
+use Rattle.cbor_skip.specs.Failures.{CountsItemFailure}
 use Rattle.cbor_skip.specs.ItemFaults.{ItemInFront}
 use Rattle.cbor_skip.specs.Skipping.{SkipsItem, strictness}
 use Rattle.cbor_skip.specs.SkippingTold.{SkipsTold}
@@ -29,6 +30,11 @@ EndsSequence error items start place stop (Ok sequence) = (error ≡ s.Read (e.I
     × (sequence.items ≡ items) × (sequence.bytes ≡ place - start)
 EndsSequence error items start place stop (Err stopped) =
     (stopped ≡ record { items = items; place = place; error = error }) × (IsEnd error place stop → ⊥)
+
+-- how often the reader failed, by the answer of a check: once at the end, and before it once if the error says so
+abbrev pub CountsCheck : {E : Type 0} → Result (Sequence E) (Stopped E) → ℕ → ℕ → Type 0
+CountsCheck (Ok sequence) old new = new ≡ old + 1
+CountsCheck (Err stopped) old new = CountsItemFailure stopped.error old new
 
 module _ {R E : Type 0} (source : Ghosts R E) where
   -- so many items were read, by a strict decoder in their shortest spelling

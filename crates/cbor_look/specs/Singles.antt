@@ -6,6 +6,7 @@ use Rattle.ciborium_ll.specs.Types.Decoder.{Decoder}
 use Rattle.ciborium_ll.specs.Types.Error.{Error}
 use Rattle.ciborium_ll.specs.Types.Error.TheVariants as e
 use Rattle.ciborium_ll.specs.Decoding.{PullsHeader}
+use Rattle.cbor_skip.specs.Failures.{CountsFailure, CountsItemFailure}
 use Rattle.cbor_skip.specs.ItemFaults.{ItemInFront}
 use Rattle.cbor_skip.specs.Skipping.{ReadsItem, SkipsItem}
 use Rattle.cbor_skip.specs.SkippingTold.{SkipsTold}
@@ -21,6 +22,13 @@ EndsOne pulled start place stop (Ok sequence) = (pulled ≡ Err (e.Io sequence.�
 EndsOne pulled start place stop (Err (n.Item error)) = ⊥
 EndsOne {E} pulled start place stop (Err (n.More at next)) = (at ≡ place) × (next ≡ pulled)
     × ((fault : E) → pulled ≡ Err (e.Io fault) → stop ≡ place → ⊥)
+
+-- how often the reader failed, by the answer: once at the end, and before it once if the error says so
+abbrev pub CountsOne : {E : Type 0} → Result (Sequence E) (NotOne E) → ℕ → ℕ → Type 0
+CountsOne (Ok sequence) old new = new ≡ old + 1
+CountsOne (Err (n.Item error)) old new = CountsItemFailure error old new
+CountsOne (Err (n.More at (Ok header))) old new = new ≡ old
+CountsOne (Err (n.More at (Err error))) old new = CountsFailure error old new
 
 module _ {R E : Type 0} (source : Ghosts R E) where
   -- an item was read, and behind it the reader failed with nothing consumed

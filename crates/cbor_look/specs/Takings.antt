@@ -9,8 +9,8 @@ use Rattle.ciborium_ll.specs.Types.Error.{Error}
 use Rattle.ciborium_ll.specs.Types.Error.TheVariants as e
 use Rattle.ciborium_ll.specs.Types.Header.{Header}
 use Rattle.ciborium_ll.specs.Title.{IsTitle, IsStrictTitle, IsRefused, affix_len}
-use Rattle.ciborium_ll.specs.Decoding.{refusals_of, view, IsSteady, IsUntouched, PullsHeader, PullsTitle}
-use Rattle.ciborium_ll.specs.Decoding.{Reads}
+use Rattle.ciborium_ll.specs.Decoding.{failures_of, refusals_of, view, IsSteady, IsUntouched, MovesOn, PullsHeader}
+use Rattle.ciborium_ll.specs.Decoding.{PullsTitle, Reads}
 use Rattle.cbor_look.specs.declared.taken.Taken.{Taken}
 
 -- the bytes that were read for a row
@@ -71,6 +71,35 @@ pub record RefusesRead {R : Type 0} (old new : Decoder R) : Type 0 where
   pub counted : refusals_of new ≡ refusals_of old + 1
 
 module _ {R E : Type 0} (source : Ghosts R E) where
+  -- no read failed: the decoder moved on, and the reader did not fail
+  pub record ReadsOn (old new : Decoder R) : Type 0 where
+    pub moves_on : MovesOn source old new
+    pub failures : failures_of source new ≡ failures_of source old
+
+  -- the reader failed once, at the last read
+  pub record FailsLast (old new : Decoder R) : Type 0 where
+    pub moves_on : MovesOn source old new
+    pub failures : failures_of source new ≡ failures_of source old + 1
+
+  -- the decoder refused the last read
+  pub record RefusesLast (old new : Decoder R) : Type 0 where
+    pub between : Decoder R
+    pub reads : ReadsOn old between
+    pub refuses : RefusesRead between new
+
+  -- the reads ended with this error: the reader failed, the decoder refused a read, or the bytes that were read are at
+  -- fault
+  abbrev pub StopsBy : Error E → Decoder R → Decoder R → Type 0
+  StopsBy (e.Io fault) old new = FailsLast old new
+  StopsBy (e.Syntax at) old new = ReadsOn old new
+  StopsBy e.TooLong old new = RefusesLast old new
+  StopsBy e.Waiting old new = RefusesLast old new
+
+  -- the reads, by their answer
+  abbrev pub ReadsBy : {T : Type 0} → Result T (Error E) → Decoder R → Decoder R → Type 0
+  ReadsBy (Ok done) old new = ReadsOn old new
+  ReadsBy (Err error) old new = StopsBy error old new
+
   -- so many bytes were read behind those before, or as many as there was room for
   pub record ReadsMore (count : ℕ) (before after : List ℕ) (old : Decoder R) (result : Result (Unit {0}) (Error E))
       (new : Decoder R) : Type 0 where

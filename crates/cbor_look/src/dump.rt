@@ -8,8 +8,9 @@ ghost use Rattle.ciborium_ll.specs.Decoding.{offset_of, strict_of, IsWaiting};
 ghost use Rattle.cbor_skip.specs.Due.{IsNest};
 ghost use Rattle.cbor_skip.specs.SkippingTold.{IsReadyToSkip};
 ghost use Rattle.cbor_look.specs.Checking.{AnswersTold, ReadsAsCheck};
-ghost use Rattle.cbor_look.specs.Dumps.{AnswersWaiting, AreRowsTaken, Draws, EndsTitles, IsRefusal, IsTaken, SaysFault};
-ghost use Rattle.cbor_look.specs.Dumps.{fault_lines};
+ghost use Rattle.cbor_look.specs.Dumps.{AnswersWaiting, AreRowsTaken, Draws, DrawsBut, EndsTitles, IsAlone, IsRefusal};
+ghost use Rattle.cbor_look.specs.Dumps.{IsRefused, IsTaken, LeavesDecoder, LeavesPart, LinesBut, SaysFault, ShowsBehindBut};
+ghost use Rattle.cbor_look.specs.Dumps.{ShowsBut, fault_lines};
 ghost use Rattle.ciborium_ll.specs.Types.Error.TheVariants.{Waiting};
 ghost use Rattle.cbor_skip.specs.declared.SkipError.TheVariants as s;
 ghost use Rattle.cbor_look.specs.declared.dump.DumpError.TheVariants as d;
@@ -70,6 +71,15 @@ pub enum DumpError<E, W> {
 /// Where a header waits, the error is `Error::Waiting`: no row is taken, nothing is read, and but for its count of
 /// refusals, which grows by one, the decoder is as it was.
 ///
+/// If a row was refused, the rows before it and the refused row have just the bytes that were consumed: of a title all
+/// its bytes, and of a body no byte behind those of the refused row. Each of these rows stands as it would if the
+/// refused row had been taken.
+///
+/// Whatever the answer, a steady reader stays steady, the decoder is as strict as before, and its offset does not fall.
+/// The reader fails once if the answer is `Ok` or carries `Error::Io`. After a row that was refused it failed once at
+/// most: then that row has the bytes that were read before the fault. Otherwise it does not fail. The decoder counts a
+/// refusal exactly if it refused the last read: for `Error::TooLong`, `Error::Waiting`, or such a row.
+///
 /// No clause says where a dump stops whose decoder is not as strict: a title is then taken or refused as the dump is
 /// strict or not. How a row is printed its own `Display` says.
 pub fn dump<R: Read, S: Rows>(
@@ -92,6 +102,9 @@ where
     ensures exactly { (due : List ℕ) → IsAlike strict decoder.old
         → IsReadyToSkip R.Read most_bytes decoder.old due → AreRowsTaken result
         → (IsOk result ↔ IsSequence (strict_of decoder.old) depth due) }
+    ensures refused { IsRefused result → ShowsBut R.Read depth (offset_of decoder.old) (S.drawn rows.old)
+        (S.drawn rows.new) [] decoder.old decoder.new }
+    ensures moves { LeavesDecoder R.Read result decoder.old decoder.new }
 {
     let mut walk = Walk::new(depth);
     // It ends: each title takes a byte, and no offset is greater than `usize::MAX`.
@@ -119,6 +132,8 @@ fn ended<E: Drop, S: Rows>(
     ensures draws { AreRowsTaken result
         → Draws (S.drawn rows.old) (S.drawn rows.new) (fault_lines level offset (taken_bytes taken.now)) }
     ensures ends { EndsTitles error level (length (taken_bytes taken.now)) result }
+    ensures refused { IsRefused result
+        → DrawsBut (S.drawn rows.old) (S.drawn rows.new) (fault_lines level offset (taken_bytes taken.now)) }
     ensures waits { error ≡ Waiting → taken_bytes taken.now ≡ []
         → (result ≡ Err (d.Item (s.Read Waiting))) × (rows.new ≡ rows.old) }
 {
@@ -139,6 +154,8 @@ pub(crate) fn fault<E: Drop, S: Rows>(
     ensures draws { IsTaken result
         → Draws (S.drawn rows.old) (S.drawn rows.new) (fault_lines level offset (taken_bytes taken.now)) }
     ensures says { SaysFault error result }
+    ensures refused { IsRefusal result
+        → DrawsBut (S.drawn rows.old) (S.drawn rows.new) (fault_lines level offset (taken_bytes taken.now)) }
     ensures none { taken_bytes taken.now ≡ [] → (result ≡ d.Item (s.Read error)) × (rows.new ≡ rows.old) }
 {
     match fault_row(taken, offset, level, rows) {
@@ -158,6 +175,8 @@ pub(crate) fn shown<E, S: Rows>(
     ensures draws { AreRowsTaken result → Draws (S.drawn rows.old) (S.drawn rows.new)
         (record { level = level; offset = offset; bytes = taken_bytes taken.now; meaning = meaning } ∷ []) }
     ensures refusal { IfErr result (λ error. IsRefusal error) }
+    ensures refused { IsRefused result → DrawsBut (S.drawn rows.old) (S.drawn rows.new)
+        (record { level = level; offset = offset; bytes = taken_bytes taken.now; meaning = meaning } ∷ []) }
 {
     let row = Row {
         level,
@@ -187,6 +206,13 @@ where
         → offset_of decoder.old ≡ place + length (taken_bytes taken.now) → AreRowsTaken result
         → ShowsTitle R.Read depth whole start (S.drawn rows.old) (S.drawn rows.new) before (taken_bytes taken.now)
         header walk.new strict place result decoder.old decoder.new }
+    ensures refused { (depth whole start : ℕ) (before : List ℕ)
+        → IsDue strict depth whole walk.old before → IsTitle (taken_bytes taken.now) header
+        → place ≡ start + length before
+        → offset_of decoder.old ≡ place + length (taken_bytes taken.now) → IsRefused result
+        → ShowsBehindBut R.Read depth start (S.drawn rows.old) (S.drawn rows.new) before (taken_bytes taken.now)
+        decoder.old decoder.new }
+    ensures moves { LeavesPart R.Read result decoder.old decoder.new }
 {
     match header {
         Header::Bytes(len) => {
@@ -217,6 +243,11 @@ fn value<E, S: Rows>(
         → IsTakenTitle strict (taken_bytes taken.now) header → place ≡ start + length before → AreRowsTaken result
         → DrawsTitle strict depth whole start (S.drawn rows.old) (S.drawn rows.new) before (taken_bytes taken.now)
         header walk.new place result }
+    ensures refused { (strict : Bool) (depth whole start : ℕ) (before : List ℕ)
+        → IsDue strict depth whole walk.old before → IsTitle (taken_bytes taken.now) header
+        → place ≡ start + length before → IsRefused result
+        → LinesBut depth start (S.drawn rows.old) (S.drawn rows.new) before (taken_bytes taken.now) }
+    ensures alone { IfErr result IsAlone }
 {
     let level = walk.level();
     shown(taken, Meaning::Header(header), place, level, rows)?;
@@ -236,6 +267,11 @@ fn break_title<E, S: Rows>(
         → place ≡ start + length before → AreRowsTaken result
         → DrawsTitle strict depth whole start (S.drawn rows.old) (S.drawn rows.new) before (taken_bytes taken.now)
         Header.Break walk.new place result }
+    ensures refused { (strict : Bool) (depth whole start : ℕ) (before : List ℕ)
+        → IsDue strict depth whole walk.old before → IsTitle (taken_bytes taken.now) Header.Break
+        → place ≡ start + length before → IsRefused result
+        → LinesBut depth start (S.drawn rows.old) (S.drawn rows.new) before (taken_bytes taken.now) }
+    ensures alone { IfErr result IsAlone }
 {
     let closed = walk.close();
     let level = walk.level();
@@ -262,6 +298,11 @@ fn nest<E, S: Rows>(
         → IsTakenTitle strict (taken_bytes taken.now) header → place ≡ start + length before → AreRowsTaken result
         → DrawsTitle strict depth whole start (S.drawn rows.old) (S.drawn rows.new) before (taken_bytes taken.now)
         header walk.new place result }
+    ensures refused { (strict : Bool) (depth whole start : ℕ) (before : List ℕ)
+        → IsDue strict depth whole walk.old before → IsTitle (taken_bytes taken.now) header
+        → place ≡ start + length before → IsRefused result
+        → LinesBut depth start (S.drawn rows.old) (S.drawn rows.new) before (taken_bytes taken.now) }
+    ensures alone { IfErr result IsAlone }
 {
     let level = walk.level();
     shown(taken, Meaning::Header(header), place, level, rows)?;
@@ -296,6 +337,13 @@ where
         → offset_of decoder.old ≡ place + length (taken_bytes taken.now) → AreRowsTaken result
         → ShowsTitle R.Read depth whole start (S.drawn rows.old) (S.drawn rows.new) before (taken_bytes taken.now)
         (kind_header (kind_of kind) len) walk.new strict place result decoder.old decoder.new }
+    ensures refused { (depth whole start : ℕ) (before : List ℕ) → IsDue strict depth whole walk.old before
+        → IsTitle (taken_bytes taken.now) (kind_header (kind_of kind) len)
+        → place ≡ start + length before
+        → offset_of decoder.old ≡ place + length (taken_bytes taken.now) → IsRefused result
+        → ShowsBehindBut R.Read depth start (S.drawn rows.old) (S.drawn rows.new) before (taken_bytes taken.now)
+        decoder.old decoder.new }
+    ensures moves { LeavesPart R.Read result decoder.old decoder.new }
 {
     let header = kind.header(len);
     let level = walk.level();
@@ -323,6 +371,11 @@ where
         → offset_of decoder.old ≡ start + length (items ++ title) → AreRowsTaken result
         → ShowsBehindTitle R.Read depth start (S.drawn rows.old) (S.drawn rows.new) (items ++ title) (kind_of kind) len
         strict (offset_of decoder.old - title_len (kind_header (kind_of kind) len)) result decoder.old decoder.new }
+    ensures refused { (depth start : ℕ) (nests : List Nest) (items title : List ℕ) → StandsWithin depth nests items
+        → IsTitle title (kind_header (kind_of kind) len) → level ≡ length nests
+        → offset_of decoder.old ≡ start + length (items ++ title) → IsRefused result
+        → ShowsBut R.Read depth start (S.drawn rows.old) (S.drawn rows.new) (items ++ title) decoder.old decoder.new }
+    ensures moves { LeavesPart R.Read result decoder.old decoder.new }
 {
     match len {
         Some(len) => {

@@ -1,6 +1,6 @@
 //! The rows of a dump: what stands on each line.
 
-ghost use Rattle.std.specs.Prelude.{List, OnOk, [], ◌∷◌, ◌++◌, Some, negsuc};
+ghost use Rattle.std.specs.Prelude.{◌≡◌, List, OnErr, OnOk, [], ◌∷◌, ◌++◌, Some, negsuc};
 ghost use Rattle.std.specs.Fmt.{WritesOnOk, signed_decimal};
 ghost use Rattle.std.specs.Str.{chars};
 ghost use Rattle.std.specs.declared.option.Option.{Option};
@@ -53,14 +53,15 @@ pub trait Rows {
     /// All rows so far, where they are told.
     ghost drawn: { Self → Option (List Line) };
 
-    /// Takes the next row.
+    /// Takes the next row. A row that was refused is none of all rows so far.
     fn row(&mut self, row: Row<'_>) -> Result<(), Self::Error>
         ensures line { OnOk result (Draws (drawn self.old) (drawn self.new) (record {
           level = row.entry.level;
           offset = row.entry.offset;
           bytes = row.entry.bytes.now;
           meaning = row.entry.meaning;
-        } ∷ [])) };
+        } ∷ [])) }
+        ensures refused { OnErr result (drawn self.new ≡ drawn self.old) };
 }
 
 /// Writes so many spaces.

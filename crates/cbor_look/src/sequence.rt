@@ -1,10 +1,10 @@
 //! A sequence of items (RFC 8742), read to its end.
 
 ghost use Rattle.std.specs.Prelude.{◌≡◌, ◌≤◌, ◌↔◌, ℕ, List, length, IsOk, IfOk};
-ghost use Rattle.ciborium_ll.specs.Decoding.{strict_of};
+ghost use Rattle.ciborium_ll.specs.Decoding.{MovesOn, failures_of, strict_of};
 ghost use Rattle.ciborium_ll.specs.Items.{AreItems};
 ghost use Rattle.cbor_skip.specs.SkippingTold.{IsReadyToSkip};
-ghost use Rattle.cbor_look.specs.Sequences.{ChecksItems, ChecksTold, EndsSequence, IsSequence};
+ghost use Rattle.cbor_look.specs.Sequences.{ChecksItems, ChecksTold, CountsCheck, EndsSequence, IsSequence};
 
 use cbor_skip::{SkipError, skip_item};
 use ciborium_ll::io::Read;
@@ -47,6 +47,9 @@ pub struct Stopped<E> {
 /// Where a steady reader tells its bytes, the offset fits, and no header waits on a strict decoder, `Ok` comes exactly
 /// where the bytes are a sequence of items to the depth, of a strict decoder in their shortest spelling, and has their
 /// number and that of the bytes; else the error has the items before the fault, and the fault.
+///
+/// Whatever the answer, the decoder moves on as [`Decoder`] says. The reader fails once if the answer is `Ok` or
+/// carries `Error::Io`, and otherwise it does not fail.
 pub fn check<R: Read>(
     decoder: &mut Decoder<R>,
     depth: usize,
@@ -61,6 +64,8 @@ pub fn check<R: Read>(
         → (IsOk result ↔ IsSequence (strict_of decoder.old) depth due) }
     ensures number { (due : List ℕ) (count : ℕ) → IsReadyToSkip R.Read (length buffer.old) decoder.old due
         → AreItems (strict_of decoder.old) depth count due → IfOk result (λ sequence. sequence.items ≡ count) }
+    ensures failures { CountsCheck result (failures_of R.Read decoder.old) (failures_of R.Read decoder.new) }
+    ensures moves_on { MovesOn R.Read decoder.old decoder.new }
 {
     let start = decoder.offset();
     let mut items = 0;

@@ -1,10 +1,10 @@
 //! One item, and nothing behind it.
 
 ghost use Rattle.std.specs.Prelude.{◌≡◌, ◌≤◌, ◌↔◌, ℕ, List, length, IsOk};
-ghost use Rattle.ciborium_ll.specs.Decoding.{strict_of};
+ghost use Rattle.ciborium_ll.specs.Decoding.{MovesOn, failures_of, strict_of};
 ghost use Rattle.ciborium_ll.specs.Items.{IsItem};
 ghost use Rattle.cbor_skip.specs.SkippingTold.{IsReadyToSkip};
-ghost use Rattle.cbor_look.specs.Singles.{ChecksOne, ChecksOneTold, EndsOne};
+ghost use Rattle.cbor_look.specs.Singles.{ChecksOne, ChecksOneTold, CountsOne, EndsOne};
 
 use crate::sequence::Sequence;
 use cbor_skip::{SkipError, skip_item};
@@ -33,6 +33,9 @@ pub enum NotOne<E> {
 /// Where a steady reader tells its bytes, the offset fits, and no header waits on a strict decoder, `Ok` comes exactly
 /// where the bytes are one item to the depth, of a strict decoder in its shortest spelling; else no item is in front,
 /// or bytes follow it.
+///
+/// Whatever the answer, the decoder moves on as [`Decoder`] says. The reader fails once if the answer is `Ok` or
+/// carries `Error::Io`, and otherwise it does not fail.
 pub fn check_one<R: Read>(
     decoder: &mut Decoder<R>,
     depth: usize,
@@ -45,6 +48,8 @@ pub fn check_one<R: Read>(
         → ChecksOneTold R.Read depth due decoder.old result decoder.new }
     ensures exactly { (due : List ℕ) → IsReadyToSkip R.Read (length buffer.old) decoder.old due
         → (IsOk result ↔ IsItem (strict_of decoder.old) depth due) }
+    ensures failures { CountsOne result (failures_of R.Read decoder.old) (failures_of R.Read decoder.new) }
+    ensures moves_on { MovesOn R.Read decoder.old decoder.new }
 {
     let start = decoder.offset();
     if let Err(error) = skip_item(decoder, depth, buffer) {

@@ -5,10 +5,10 @@ ghost use Rattle.std.specs.Prelude.{None, Some};
 ghost use Rattle.ciborium_ll.specs.Title.{IsTitle};
 ghost use Rattle.ciborium_ll.specs.Strings.{IsWritable, kind_header};
 ghost use Rattle.ciborium_ll.specs.Decoding.{offset_of, view, waiting_of};
-ghost use Rattle.cbor_look.specs.Dumps.{AreRowsTaken};
+ghost use Rattle.cbor_look.specs.Dumps.{AreRowsTaken, IsRefused, LeavesPart, ShowsBut};
 ghost use Rattle.cbor_look.specs.Levels.{Nest, StandsWithin, TitleDue, title_level};
 ghost use Rattle.cbor_look.specs.Parts.{IsFullPart, IsPartRow, ReadsPart};
-ghost use Rattle.cbor_look.specs.Takings.{IsIdle, Keeps, LeavesBehind, taken_bytes};
+ghost use Rattle.cbor_look.specs.Takings.{IsIdle, Keeps, LeavesBehind, ReadsBy, taken_bytes};
 ghost use Rattle.cbor_look.specs.StringRows.{IsPart, ShowsBehindTitle, kind_of, meaning_of};
 
 use crate::dump::{DumpError, fault, shown};
@@ -66,6 +66,12 @@ where
         → ShowsBehindTitle R.Read depth start (S.drawn rows.old) (S.drawn rows.new) (outer ++ title) (kind_of kind)
         (Some len) strict place result decoder.old decoder.new }
     ensures rises { offset_of decoder.old ≤ offset_of decoder.new }
+    ensures refused { (depth start opens : ℕ) (nests : List Nest) (outer title : List ℕ)
+        → TitleDue depth nests opens outer → IsTitle title (kind_header (kind_of kind) (Some len))
+        → level ≡ length nests + opens + 1
+        → offset_of decoder.old ≡ start + length (outer ++ title) → IsRefused result
+        → ShowsBut R.Read depth start (S.drawn rows.old) (S.drawn rows.new) (outer ++ title) decoder.old decoder.new }
+    ensures moves { LeavesPart R.Read result decoder.old decoder.new }
 {
     let mut left = len;
     'rows: while left > 0 {
@@ -99,6 +105,7 @@ fn read_part<R: Read>(
     ensures full { IfOk result (λ _. IsFullPart (kind_of kind) left (taken_bytes taken.new)) }
     ensures reads { 0 < left → waiting_of decoder.old ≡ None
         → ReadsPart R.Read (kind_of kind) left place (taken_bytes taken.new) decoder.old result decoder.new }
+    ensures moves { ReadsBy R.Read result decoder.old decoder.new }
 {
     match kind {
         Kind::Bytes => taken.read(decoder, left.min(MOST_BYTES)),
@@ -171,6 +178,11 @@ where
         → offset_of decoder.old ≡ start + length (items ++ title) → AreRowsTaken result
         → ShowsBehindTitle R.Read depth start (S.drawn rows.old) (S.drawn rows.new) (items ++ title) (kind_of kind) None
         strict 0 result decoder.old decoder.new }
+    ensures refused { (depth start : ℕ) (nests : List Nest) (items title : List ℕ) → StandsWithin depth nests items
+        → IsTitle title (kind_header (kind_of kind) None) → level ≡ length nests
+        → offset_of decoder.old ≡ start + length (items ++ title) → IsRefused result
+        → ShowsBut R.Read depth start (S.drawn rows.old) (S.drawn rows.new) (items ++ title) decoder.old decoder.new }
+    ensures moves { LeavesPart R.Read result decoder.old decoder.new }
 {
     let mut inner = level + 1;
     // It ends: each title takes a byte, and no offset is greater than `usize::MAX`.

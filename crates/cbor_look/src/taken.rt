@@ -24,7 +24,7 @@ pub(crate) struct Taken {
 impl Taken {
     ghost use Rattle.ciborium_ll.specs.Items.{IsTakenTitle};
     ghost use Rattle.ciborium_ll.specs.Title.{IsTitle};
-    ghost use Rattle.cbor_look.specs.Takings.{EndsRow, IsAlike, IsIdle, Keeps, PullsRow, ReadsMore};
+    ghost use Rattle.cbor_look.specs.Takings.{EndsRow, IsAlike, IsIdle, Keeps, PullsRow, ReadsBy, ReadsMore};
     ghost use Rattle.cbor_look.specs.Takings.{IsTitleRow, LeavesBehind, RefusesRead, taken_bytes};
     ghost use Rattle.ciborium_ll.specs.Types.Error.TheVariants.{Waiting};
     ghost use Rattle.cbor_look.specs.Parts.{IsFullPart, IsPartRow, IsSound, ReadsTextPart};
@@ -130,6 +130,7 @@ impl Taken {
             × RefusesRead decoder.old decoder.new }
         ensures pulls { IsAlike strict decoder.old → place ≡ offset_of decoder.old
             → PullsRow R.Read decoder.old result decoder.new }
+        ensures moves { ReadsBy R.Read result decoder.old decoder.new }
     {
         self.read(decoder, 1)?;
         self.read_affix(decoder, affix_len(self.bytes()[0]))?;
@@ -156,6 +157,7 @@ impl Taken {
         ensures full { IfOk result (λ _. IsFullPart Text left (taken_bytes self.new)) }
         ensures reads { 0 < left → waiting_of decoder.old ≡ None
             → ReadsTextPart R.Read left (taken_bytes self.new) decoder.old result decoder.new }
+        ensures moves { ReadsBy R.Read result decoder.old decoder.new }
     {
         self.read(decoder, left.min(MOST_BYTES - 3))?;
         // There is room: behind the first byte of a character at most three are due.

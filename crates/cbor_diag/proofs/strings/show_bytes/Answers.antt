@@ -1,4 +1,4 @@
-use Rattle.std.proofs.Common.{◌≤◌, rules}
+use Rattle.std.proofs.Common.{rules}
 use Rattle.ciborium_ll.specs.Types.Header.TheVariants as h
 use Rattle.ciborium_ll.specs.Strings.{Bytes}
 use Rattle.cbor_diag.specs.declared.strings.quotes.Quotes.TheVariants as q

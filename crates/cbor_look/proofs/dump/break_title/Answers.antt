@@ -4,6 +4,7 @@ use Rattle.cbor_look.specs.Takings.{taken_bytes}
 use Rattle.cbor_look.specs.Walks.{IsBehindItem}
 use Rattle.cbor_look.proofs.TitleLaws.{break_line, break_bytes}
 use Rattle.cbor_look.proofs.DumpLaws.{not_taken}
+use Rattle.cbor_look.proofs.LeaveLaws.{refusal_alone}
 use Rattle.cbor_look.proofs.dump.break_title.Goals as goal
 
 pub returns-in_err-shown : goal.returns-in_err-shown
@@ -13,6 +14,15 @@ returns-in_err-shown g c =
     rw same (record {
       draws = λ strict depth whole start before due p at all.
           absurd (not_taken error c.in_err-shown.ensures.refusal all);
+      refused = λ strict depth whole start before due p at all.
+          let but = c.in_err-shown.ensures.refused c.in_err-shown.ensures.refusal in
+          record {
+            row = but.row;
+            lines = break_line strict depth whole start _ _ before _ c.level-level.result c.args.place
+                c.close-closed.result c.close-closed.new.self (c.close-closed.ensures strict depth whole before due) p
+                c.level-level.ensures.value at but.draws;
+          };
+      alone = refusal_alone error c.in_err-shown.ensures.refusal;
     })
 
 pub returns-then-not-closed : goal.returns-then-not-closed
@@ -29,6 +39,8 @@ returns-then-not-closed g c = record {
           refl,
         );
   };
+  refused = λ strict depth whole start before due p at never. absurd never;
+  alone = tt;
 }
 
 pub returns : goal.returns
@@ -45,4 +57,6 @@ returns g c = record {
             (sym (break_bytes title p)) (breaks.behind c.if-not-closed.false));
         stops = tt;
       };
+  refused = λ strict depth whole start before due p at never. absurd never;
+  alone = tt;
 }

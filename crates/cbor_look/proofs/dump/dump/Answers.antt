@@ -8,11 +8,13 @@ use Rattle.ciborium_ll.proofs.NestLaws.{title_some}
 use Rattle.cbor_look.specs.Takings.{IsAlike, taken_bytes}
 use Rattle.cbor_look.proofs.RowLaws.{row_few}
 use Rattle.cbor_look.proofs.StringLaws.{taken_all}
-use Rattle.cbor_look.proofs.DumpLaws.{shows_none}
+use Rattle.cbor_look.specs.Endings.{ending_of}
+use Rattle.cbor_look.proofs.DumpLaws.{shows_none, shows_read, shows_then}
+use Rattle.cbor_look.proofs.LeaveLaws.{dump_then, ended_leaves, reads_on, reads_then, stops_then}
 use Rattle.cbor_look.proofs.PullLaws.{no_error, passes_alike, same_error}
 use Rattle.cbor_look.proofs.CheckLaws.{comes_first, comes_next, comes_alike, comes_end, comes_title, answers_told}
 use Rattle.cbor_look.proofs.CheckLaws.{answers_exactly}
-use Rattle.cbor_look.proofs.TitleLaws.{nests_few, up_ended, up_title}
+use Rattle.cbor_look.proofs.TitleLaws.{nests_few, up_ended, up_fails, up_title}
 use Rattle.cbor_look.proofs.dump.dump.Goals as goal
 
 pub titles-init : goal.titles-init
@@ -26,6 +28,7 @@ titles-init g c = (
         (c.new-walk.ensures c.args.strict) alike;
   },
   λ waits. (refl, refl),
+  reads_on g.R.Read c.args.decoder.now,
 )
 
 pub returns-in-Err : goal.returns-in-Err
@@ -67,6 +70,20 @@ returns-in-Err g c =
           (reads alike all);
       exactly = λ due alike ready all. answers_exactly g.R.Read c.args.depth c.args.decoder.now due ready
           c.ended.result _ (reads alike all);
+      refused = λ all.
+          let but = c.ended.ensures.refused all in
+          record {
+            row = but.row;
+            how = ending_of c.args.strict c.in-Err.error;
+            bytes = up.bytes ++ row;
+            shows = up_fails g.R.Read c.args.strict c.in-Err.error c.args.depth _ _ _ c.titles.walk row
+                c.offset-place.result c.level-level.result _ _ _ up takes place level but.draws
+                (rw c.in-Err.is at c.read_title.ensures.row) (row_few c.read_title.new.self)
+                (rw (c.offset-place.ensures.same, c.in-Err.is) at c.read_title.ensures.left);
+          };
+      moves = ended_leaves g.R.Read c.in-Err.error _ _ c.ended.result _ _ ended
+          (stops_then g.R.Read c.in-Err.error _ _ _ c.titles.invariant.2
+          (rw (c.offset-place.ensures.same, c.in-Err.is) at c.read_title.ensures.moves));
     }
 
 -- each nest has a title, and the one that was read has a byte
@@ -132,6 +149,20 @@ returns-in_err-title g c =
           (Err error) _ (reads alike all);
       exactly = λ due alike ready all. answers_exactly g.R.Read c.args.depth c.args.decoder.now due ready
           (Err error) _ (reads alike all);
+      refused = λ all.
+          let title = c.in_err-title.ensures.refused c.args.depth up.whole c.args.decoder.now.offset up.bytes up.due
+          titled (omega (arith, place, begun)) (omega (arith, place, moved)) all in
+          record {
+            row = title.row;
+            how = title.how;
+            bytes = up.bytes ++ (row ++ title.bytes);
+            shows = shows_then g.R.Read c.args.depth c.args.decoder.now.offset _ _ _ [] up.bytes (row ++ title.bytes)
+                _ _ _ up.shows
+                (shows_read g.R.Read c.args.depth c.args.decoder.now.offset _ _ up.bytes row title.bytes _ _ _ takes
+                title.shows);
+          };
+      moves = dump_then g.R.Read error _ _ _ (reads_then g.R.Read _ _ _ c.titles.invariant.2
+          (rw (c.offset-place.ensures.same, c.in-Ok.is) at c.read_title.ensures.moves)) c.in_err-title.ensures.moves;
     })
 
 pub titles-smaller : goal.titles-smaller
@@ -184,4 +215,6 @@ titles-preserved g c = (
       let still = c.titles.invariant.1 waits in
       absurd (no_error _ _
       ((rw (c.offset-place.ensures.same, still.0, c.in-Ok.is) at c.read_title.ensures.waits) waits).0),
+  reads_then g.R.Read _ _ _ (reads_then g.R.Read _ _ _ c.titles.invariant.2
+      (rw (c.offset-place.ensures.same, c.in-Ok.is) at c.read_title.ensures.moves)) c.in_ok-title.ensures.moves,
 )

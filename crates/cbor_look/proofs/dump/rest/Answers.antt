@@ -19,6 +19,10 @@ returns-in-Some g c = record {
       ≡ c.args.decoder.now.offset - title_len (kind_header (kind_of c.args.kind) (Some c.in-Some.len)) =
       omega (arith, less, named, here) in
       rw c.in-Some.is (rw place at shows);
+  refused = λ depth start nests items title stands p level at all.
+      (rw c.offset.ensures.same at c.body.ensures.refused) depth start 0 nests items title
+      (due_here depth nests items stands) (rw c.in-Some.is at p) (omega (arith, level)) at all;
+  moves = rw c.offset.ensures.same at c.body.ensures.moves;
 }
 
 pub returns-in-None : goal.returns-in-None
@@ -35,4 +39,7 @@ returns-in-None g c = record {
             (c.args.decoder.now.offset - title_len (kind_header (kind_of c.args.kind) None)) _ _ c.pieces.result
             (shows.stops alike);
       });
+  refused = λ depth start nests items title stands p level at all.
+      c.pieces.ensures.refused depth start nests items title stands (rw c.in-None.is at p) level at all;
+  moves = c.pieces.ensures.moves;
 }

@@ -6,6 +6,8 @@ use Rattle.ciborium_ll.specs.Strings.{kind_header}
 use Rattle.cbor_look.proofs.DumpLaws.{title_then}
 use Rattle.cbor_look.proofs.TitleLaws.{walk_line, string_level, behind_item, string_item}
 use Rattle.cbor_look.proofs.DumpLaws.{not_taken}
+use Rattle.cbor_look.proofs.ButLaws.{behind_but}
+use Rattle.cbor_look.proofs.LeaveLaws.{reads_on, refused_stops}
 use Rattle.cbor_look.proofs.StopLaws.{rest_stops}
 use Rattle.cbor_look.proofs.WalkLaws.{stands_any}
 use Rattle.cbor_look.proofs.dump.string.Goals as goal
@@ -17,6 +19,18 @@ returns-in_err-shown g c =
     rw same (record {
       shows = λ depth whole start before due p taken place offset all.
           absurd (not_taken error c.in_err-shown.ensures.refusal all);
+      refused = λ depth whole start before due p place offset all.
+          let row = taken_bytes c.args.taken.now in
+          let k = kind_of c.args.kind in
+          let but = c.in_err-shown.ensures.refused c.in_err-shown.ensures.refusal in
+          behind_but g.R.Read depth start _ _ before row _ (record {
+            row = but.row;
+            lines = walk_line c.args.strict depth whole start _ _ before row (kind_header k c.args.len)
+                c.level-level.result c.args.place c.args.walk.now due p (string_level k c.args.len due.nests 0)
+                c.level-level.ensures.value place (rw c.header-header.ensures at but.draws);
+          });
+      moves = refused_stops g.R.Read error _ _ c.in_err-shown.ensures.refusal
+          (reads_on g.R.Read c.args.decoder.now);
     })
 
 pub rest-requires-clause-behind : goal.rest-requires-clause-behind
@@ -47,6 +61,24 @@ returns-in_err-rest g c =
             stops = λ alike. rest_stops g.R.Read c.args.strict depth whole k c.args.len c.args.place before _ _
                 error (record { nests = due.nests; within = due.within; is = refl }) (rest.stops alike);
           };
+      refused = λ depth whole start before due p place offset all.
+          let row = taken_bytes c.args.taken.now in
+          let k = kind_of c.args.kind in
+          let used = due.keeps.used in
+          let line = walk_line c.args.strict depth whole start _ _ before row
+          (kind_header k c.args.len) c.level-level.result c.args.place
+          c.args.walk.now due p (string_level k c.args.len due.nests 0) c.level-level.ensures.value place
+          (rw c.header-header.ensures at (c.in_ok-shown.ensures.draws tt)) in
+          let rest = c.in_err-rest.ensures.refused depth start due.nests before row
+          (whole, stands_any c.args.strict depth whole due.nests before due.within) p
+          (c.level-level.ensures.value ∙ used) (omega (arith, place, offset, length-append before row)) all in
+          record {
+            row = rest.row;
+            how = rest.how;
+            bytes = rest.bytes;
+            shows = title_then g.R.Read depth start _ _ _ before row rest.bytes _ _ line rest.shows;
+          };
+      moves = c.in_err-rest.ensures.moves;
     })
 
 pub returns : goal.returns
@@ -72,4 +104,6 @@ returns g c = record {
         passed = rest.passed;
         stops = λ alike. tt;
       };
+  refused = λ depth whole start before due p place offset never. absurd never;
+  moves = c.in_ok-rest.ensures.moves;
 }

@@ -1,13 +1,15 @@
 use Rattle.std.proofs.Common.{length, Err, arith, add-one}
+use Rattle.ciborium_ll.proofs.DecodingLaws.{MovesOn-none, MovesOn-then}
 use Rattle.cbor_skip.specs.Skipping.{ReadsItem, SkipsItem, strictness}
 use Rattle.cbor_look.proofs.ItemRows.{items_counted}
-use Rattle.cbor_look.proofs.SequenceLaws.{none_read, one_more, ends, check_told, check_exactly, check_number}
+use Rattle.cbor_look.proofs.SequenceLaws.{none_read, one_more, ends, check_told, check_exactly, check_failures, check_number}
 use Rattle.cbor_look.proofs.sequence.check.Goals as goal
 
 pub items-init : goal.items-init
 items-init g c = record {
   reads = rw c.offset-start.ensures.same (none_read g.R.Read c.args.depth c.args.decoder.now);
   start = c.offset-start.ensures.value;
+  moves_on = rw c.offset-start.ensures.same (MovesOn-none g.R.Read c.args.decoder.now);
 }
 
 -- each item takes a byte, so that there are no more than the offset counts
@@ -34,6 +36,8 @@ items-preserved g c =
     record {
       reads = rw add-one (one_more g.R.Read c.args.depth c.items.items _ _ _ c.items.invariant.reads item);
       start = c.items.invariant.start;
+      moves_on = MovesOn-then g.R.Read _ _ _ c.items.invariant.moves_on
+          (rw c.offset-place.ensures.same at c.in-Ok.ensures.skipped.moves_on);
     }
 
 pub returns-in-Err : goal.returns-in-Err
@@ -55,4 +59,7 @@ returns-in-Err g c =
       told = λ due ready. check_told g.R.Read depth room old due ready new result checks;
       exactly = λ due ready. check_exactly g.R.Read depth room old due ready new result checks;
       number = λ due count ready items. check_number g.R.Read depth room old due ready count items new result checks;
+      failures = check_failures g.R.Read depth room old new result checks;
+      moves_on = rw c.offset.ensures.same (MovesOn-then g.R.Read _ _ _ c.items.invariant.moves_on
+          (rw c.offset-place.ensures.same at c.in-Err.ensures.skipped.moves_on));
     }

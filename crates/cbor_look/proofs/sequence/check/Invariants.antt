@@ -1,4 +1,5 @@
 use Rattle.std.proofs.Common.{◌≡◌, ◌-◌, ◌^◌}
+use Rattle.ciborium_ll.specs.Decoding.{MovesOn}
 use Rattle.cbor_look.specs.Sequences.{ReadsItems}
 use Rattle.cbor_look.proofs.sequence.check.Given as goal
 
@@ -6,6 +7,7 @@ abbrev pub invariant-items : goal.invariant-items
 invariant-items g l = record {
   reads : ReadsItems g.R.Read l.depth l.items l.fn.decoder l.decoder;
   start : l.start ≡ l.fn.decoder.offset;
+  moves_on : MovesOn g.R.Read l.fn.decoder l.decoder;
 }
 
 -- each item takes a byte

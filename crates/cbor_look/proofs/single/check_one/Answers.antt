@@ -1,7 +1,8 @@
 use Rattle.std.proofs.Common.{length, Err}
+use Rattle.ciborium_ll.proofs.DecodingLaws.{MovesOn-then}
 use Rattle.cbor_skip.specs.Skipping.{ReadsItem, SkipsItem}
 use Rattle.cbor_look.specs.declared.single.NotOne.TheVariants as n
-use Rattle.cbor_look.proofs.SingleLaws.{ends_one, one_told, one_exactly}
+use Rattle.cbor_look.proofs.SingleLaws.{ends_one, one_told, one_exactly, one_failures}
 use Rattle.cbor_look.proofs.single.check_one.Goals as goal
 
 pub returns-in-Err-clause-exactly : goal.returns-in-Err-clause-exactly
@@ -13,6 +14,19 @@ returns-in-Err-clause-exactly g c =
     let fails : SkipsItem g.R.Read depth room old (Err c.in-Err.error) new =
     rw c.offset-start.ensures.same at c.in-Err.ensures.skipped.skipped in
     λ due ready. one_exactly g.R.Read depth room old due ready new (Err (n.Item c.in-Err.error)) fails
+
+pub returns-in-Err-clause-failures : goal.returns-in-Err-clause-failures
+returns-in-Err-clause-failures g c =
+    let old = c.args.decoder.now in
+    let depth = c.args.depth in
+    let room = length c.args.buffer.now in
+    let new = c.skip_item.new.decoder in
+    let fails : SkipsItem g.R.Read depth room old (Err c.in-Err.error) new =
+    rw c.offset-start.ensures.same at c.in-Err.ensures.skipped.skipped in
+    one_failures g.R.Read depth room old new (Err (n.Item c.in-Err.error)) fails
+
+pub returns-in-Err-clause-moves_on : goal.returns-in-Err-clause-moves_on
+returns-in-Err-clause-moves_on g c = rw c.offset-start.ensures.same at c.in-Err.ensures.skipped.moves_on
 
 pub returns : goal.returns
 returns g c =
@@ -32,4 +46,8 @@ returns g c =
       checks = checks;
       told = λ due ready. one_told g.R.Read depth room old due ready new result checks;
       exactly = λ due ready. one_exactly g.R.Read depth room old due ready new result checks;
+      failures = one_failures g.R.Read depth room old new result checks;
+      moves_on = rw c.offset.ensures.same (MovesOn-then g.R.Read _ _ _
+          (rw c.offset-start.ensures.same at c.in_default.ensures.skipped.moves_on)
+          (rw c.offset-place.ensures.same at c.pull-pulled.ensures.moves_on));
     }

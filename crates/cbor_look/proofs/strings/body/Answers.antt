@@ -1,9 +1,12 @@
-use Rattle.std.proofs.Common.{[], ◌++◌, arith}
+use Rattle.std.proofs.Common.{[], ◌++◌, false, arith}
 use Rattle.cbor_look.specs.Takings.{taken_bytes}
 use Rattle.cbor_look.specs.StringRows.{kind_of}
 use Rattle.cbor_look.proofs.DumpLaws.{not_taken, shows_none, shows_says}
 use Rattle.ciborium_ll.proofs.DecodingLaws.{exit_is, Passes-none}
 use Rattle.cbor_look.proofs.StringLaws.{taken_all, part_fails, part_shown, writable_none, body_stops}
+use Rattle.cbor_look.specs.Endings.{ending_of}
+use Rattle.cbor_look.specs.Levels.{Meant}
+use Rattle.cbor_look.proofs.LeaveLaws.{reads_on, reads_then, refused_stops, says_stops, stops_then}
 use Rattle.cbor_look.proofs.PullLaws.{passes_idle}
 use Rattle.cbor_look.proofs.RowLaws.{row_few}
 use Rattle.cbor_look.proofs.PartLaws.{part_behind}
@@ -19,6 +22,7 @@ rows-init g c = record {
     passed = λ none. Passes-none g.R.Read c.args.decoder.now;
   };
   rises = omega arith;
+  moves = reads_on g.R.Read c.args.decoder.now;
 }
 
 pub returns-in-Err : goal.returns-in-Err
@@ -56,6 +60,27 @@ returns-in-Err g c = record {
       let moved = keeps.takes.offset in
       let so_far = c.rows.invariant.rises in
       omega (arith, moved, so_far);
+  refused = λ depth start opens nests outer title due p level at all.
+      let so_far = c.rows.invariant.so_far depth start opens nests outer title due p level at in
+      let row = taken_bytes c.read_part.new.taken in
+      let keeps = rw c.offset-offset.ensures.same at c.read_part.ensures.keeps in
+      let takes = taken_all g.R.Read _ row _ _ c.new-taken.ensures keeps in
+      let but = c.fault.ensures.refused all in
+      record {
+        row = but.row;
+        how = ending_of false c.in-Err.error;
+        bytes = so_far.front ++ row;
+        shows = part_fails g.R.Read false c.in-Err.error depth start opens nests outer title (kind_of c.args.kind)
+            c.args.len c.rows.left c.args.level c.offset-offset.result _ _ _ row _ _ _
+            (record { due = due; is_title = p; below = level }) at so_far takes c.read_part.ensures.most
+            c.offset-offset.ensures.value but.draws
+            ((rw c.in-Err.is at c.read_part.ensures.row) c.rows-test.true) (row_few c.read_part.new.taken)
+            c.rows-test.true
+            ((rw (c.offset-offset.ensures.same, c.in-Err.is) at c.read_part.ensures.left) c.rows-test.true);
+      };
+  moves = says_stops g.R.Read c.in-Err.error c.fault.result _ _ c.fault.ensures.says
+      (stops_then g.R.Read c.in-Err.error _ _ _ c.rows.invariant.moves
+      (rw (c.offset-offset.ensures.same, c.in-Err.is) at c.read_part.ensures.moves));
 }
 
 pub returns-in_err-shown : goal.returns-in_err-shown
@@ -70,6 +95,25 @@ returns-in_err-shown g c =
           let moved = keeps.takes.offset in
           let so_far = c.rows.invariant.rises in
           omega (arith, moved, so_far);
+      refused = λ depth start opens nests outer title due p level at all.
+          let so_far = c.rows.invariant.so_far depth start opens nests outer title due p level at in
+          let row = taken_bytes c.read_part.new.taken in
+          let keeps = rw c.offset-offset.ensures.same at c.read_part.ensures.keeps in
+          let takes = taken_all g.R.Read _ row _ _ c.new-taken.ensures keeps in
+          let ok = rw c.in_default.is at c.read_part.ensures.written in
+          let full = rw c.in_default.is at c.read_part.ensures.full in
+          let went = (rw (c.offset-offset.ensures.same, c.in_default.is) at c.read_part.ensures.reads) c.rows-test.true
+          in
+          let but = c.in_err-shown.ensures.refused c.in_err-shown.ensures.refusal in
+          let shown = part_shown g.R.Read depth start opens nests outer title c.args.kind c.args.len c.rows.left
+          c.args.level c.offset-offset.result _ _ _ row _ _ _ (record { due = due; is_title = p; below = level }) at
+          so_far takes c.read_part.ensures.most c.offset-offset.ensures.value ok full went
+          (rw c.meaning.ensures at but.draws)
+          ((rw c.in_default.is at c.read_part.ensures.some) c.rows-test.true, row_few c.read_part.new.taken) in
+          record { row = but.row; how = Meant; bytes = shown.front; shows = shown.shows };
+      moves = refused_stops g.R.Read error _ _ c.in_err-shown.ensures.refusal
+          (reads_then g.R.Read _ _ _ c.rows.invariant.moves
+          (rw (c.offset-offset.ensures.same, c.in_default.is) at c.read_part.ensures.moves));
     })
 
 pub rows-preserved : goal.rows-preserved
@@ -94,6 +138,8 @@ rows-preserved g c = record {
       let moved = keeps.takes.offset in
       let so_far = c.rows.invariant.rises in
       omega (arith, moved, so_far);
+  moves = reads_then g.R.Read _ _ _ c.rows.invariant.moves
+      (rw (c.offset-offset.ensures.same, c.in_default.is) at c.read_part.ensures.moves);
 }
 
 pub returns : goal.returns
@@ -109,4 +155,6 @@ returns g c = record {
         stops = λ alike. tt;
       };
   rises = c.rows.invariant.rises;
+  refused = λ depth start opens nests outer title due p level at never. absurd never;
+  moves = c.rows.invariant.moves;
 }

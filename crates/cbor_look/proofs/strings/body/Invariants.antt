@@ -3,6 +3,7 @@ use Rattle.ciborium_ll.specs.Title.{IsTitle}
 use Rattle.ciborium_ll.specs.Strings.{kind_header}
 use Rattle.cbor_look.specs.Levels.{Nest, TitleDue}
 use Rattle.cbor_look.specs.StringRows.{kind_of}
+use Rattle.cbor_look.specs.Takings.{ReadsOn}
 use Rattle.cbor_look.proofs.StringLaws.{SoFar}
 use Rattle.cbor_look.proofs.strings.body.Given as goal
 
@@ -14,6 +15,7 @@ invariant-rows g l = record {
       → SoFar g.R.Read depth start (g.S.Rows.drawn l.fn.rows) (g.S.Rows.drawn l.rows) (outer ++ title) (kind_of l.kind)
       l.len l.left l.fn.decoder l.decoder;
   rises : l.fn.decoder.offset ≤ l.decoder.offset;
+  moves : ReadsOn g.R.Read l.fn.decoder l.decoder;
 }
 
 -- each row has a byte

@@ -6,15 +6,17 @@ use Rattle.ciborium_ll.specs.Types.Error.TheVariants.{Syntax}
 use Rattle.ciborium_ll.specs.Items.{IsTakenTitle}
 use Rattle.ciborium_ll.specs.Title.{IsTitle}
 use Rattle.ciborium_ll.proofs.NestLaws.{title_some}
-use Rattle.cbor_look.specs.Levels.{title_level}
+use Rattle.cbor_look.specs.Endings.{ending_of}
+use Rattle.cbor_look.specs.Levels.{Meant, Refused, title_level}
 use Rattle.cbor_look.specs.Takings.{taken_bytes}
 use Rattle.cbor_look.specs.StringRows.{kind_of}
 use Rattle.cbor_look.proofs.DumpLaws.{not_taken, title_fault, title_row}
 use Rattle.cbor_look.proofs.StringLaws.{taken_all}
+use Rattle.cbor_look.proofs.LeaveLaws.{dump_then, reads_on, reads_then, refused_stops, says_stops, stops_then}
 use Rattle.cbor_look.proofs.RowLaws.{row_few}
 use Rattle.cbor_look.proofs.PullLaws.{passes_idle, passes_alike}
 use Rattle.cbor_look.proofs.PieceLaws.{alike_here, passed_row, within_no_title, within_other, within_body}
-use Rattle.cbor_look.proofs.PieceLaws.{within_first, within_fails, within_open, within_break, within_ends, within_title}
+use Rattle.cbor_look.proofs.PieceLaws.{within_fault, within_first, within_fails, within_open, within_break, within_ends, within_title}
 use Rattle.cbor_look.proofs.PieceLaws.{within_piece, within_whole, piece_due, piece_offset, only_break, break_level}
 use Rattle.cbor_look.proofs.PieceLaws.{level_fits, comes_nearer, level_some}
 use Rattle.cbor_look.proofs.strings.pieces.Goals as goal
@@ -24,6 +26,7 @@ parts-init g c = record {
   within = λ depth start nests items title stands p level at.
       within_first g.R.Read c.args.strict depth start _ nests items title (kind_of c.args.kind) _ _ p (omega
       (arith, level));
+  moves = reads_on g.R.Read c.args.decoder.now;
   above = omega arith;
   below = let behind = c.requires.behind in omega (arith, behind);
 }
@@ -52,6 +55,26 @@ returns-in-Err g c = record {
             within_no_title g.R.Read stands so_far at p c.in-Err.error _ fails c.fault.result c.fault.ensures.says
             alike;
       };
+  refused = λ depth start nests items title stands p level at all.
+      let so_far = c.parts.invariant.within depth start nests items title stands p level at in
+      let row = taken_bytes c.read_title.new.self in
+      let takes = taken_all g.R.Read _ row _ _ c.new-taken.ensures
+      (rw c.offset-place.ensures.same at c.read_title.ensures.keeps) in
+      let but = c.fault.ensures.refused all in
+      record {
+        row = but.row;
+        how = ending_of c.args.strict c.in-Err.error;
+        bytes = so_far.bytes ++ row;
+        shows = within_fault g.R.Read stands so_far at c.in-Err.error _ row c.offset-place.result _ takes
+            c.offset-place.ensures.value but.draws
+            (title_row c.args.strict (kind_of c.args.kind) (suc so_far.opens) c.in-Err.error row
+            (rw c.in-Err.is at c.read_title.ensures.row)) (row_few c.read_title.new.self)
+            (title_fault c.args.strict c.in-Err.error row (rw c.in-Err.is at c.read_title.ensures.row))
+            (rw (c.offset-place.ensures.same, c.in-Err.is) at c.read_title.ensures.left);
+      };
+  moves = says_stops g.R.Read c.in-Err.error c.fault.result _ _ c.fault.ensures.says
+      (stops_then g.R.Read c.in-Err.error _ _ _ c.parts.invariant.moves
+      (rw (c.offset-place.ensures.same, c.in-Err.is) at c.read_title.ensures.moves));
 }
 
 pub returns-in-Other : goal.returns-in-Other
@@ -77,6 +100,25 @@ returns-in-Other g c = record {
             within_other g.R.Read stands so_far at p c.in-Ok.header c.offset-place.result _ pulls.0 c.in-Other.ensures place
             c.fault-in-Other.result c.fault-in-Other.ensures.says alike;
       };
+  refused = λ depth start nests items title stands p level at all.
+      let so_far = c.parts.invariant.within depth start nests items title stands p level at in
+      let row = taken_bytes c.read_title.new.self in
+      let takes = taken_all g.R.Read _ row _ _ c.new-taken.ensures
+      (rw c.offset-place.ensures.same at c.read_title.ensures.keeps) in
+      let but = c.fault-in-Other.ensures.refused all in
+      record {
+        row = but.row;
+        how = Refused c.args.strict;
+        bytes = so_far.bytes ++ row;
+        shows = within_fault g.R.Read stands so_far at (Syntax c.offset-place.result) _ row c.offset-place.result _
+            takes c.offset-place.ensures.value but.draws
+            (λ any. inr (omega arith, (c.in-Ok.header, c.in-Ok.ensures.title, c.in-Other.ensures)))
+            (row_few c.read_title.new.self) (title_some row c.in-Ok.header c.in-Ok.ensures.title)
+            (λ idle. IfSome-all _ _ (λ any. tt));
+      };
+  moves = says_stops g.R.Read (Syntax c.offset-place.result) c.fault-in-Other.result _ _ c.fault-in-Other.ensures.says
+      (reads_then g.R.Read _ _ _ c.parts.invariant.moves
+      (rw c.offset-place.ensures.same at c.in-Ok.ensures.moves));
 }
 
 pub returns-in_err-shown : goal.returns-in_err-shown
@@ -86,6 +128,24 @@ returns-in_err-shown g c =
     rw same (record {
       shows = λ depth start nests items title stands p level at all.
           absurd (not_taken error c.in_err-shown.ensures.refusal all);
+      refused = λ depth start nests items title stands p level at all.
+          let so_far = c.parts.invariant.within depth start nests items title stands p level at in
+          let row = taken_bytes c.read_title.new.self in
+          let takes = taken_all g.R.Read _ row _ _ c.new-taken.ensures
+          (rw c.offset-place.ensures.same at c.read_title.ensures.keeps) in
+          let but = c.in_err-shown.ensures.refused c.in_err-shown.ensures.refusal in
+          record {
+            row = but.row;
+            how = Meant;
+            bytes = so_far.bytes ++ row;
+            shows = within_title g.R.Read stands so_far at
+                _ row c.in-Ok.header c.offset-place.result c.title_level-at.result _ takes
+                c.offset-place.ensures.value c.in-Ok.ensures.title
+                (c.title_level-at.ensures nests so_far.opens so_far.level) but.draws;
+          };
+      moves = refused_stops g.R.Read error _ _ c.in_err-shown.ensures.refusal
+          (reads_then g.R.Read _ _ _ c.parts.invariant.moves
+          (rw c.offset-place.ensures.same at c.in-Ok.ensures.moves));
     })
 
 pub returns-in_err-body-in-Piece : goal.returns-in_err-body-in-Piece
@@ -124,6 +184,28 @@ returns-in_err-body-in-Piece g c =
                 within_body g.R.Read stands so_far at p c.in-Piece.len _ _ _ pulled pulls.1 error
                 (rest.stops (passes_alike g.R.Read c.args.strict _ _ row went here)) place alike;
           };
+      refused = λ depth start nests items title stands p level at all.
+          let so_far = c.parts.invariant.within depth start nests items title stands p level at in
+          let row = taken_bytes c.read_title.new.self in
+          let takes = taken_all g.R.Read _ row _ _ c.new-taken.ensures
+          (rw c.offset-place.ensures.same at c.read_title.ensures.keeps) in
+          let titled : IsTitle row c.in-Ok.header = c.in-Ok.ensures.title in
+          let title_row = subst (λ (x : Header). IsTitle row x) c.in-Piece.ensures titled in
+          let inner = so_far.level in
+          let rest = c.in_err-body-in-Piece.ensures.refused depth start (suc so_far.opens) nests (items ++ so_far.parts)
+          row (piece_due g.R.Read stands so_far at) title_row (ap (λ (n : ℕ). n + 1) inner)
+          (piece_offset g.R.Read stands so_far at row _ takes) all in
+          let first = within_title g.R.Read stands so_far at
+          _ row c.in-Ok.header c.offset-place.result c.title_level-at.result _ takes c.offset-place.ensures.value titled
+          (c.title_level-at.ensures nests so_far.opens inner) (c.in_ok-shown.ensures.draws tt) in
+          record {
+            row = rest.row;
+            how = rest.how;
+            bytes = so_far.bytes ++ (row ++ rest.bytes);
+            shows = within_piece g.R.Read stands so_far at _ _ row rest.bytes _ _ first rest.shows;
+          };
+      moves = dump_then g.R.Read error _ _ _ (reads_then g.R.Read _ _ _ c.parts.invariant.moves
+          (rw c.offset-place.ensures.same at c.in-Ok.ensures.moves)) c.in_err-body-in-Piece.ensures.moves;
     })
 
 pub parts-preserved-in-Continue-branch-2 : goal.parts-preserved-in-Continue-branch-2
@@ -154,6 +236,8 @@ parts-preserved-in-Continue-branch-2 g c = record {
       (λ idle. let titled = went idle in
       Passes-then g.R.Read _ _ _ row rest.bytes titled
       (rest.passed (record { none_waits = passes_idle g.R.Read _ _ row titled idle; mode = refl }))) shows;
+  moves = reads_then g.R.Read _ _ _ (reads_then g.R.Read _ _ _ c.parts.invariant.moves
+      (rw c.offset-place.ensures.same at c.in-Ok.ensures.moves)) c.in_ok-body-in-Piece.ensures.moves;
   above = c.parts.invariant.above;
   below =
       let row = taken_bytes c.read_title.new.self in
@@ -181,6 +265,8 @@ parts-preserved-in-Open g c = record {
       (c.title_level-at.ensures nests so_far.opens so_far.level) (c.in_ok-shown.ensures.draws tt) in
       within_open g.R.Read stands so_far at
       _ row _ c.in-Open.ensures.1 went title_row first;
+  moves = reads_then g.R.Read _ _ _ c.parts.invariant.moves
+      (rw c.offset-place.ensures.same at c.in-Ok.ensures.moves);
   above = let inner = c.parts.invariant.above in omega (arith, inner);
   below =
       let row = taken_bytes c.read_title.new.self in
@@ -217,6 +303,9 @@ returns-then-at-level g c = record {
         passed = λ alike. passed_row g.R.Read stands so_far at row _ went alike.none_waits;
         stops = λ alike. tt;
       };
+  refused = λ depth start nests items title stands p level at never. absurd never;
+  moves = reads_then g.R.Read _ _ _ c.parts.invariant.moves
+      (rw c.offset-place.ensures.same at c.in-Ok.ensures.moves);
 }
 
 pub parts-preserved : goal.parts-preserved
@@ -239,6 +328,8 @@ parts-preserved g c = record {
       (c.in_ok-shown.ensures.draws tt) in
       within_break g.R.Read stands so_far at
       _ row c.title_level-at.result _ went title_row same (λ e. c.if-at-level.false (e ∙ sym level)) first;
+  moves = reads_then g.R.Read _ _ _ c.parts.invariant.moves
+      (rw c.offset-place.ensures.same at c.in-Ok.ensures.moves);
   above =
       let is = only_break c.args.strict (kind_of c.args.kind) c.in-Ok.header c.part_of-part.result
       c.part_of-part.ensures c.in_default-part.not-Piece c.in_default-part.not-Open c.in_default.not-Other in

@@ -3,6 +3,7 @@ use Rattle.ciborium_ll.specs.Title.{IsTitle}
 use Rattle.ciborium_ll.specs.Strings.{kind_header}
 use Rattle.cbor_look.specs.Levels.{Nest, StandsWithin}
 use Rattle.cbor_look.specs.StringRows.{kind_of}
+use Rattle.cbor_look.specs.Takings.{ReadsOn}
 use Rattle.cbor_look.proofs.PieceLaws.{Within}
 use Rattle.cbor_look.proofs.strings.pieces.Given as goal
 
@@ -13,6 +14,7 @@ invariant-parts g l = record {
       → l.fn.decoder.offset ≡ start + length (items ++ title)
       → Within g.R.Read l.strict depth start (g.S.Rows.drawn l.fn.rows) (g.S.Rows.drawn l.rows) nests items title
       (kind_of l.kind) l.inner l.fn.decoder l.decoder;
+  moves : ReadsOn g.R.Read l.fn.decoder l.decoder;
   above : l.level < l.inner;
   below : l.inner ≤ l.decoder.offset;
 }

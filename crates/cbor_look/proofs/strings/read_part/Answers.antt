@@ -1,4 +1,5 @@
 use Rattle.std.proofs.Common.{arith, rules}
+use Rattle.cbor_look.proofs.LeaveLaws.{row_read}
 use Rattle.cbor_look.proofs.PartLaws.{bytes_part, fault_part}
 use Rattle.cbor_look.proofs.RowLaws.{row_few}
 use Rattle.cbor_look.proofs.strings.read_part.Goals as goal
@@ -19,3 +20,6 @@ returns-else-branch-clause-reads g c = λ some none.
 
 pub returns-in-Bytes-clause-full : goal.returns-in-Bytes-clause-full
 returns-in-Bytes-clause-full g c = search rules
+
+pub returns-in-Bytes-clause-moves : goal.returns-in-Bytes-clause-moves
+returns-in-Bytes-clause-moves g c = row_read g.R.Read _ _ _ _ _ _ c.read.ensures.reads

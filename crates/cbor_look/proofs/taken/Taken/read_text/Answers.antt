@@ -6,6 +6,7 @@ use Rattle.ciborium_ll_text.specs.States.{after, tail_due}
 use Rattle.ciborium_ll_text.specs.declared.state.State.TheVariants.{Between}
 use Rattle.cbor_look.specs.Parts.{is_inside, is_between}
 use Rattle.cbor_look.specs.Takings.{taken_bytes}
+use Rattle.cbor_look.proofs.LeaveLaws.{reads_then, row_read, stops_then}
 use Rattle.cbor_look.proofs.TakingLaws.{keeps_then}
 use Rattle.cbor_look.specs.Parts.{IsCutText}
 use Rattle.cbor_look.specs.Takings.{Leaves}
@@ -43,6 +44,7 @@ more-init g c =
       room = let few = due_few (after Between row) in omega (arith, counted, empty, long, both, asked, few);
       many = omega (arith, counted, empty, long, both, asked);
       passed = λ none. first_passed g.R.Read _ _ _ _ _ c.requires.none none reads;
+      moves = row_read g.R.Read _ _ _ _ _ _ reads;
     }
 
 pub more-preserved : goal.more-preserved
@@ -74,6 +76,7 @@ more-preserved g c =
       passed = λ none.
           let passed = so_far.passed none in
           more_passed g.R.Read 1 row next _ _ _ passed (passes_idle g.R.Read _ _ _ passed none) reads;
+      moves = reads_then g.R.Read _ _ _ so_far.moves (row_read g.R.Read _ _ _ _ _ _ reads);
     }
 
 pub returns-in_err-read-2-clause-reads : goal.returns-in_err-read-2-clause-reads
@@ -155,3 +158,20 @@ returns-clause-reads g c = λ some none. (c.more.invariant.passed none, returns-
 
 pub returns-clause-full : goal.returns-clause-full
 returns-clause-full g c = c.more.invariant.many
+
+-- ---- how the reads leave the decoder
+
+pub returns-in_err-read-clause-moves : goal.returns-in_err-read-clause-moves
+returns-in_err-read-clause-moves g c =
+    let same = exit_is c.from_residual.result c.in_err-read.field-0.0 c.from_residual.ensures.1 in
+    rw same (row_read g.R.Read _ _ _ _ _ _ c.in_err-read.ensures.reads)
+
+pub returns-in_err-read-2-clause-moves : goal.returns-in_err-read-2-clause-moves
+returns-in_err-read-2-clause-moves g c =
+    let residual = c.from_residual-in_err-read-2 in
+    let same = exit_is residual.result c.in_err-read-2.field-0.0 residual.ensures.1 in
+    rw same (stops_then g.R.Read c.in_err-read-2.field-0.0 _ _ _ c.more.invariant.moves
+    (row_read g.R.Read _ _ _ _ _ _ c.in_err-read-2.ensures.reads))
+
+pub returns-clause-moves : goal.returns-clause-moves
+returns-clause-moves g c = c.more.invariant.moves

@@ -2,7 +2,7 @@ use Rattle.std.proofs.Common.{◌≡◌, ◌+◌, ◌-◌, length, ◌<◌, ◌�
 use Rattle.ciborium_ll.specs.Decoding.{Passes}
 use Rattle.ciborium_ll_text.specs.States.{after, tail_due}
 use Rattle.ciborium_ll_text.specs.declared.state.State.TheVariants.{Between}
-use Rattle.cbor_look.specs.Takings.{Keeps, taken_bytes}
+use Rattle.cbor_look.specs.Takings.{Keeps, ReadsOn, taken_bytes}
 use Rattle.cbor_look.proofs.taken.Taken.read_text.Given as goal
 
 abbrev pub invariant-more : goal.invariant-more
@@ -13,6 +13,7 @@ invariant-more g l = record {
   room : length (taken_bytes l.self) + tail_due (after Between (taken_bytes l.self)) ≤ 16;
   many : min l.left 13 ≤ length (taken_bytes l.self);
   passed : l.fn.decoder.waiting ≡ None → Passes g.R.Read l.fn.decoder (taken_bytes l.self) l.decoder;
+  moves : ReadsOn g.R.Read l.fn.decoder l.decoder;
 }
 
 -- each byte is one less that there is room for

@@ -3,6 +3,7 @@ use Rattle.ciborium_ll.specs.Title.{affix_len}
 use Rattle.ciborium_ll.proofs.DecodingLaws.{IfSome-all, exit_is}
 use Rattle.cbor_skip.proofs.StrictnessLaws.{taken_when}
 use Rattle.cbor_look.specs.Takings.{Leaves, taken_bytes}
+use Rattle.cbor_look.proofs.LeaveLaws.{reads_then, row_read, stops_then}
 use Rattle.cbor_look.proofs.TakingLaws.{keeps_then}
 use Rattle.cbor_look.proofs.PullLaws.{first_byte, first_fails, first_passed, less_left, more_passed, passes_idle}
 use Rattle.cbor_look.proofs.PullLaws.{row_first, row_means, row_nothing, row_pulled, row_refused, second_fails}
@@ -164,3 +165,28 @@ returns-in-Some-clause-keeps g c =
 
 pub read_affix-requires : goal.read_affix-requires
 read_affix-requires g c = record { none_waits = c.in_ok-read.ensures.reads.reads.read.none_waits }
+
+-- ---- how the reads leave the decoder
+
+pub returns-in_err-read-clause-moves : goal.returns-in_err-read-clause-moves
+returns-in_err-read-clause-moves g c =
+    let same = exit_is c.from_residual.result c.in_err-read.field-0.0 c.from_residual.ensures.1 in
+    rw same (row_read g.R.Read _ _ _ _ _ _ c.in_err-read.ensures.reads)
+
+pub returns-in_err-read_affix-clause-moves : goal.returns-in_err-read_affix-clause-moves
+returns-in_err-read_affix-clause-moves g c =
+    let residual = c.from_residual-in_err-read_affix in
+    let same = exit_is residual.result c.in_err-read_affix.field-0.0 residual.ensures.1 in
+    rw same (stops_then g.R.Read c.in_err-read_affix.field-0.0 _ _ _
+    (row_read g.R.Read _ _ _ _ _ _ c.in_ok-read.ensures.reads)
+    (row_read g.R.Read _ _ _ _ _ _ c.in_err-read_affix.ensures.reads))
+
+pub returns-in-None-clause-moves : goal.returns-in-None-clause-moves
+returns-in-None-clause-moves g c =
+    reads_then g.R.Read _ _ _ (row_read g.R.Read _ _ _ _ _ _ c.in_ok-read.ensures.reads)
+    (row_read g.R.Read _ _ _ _ _ _ c.in_ok-read_affix.ensures.reads)
+
+pub returns-in-Some-clause-moves : goal.returns-in-Some-clause-moves
+returns-in-Some-clause-moves g c =
+    reads_then g.R.Read _ _ _ (row_read g.R.Read _ _ _ _ _ _ c.in_ok-read.ensures.reads)
+    (row_read g.R.Read _ _ _ _ _ _ c.in_ok-read_affix.ensures.reads)
