@@ -1,5 +1,5 @@
 -- What the loop over the items of a show read and wrote.
-use Rattle.std.proofs.Common.{◌≡◌, ℕ, Result, Ok, Err, ◌∙◌, sym, subst}
+use Rattle.std.proofs.Common.{◌≡◌, ℕ, ◌+◌, Result, Ok, Err, ◌∙◌, ap, sym, subst}
 use Rattle.ciborium_ll.specs.Types.Read.{Ghosts}
 use Rattle.ciborium_ll.specs.Types.Write.{Ghosts as Sink}
 use Rattle.ciborium_ll.specs.Sides.{Sides}
@@ -7,10 +7,11 @@ use Rattle.ciborium_ll.specs.Types.Decoder.{Decoder}
 use Rattle.cbor_skip.specs.Skipping.{SkipsItem}
 use Rattle.cbor_diag.specs.declared.DiagError.{DiagError}
 use Rattle.cbor_diag.specs.declared.DiagError.TheVariants as d
-use Rattle.cbor_diag.specs.Showing.{OnReading}
+use Rattle.cbor_diag.specs.Showing.{CountsShown, OnReading}
 use Rattle.cbor_look.specs.Sequences.{IsEnd, ReadsItems}
 use Rattle.cbor_diag.specs.declared.layout.Layout.{Layout}
 use Rattle.cbor_diag.specs.ItemStops.{ItemStops}
+use Rattle.cbor_look_verdicts.specs.Showing.{CountsItems}
 use Rattle.cbor_look_verdicts.specs.Showing.{EndsShow, IsEndOfItems, ShowsItems, ShowsLines, WritesItems, at_item}
 
 module _ {R E F : Type 0} (source : Ghosts R E) where
@@ -41,6 +42,18 @@ module _ {R E F : Type 0} (source : Ghosts R E) where
         (subst (λ (n : ℕ). IsEnd stops n new.offset) (sym here) is_end)));
   }
   show_ends depth count place stop old between new error (Err (d.Write fault)) reads fails is here there = tt
+
+-- how often the reader failed in the show, as it ends
+pub show_failures : {E F : Type 0} (error : DiagError E F) (place stop old between new : ℕ)
+    (result : Result E (DiagError E F)) → EndsShow error place stop result → between ≡ old
+    → CountsShown {T = Unit {0}} (Err error) between new → CountsItems result old new
+show_failures error place stop old between new (Ok fault) is same counts =
+    let P : DiagError _ _ → Type 0 = λ x. CountsShown {T = Unit {0}} (Err x) between new in
+    let once : new ≡ between + 1 = subst P is.0 counts in
+    once ∙ ap (λ (n : ℕ). n + 1) same
+show_failures error place stop old between new (Err other) is same counts =
+    subst (λ (n : ℕ). CountsShown {T = Unit {0}} (Err other) n new) same
+    (subst (λ (x : DiagError _ _). CountsShown {T = Unit {0}} (Err x) between new) (sym is.0) counts)
 
 module _ {R E W F : Type 0} (source : Ghosts R E) (sink : Sink W F) (layout : Layout) where
   -- behind whole lines the show of one more item ended, by what its error says

@@ -14,6 +14,7 @@ use Rattle.cbor_diag.specs.declared.DiagError.TheVariants as d
 use Rattle.cbor_diag.specs.declared.layout.Layout.{Layout}
 use Rattle.cbor_diag.specs.ItemTexts.{ItemShown}
 use Rattle.cbor_diag.specs.ItemStops.{ItemStops}
+use Rattle.cbor_diag.specs.Showing.{CountsShown}
 use Rattle.cbor_look.specs.Sequences.{IsEnd, ReadsItems}
 
 module _ {E F : Type 0} where
@@ -26,6 +27,11 @@ module _ {E F : Type 0} where
   abbrev pub EndsShow : DiagError E F → ℕ → ℕ → Result E (DiagError E F) → Type 0
   EndsShow error place stop (Ok fault) = (error ≡ d.Read (s.Read (e.Io fault))) × (stop ≡ place)
   EndsShow error place stop (Err other) = (other ≡ error) × (IsEndOfItems error place stop → ⊥)
+
+  -- how often the reader failed, by the answer: once at the end, and before it once if the error of the read says so
+  abbrev pub CountsItems : Result E (DiagError E F) → ℕ → ℕ → Type 0
+  CountsItems (Ok fault) old new = new ≡ old + 1
+  CountsItems (Err error) old new = CountsShown {T = Unit {0}} (Err error) old new
 
 module _ {W F : Type 0} (sink : Sink W F) where
   -- a line feed was written, and then what was kept back was passed on. A writer that tells its room, and so keeps

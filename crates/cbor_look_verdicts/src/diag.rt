@@ -1,9 +1,10 @@
 //! Items in diagnostic notation, one behind the other, and what is found behind them.
 
 ghost use Rattle.std.specs.Prelude.{◌≡◌, ◌≤◌};
+ghost use Rattle.ciborium_ll.specs.Decoding.{MovesOn, failures_of};
 ghost use Rattle.ciborium_ll.specs.Sides.{sides};
 ghost use Rattle.cbor_look_verdicts.specs.Checking.{diag_said};
-ghost use Rattle.cbor_look_verdicts.specs.Showing.{EndsOrFails, EndsShow, ShowsItems, WritesItems};
+ghost use Rattle.cbor_look_verdicts.specs.Showing.{CountsItems, EndsOrFails, EndsShow, ShowsItems, WritesItems};
 
 use crate::check::{end_verdict, failed_or, fault_of};
 use crate::verdict::Verdict;
@@ -35,6 +36,9 @@ pub fn diag_verdict<E: Drop, F>(
 ///
 /// Of each whole item the text was written as `diagnose` says, and a line feed behind it, which was passed on at once.
 /// Behind the last one stands what `diagnose` says of the item at which it stopped, or a line that could not be ended.
+///
+/// Whatever the answer, the decoder moves on as [`Decoder`] says. The reader fails once if the answer is `Ok` or
+/// carries `Error::Io`, and otherwise it does not fail.
 pub fn items<R: Read, W: Write>(
     decoder: &mut Decoder<R>,
     writer: &mut W,
@@ -45,6 +49,8 @@ pub fn items<R: Read, W: Write>(
     ensures reads { ShowsItems R.Read depth decoder.old result decoder.new }
     ensures writes { WritesItems R.Read W.Write layout (sides decoder.old writer.old) result
         (sides decoder.new writer.new) }
+    ensures failures { CountsItems result (failures_of R.Read decoder.old) (failures_of R.Read decoder.new) }
+    ensures moves_on { MovesOn R.Read decoder.old decoder.new }
 {
     'items: loop {
         let place = decoder.offset();

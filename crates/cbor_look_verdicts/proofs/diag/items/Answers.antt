@@ -1,4 +1,5 @@
-use Rattle.std.proofs.Common.{suc, Err, arith, refl, sym, subst}
+use Rattle.std.proofs.Common.{suc, Err, arith, refl, sym, subst, ◌∙◌}
+use Rattle.ciborium_ll.proofs.DecodingLaws.{MovesOn-none, MovesOn-then}
 use Rattle.cbor_skip.specs.Skipping.{ReadsItem, SkipsItem, strictness}
 use Rattle.ciborium_ll.specs.Sides.{sides}
 use Rattle.cbor_diag.specs.Showing.{OnReading}
@@ -6,7 +7,7 @@ use Rattle.cbor_diag.specs.ItemStops.{ItemStops}
 use Rattle.cbor_look.proofs.ItemRows.{items_counted}
 use Rattle.cbor_look.proofs.SequenceLaws.{none_read, one_more}
 use Rattle.cbor_look_verdicts.specs.Showing.{at_end, more, none}
-use Rattle.cbor_look_verdicts.proofs.ShowLaws.{lines_end, show_ends}
+use Rattle.cbor_look_verdicts.proofs.ShowLaws.{lines_end, show_ends, show_failures}
 use Rattle.cbor_look_verdicts.proofs.diag.items.Goals as goal
 
 pub items-init : goal.items-init
@@ -14,6 +15,7 @@ items-init g c = record {
   count = 0;
   reads = none_read g.R.Read c.args.depth c.args.decoder.now;
   lines = none;
+  moves_on = MovesOn-none g.R.Read c.args.decoder.now;
 }
 
 pub returns-in-Err-clause-reads : goal.returns-in-Err-clause-reads
@@ -46,6 +48,8 @@ items-preserved g c =
       reads = one_more g.R.Read c.args.depth c.items.invariant.count _ _ _ c.items.invariant.reads item;
       lines = more c.items.invariant.lines (rw c.offset-place.ensures.same at c.in_default.ensures.shown)
           c.in_default-line_ended.ensures;
+      moves_on = MovesOn-then g.R.Read _ _ _ c.items.invariant.moves_on
+          (rw c.offset-place.ensures.same at c.diagnose.ensures.reads.moves_on);
     }
 
 pub returns-in-Err-clause-writes : goal.returns-in-Err-clause-writes
@@ -63,3 +67,25 @@ pub returns-in-Err-line_ended-clause-writes : goal.returns-in-Err-line_ended-cla
 returns-in-Err-line_ended-clause-writes g c =
     at_end c.items.invariant.count _ _ _ c.items.invariant.lines
     (rw c.offset-place.ensures.same at c.in_default.ensures.shown) c.in-Err-line_ended.ensures refl
+
+-- ---- how the decoder is left
+
+pub returns-in-Err-clause-moves_on : goal.returns-in-Err-clause-moves_on
+returns-in-Err-clause-moves_on g c =
+    rw c.offset.ensures.same (MovesOn-then g.R.Read _ _ _ c.items.invariant.moves_on
+    (rw c.offset-place.ensures.same at c.diagnose.ensures.reads.moves_on))
+
+pub returns-in-Err-line_ended-clause-moves_on : goal.returns-in-Err-line_ended-clause-moves_on
+returns-in-Err-line_ended-clause-moves_on g c =
+    MovesOn-then g.R.Read _ _ _ c.items.invariant.moves_on
+    (rw c.offset-place.ensures.same at c.diagnose.ensures.reads.moves_on)
+
+pub returns-in-Err-clause-failures : goal.returns-in-Err-clause-failures
+returns-in-Err-clause-failures g c =
+    rw c.offset.ensures.same (show_failures c.in-Err.error _ _ _ _ _ c.ended.result c.ended.ensures
+    c.items.invariant.reads.passed.failures
+    (rw c.offset-place.ensures.same at c.in-Err.ensures.reads.failures))
+
+pub returns-in-Err-line_ended-clause-failures : goal.returns-in-Err-line_ended-clause-failures
+returns-in-Err-line_ended-clause-failures g c =
+    (rw c.offset-place.ensures.same at c.in_default.ensures.reads.failures) ∙ c.items.invariant.reads.passed.failures

@@ -1,4 +1,5 @@
 use Rattle.std.proofs.Common.{◌-◌, ◌^◌, ℕ}
+use Rattle.ciborium_ll.specs.Decoding.{MovesOn}
 use Rattle.ciborium_ll.specs.Sides.{sides}
 use Rattle.cbor_look.specs.Sequences.{ReadsItems}
 use Rattle.cbor_look_verdicts.specs.Showing.{ShowsLines}
@@ -9,6 +10,7 @@ invariant-items g l = record {
   count : ℕ;
   reads : ReadsItems g.R.Read l.depth count l.fn.decoder l.decoder;
   lines : ShowsLines g.R.Read g.W.Write l.fn.layout count (sides l.fn.decoder l.fn.writer) (sides l.decoder l.writer);
+  moves_on : MovesOn g.R.Read l.fn.decoder l.decoder;
 }
 
 -- each item takes a byte
