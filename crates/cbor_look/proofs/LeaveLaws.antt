@@ -46,9 +46,17 @@ module _ {R E : Type 0} (source : Ghosts R E) where
   one_read (Err (e.Io fault)) bytes old new reads = grind arith
   one_read (Err (e.Syntax at)) bytes old new reads = absurd reads.read
   one_read (Err e.TooLong) bytes old new reads =
-      record { between = old; reads = reads_on old; refuses = record { untouched = reads.read.2; counted = reads.refusals } }
+      record {
+        between = old;
+        reads = reads_on old;
+        refuses = record { untouched = reads.read.2; counted = reads.refusals };
+      }
   one_read (Err e.Waiting) bytes old new reads =
-      record { between = old; reads = reads_on old; refuses = record { untouched = reads.read.1; counted = reads.refusals } }
+      record {
+        between = old;
+        reads = reads_on old;
+        refuses = record { untouched = reads.read.1; counted = reads.refusals };
+      }
 
   pub row_read : (count : ℕ) (before after : List ℕ) (result : Result (Unit {0}) (Error E)) (old new : Decoder R)
       → ReadsMore source count before after old result new → ReadsBy source result old new

@@ -11,7 +11,7 @@ mod PartLaws
 pub mod DumpLaws
 pub mod WalkLaws
 pub mod TitleLaws
-pub mod ButLaws
+pub mod RefusedLaws
 pub mod StringLaws
 pub mod PieceLaws
 pub mod StopLaws

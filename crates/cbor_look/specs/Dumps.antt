@@ -1,7 +1,7 @@
 -- What `dump` and its parts do with the lines: their bytes, joined, are those that were consumed, and each stands at
 -- its level.
-use Rattle.std.specs.Prelude.{◌≡◌, ◌⊎◌, ℕ, ◌+◌, ◌<◌, ◌≤◌, List, [], ◌∷◌, ◌++◌, length, Option, Some, None, IfSome, Result}
-use Rattle.std.specs.Prelude.{Ok, Err}
+use Rattle.std.specs.Prelude.{◌≡◌, ◌⊎◌, ℕ, ◌+◌, ◌<◌, ◌≤◌, List, [], ◌∷◌, ◌++◌, length, Option, Some, None, IfSome}
+use Rattle.std.specs.Prelude.{Result, Ok, Err}
 use Rattle.ciborium_ll.specs.Types.Read.{Ghosts}
 use Rattle.ciborium_ll.specs.Types.Decoder.{Decoder}
 use Rattle.ciborium_ll.specs.Types.Error.{Error}
@@ -75,7 +75,7 @@ with_line None line = None
 with_line (Some lines) line = Some (lines ++ line ∷ [])
 
 -- a row was refused. If it had been taken, the lines would have grown by these
-pub record DrawsBut (old new : Option (List Line)) (lines : List Line) : Type 0 where
+pub record DrawsRefused (old new : Option (List Line)) (lines : List Line) : Type 0 where
   pub row : Line
   pub draws : Draws old (with_line new row) lines
 
@@ -96,7 +96,7 @@ pub record Lines (depth start : ℕ) (old new : Option (List Line)) (before byte
   pub ends : EndAs ending lines
 
 -- a row of these bytes was refused. If it had been taken, it would stand at its level
-pub record LinesBut (depth start : ℕ) (old new : Option (List Line)) (before bytes : List ℕ) : Type 0 where
+pub record LinesRefused (depth start : ℕ) (old new : Option (List Line)) (before bytes : List ℕ) : Type 0 where
   pub row : Line
   pub lines : Lines depth start old (with_line new row) before bytes Meant
 
@@ -137,15 +137,15 @@ module _ {R E : Type 0} (source : Ghosts R E) where
 
   -- A row was refused. The bytes of the rows before it and its own are just those that were consumed, and each stands
   -- at its level: as `Shows` says, if the row had been taken
-  pub record ShowsBut (depth start : ℕ) (drawn then_drawn : Option (List Line)) (before : List ℕ) (old new : Decoder R)
-      : Type 0 where
+  pub record ShowsRefused (depth start : ℕ) (drawn then_drawn : Option (List Line)) (before : List ℕ)
+      (old new : Decoder R) : Type 0 where
     pub row : Line
     pub how : Ending
     pub bytes : List ℕ
     pub shows : Shows depth start drawn (with_line then_drawn row) before bytes how old new
 
   -- the bytes of a title were consumed before, and then a row was refused, the title's or one behind it
-  pub record ShowsBehindBut (depth start : ℕ) (drawn then_drawn : Option (List Line)) (before title : List ℕ)
+  pub record ShowsBehindRefused (depth start : ℕ) (drawn then_drawn : Option (List Line)) (before title : List ℕ)
       (old new : Decoder R) : Type 0 where
     pub row : Line
     pub how : Ending

@@ -8,9 +8,9 @@ ghost use Rattle.ciborium_ll.specs.Decoding.{offset_of, strict_of, IsWaiting};
 ghost use Rattle.cbor_skip.specs.Due.{IsNest};
 ghost use Rattle.cbor_skip.specs.SkippingTold.{IsReadyToSkip};
 ghost use Rattle.cbor_look.specs.Checking.{AnswersTold, ReadsAsCheck};
-ghost use Rattle.cbor_look.specs.Dumps.{AnswersWaiting, AreRowsTaken, Draws, DrawsBut, EndsTitles, IsAlone, IsRefusal};
-ghost use Rattle.cbor_look.specs.Dumps.{IsRefused, IsTaken, LeavesDecoder, LeavesPart, LinesBut, SaysFault, ShowsBehindBut};
-ghost use Rattle.cbor_look.specs.Dumps.{ShowsBut, fault_lines};
+ghost use Rattle.cbor_look.specs.Dumps.{AnswersWaiting, AreRowsTaken, Draws, DrawsRefused, EndsTitles, IsAlone};
+ghost use Rattle.cbor_look.specs.Dumps.{IsRefusal, IsRefused, IsTaken, LeavesDecoder, LeavesPart, LinesRefused};
+ghost use Rattle.cbor_look.specs.Dumps.{SaysFault, ShowsBehindRefused, ShowsRefused, fault_lines};
 ghost use Rattle.ciborium_ll.specs.Types.Error.TheVariants.{Waiting};
 ghost use Rattle.cbor_skip.specs.declared.SkipError.TheVariants as s;
 ghost use Rattle.cbor_look.specs.declared.dump.DumpError.TheVariants as d;
@@ -102,7 +102,7 @@ where
     ensures exactly { (due : List ℕ) → IsAlike strict decoder.old
         → IsReadyToSkip R.Read most_bytes decoder.old due → AreRowsTaken result
         → (IsOk result ↔ IsSequence (strict_of decoder.old) depth due) }
-    ensures refused { IsRefused result → ShowsBut R.Read depth (offset_of decoder.old) (S.drawn rows.old)
+    ensures refused { IsRefused result → ShowsRefused R.Read depth (offset_of decoder.old) (S.drawn rows.old)
         (S.drawn rows.new) [] decoder.old decoder.new }
     ensures moves { LeavesDecoder R.Read result decoder.old decoder.new }
 {
@@ -133,7 +133,7 @@ fn ended<E: Drop, S: Rows>(
         → Draws (S.drawn rows.old) (S.drawn rows.new) (fault_lines level offset (taken_bytes taken.now)) }
     ensures ends { EndsTitles error level (length (taken_bytes taken.now)) result }
     ensures refused { IsRefused result
-        → DrawsBut (S.drawn rows.old) (S.drawn rows.new) (fault_lines level offset (taken_bytes taken.now)) }
+        → DrawsRefused (S.drawn rows.old) (S.drawn rows.new) (fault_lines level offset (taken_bytes taken.now)) }
     ensures waits { error ≡ Waiting → taken_bytes taken.now ≡ []
         → (result ≡ Err (d.Item (s.Read Waiting))) × (rows.new ≡ rows.old) }
 {
@@ -155,7 +155,7 @@ pub(crate) fn fault<E: Drop, S: Rows>(
         → Draws (S.drawn rows.old) (S.drawn rows.new) (fault_lines level offset (taken_bytes taken.now)) }
     ensures says { SaysFault error result }
     ensures refused { IsRefusal result
-        → DrawsBut (S.drawn rows.old) (S.drawn rows.new) (fault_lines level offset (taken_bytes taken.now)) }
+        → DrawsRefused (S.drawn rows.old) (S.drawn rows.new) (fault_lines level offset (taken_bytes taken.now)) }
     ensures none { taken_bytes taken.now ≡ [] → (result ≡ d.Item (s.Read error)) × (rows.new ≡ rows.old) }
 {
     match fault_row(taken, offset, level, rows) {
@@ -175,7 +175,7 @@ pub(crate) fn shown<E, S: Rows>(
     ensures draws { AreRowsTaken result → Draws (S.drawn rows.old) (S.drawn rows.new)
         (record { level = level; offset = offset; bytes = taken_bytes taken.now; meaning = meaning } ∷ []) }
     ensures refusal { IfErr result (λ error. IsRefusal error) }
-    ensures refused { IsRefused result → DrawsBut (S.drawn rows.old) (S.drawn rows.new)
+    ensures refused { IsRefused result → DrawsRefused (S.drawn rows.old) (S.drawn rows.new)
         (record { level = level; offset = offset; bytes = taken_bytes taken.now; meaning = meaning } ∷ []) }
 {
     let row = Row {
@@ -210,7 +210,7 @@ where
         → IsDue strict depth whole walk.old before → IsTitle (taken_bytes taken.now) header
         → place ≡ start + length before
         → offset_of decoder.old ≡ place + length (taken_bytes taken.now) → IsRefused result
-        → ShowsBehindBut R.Read depth start (S.drawn rows.old) (S.drawn rows.new) before (taken_bytes taken.now)
+        → ShowsBehindRefused R.Read depth start (S.drawn rows.old) (S.drawn rows.new) before (taken_bytes taken.now)
         decoder.old decoder.new }
     ensures moves { LeavesPart R.Read result decoder.old decoder.new }
 {
@@ -246,7 +246,7 @@ fn value<E, S: Rows>(
     ensures refused { (strict : Bool) (depth whole start : ℕ) (before : List ℕ)
         → IsDue strict depth whole walk.old before → IsTitle (taken_bytes taken.now) header
         → place ≡ start + length before → IsRefused result
-        → LinesBut depth start (S.drawn rows.old) (S.drawn rows.new) before (taken_bytes taken.now) }
+        → LinesRefused depth start (S.drawn rows.old) (S.drawn rows.new) before (taken_bytes taken.now) }
     ensures alone { IfErr result IsAlone }
 {
     let level = walk.level();
@@ -270,7 +270,7 @@ fn break_title<E, S: Rows>(
     ensures refused { (strict : Bool) (depth whole start : ℕ) (before : List ℕ)
         → IsDue strict depth whole walk.old before → IsTitle (taken_bytes taken.now) Header.Break
         → place ≡ start + length before → IsRefused result
-        → LinesBut depth start (S.drawn rows.old) (S.drawn rows.new) before (taken_bytes taken.now) }
+        → LinesRefused depth start (S.drawn rows.old) (S.drawn rows.new) before (taken_bytes taken.now) }
     ensures alone { IfErr result IsAlone }
 {
     let closed = walk.close();
@@ -301,7 +301,7 @@ fn nest<E, S: Rows>(
     ensures refused { (strict : Bool) (depth whole start : ℕ) (before : List ℕ)
         → IsDue strict depth whole walk.old before → IsTitle (taken_bytes taken.now) header
         → place ≡ start + length before → IsRefused result
-        → LinesBut depth start (S.drawn rows.old) (S.drawn rows.new) before (taken_bytes taken.now) }
+        → LinesRefused depth start (S.drawn rows.old) (S.drawn rows.new) before (taken_bytes taken.now) }
     ensures alone { IfErr result IsAlone }
 {
     let level = walk.level();
@@ -341,7 +341,7 @@ where
         → IsTitle (taken_bytes taken.now) (kind_header (kind_of kind) len)
         → place ≡ start + length before
         → offset_of decoder.old ≡ place + length (taken_bytes taken.now) → IsRefused result
-        → ShowsBehindBut R.Read depth start (S.drawn rows.old) (S.drawn rows.new) before (taken_bytes taken.now)
+        → ShowsBehindRefused R.Read depth start (S.drawn rows.old) (S.drawn rows.new) before (taken_bytes taken.now)
         decoder.old decoder.new }
     ensures moves { LeavesPart R.Read result decoder.old decoder.new }
 {
@@ -374,7 +374,8 @@ where
     ensures refused { (depth start : ℕ) (nests : List Nest) (items title : List ℕ) → StandsWithin depth nests items
         → IsTitle title (kind_header (kind_of kind) len) → level ≡ length nests
         → offset_of decoder.old ≡ start + length (items ++ title) → IsRefused result
-        → ShowsBut R.Read depth start (S.drawn rows.old) (S.drawn rows.new) (items ++ title) decoder.old decoder.new }
+        → ShowsRefused R.Read depth start (S.drawn rows.old) (S.drawn rows.new) (items ++ title) decoder.old
+        decoder.new }
     ensures moves { LeavesPart R.Read result decoder.old decoder.new }
 {
     match len {

@@ -1,7 +1,7 @@
 //! What is left behind a dump of bytes that end too early.
 
 ghost use Rattle.std.specs.Prelude.{◌≡◌, [], Ok, OnErr, OnOk};
-ghost use Rattle.cbor_look.specs.Dumps.{Draws, DrawsBut, ShowsLeft, fault_lines};
+ghost use Rattle.cbor_look.specs.Dumps.{Draws, DrawsRefused, ShowsLeft, fault_lines};
 ghost use Rattle.cbor_look.specs.Takings.{taken_bytes};
 
 use crate::rows::{Meaning, Row, Rows};
@@ -45,7 +45,7 @@ pub(crate) fn fault_row<S: Rows>(
     ensures draws { OnOk result
         (Draws (S.drawn rows.old) (S.drawn rows.new) (fault_lines level offset (taken_bytes taken.now))) }
     ensures refused { OnErr result
-        (DrawsBut (S.drawn rows.old) (S.drawn rows.new) (fault_lines level offset (taken_bytes taken.now))) }
+        (DrawsRefused (S.drawn rows.old) (S.drawn rows.new) (fault_lines level offset (taken_bytes taken.now))) }
     ensures none { taken_bytes taken.now ≡ [] → (result ≡ Ok tt) × (rows.new ≡ rows.old) }
 {
     if taken.len() == 0 {

@@ -5,7 +5,7 @@ ghost use Rattle.std.specs.Prelude.{None, Some};
 ghost use Rattle.ciborium_ll.specs.Title.{IsTitle};
 ghost use Rattle.ciborium_ll.specs.Strings.{IsWritable, kind_header};
 ghost use Rattle.ciborium_ll.specs.Decoding.{offset_of, view, waiting_of};
-ghost use Rattle.cbor_look.specs.Dumps.{AreRowsTaken, IsRefused, LeavesPart, ShowsBut};
+ghost use Rattle.cbor_look.specs.Dumps.{AreRowsTaken, IsRefused, LeavesPart, ShowsRefused};
 ghost use Rattle.cbor_look.specs.Levels.{Nest, StandsWithin, TitleDue, title_level};
 ghost use Rattle.cbor_look.specs.Parts.{IsFullPart, IsPartRow, ReadsPart};
 ghost use Rattle.cbor_look.specs.Takings.{IsIdle, Keeps, LeavesBehind, ReadsBy, taken_bytes};
@@ -70,7 +70,8 @@ where
         → TitleDue depth nests opens outer → IsTitle title (kind_header (kind_of kind) (Some len))
         → level ≡ length nests + opens + 1
         → offset_of decoder.old ≡ start + length (outer ++ title) → IsRefused result
-        → ShowsBut R.Read depth start (S.drawn rows.old) (S.drawn rows.new) (outer ++ title) decoder.old decoder.new }
+        → ShowsRefused R.Read depth start (S.drawn rows.old) (S.drawn rows.new) (outer ++ title) decoder.old
+        decoder.new }
     ensures moves { LeavesPart R.Read result decoder.old decoder.new }
 {
     let mut left = len;
@@ -181,7 +182,8 @@ where
     ensures refused { (depth start : ℕ) (nests : List Nest) (items title : List ℕ) → StandsWithin depth nests items
         → IsTitle title (kind_header (kind_of kind) None) → level ≡ length nests
         → offset_of decoder.old ≡ start + length (items ++ title) → IsRefused result
-        → ShowsBut R.Read depth start (S.drawn rows.old) (S.drawn rows.new) (items ++ title) decoder.old decoder.new }
+        → ShowsRefused R.Read depth start (S.drawn rows.old) (S.drawn rows.new) (items ++ title) decoder.old
+        decoder.new }
     ensures moves { LeavesPart R.Read result decoder.old decoder.new }
 {
     let mut inner = level + 1;

@@ -121,7 +121,8 @@ show_within-returns-in_err-said-clause-moves_on g t c =
 pub show_within-returns-in_err-show_item-clause-moves_on : goal.show_within-returns-in_err-show_item-clause-moves_on
 show_within-returns-in_err-show_item-clause-moves_on g t c =
     MovesOn-then g.R.Read _ _ _ c.items.invariant.moves_on
-    (MovesOn-then g.R.Read _ _ _ (rw c.offset-place.ensures.same at c.in_ok-next.ensures.moves_on) c.show_item.ensures.moves_on)
+    (MovesOn-then g.R.Read _ _ _ (rw c.offset-place.ensures.same at c.in_ok-next.ensures.moves_on)
+    c.show_item.ensures.moves_on)
 
 pub show_within-returns-in_err-said-clause-reads : goal.show_within-returns-in_err-said-clause-reads
 show_within-returns-in_err-said-clause-reads g t c =

@@ -6,7 +6,7 @@ use Rattle.ciborium_ll.specs.Strings.{kind_header}
 use Rattle.cbor_look.proofs.DumpLaws.{title_then}
 use Rattle.cbor_look.proofs.TitleLaws.{walk_line, string_level, behind_item, string_item}
 use Rattle.cbor_look.proofs.DumpLaws.{not_taken}
-use Rattle.cbor_look.proofs.ButLaws.{behind_but}
+use Rattle.cbor_look.proofs.RefusedLaws.{behind_refused}
 use Rattle.cbor_look.proofs.LeaveLaws.{reads_on, refused_stops}
 use Rattle.cbor_look.proofs.StopLaws.{rest_stops}
 use Rattle.cbor_look.proofs.WalkLaws.{stands_any}
@@ -23,7 +23,7 @@ returns-in_err-shown g c =
           let row = taken_bytes c.args.taken.now in
           let k = kind_of c.args.kind in
           let but = c.in_err-shown.ensures.refused c.in_err-shown.ensures.refusal in
-          behind_but g.R.Read depth start _ _ before row _ (record {
+          behind_refused g.R.Read depth start _ _ before row _ (record {
             row = but.row;
             lines = walk_line c.args.strict depth whole start _ _ before row (kind_header k c.args.len)
                 c.level-level.result c.args.place c.args.walk.now due p (string_level k c.args.len due.nests 0)

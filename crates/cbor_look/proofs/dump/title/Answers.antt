@@ -3,7 +3,7 @@ use Rattle.ciborium_ll.specs.Types.Header.{Header}
 use Rattle.ciborium_ll.specs.Items.{IsTakenTitle}
 use Rattle.ciborium_ll.specs.Title.{IsTitle}
 use Rattle.cbor_look.specs.Takings.{taken_bytes}
-use Rattle.cbor_look.proofs.ButLaws.{behind_but}
+use Rattle.cbor_look.proofs.RefusedLaws.{behind_refused}
 use Rattle.cbor_look.proofs.LeaveLaws.{alone_leaves}
 use Rattle.cbor_look.proofs.TitleLaws.{title_alone}
 use Rattle.cbor_look.proofs.dump.title.Goals as goal
@@ -17,7 +17,7 @@ returns-in-Break g c = record {
       rw c.in-Break.is alone;
   refused = λ depth whole start before due p place offset but.
       let titled = subst (λ (x : Header). IsTitle (taken_bytes c.args.taken.now) x) c.in-Break.is p in
-      behind_but g.R.Read depth start _ _ before _ _
+      behind_refused g.R.Read depth start _ _ before _ _
       (c.break_title.ensures.refused c.args.strict depth whole start before due titled place but);
   moves = alone_leaves g.R.Read c.break_title.result c.args.decoder.now c.break_title.ensures.alone;
 }
@@ -28,7 +28,7 @@ returns-in-Tag g c = record {
       title_alone g.R.Read depth whole start _ _ before _ _ _ c.args.strict c.args.place _ _
       (c.nest.ensures.draws c.args.strict depth whole start before due p taken place all);
   refused = λ depth whole start before due p place offset but.
-      behind_but g.R.Read depth start _ _ before _ _
+      behind_refused g.R.Read depth start _ _ before _ _
       (c.nest.ensures.refused c.args.strict depth whole start before due p place but);
   moves = alone_leaves g.R.Read c.nest.result c.args.decoder.now c.nest.ensures.alone;
 }
@@ -39,7 +39,7 @@ returns-in-Positive g c = record {
       title_alone g.R.Read depth whole start _ _ before _ _ _ c.args.strict c.args.place _ _
       (c.value.ensures.draws c.args.strict depth whole start before due p taken place all);
   refused = λ depth whole start before due p place offset but.
-      behind_but g.R.Read depth start _ _ before _ _
+      behind_refused g.R.Read depth start _ _ before _ _
       (c.value.ensures.refused c.args.strict depth whole start before due p place but);
   moves = alone_leaves g.R.Read c.value.result c.args.decoder.now c.value.ensures.alone;
 }

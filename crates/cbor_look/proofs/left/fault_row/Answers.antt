@@ -1,6 +1,6 @@
 use Rattle.std.proofs.Common.{◌<◌, length, arith}
 use Rattle.cbor_look.specs.Takings.{taken_bytes}
-use Rattle.cbor_look.proofs.ButLaws.{row_but}
+use Rattle.cbor_look.proofs.RefusedLaws.{row_refused}
 use Rattle.cbor_look.proofs.left.fault_row.Goals as goal
 
 pub returns-clause-refused : goal.returns-clause-refused
@@ -8,4 +8,4 @@ returns-clause-refused g c =
     let value = c.len.ensures.value in
     let other = c.if-len-eq0.false in
     let some : 0 < length (taken_bytes c.args.taken.now) = omega (arith, value, other) in
-    row_but c.row.result _ _ c.args.level c.args.offset _ some c.row.ensures.refused
+    row_refused c.row.result _ _ c.args.level c.args.offset _ some c.row.ensures.refused

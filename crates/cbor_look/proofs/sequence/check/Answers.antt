@@ -2,7 +2,8 @@ use Rattle.std.proofs.Common.{length, Err, arith, add-one}
 use Rattle.ciborium_ll.proofs.DecodingLaws.{MovesOn-none, MovesOn-then}
 use Rattle.cbor_skip.specs.Skipping.{ReadsItem, SkipsItem, strictness}
 use Rattle.cbor_look.proofs.ItemRows.{items_counted}
-use Rattle.cbor_look.proofs.SequenceLaws.{none_read, one_more, ends, check_told, check_exactly, check_failures, check_number}
+use Rattle.cbor_look.proofs.SequenceLaws.{check_exactly, check_failures, check_number, check_told, ends, none_read}
+use Rattle.cbor_look.proofs.SequenceLaws.{one_more}
 use Rattle.cbor_look.proofs.sequence.check.Goals as goal
 
 pub items-init : goal.items-init

@@ -16,7 +16,8 @@ use Rattle.cbor_look.proofs.LeaveLaws.{dump_then, reads_on, reads_then, refused_
 use Rattle.cbor_look.proofs.RowLaws.{row_few}
 use Rattle.cbor_look.proofs.PullLaws.{passes_idle, passes_alike}
 use Rattle.cbor_look.proofs.PieceLaws.{alike_here, passed_row, within_no_title, within_other, within_body}
-use Rattle.cbor_look.proofs.PieceLaws.{within_fault, within_first, within_fails, within_open, within_break, within_ends, within_title}
+use Rattle.cbor_look.proofs.PieceLaws.{within_break, within_ends, within_fails, within_fault, within_first}
+use Rattle.cbor_look.proofs.PieceLaws.{within_open, within_title}
 use Rattle.cbor_look.proofs.PieceLaws.{within_piece, within_whole, piece_due, piece_offset, only_break, break_level}
 use Rattle.cbor_look.proofs.PieceLaws.{level_fits, comes_nearer, level_some}
 use Rattle.cbor_look.proofs.strings.pieces.Goals as goal
