@@ -529,6 +529,8 @@ impl Copier {
         ensures all { IsMore result.progress → result.taken ≡ length bytes.now }
         ensures full { IsRoom result.progress → result.written ≡ length out.old }
         ensures fits { self.old.pending ≡ [] → length bytes.now + 8 ≤ length out.old → IsRoom result.progress → ⊥ }
+        ensures grown { result.written + length self.new.pending + length self.new.front
+            ≤ length self.old.pending + length self.old.front + result.taken }
         ensures stays { is_due self.old.phase ≡ false → self.old.pending ≡ []
             → (result.taken ≡ 0) × (result.written ≡ 0) × (spot_of self.new ≡ spot_of self.old) }
     {

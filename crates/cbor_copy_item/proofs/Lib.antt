@@ -1,4 +1,5 @@
 pub mod ByteLaws
+pub mod FitLaws
 pub mod OutLaws
 pub mod PieceLaws
 pub mod RunLaws

@@ -1,5 +1,5 @@
 -- A copier of an item, as what its checker and its copier of elements have come to.
-use Rattle.std.specs.Prelude.{◌≡◌, ℕ, Bool, List, [], ◌∷◌, ◌++◌}
+use Rattle.std.specs.Prelude.{◌≡◌, ℕ, Bool, List, [], ◌∷◌, ◌++◌, ◌+◌, length}
 use Rattle.cbor_copy.specs.declared.copier.Copier.{Copier}
 use Rattle.cbor_copy.specs.Copying as copy
 use Rattle.cbor_copy.specs.Spots.{Spot as Elements, putting}
@@ -33,9 +33,17 @@ pub record AreFed (strict : Bool) (depth : ℕ) (fed : List ℕ) (item : Spot) (
 abbrev pub pending_of : Copier → List ℕ
 pending_of copier = (copy.spot_of copier).put
 
--- the same of a copier of an item
+-- how many bytes are to be written, or are held back of a title or of a character that is not whole
+abbrev pub kept_len : Copier → ℕ
+kept_len copier = length (copy.spot_of copier).put + length (copy.spot_of copier).front
+
+-- what is to be written of what a copier of an item put out
 abbrev pub pending : ItemCopier → List ℕ
 pending c = pending_of c.copier
+
+-- how many bytes it is to write, or holds back of a title or of a character that is not whole
+abbrev pub held : ItemCopier → ℕ
+held c = kept_len c.copier
 
 -- what the checker has come to
 abbrev pub item_spot : ItemCopier → Spot

@@ -1,7 +1,7 @@
 -- What some bytes more do.
 use Rattle.std.specs.Prelude.{◌≡◌, ℕ, ◌+◌, ◌<◌, ◌≤◌, ◌^◌, ◌⊎◌, Bool, List, [], ◌++◌, length, take, drop, Option, Some, None}
 use Rattle.cbor_copy_item.specs.declared.copier.ItemCopier.{ItemCopier}
-use Rattle.cbor_copy_item.specs.Copying.{IsItemCopied, pending}
+use Rattle.cbor_copy_item.specs.Copying.{IsItemCopied, held, pending}
 
 -- So many bytes were taken, and so many were written in front of the room: all that they put out, or the room is full
 pub record Written (old : ItemCopier) (bytes room : List ℕ) (taken written : ℕ) (out : List ℕ) (new : ItemCopier)
@@ -11,12 +11,14 @@ pub record Written (old : ItemCopier) (bytes room : List ℕ) (taken written : �
   pub within : written ≤ length room
   pub kept : drop written out ≡ drop written room
   pub full : (pending new ≡ []) ⊎ (written ≡ length room)
+  pub grown : written + held new ≤ held old + taken
   pub copied : (strict : Bool) (depth : ℕ) (fed given : List ℕ) → IsItemCopied strict depth fed given old
       → IsItemCopied strict depth (fed ++ take taken bytes) (given ++ take written out) new
 
 -- none were, since no more bytes can be counted
 pub record Stops (old : ItemCopier) (room out : List ℕ) (new : ItemCopier) : Type 0 where
   pub none : pending new ≡ pending old
+  pub held_same : held new ≡ held old
   pub same : out ≡ room
   pub copied : (strict : Bool) (depth : ℕ) (fed given : List ℕ) → IsItemCopied strict depth fed given old
       → IsItemCopied strict depth fed given new × (2 ^ 64 ≤ length fed + 1)
@@ -36,6 +38,7 @@ pub record WrittenTo (old : ItemCopier) (bytes : List ℕ) (at : ℕ) (room : Li
   pub within : end ≤ length room
   pub kept : drop end out ≡ drop end room
   pub full : (pending new ≡ []) ⊎ (end ≡ length room)
+  pub grown : at + end + held new ≤ next + before + held old
   pub copied : (strict : Bool) (depth : ℕ) (fed given : List ℕ)
       → IsItemCopied strict depth (fed ++ take at bytes) (given ++ take before room) old
       → IsItemCopied strict depth (fed ++ take next bytes) (given ++ take end out) new

@@ -9,7 +9,7 @@ ghost use Rattle.cbor_feed.specs.Checking.{spot_of};
 ghost use Rattle.cbor_feed.specs.Spots.{Spot};
 ghost use Rattle.cbor_feed.specs.Steps.{IsFed};
 ghost use Rattle.cbor_feed.specs.Telling.{IsAtFault, is_due};
-ghost use Rattle.cbor_copy_item.specs.Copying.{most, pending_of};
+ghost use Rattle.cbor_copy_item.specs.Copying.{kept_len, most, pending_of};
 
 use crate::progress::{Copied, End, Progress};
 use crate::snapshot::Snapshot;
@@ -73,6 +73,7 @@ fn copy(copier: &mut Copier, bytes: &[u8], out: &mut [u8]) -> usize
     ensures written { result ≤ length out.old }
     ensures kept { drop result out.new ≡ drop result out.old }
     ensures full { (pending_of copier.new ≡ []) ⊎ (result ≡ length out.old) }
+    ensures grown { result + kept_len copier.new ≤ kept_len copier.old + length bytes.now }
     ensures copied { (fed given : List ℕ) → (NoneGoOn most (fed ++ bytes.now) → ⊥) → AreBytes bytes.now
         → length fed + length bytes.now ≤ most → IsCopied most fed given copier.old
         → IsCopied most (fed ++ bytes.now) (given ++ take result out.new) copier.new }
@@ -91,7 +92,7 @@ pub struct ItemCopier {
 }
 
 impl ItemCopier {
-    ghost use Rattle.cbor_copy_item.specs.Copying.{IsItemCopied, item_spot, pending};
+    ghost use Rattle.cbor_copy_item.specs.Copying.{IsItemCopied, held, item_spot, pending};
     ghost use Rattle.std.specs.Prelude.{IfSome};
     ghost use Rattle.cbor_copy.specs.Spots.{Spot as Elements};
     ghost use Rattle.cbor_copy_item.specs.Snapshots.{Holds, IsAt, kept_spot};
@@ -168,6 +169,7 @@ impl ItemCopier {
         ensures written { result ≤ length out.old }
         ensures kept { drop result out.new ≡ drop result out.old }
         ensures full { (pending self.new ≡ []) ⊎ (result ≡ length out.old) }
+        ensures grown { result + held self.new ≤ held self.old }
         ensures copied { (strict : Bool) (depth : ℕ) (fed given : List ℕ)
             → IsItemCopied strict depth fed given self.old
             → IsItemCopied strict depth fed (given ++ take result out.new) self.new }
@@ -226,11 +228,12 @@ impl ItemCopier {
     ///
     /// `More` says that all of the piece was taken, that all that can be written of the bytes so far is, and that at
     /// least so many bytes are due. `Room` says that `out` is full, and there is more to write: the rest of the piece
-    /// is to be given again. `Ended` says that the item is whole, that it is written, and how many bytes of it came;
-    /// what follows in the piece is not taken. `Fault` says that no item begins as the bytes so far do; it comes with
-    /// the first byte of which that is so, which counts as taken, and what is written is the spelling of what came
-    /// before that byte. A later call takes and writes nothing, and answers the same. `TooLong` says that `usize::MAX`
-    /// bytes came, and the item goes on; none of the others is taken.
+    /// is to be given again. It never comes if nothing was pending and `out` has eight bytes more than the piece.
+    /// `Ended` says that the item is whole, that it is written, and how many bytes of it came; what follows in the
+    /// piece is not taken. `Fault` says that no item begins as the bytes so far do; it comes with the first byte of
+    /// which that is so, which counts as taken, and what is written is the spelling of what came before that byte. A
+    /// later call takes and writes nothing, and answers the same. `TooLong` says that `usize::MAX` bytes came, and the
+    /// item goes on; none of the others is taken.
     pub fn feed(&mut self, bytes: &[u8], out: &mut [u8]) -> Copied
         ensures taken { result.taken ≤ length bytes.now }
         ensures written { result.written ≤ length out.old }
@@ -245,6 +248,8 @@ impl ItemCopier {
         ensures answers { IsAnswer result.progress (pending self.new) (item_spot self.new) }
         ensures all { IsMore result.progress → result.taken ≡ length bytes.now }
         ensures full { IsRoom result.progress → result.written ≡ length out.old }
+        ensures fits { pending self.old ≡ [] → length bytes.now + 8 ≤ length out.old → IsRoom result.progress → ⊥ }
+        ensures grown { result.written + held self.new ≤ held self.old + result.taken }
         ensures stays { is_due (item_spot self.old).phase ≡ false → pending self.old ≡ []
             → (result.taken ≡ 0) × (result.written ≡ 0) × (self.new ≡ self.old) }
     {

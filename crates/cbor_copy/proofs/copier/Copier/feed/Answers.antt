@@ -1,8 +1,9 @@
-use Rattle.std.proofs.Common.{◌≡◌, ◌∙◌, [], ◌++◌, append-nil, append_assoc, take, length, sym, ap, rules, arith}
+use Rattle.std.proofs.Common.{◌≡◌, ◌∙◌, ◌+◌, [], ◌++◌, append-nil, append_assoc, take, length, sym, ap, rules, arith}
 use Rattle.ciborium_ll_text.proofs.Lists.{rest_long}
 use Rattle.cbor_copy.specs.Copying.{spot_of}
 use Rattle.cbor_copy.specs.Spots.{Spot, putting}
 use Rattle.cbor_copy.specs.Telling.{is_due}
+use Rattle.cbor_copy.proofs.KeptLaws.{given_grows}
 use Rattle.cbor_copy.proofs.RunLaws.{is_answer, fed_behind, drop_later, more_given, not_more}
 use Rattle.cbor_copy.proofs.TellLaws.{copier_tells, too_long}
 use Rattle.cbor_copy.proofs.copier.Copier.feed.Goals as goal
@@ -24,7 +25,7 @@ pieces-preserved c =
           fed_behind count fed _ bytes c.pieces.at c.advance-len.result.0 (putting [] (spot_of c.advance-len.new.self))
           (went.copied count (fed ++ take c.pieces.at bytes) given (c.pieces.invariant.copied count fed given is));
       full = search rules;
-      grown = λ given. omega (arith, c.pieces.invariant.grown given, went.grown, ap length none);
+      grown = omega (arith, c.pieces.invariant.grown, went.grown, ap length none);
       stays = λ off given.
           let same = c.pieces.invariant.stays off given in
           let phase = ap (λ (spot : Spot). is_due spot.phase) same.2 in
@@ -60,6 +61,7 @@ returns-clause-answers c =
 pub pieces-init : goal.pieces-init
 pieces-init c =
     let gave = c.give-written.ensures in
+    let old = spot_of c.args.self.now in
     record {
       within = omega arith;
       written = search rules;
@@ -67,7 +69,11 @@ pieces-init c =
       kept = gave.rest;
       copied = λ count fed given is. rw (append-nil fed, append_assoc given, gave.given) is;
       full = search rules;
-      grown = search rules;
+      grown = omega (
+        arith,
+        given_grows old 0 c.give-written.result (length old.put + length old.front) c.args.out.now
+            c.give-written.new.out c.give-written.new.self (omega arith) (omega arith) (search rules) gave.given,
+      );
       stays = search rules;
     }
 

@@ -13,8 +13,8 @@ invariant-pieces l =
       copied : (count : ℕ) (fed given : List ℕ) → IsCopied count fed given l.fn.self
           → IsCopied count (fed ++ take l.at l.bytes) (given ++ take l.written l.out) l.self;
       full : (l.self.pending ≡ []) ⊎ (l.written ≡ length l.out);
-      grown : l.fn.self.pending ≡ []
-          → l.written + length l.self.pending + length l.self.front ≤ length l.fn.self.front + l.at;
+      grown : l.written + length l.self.pending + length l.self.front
+          ≤ length l.fn.self.pending + length l.fn.self.front + l.at;
       stays : is_due l.fn.self.phase ≡ false → l.fn.self.pending ≡ []
           → (l.at ≡ 0) × (l.written ≡ 0) × (spot_of l.self ≡ spot_of l.fn.self);
     }

@@ -1,10 +1,11 @@
-use Rattle.std.proofs.Common.{◌≡◌, ◌∙◌, ◌++◌, ℕ, List, false, length, take, sym, ap, subst, rules}
+use Rattle.std.proofs.Common.{◌≡◌, ◌∙◌, ◌++◌, ℕ, List, false, length, take, sym, ap, subst, rules, arith}
 use Rattle.cbor_feed.specs.Telling.{is_due}
 use Rattle.cbor_copy.proofs.RunLaws.{drop_later}
 use Rattle.cbor_copy_item.specs.declared.copier.ItemCopier.{ItemCopier}
 use Rattle.cbor_copy_item.specs.Copying.{item_spot, elements_spot, pending}
 use Rattle.cbor_copy_item.specs.Telling.{Tells}
 use Rattle.cbor_copy_item.specs.declared.progress.Progress.TheVariants as r
+use Rattle.cbor_copy_item.proofs.FitLaws.{never_room}
 use Rattle.cbor_copy_item.proofs.TellLaws.{not_more, tells_long}
 use Rattle.cbor_copy_item.proofs.copier.ItemCopier.feed.Goals as goal
 
@@ -21,6 +22,7 @@ pieces-preserved c =
       copied = λ strict depth fed given was.
           wrote.copied strict depth fed given (so_far.copied strict depth fed given was);
       full = search rules;
+      grown = omega (arith, wrote.grown, so_far.grown);
       stays = λ off given.
           let same = so_far.stays off given in
           let phase : is_due (item_spot before).phase ≡ false =
@@ -53,3 +55,18 @@ returns-clause-tells c = λ strict depth fed given was.
     c.progress-2.result) all
     (c.progress-2.ensures.tells strict depth (fed ++ take c.pieces.at bytes)
     (given ++ take c.pieces.written c.pieces.out) (c.pieces.invariant.copied strict depth fed given was))
+
+pub returns-in_default-clause-fits : goal.returns-in_default-clause-fits
+returns-in_default-clause-fits c =
+    let so_far = c.pieces.invariant in
+    never_room c.args.self.now c.pieces.self c.progress.result (length c.args.bytes.now) (length c.args.out.now) c.pieces.at
+    c.pieces.written c.progress.ensures.answers (rw (← so_far.long) so_far.full) so_far.grown so_far.within
+
+pub returns-clause-fits : goal.returns-clause-fits
+returns-clause-fits c =
+    let so_far = c.pieces.invariant in
+    never_room c.args.self.now c.pieces.self c.progress-2.result (length c.args.bytes.now) (length c.args.out.now)
+    c.pieces.at c.pieces.written c.progress-2.ensures.answers (rw (← so_far.long) so_far.full) so_far.grown so_far.within
+
+pub returns-in-None-clause-grown : goal.returns-in-None-clause-grown
+returns-in-None-clause-grown c = omega (arith, c.in-None.ensures.held_same, c.pieces.invariant.grown)

@@ -1,6 +1,6 @@
-use Rattle.std.proofs.Common.{◌≡◌, ◌≤◌, ◌-◌, ◌⊎◌, ℕ, Bool, List, [], take, drop, length, ◌++◌, false}
+use Rattle.std.proofs.Common.{◌≡◌, ◌≤◌, ◌+◌, ◌-◌, ◌⊎◌, ℕ, Bool, List, [], take, drop, length, ◌++◌, false}
 use Rattle.cbor_feed.specs.Telling.{is_due}
-use Rattle.cbor_copy_item.specs.Copying.{IsItemCopied, item_spot, pending}
+use Rattle.cbor_copy_item.specs.Copying.{IsItemCopied, held, item_spot, pending}
 use Rattle.cbor_copy_item.proofs.copier.ItemCopier.feed.Given as goal
 
 abbrev pub invariant-pieces : goal.invariant-pieces
@@ -13,6 +13,7 @@ invariant-pieces l =
       copied : (strict : Bool) (depth : ℕ) (fed given : List ℕ) → IsItemCopied strict depth fed given l.fn.self
           → IsItemCopied strict depth (fed ++ take l.at l.bytes) (given ++ take l.written l.out) l.self;
       full : (pending l.self ≡ []) ⊎ (l.written ≡ length l.out);
+      grown : l.written + held l.self ≤ held l.fn.self + l.at;
       stays : is_due (item_spot l.fn.self).phase ≡ false → pending l.fn.self ≡ []
           → (l.at ≡ 0) × (l.written ≡ 0) × (l.self ≡ l.fn.self);
     }

@@ -8,6 +8,7 @@ use Rattle.cbor_copy_item.proofs.copier.ItemCopier.step.Goals as goal
 pub returns-then-taken-eq0 : goal.returns-then-taken-eq0
 returns-then-taken-eq0 c = record {
   none = refl;
+  held_same = refl;
   same = refl;
   copied = λ strict depth fed given was.
       let left = c.check-taken.ensures.none strict depth fed was.checked (search rules) in (
@@ -23,6 +24,7 @@ returns c = record {
   within = c.copy.ensures.written;
   kept = c.copy.ensures.kept;
   full = c.copy.ensures.full;
+  grown = search rules;
   copied = λ strict depth fed given was.
       let old = c.args.self.now in
       let bytes = c.args.bytes.now in

@@ -36,6 +36,7 @@ returns c =
         | inl none ↦ inl none
         | inr all ↦ inr (omega (arith, all, room_len, c.requires.room))
       ];
+      grown = omega (arith, wrote.grown);
       copied = λ strict depth fed given was.
           rw (
             ← fed_front fed bytes at len taken all within,
