@@ -407,7 +407,10 @@ static int finds_overlaps(void)
         && !cll_overlap(space, 0, space, 4) && !cll_overlap(space, 4, space, 0) && !cll_overlap(NULL, 0, NULL, 0);
 }
 
-/* How many elements are there, or fit, and where the last of them ends: of a copy, and of a strict check. */
+/*
+ * How many elements are there, or fit, and where the last of them and its spelling end: of a copy, and of a strict
+ * check.
+ */
 static int counts_elements(void)
 {
     static const struct {
@@ -415,32 +418,36 @@ static int counts_elements(void)
         size_t len, room;
         uint64_t count;
         uint32_t copied;
-        uint64_t elements, whole;
+        uint64_t elements, whole, spelled;
         uint32_t checked;
         uint64_t strict_elements, strict_whole;
     } rows[] = {
-        {{0x05}, 1, 1, UINT64_MAX, CLL_SHORT, 1, 1, CLL_SHORT, 1, 1},
-        {{0x41}, 1, 1, UINT64_MAX, CLL_SHORT, 0, 0, CLL_SHORT, 0, 0},
-        {{0}, 0, 0, UINT64_MAX, CLL_SHORT, 0, 0, CLL_SHORT, 0, 0},
-        {{0}, 0, 0, 0, CLL_OK, 0, 0, CLL_OK, 0, 0},
-        {{0x01, 0x82, 0x1c}, 3, 3, UINT64_MAX, CLL_SYNTAX, 2, 2, CLL_SYNTAX, 2, 2},
-        {{0x01, 0x18, 0x05, 0x02}, 4, 4, 2, CLL_OK, 2, 3, CLL_SYNTAX, 1, 1},
-        {{0x5f, 0x41, 0x61, 0xff, 0x19}, 5, 5, 3, CLL_SHORT, 1, 4, CLL_SHORT, 1, 4},
-        {{0x01, 0x5f, 0x41, 0x61}, 4, 4, 2, CLL_SHORT, 1, 1, CLL_SHORT, 1, 1},
-        {{0x01, 0x62, 0xc3, 0x28, 0x02}, 5, 5, 3, CLL_SYNTAX, 1, 1, CLL_SYNTAX, 1, 1},
-        {{0x01, 0x42, 0x61, 0x62, 0x03}, 5, 3, 3, CLL_ROOM, 1, 1, CLL_OK, 3, 5},
-        {{0x01, 0x42, 0x61, 0x62, 0x03}, 5, 4, 3, CLL_ROOM, 2, 4, CLL_OK, 3, 5},
+        {{0x05}, 1, 1, UINT64_MAX, CLL_SHORT, 1, 1, 1, CLL_SHORT, 1, 1},
+        {{0x41}, 1, 1, UINT64_MAX, CLL_SHORT, 0, 0, 0, CLL_SHORT, 0, 0},
+        {{0}, 0, 0, UINT64_MAX, CLL_SHORT, 0, 0, 0, CLL_SHORT, 0, 0},
+        {{0}, 0, 0, 0, CLL_OK, 0, 0, 0, CLL_OK, 0, 0},
+        {{0x01, 0x82, 0x1c}, 3, 3, UINT64_MAX, CLL_SYNTAX, 2, 2, 2, CLL_SYNTAX, 2, 2},
+        {{0x01, 0x18, 0x05, 0x02}, 4, 4, 2, CLL_OK, 2, 3, 2, CLL_SYNTAX, 1, 1},
+        {{0x5f, 0x41, 0x61, 0xff, 0x19}, 5, 5, 3, CLL_SHORT, 1, 4, 4, CLL_SHORT, 1, 4},
+        {{0x01, 0x5f, 0x41, 0x61}, 4, 4, 2, CLL_SHORT, 1, 1, 1, CLL_SHORT, 1, 1},
+        {{0x01, 0x62, 0xc3, 0x28, 0x02}, 5, 5, 3, CLL_SYNTAX, 1, 1, 1, CLL_SYNTAX, 1, 1},
+        {{0x01, 0x42, 0x61, 0x62, 0x03}, 5, 3, 3, CLL_ROOM, 1, 1, 1, CLL_OK, 3, 5},
+        {{0x01, 0x42, 0x61, 0x62, 0x03}, 5, 4, 3, CLL_ROOM, 2, 4, 4, CLL_OK, 3, 5},
+        {{0x18, 0x05, 0x58, 0x01, 0x61, 0x43}, 6, 6, 3, CLL_SHORT, 2, 5, 3, CLL_SYNTAX, 0, 0},
+        {{0x18, 0x05, 0x58, 0x01, 0x61, 0x43}, 6, 2, 3, CLL_ROOM, 1, 2, 1, CLL_SYNTAX, 0, 0},
     };
     for (size_t i = 0; i < sizeof rows / sizeof *rows; i++) {
         uint32_t answer = cll_recode(rows[i].data, rows[i].len, rows[i].count, space, rows[i].room, &report);
-        if (answer != rows[i].copied || report.elements != rows[i].elements || report.whole != rows[i].whole)
+        if (answer != rows[i].copied || report.elements != rows[i].elements || report.whole != rows[i].whole
+            || report.spelled != rows[i].spelled)
             return 0;
         answer = cll_strict(rows[i].data, rows[i].len, rows[i].count, &report);
         if (answer != rows[i].checked || report.elements != rows[i].strict_elements
-            || report.whole != rows[i].strict_whole)
+            || report.whole != rows[i].strict_whole || report.spelled != 0)
             return 0;
     }
-    return cll_skip(rows[0].data, 1, 256, &report) == CLL_OK && report.elements == 0 && report.whole == 0;
+    return cll_skip(rows[0].data, 1, 256, &report) == CLL_OK && report.elements == 0 && report.whole == 0
+        && report.spelled == 0;
 }
 
 /* How many bytes more are due: of a copy, of a strict check and of a skip. 0 is behind what nothing makes good. */

@@ -1,7 +1,7 @@
 /*
  * Prints how many bytes of the stack each call uses, one line NAME BYTES for each: of cll_skip for some depths, each
  * filled with nests of two kinds down to a text and to a byte string of indefinite length. A line NAME/short is of bytes
- * that end too early.
+ * that end too early, in one of the ways in which they can.
  *
  * A call runs on a stack of its own, which was filled before with one value. What it changed is what it used. What a
  * call of nothing uses is taken off.
@@ -62,6 +62,20 @@ static void recode_cut(void) { answer = cut(cll_recode(data, len - 1, 1, out, si
 static void strict_cut(void) { answer = cut(cll_strict(data, len - 1, 1, &report)); }
 static void skip_cut(void) { answer = cut(cll_skip(data, len - 1, depth, &report)); }
 
+/* Of bytes that end too early as they are. */
+static void recode_short(void) { answer = cut(cll_recode(data, len, UINT64_MAX, out, sizeof out, &report)); }
+static void strict_short(void) { answer = cut(cll_strict(data, len, UINT64_MAX, &report)); }
+static void skip_short(void) { answer = cut(cll_skip(data, len, depth, &report)); }
+static void checker_short(void) { answer = cut(cll_checker_feed(&checker, data, len, &report)); }
+static void checker_cut(void) { answer = len == 0 ? CLL_OK : cut(cll_checker_end(&checker, &report)); }
+static void copier_short(void) { answer = cut(cll_copier_feed(&copier, data, len, out, sizeof out, &report)); }
+static void copier_cut(void) { answer = cut(cll_copier_end(&copier, &report)); }
+static void item_copier_short(void)
+{
+    answer = cut(cll_item_copier_feed(&item_copier, data, len, out, sizeof out, &report));
+}
+static void item_copier_cut(void) { answer = len == 0 ? CLL_OK : cut(cll_item_copier_end(&item_copier, &report)); }
+
 /* How many bytes of a stack a call changed. It has to answer CLL_OK. */
 static size_t used(void (*call)(void))
 {
@@ -108,6 +122,42 @@ static void make_nests(int is_open, unsigned levels)
     depth = levels;
 }
 
+/* What each call uses of bytes that end too early: before a title, within one, within a body, a character or a nest. */
+static void use_short(size_t plain)
+{
+    static const struct { const char *name; void (*call)(void); } calls[] = {
+        {"cll_recode/short", recode_short}, {"cll_strict/short", strict_short}, {"cll_skip/short/4", skip_short},
+        {"cll_checker_feed/short", checker_short}, {"cll_checker_end", checker_cut},
+        {"cll_copier_feed/short", copier_short}, {"cll_copier_end/short", copier_cut},
+        {"cll_item_copier_feed/short", item_copier_short}, {"cll_item_copier_end/short", item_copier_cut},
+    };
+    static const struct { uint8_t bytes[6]; size_t len; } rows[] = {
+        {{0}, 0},                               /* before a title */
+        {{0x19, 0x03}, 2},                      /* within a title */
+        {{0x5b, 0, 0}, 3},                      /* within that of a string */
+        {{0x42}, 1},                            /* before a body */
+        {{0x43, 1}, 2},                         /* within a body */
+        {{0x63, 0xe6, 0xb0}, 3},                /* within a character */
+        {{0x5f}, 1},                            /* before a segment */
+        {{0x5f, 0x58}, 2},                      /* within the title of one */
+        {{0x5f, 0x41}, 2},                      /* before the body of one */
+        {{0x7f, 0x62, 0xc3}, 3},                /* within a character of one */
+        {{0x7f, 0x61, 'a'}, 3},                 /* before the next one */
+        {{0x82, 0x81, 0x18}, 3},                /* within nests */
+        {{0xbf, 0x61, 'a', 0xc1, 0x5f, 0x41}, 6},
+    };
+    for (size_t i = 0; i < sizeof rows / sizeof *rows; i++) {
+        memcpy(data, rows[i].bytes, sizeof rows[i].bytes);
+        len = rows[i].len;
+        depth = 4;
+        cll_checker_init(&checker, DEEPEST);
+        cll_copier_init(&copier, UINT64_MAX);
+        cll_item_copier_init(&item_copier, DEEPEST);
+        for (size_t j = 0; j < sizeof calls / sizeof *calls; j++)
+            printf("%s %zu\n", calls[j].name, used(calls[j].call) - plain);
+    }
+}
+
 int main(void)
 {
     static const struct { const char *name; void (*call)(void); } calls[] = {
@@ -128,6 +178,7 @@ int main(void)
     make_text();
     for (size_t i = 0; i < sizeof calls / sizeof *calls; i++)
         printf("%s %zu\n", calls[i].name, used(calls[i].call) - plain);
+    use_short(plain);
     for (size_t i = 0; i < sizeof depths / sizeof *depths; i++) {
         for (int is_open = 0; is_open < 2; is_open++) {
             make_nests(is_open, depths[i]);

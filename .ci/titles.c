@@ -119,7 +119,7 @@ static int writes(const struct row *row)
     uint8_t title[SPACE], out[SPACE], untouched[SPACE];
     const size_t len = bytes_of(row->shortest, title);
     const cll_header header = {row->value, row->kind, row->indefinite};
-    cll_report report = {99, 99, 99, 99, 99};
+    cll_report report = {99, 99, 99, 99, 99, 99};
     memset(untouched, 0xee, SPACE);
     memset(out, 0xee, SPACE);
     if (cll_push(&header, out, len - 1, &report) != CLL_ROOM || report.written != 0

@@ -17,7 +17,7 @@ class Header(ctypes.Structure):
 
 
 class Report(ctypes.Structure):
-    _fields_ = [(name, ctypes.c_uint64) for name in ("consumed", "written", "place", "elements", "whole")]
+    _fields_ = [(name, ctypes.c_uint64) for name in ("consumed", "written", "place", "elements", "whole", "spelled")]
 
 
 def library(name):

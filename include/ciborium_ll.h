@@ -63,10 +63,12 @@ typedef struct { uint64_t value; uint8_t kind; uint8_t indefinite; } cll_header;
  * pieces, and with CLL_OK of cll_checker_feed and cll_item_copier_feed `place` is the item's length. Of those of a
  * copier it is counted from the first byte of the elements, through all pieces.
  *
- * Of cll_recode and cll_strict `elements` says how many elements were done whole, whatever the answer, and `whole` the
- * offset in `data` behind the last of them. Of the other calls both are 0.
+ * Of cll_recode and cll_strict `elements` is how many elements were done whole, whatever the answer. `whole` is the
+ * offset in `data` after the last of them. Of cll_recode `spelled` is how many of the bytes written are the spelling of
+ * these elements. So a copy goes on from `data + whole` to `out + spelled`. Of cll_strict `spelled` is 0, and of the
+ * other calls all three are 0.
  */
-typedef struct { uint64_t consumed; uint64_t written; uint64_t place; uint64_t elements; uint64_t whole; } cll_report;
+typedef struct { uint64_t consumed, written, place, elements, whole, spelled; } cll_report;
 
 /*
  * A checker of one item whose bytes come in pieces, as out of a socket or a pipe. It stands in memory of the caller's
@@ -155,13 +157,14 @@ uint32_t cll_push_wide(const cll_header *header, uint32_t width, uint8_t *out, s
  * written before an error stands in `out`, with CLL_ROOM at most a beginning of what did not fit behind it, which
  * `written` counts too. Behind what was written `out` is as it was.
  *
- * `elements` of them were copied whole, and `data` has no more of them in front of the fault or of its end, or with
- * CLL_ROOM one more does not fit into `out`. So a `count` of UINT64_MAX copies all that are there: `data` ends behind a
- * whole element where the answer is CLL_SHORT and `whole` is `len`, and else within one. With CLL_SHORT `place` says
- * how many bytes more are due at least, or 0 where no such elements begin so.
+ * `elements` of them were copied whole: they are the first `whole` bytes of `data`, and their spelling is the first
+ * `spelled` bytes of `out`. `data` has no more whole elements before the fault or its end, or with CLL_ROOM one more
+ * does not fit into `out`. So a `count` of UINT64_MAX copies all that are there: `data` ends after a whole element if
+ * the answer is CLL_SHORT and `whole` is `len`, and otherwise within one. With CLL_SHORT `place` is how many bytes more
+ * are due at least, or 0 if no such elements begin so.
  *
- * Bodies are read through a buffer of 1,024 bytes. So the body of a text that is no UTF-8, and of which `data` ends too
- * early, is answered by CLL_SHORT or by CLL_SYNTAX, depending on its length and on where it goes wrong.
+ * Bodies are read through a buffer of 1,024 bytes. So if a text is no UTF-8 and `data` ends within it, the answer is
+ * CLL_SHORT or CLL_SYNTAX, depending on its length and on where it goes wrong.
  */
 uint32_t cll_recode(const uint8_t *data, size_t len, uint64_t count, uint8_t *out, size_t room, cll_report *report);
 
@@ -170,8 +173,11 @@ uint32_t cll_recode(const uint8_t *data, size_t len, uint64_t count, uint8_t *ou
  * string of indefinite length inside another. Nothing is written. `consumed` is their length.
  *
  * CLL_OK; CLL_SHORT where `data` ends before so many elements do; CLL_SYNTAX as in cll_recode, and at the title that is
- * longer than it need be, is such a simple value, or opens such a string. A text that is no UTF-8 and ends too early is
- * answered as by cll_recode. `elements`, `whole` and with CLL_SHORT `place` are as of cll_recode.
+ * longer than it need be, is such a simple value, or opens such a string. If a text is no UTF-8 and `data` ends within
+ * it, the answer is CLL_SHORT or CLL_SYNTAX. `elements`, `whole` and with CLL_SHORT `place` are as of cll_recode.
+ *
+ * With CLL_SHORT and CLL_SYNTAX within a body `consumed` is at least the offset of the body, and at most the end of the
+ * body or of `data`.
  */
 uint32_t cll_strict(const uint8_t *data, size_t len, uint64_t count, cll_report *report);
 
@@ -181,8 +187,11 @@ uint32_t cll_strict(const uint8_t *data, size_t len, uint64_t count, cll_report 
  *
  * CLL_OK; CLL_SHORT where `data` ends before the item does: `place` says how many bytes more are due at least, or 0
  * where no item begins so; CLL_SYNTAX as in cll_recode; CLL_BREAK_DUE for a break in place of an item, also in place of
- * a value of a map; CLL_TOO_DEEP, of which the title is consumed; and CLL_ARGUMENT for a depth above 256. A text that
- * is no UTF-8 and ends too early is answered as by cll_recode.
+ * a value of a map; CLL_TOO_DEEP, of which the title is consumed; and CLL_ARGUMENT for a depth above 256. If a text is
+ * no UTF-8 and `data` ends within it, the answer is CLL_SHORT or CLL_SYNTAX.
+ *
+ * With CLL_SHORT and CLL_SYNTAX within a body `consumed` is at least the offset of the body, and at most the end of the
+ * body or of `data`.
  */
 uint32_t cll_skip(const uint8_t *data, size_t len, uint32_t depth, cll_report *report);
 
@@ -251,21 +260,22 @@ uint32_t cll_checker_end(const cll_checker *checker, cll_report *report);
 uint32_t cll_copier_init(cll_copier *copier, uint64_t count);
 
 /*
- * Gives a copier the next bytes of its elements, as many as there are, and writes in front of `out` as much of their
- * shortest spelling as it can. `consumed` says how many of the bytes it took, and `written` how many it wrote. Behind
- * these `out` is as it was. How the bytes are cut into pieces, and how much room each call has, changes nothing of what
- * is written in all: of so many elements that is what cll_recode writes.
+ * Gives a copier the next bytes of its elements, as many as there are, and writes their shortest spelling to the start
+ * of `out`: of each whole title its shortest one, of a byte string each byte, and of a text each whole character. Of an
+ * open and of a break of a string within a string it writes nothing. `consumed` is how many of the bytes it took, and
+ * `written` how many it wrote. After these `out` is as it was. How the bytes are cut into pieces, and how much room
+ * each call has, changes nothing of what is written in all: of so many elements that is what cll_recode writes.
  *
  * CLL_OK where so many elements came, and all of their spelling is written; what stands behind them in `data` is not
- * taken. CLL_SHORT where more is due: all of `data` was taken, and all is written that can be before more comes. Of a
- * title and of a character that are cut nothing is written. CLL_ROOM where `out` is full, and there is more to write:
- * what was not taken of `data` has to be given again, and where that is nothing, a call with no bytes writes the rest.
- * `written` is then `room`, so a call that has some room always gets on. CLL_SYNTAX where that many elements never
- * begin as the bytes so far do: it comes with the first byte of which that is so, which is taken, in a text that is no
- * UTF-8 with the byte that goes wrong, and what was written is the spelling of what stands in front of the fault.
- * CLL_TOO_LONG where the elements go on behind 2^64 - 1 bytes. CLL_ARGUMENT where no copier was set up there, or what
- * stands there now is that of none: nothing was taken or written, and nothing has changed. After CLL_OK and after
- * CLL_SYNTAX a further call takes and writes nothing, and answers the same.
+ * taken. CLL_SHORT if more is due: all of `data` was taken, and all of it is written but a title or a character of
+ * which not all bytes came. CLL_ROOM if `out` is full, and there is more to write: what was not taken of `data` has to
+ * be given again, and if that is nothing, a call with no bytes writes the rest. `written` is then `room`, so a call
+ * that has some room always gets on. CLL_ROOM does not come if `room` is at least `len` + 8 and the call before did not
+ * answer it. CLL_SYNTAX if that many elements never begin as the bytes so far do: it comes with the first byte of which
+ * that is so, which is taken, in a text that is no UTF-8 with the byte that goes wrong, and what was written is the
+ * spelling of what stands before the fault. CLL_TOO_LONG where the elements go on behind 2^64 - 1 bytes. CLL_ARGUMENT
+ * where no copier was set up there, or what stands there now is that of none: nothing was taken or written, and nothing
+ * has changed. After CLL_OK and after CLL_SYNTAX a further call takes and writes nothing, and answers the same.
  *
  * Not all memory that was overwritten is found out by CLL_ARGUMENT. But whatever stands there, no call reads or writes
  * beyond what it is given.
@@ -297,19 +307,19 @@ uint32_t cll_item_copier_init(cll_item_copier *copier, uint32_t depth);
 uint32_t cll_item_copier_init_strict(cll_item_copier *copier, uint32_t depth);
 
 /*
- * Gives a copier the next bytes of its item, as many as there are, and writes in front of `out` as much of their
- * shortest spelling as it can. `consumed` says how many of the bytes it took, and `written` how many it wrote. Behind
+ * Gives a copier the next bytes of its item, as many as there are, and writes their shortest spelling to the start of
+ * `out`, as cll_copier_feed does. `consumed` is how many of the bytes it took, and `written` how many it wrote. After
  * these `out` is as it was. How the bytes are cut into pieces, and how much room each call has, changes nothing of what
  * is written in all: of the item's elements that is what cll_recode writes.
  *
  * CLL_OK where the item has ended, and all of its spelling is written, with its length as `place`; what stands behind
- * it in `data` is not taken. CLL_SHORT where more is due, with at least how many bytes as `place`: all of `data` was
- * taken, and all is written that can be before more comes. CLL_ROOM where `out` is full, and there is more to write, as
- * of cll_copier_feed. CLL_SYNTAX, CLL_BREAK_DUE and CLL_TOO_DEEP where no item begins as the bytes so far do, as of
- * cll_checker_feed: the byte with which that comes is taken, and nothing of it is written. CLL_TOO_LONG where the item
- * goes on behind 2^64 - 1 bytes. CLL_ARGUMENT where no copier was set up there, or what stands there now is that of
- * none: nothing was taken or written, and nothing has changed. After CLL_OK and after a fault a further call takes and
- * writes nothing, and answers the same.
+ * it in `data` is not taken. CLL_SHORT if more is due, with at least how many bytes as `place`: all of `data` was
+ * taken, and all of it is written but a title or a character of which not all bytes came. CLL_ROOM if `out` is full,
+ * and there is more to write, as of cll_copier_feed. CLL_SYNTAX, CLL_BREAK_DUE and CLL_TOO_DEEP where no item begins as
+ * the bytes so far do, as of cll_checker_feed: the byte with which that comes is taken, and nothing of it is written.
+ * CLL_TOO_LONG where the item goes on behind 2^64 - 1 bytes. CLL_ARGUMENT where no copier was set up there, or what
+ * stands there now is that of none: nothing was taken or written, and nothing has changed. After CLL_OK and after a
+ * fault a further call takes and writes nothing, and answers the same.
  *
  * Not all memory that was overwritten is found out by CLL_ARGUMENT. But whatever stands there, no call reads or writes
  * beyond what it is given.

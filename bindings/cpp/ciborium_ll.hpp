@@ -124,8 +124,9 @@ constexpr const char *name_of(answer code) noexcept
 /*
  * Why a call has no value, and how far it came. `place` is the offset that the fault names: where `too_short` stopped,
  * and 0 for `room` and `argument`. `elements` is how many elements `recode` and `strict` did whole, and `whole` how many
- * bytes these have. With `too_short` `due` is of `recode`, `strict`, `skip`, a checker and a copier of an item how many
- * bytes more are due at least, or 0 where nothing that may follow makes it good; else it is 0.
+ * bytes these have. `spelled` is how many of the bytes that `recode` wrote are their spelling. With `too_short` `due` is
+ * of `recode`, `strict`, `skip`, a checker and a copier of an item how many bytes more are due at least, or 0 where
+ * nothing that may follow makes it good; else it is 0.
  */
 struct fault {
     answer code;
@@ -135,6 +136,7 @@ struct fault {
     std::uint64_t elements;
     std::uint64_t whole;
     std::uint64_t due;
+    std::uint64_t spelled;
 
     const char *name() const noexcept { return name_of(code); }
 };
@@ -181,7 +183,7 @@ public:
 
 private:
     std::optional<T> value_;
-    ciborium_ll::fault fault_{answer::ok, 0, 0, 0, 0, 0, 0};
+    ciborium_ll::fault fault_{answer::ok, 0, 0, 0, 0, 0, 0, 0};
 };
 
 /* A header, and the length of the title that it was read from. */
@@ -208,7 +210,7 @@ inline fault fault_of(std::uint32_t code, const cll_report &report) noexcept
 {
     const bool cut = code == CLL_SHORT;
     return {static_cast<answer>(code), cut ? report.consumed : report.place, report.consumed, report.written,
-        report.elements, report.whole, cut ? report.place : 0};
+        report.elements, report.whole, cut ? report.place : 0, report.spelled};
 }
 
 /* Why no end may stand behind so many bytes, by the answer of a call that is fed and its report. */

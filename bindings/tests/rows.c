@@ -104,7 +104,7 @@ static int holds(const struct row *row)
     char text[3 * ROOM];
     const char *made = "-";
     cll_header header = row->header;
-    cll_report report = {9, 9, 9, 9, 9};
+    cll_report report = {9, 9, 9, 9, 9, 9};
     uint32_t answer = CLL_ARGUMENT;
     if (data == NULL || out == NULL)
         exit(2);

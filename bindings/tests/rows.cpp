@@ -144,6 +144,17 @@ bool throws()
     return false;
 }
 
+/* A copy that has no room goes on after the whole elements, and their spelling. */
+bool goes_on()
+{
+    std::array<std::uint8_t, 4> out;
+    const std::string_view data = "\x18\x05\x58\x01z"sv;
+    const auto full = cll::recode(data, 2, {out.data(), 2}).fault();
+    const auto rest = cll::recode(data.substr(full.whole), 1, {out.data() + full.spelled, 2});
+    return full.code == cll::answer::room && full.elements == 1 && full.whole == 2 && full.written == 2
+        && full.spelled == 1 && rest && rest->written == 2 && shown({out.data(), 3}) == "05417a";
+}
+
 /* A reader goes over a map with a string and an array, and stays where a call fails. */
 bool reads()
 {
@@ -252,7 +263,8 @@ bool spans()
 
 int main(int argc, char **argv)
 {
-    if (argc != 2 || !throws() || !reads() || !joins() || !checks() || !copies_on() || !copies_item() || !spans())
+    if (argc != 2 || !throws() || !goes_on() || !reads() || !joins() || !checks() || !copies_on() || !copies_item()
+        || !spans())
         return 2;
     return go_through(argv[1], holds);
 }

@@ -42,20 +42,22 @@ class Error(ValueError):
 
     ``name`` names the answer, and ``place`` is the offset that it names, in all of the bytes; of ``short`` it is where
     the read stopped. ``consumed`` and ``written`` say how far the call came; ``elements`` how many elements ``recode``
-    and ``strict`` did whole, and ``whole`` how many bytes these have. Of a ``Copier`` ``data`` is what it wrote. ``due``
-    is of ``short`` how many bytes more ``recode``, ``strict``, ``skip``, a ``Checker`` and an ``ItemCopier`` need at
-    least, or 0 where nothing that may follow makes it good; else it is 0.
+    and ``strict`` did whole, ``whole`` how many bytes these have, and ``spelled`` how many of the bytes that ``recode``
+    wrote are their spelling. Of a ``Copier`` ``data`` is what it wrote. ``due`` is of ``short`` how many bytes more
+    ``recode``, ``strict``, ``skip``, a ``Checker`` and an ``ItemCopier`` need at least, or 0 where nothing that may
+    follow makes it good; else it is 0.
     """
 
     name = "error"
 
-    def __init__(self, place, consumed, written, elements=0, whole=0, data=b"", due=0):
+    def __init__(self, place, consumed, written, elements=0, whole=0, data=b"", due=0, spelled=0):
         super().__init__(f"{self.name} at {place}")
         self.place, self.consumed, self.written = place, consumed, written
-        self.elements, self.whole, self.data, self.due = elements, whole, data, due
+        self.elements, self.whole, self.data, self.due, self.spelled = elements, whole, data, due, spelled
 
     def __reduce__(self):
-        return type(self), (self.place, self.consumed, self.written, self.elements, self.whole, self.data, self.due)
+        return type(self), (self.place, self.consumed, self.written, self.elements, self.whole, self.data, self.due,
+                            self.spelled)
 
 
 class Short(Error):
@@ -105,7 +107,7 @@ class _Header(ctypes.Structure):
 
 
 class _Report(ctypes.Structure):
-    _fields_ = [(name, ctypes.c_uint64) for name in ("consumed", "written", "place", "elements", "whole")]
+    _fields_ = [(name, ctypes.c_uint64) for name in ("consumed", "written", "place", "elements", "whole", "spelled")]
 
 
 class _Checker(ctypes.Structure):
@@ -207,7 +209,7 @@ def _check(answer, report, offset=0):
     if answer != 0:
         place, due = (report.consumed, report.place) if answer == 1 else (report.place, 0)
         raise _ERRORS[answer](place if answer in (3, 7) else place + offset, report.consumed, report.written,
-                              report.elements, report.whole, due=due)
+                              report.elements, report.whole, due=due, spelled=report.spelled)
 
 
 def _pulled(at, length, offset):

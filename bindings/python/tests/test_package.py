@@ -84,6 +84,16 @@ class Errors(unittest.TestCase):
         sent = pickle.loads(pickle.dumps(caught.exception))
         self.assertEqual((type(sent), sent.place, sent.consumed), (ciborium_ll.TooDeep, 3, 4))
 
+    def test_what_was_copied_whole(self):
+        with self.assertRaises(ciborium_ll.Short) as caught:
+            ciborium_ll.recode(b"\x18\x05\x43", 2)
+        for error in (caught.exception, pickle.loads(pickle.dumps(caught.exception))):
+            self.assertEqual((error.elements, error.whole, error.spelled, error.written), (1, 2, 1, 2))
+        with self.assertRaises(ciborium_ll.Short) as caught:
+            ciborium_ll.strict(b"\x05\x43", 2)
+        error = caught.exception
+        self.assertEqual((error.elements, error.whole, error.spelled), (1, 1, 0))
+
 
 class Texts(unittest.TestCase):
     def test_a_text_in_pieces(self):

@@ -16,6 +16,8 @@ pub struct Copied {
     pub elements: u64,
     /// How many bytes these have.
     pub whole: usize,
+    /// How many of the bytes written are their spelling.
+    pub spelled: usize,
 }
 
 impl Copied {
@@ -26,6 +28,7 @@ impl Copied {
             written: report.written as usize,
             elements: report.elements,
             whole: report.whole as usize,
+            spelled: report.spelled as usize,
         }
     }
 }

@@ -28,6 +28,8 @@ pub struct cll_report {
     pub elements: u64,
     /// Of both the offset behind the last of them, else 0.
     pub whole: u64,
+    /// Of a copy how many of the bytes written are their spelling, else 0.
+    pub spelled: u64,
 }
 
 /// A checker of one item whose bytes come in pieces. What stands in it is the library's, and zeros are none.

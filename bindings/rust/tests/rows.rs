@@ -263,3 +263,18 @@ fn a_copy_that_stops_says_how_far_it_came() {
         Error::Room
     );
 }
+
+#[test]
+fn a_copy_without_room_goes_on_after_its_whole_elements() {
+    let (data, mut out) = (b"\x18\x05\x58\x01a", [0; 4]);
+    let stopped = recode(data, 2, &mut out[..2]).unwrap_err();
+    let copied = stopped.copied;
+    assert_eq!(
+        (stopped.error, copied.elements, copied.whole, copied.spelled),
+        (Error::Room, 1, 2, 1)
+    );
+    assert_eq!(copied.written, 2);
+    let rest = recode(&data[copied.whole..], 1, &mut out[copied.spelled..]).unwrap();
+    assert_eq!((rest.elements, rest.whole, rest.spelled), (1, 3, 2));
+    assert_eq!(&out, b"\x05\x41a\0");
+}

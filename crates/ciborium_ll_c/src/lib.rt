@@ -117,9 +117,10 @@ pub extern "C" fn cll_push_wide(
 /// the answer is that of the first fault, with its place, and what was written up to it stands there. In any room the
 /// answers mean the same, and the two numbers are those of what was consumed and written.
 ///
-/// Whatever the answer, as many elements as `elements` says stand in front, and the last ends at `whole`. With `Ok`
-/// these are all, and `whole` is `consumed`. With `Short` and `Syntax` one more does not stand in front; with `Room`,
-/// where it does, its spelling and theirs do not fit.
+/// Whatever the answer, as many elements as `elements` says stand in front, and the last ends at `whole`. Their
+/// spelling is the first `spelled` bytes of `out`, which were written. With `Ok` these are all, and `whole` is
+/// `consumed`. With `Short` and `Syntax` one more does not stand in front; with `Room`, where it does, its spelling and
+/// theirs do not fit.
 #[unsafe(no_mangle)]
 pub extern "C" fn cll_recode(
     bytes: &[u8],
@@ -134,7 +135,7 @@ pub extern "C" fn cll_recode(
     ensures anyhow { (answer : CllAnswer) × (result ≡ code answer)
         × CopiesAnyhow count bytes.now out.old answer out.new report.new }
     ensures counted { (answer : CllAnswer) × (result ≡ code answer)
-        × CountsElements count bytes.now (length out.old) answer report.new }
+        × CountsElements count bytes.now (length out.old) answer out.new report.new }
     ensures due { result ≡ code a.Short → ElementsLack false count bytes.now report.new.whole report.new.place }
 {
     ciborium_ll_calls::cll_recode(bytes, count, out, report)
@@ -272,19 +273,21 @@ pub extern "C" fn cll_copier_init(copier: &mut CllCopier, count: u64) -> u32
     ciborium_ll_calls::cll_copier_init(copier, count)
 }
 
-/// Gives a copier the next bytes of its elements, as many as have come, and writes in front of `out` as much of their
-/// shortest spelling as it can (RFC 7049, 3.9). How the bytes are cut into pieces, and how long the outputs are,
-/// changes nothing of what is written in all. Whatever stands in the memory of the copier, no more is consumed and
-/// written than there is, and behind what was written `out` is as it was.
+/// Gives a copier the next bytes of its elements, as many as have come, and writes their shortest spelling (RFC 7049,
+/// 3.9) to the start of `out`: of each whole title its shortest one, of a byte string each byte, and of a text each
+/// whole character. How the bytes are cut into pieces, and how long the outputs are, changes nothing of what is
+/// written in all. Whatever stands in the memory of the copier, no more is consumed and written than there is, and
+/// behind what was written `out` is as it was.
 ///
 /// The answers are `Ok` where so many elements came, and what was written in all is just their shortest spelling;
-/// `Short` where more is due: all bytes were taken, and all that can be written of them is, while some bytes more make
-/// so many elements; `Room` where `out` is full and there is more to write, after which the rest of the bytes is to be
-/// given again; `Syntax` where no such elements begin as the bytes so far do, with the fault's offset in all of them,
-/// at which a copy is with some bytes behind them, and with just this written; `TooLong` where the elements go on
-/// behind `u64::MAX` bytes; and `Argument` where no copier was set up, or what stands there is none, after which that
-/// memory and `out` are as they were, with a report of zeros. After `Ok` and after `Syntax` a later call takes and
-/// writes nothing, and answers the same. No other answer comes.
+/// `Short` where more is due: all bytes were taken, and all of them are written but a title or a character that is not
+/// whole, while some bytes more make so many elements; `Room` where `out` is full and there is more to write, after
+/// which the rest of the bytes is to be given again, and which does not come if nothing was pending and `out` has eight
+/// bytes more than were given; `Syntax` where no such elements begin as the bytes so far do, with the fault's offset in
+/// all of them, at which a copy is with some bytes behind them, and with just this written; `TooLong` where the
+/// elements go on behind `u64::MAX` bytes; and `Argument` where no copier was set up, or what stands there is none,
+/// after which that memory and `out` are as they were, with a report of zeros. After `Ok` and after `Syntax` a later
+/// call takes and writes nothing, and answers the same. No other answer comes.
 #[unsafe(no_mangle)]
 pub extern "C" fn cll_copier_feed(
     copier: &mut CllCopier,
@@ -342,17 +345,18 @@ pub extern "C" fn cll_item_copier_init_strict(copier: &mut CllItemCopier, depth:
     ciborium_ll_calls::cll_item_copier_init_strict(copier, depth)
 }
 
-/// Gives a copier the next bytes of its item, as many as have come, and writes in front of `out` as much of their
-/// shortest spelling as it can (RFC 7049, 3.9). How the bytes are cut into pieces, and how long the outputs are,
+/// Gives a copier the next bytes of its item, as many as have come, and writes their shortest spelling (RFC 7049, 3.9)
+/// to the start of `out`, as `cll_copier_feed` does. How the bytes are cut into pieces, and how long the outputs are,
 /// changes nothing of what is written in all. Behind what was written `out` is as it was.
 ///
 /// The answers are `Ok` where the item has ended, and it is written, with its length as the place; `Short` where more
-/// is due, with at least how many bytes as the place: all bytes were taken, and all that can be written of them is;
-/// `Room` where `out` is full and there is more to write, after which the rest of the bytes is to be given again;
-/// `Syntax`, `BreakDue` and `TooDeep` where no item begins as the bytes so far do, with the fault's offset in the item;
-/// `TooLong` where the item goes on behind `u64::MAX` bytes; and `Argument` where no copier was set up, or what stands
-/// there is none, after which that memory and `out` are as they were. After `Ok` and after a fault a later call takes
-/// and writes nothing, and answers the same.
+/// is due, with at least how many bytes as the place: all bytes were taken, and all of them are written but a title or
+/// a character that is not whole; `Room` where `out` is full and there is more to write, after which the rest of the
+/// bytes is to be given again, and which does not come if nothing was pending and `out` has eight bytes more than were
+/// given; `Syntax`, `BreakDue` and `TooDeep` where no item begins as the bytes so far do, with the fault's offset in
+/// the item; `TooLong` where the item goes on behind `u64::MAX` bytes; and `Argument` where no copier was set up, or
+/// what stands there is none, after which that memory and `out` are as they were. After `Ok` and after a fault a later
+/// call takes and writes nothing, and answers the same.
 #[unsafe(no_mangle)]
 pub extern "C" fn cll_item_copier_feed(
     copier: &mut CllItemCopier,

@@ -29,7 +29,8 @@ use Rattle.ciborium_ll_recode.proofs.RecodeAnyhowLaws.{recode_anyhow, unwritten}
 use Rattle.ciborium_ll_recode.proofs.RecodeReadyLaws.{short_told}
 use Rattle.ciborium_ll_calls.proofs.PullLaws.{due_ahead, still_steady}
 
-same_bytes : (known : Option (List ℕ)) (one other : List ℕ) → known ≡ Some one → known ≡ Some other → one ≡ other
+-- bytes that are told are told once
+pub same_bytes : (known : Option (List ℕ)) (one other : List ℕ) → known ≡ Some one → known ≡ Some other → one ≡ other
 same_bytes known one other p q = let same : Some one ≡ Some other = sym p ∙ q in cc
 
 same_length : (known : Option (List ℕ)) (one other : List ℕ) → known ≡ Some one → known ≡ Some other → length one

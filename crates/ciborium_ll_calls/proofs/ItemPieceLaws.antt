@@ -1,5 +1,5 @@
 -- What the answers of a copier of items say by their numbers.
-use Rattle.std.proofs.Common.{◌≡◌, Bool, ℕ, false, List, [], ◌++◌, length, take, refl, sym, ap, subst, ◌∙◌}
+use Rattle.std.proofs.Common.{◌≡◌, ◌+◌, ◌≤◌, Bool, ℕ, false, List, [], ◌++◌, length, take, refl, sym, ap, subst, ◌∙◌}
 use Rattle.cbor_copy.specs.Spots.{Spot as Elements}
 use Rattle.cbor_copy_item.specs.declared.progress.Progress.{Progress}
 use Rattle.cbor_copy_item.specs.declared.progress.Progress.TheVariants as r
@@ -65,13 +65,14 @@ pub feeds : (s : Bool) (d : ℕ) (fed given : List ℕ) (old : Spot) (before : E
     → Tells s d (fed ++ take taken bytes) (given ++ take written output) progress
     → IsProgress progress elements.put item → (IsMore progress → taken ≡ length bytes)
     → (IsRoom progress → written ≡ length out)
+    → (before.put ≡ [] → length bytes + 8 ≤ length out → IsRoom progress → ⊥)
     → (is_due old.phase ≡ false → before.put ≡ [] → (taken ≡ 0) × (written ≡ 0) × (item ≡ old) × (elements ≡ before))
     → IsItemCopier new item elements
     → IsItemCopiedTo s d (fed ++ take taken bytes) (given ++ take written output) item elements
     → answer ≡ item_answer progress → number ≡ item_number progress → Reports report taken written number
     → FeedsItem s d fed given old before bytes out answer output report new
 feeds s d fed given old before bytes out output taken written number progress answer report new item elements told is
-    all full stays kept copied answer_is number_is reports =
+    all full fits stays kept copied answer_is number_is reports =
     let t = reports.consumed_is in
     let w = reports.written_is in
     let told' : Tells s d (fed ++ take report.consumed bytes) (given ++ take report.written output) progress =
@@ -83,12 +84,14 @@ feeds s d fed given old before bytes out output taken written number progress an
     record {
       all = λ short. t ∙ all (short_more progress (sym answer_is ∙ short));
       full = λ room. w ∙ full (room_room progress (sym answer_is ∙ room));
+      fits = λ none enough room. fits none enough (room_room progress (sym answer_is ∙ room));
       reports = record {
         consumed_is = refl;
         written_is = refl;
         place_is = refl;
         none_counted = reports.none_counted;
         none_whole = reports.none_whole;
+        none_spelled = reports.none_spelled;
       };
       says = subst (λ (z : CllAnswer). SaysOfItem s d whole made z report.place) (sym answer_is)
           (subst (λ (n : ℕ). SaysOfItem s d whole made (item_answer progress) n) (sym at)
@@ -135,5 +138,6 @@ ends s d fed given item elements end number answer report is told answer_is numb
         place_is = refl;
         none_counted = reports.none_counted;
         none_whole = reports.none_whole;
+        none_spelled = reports.none_spelled;
       };
     }

@@ -1,5 +1,5 @@
 -- What the answers of a copier say by their numbers.
-use Rattle.std.proofs.Common.{◌≡◌, ℕ, ◌↔◌, false, List, [], ◌++◌, length, take, refl, sym, ap, subst, ◌∙◌}
+use Rattle.std.proofs.Common.{◌≡◌, ◌+◌, ◌≤◌, ℕ, ◌↔◌, false, List, [], ◌++◌, length, take, refl, sym, ap, subst, ◌∙◌}
 use Rattle.cbor_copy.specs.declared.progress.Progress.{Progress}
 use Rattle.cbor_copy.specs.declared.progress.Progress.TheVariants as r
 use Rattle.cbor_copy.specs.declared.progress.End.{End}
@@ -54,12 +54,13 @@ pub feeds : (count : ℕ) (fed given : List ℕ) (old : Spot) (bytes out output 
     → Tells count (fed ++ take taken bytes) (given ++ take written output) progress
     → IsProgress progress spot.put spot.phase → (IsMore progress → taken ≡ length bytes)
     → (IsRoom progress → written ≡ length out)
+    → (old.put ≡ [] → length bytes + 8 ≤ length out → IsRoom progress → ⊥)
     → (is_due old.phase ≡ false → old.put ≡ [] → (taken ≡ 0) × (written ≡ 0) × (spot ≡ old))
     → IsCopier new spot → IsCopiedTo count (fed ++ take taken bytes) (given ++ take written output) spot
     → answer ≡ progress_answer progress → place ≡ progress_place progress → Reports report taken written place
     → FeedsCopied count fed given old bytes out answer output report new
-feeds count fed given old bytes out output taken written place progress answer report new spot told is all full stays
-    kept copied answer_is place_is reports =
+feeds count fed given old bytes out output taken written place progress answer report new spot told is all full fits
+    stays kept copied answer_is place_is reports =
     let t = reports.consumed_is in
     let w = reports.written_is in
     let told' : Tells count (fed ++ take report.consumed bytes) (given ++ take report.written output) progress =
@@ -71,12 +72,14 @@ feeds count fed given old bytes out output taken written place progress answer r
     record {
       all = λ short. t ∙ all (short_more progress (sym answer_is ∙ short));
       full = λ room. w ∙ full (room_room progress (sym answer_is ∙ room));
+      fits = λ none enough room. fits none enough (room_room progress (sym answer_is ∙ room));
       reports = record {
         consumed_is = refl;
         written_is = refl;
         place_is = refl;
         none_counted = reports.none_counted;
         none_whole = reports.none_whole;
+        none_spelled = reports.none_spelled;
       };
       says = subst (λ (z : CllAnswer). SaysOf count whole made z report.place) (sym answer_is)
           (subst (λ (n : ℕ). SaysOf count whole made (progress_answer progress) n) (sym at)
@@ -129,5 +132,6 @@ ends count fed given spot end place answer report is told exact answer_is place_
         place_is = refl;
         none_counted = reports.none_counted;
         none_whole = reports.none_whole;
+        none_spelled = reports.none_spelled;
       };
     }

@@ -39,6 +39,7 @@ module _ {R E : Type 0} (source : Ghosts R E) where
       written_is = reports.written_is;
       none_counted = reports.none_counted;
       none_whole = reports.none_whole;
+      none_spelled = reports.none_spelled;
       place_is = reports.place_is;
     },
   )
@@ -50,6 +51,7 @@ module _ {R E : Type 0} (source : Ghosts R E) where
       written_is = reports.written_is;
       none_counted = reports.none_counted;
       none_whole = reports.none_whole;
+      none_spelled = reports.none_spelled;
       place_is = refl;
     },
   )
@@ -63,6 +65,7 @@ module _ {R E : Type 0} (source : Ghosts R E) where
           written_is = reports.written_is;
           none_counted = reports.none_counted;
           none_whole = reports.none_whole;
+          none_spelled = reports.none_spelled;
           place_is = refl;
         },
       )
@@ -75,6 +78,7 @@ module _ {R E : Type 0} (source : Ghosts R E) where
       written_is = reports.written_is;
       none_counted = reports.none_counted;
       none_whole = reports.none_whole;
+      none_spelled = reports.none_spelled;
       place_is = omega (arith, reports.place_is, told.place, start);
     },
   )
@@ -85,6 +89,7 @@ module _ {R E : Type 0} (source : Ghosts R E) where
       written_is = reports.written_is;
       none_counted = reports.none_counted;
       none_whole = reports.none_whole;
+      none_spelled = reports.none_spelled;
       place_is = omega (arith, reports.place_is, told.place, start);
     },
   )
@@ -100,6 +105,7 @@ module _ {R E : Type 0} (source : Ghosts R E) where
         written_is = reports.written_is;
         none_counted = reports.none_counted;
         none_whole = reports.none_whole;
+        none_spelled = reports.none_spelled;
         place_is = reports.place_is ∙ named;
       } in
       subst (λ (x : CllAnswer). Skips depth due x report) (sym same) said

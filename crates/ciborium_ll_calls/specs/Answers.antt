@@ -30,6 +30,7 @@ pub record Reports (report : CllReport) (consumed written place : ℕ) : Type 0 
   pub place_is : report.place ≡ place
   pub none_counted : report.elements ≡ 0
   pub none_whole : report.whole ≡ 0
+  pub none_spelled : report.spelled ≡ 0
 
 -- the same of a copy or a check, which counts elements
 pub record ReportsCopy (report : CllReport) (consumed written place : ℕ) : Type 0 where
@@ -37,7 +38,9 @@ pub record ReportsCopy (report : CllReport) (consumed written place : ℕ) : Typ
   pub written_is : report.written ≡ written
   pub place_is : report.place ≡ place
 
--- a report says that so many elements were done, and that the last of them ends at this offset
-pub record ReportsElements (report : CllReport) (elements whole : ℕ) : Type 0 where
+-- a report says that so many elements were done, that the last of them ends at this offset, and that so many bytes were
+-- written of them
+pub record ReportsElements (report : CllReport) (elements whole spelled : ℕ) : Type 0 where
   pub elements_is : report.elements ≡ elements
   pub whole_is : report.whole ≡ whole
+  pub spelled_is : report.spelled ≡ spelled

@@ -1,6 +1,6 @@
 -- What `cll_recode` and `cll_strict` count: the elements that were done, each an element of the grammar (RFC 7049, 2.1
 -- and 2.2).
-use Rattle.std.specs.Prelude.{◌≡◌, ℕ, suc, true, false, ◌<◌, List, length, Result, Ok, Err}
+use Rattle.std.specs.Prelude.{◌≡◌, ℕ, suc, true, false, ◌<◌, ◌≤◌, List, length, take, Result, Ok, Err}
 use Rattle.ciborium_ll.specs.Types.Read.{Ghosts as Reader}
 use Rattle.ciborium_ll.specs.Types.Write.{Ghosts as Writer}
 use Rattle.ciborium_ll.specs.Types.RecodeError.{RecodeError}
@@ -22,12 +22,15 @@ CountsTo count bytes room a.Room report =
 CountsTo count bytes room answer report =
     (report.elements < count) × (RunInFront false (suc report.elements) bytes → ⊥)
 
--- what `cll_recode` counts: the elements that were done stand in front, up to the offset that is reported, and no more
--- are done so
-pub record CountsElements (count : ℕ) (bytes : List ℕ) (room : ℕ) (answer : CllAnswer) (report : CllReport)
-    : Type 0 where
+-- What `cll_recode` counts: the elements that were done stand in front, up to the offset that is reported. Their
+-- spelling stands in front of the output, with the length that is reported, and was written. No more are done so
+pub record CountsElements (count : ℕ) (bytes : List ℕ) (room : ℕ) (answer : CllAnswer) (output : List ℕ)
+    (report : CllReport) : Type 0 where
   pub front : RunInFront false report.elements bytes
   pub ends : report.whole ≡ length front.elements
+  pub stands : take report.spelled output ≡ spelling front.marks
+  pub spelled : report.spelled ≡ length (spelling front.marks)
+  pub written : report.spelled ≤ report.written
   pub counts : CountsTo count bytes room answer report
 
 -- `CountsTo` of elements in their shortest spelling, of which nothing is written (RFC 7049, 3.9)
@@ -36,24 +39,27 @@ CountsStrictTo count bytes a.Ok report = (report.elements ≡ count) × (report.
 CountsStrictTo count bytes answer report =
     (report.elements < count) × (RunInFront true (suc report.elements) bytes → ⊥)
 
--- what `cll_strict` counts: the same of elements in their shortest spelling (RFC 7049, 3.9)
+-- what `cll_strict` counts: the same of elements in their shortest spelling, of which nothing is written (RFC 7049, 3.9)
 pub record CountsStrictly (count : ℕ) (bytes : List ℕ) (answer : CllAnswer) (report : CllReport) : Type 0 where
   pub front : RunInFront true report.elements bytes
   pub ends : report.whole ≡ length front.elements
+  pub none_spelled : report.spelled ≡ 0
   pub counts : CountsStrictTo count bytes answer report
 
 module _ {R E W F : Type 0} (source : Reader R E) (sink : Writer W F) where
-  -- by what a copy of elements through a buffer of so much room gave: all were copied, and the last ends where the
-  -- decoder is; or fewer, and a copy of one more stops so
-  abbrev pub EndsCount : ℕ → ℕ → Sides R W → Result (Unit {0}) (RecodeError E F) → Sides R W → ℕ → ℕ → Type 0
-  EndsCount count room old (Ok done) new elements whole = (elements ≡ count) × (whole ≡ new.decoder.offset)
-  EndsCount count room old (Err error) new elements whole =
+  -- by what a copy of elements through a buffer of so much room gave: all were copied; or fewer, and a copy of one more
+  -- stops so, by itself behind them too
+  abbrev pub EndsCount : ℕ → ℕ → Sides R W → Sides R W → Result (Unit {0}) (RecodeError E F) → Sides R W → ℕ → Type 0
+  EndsCount count room old between (Ok done) new elements = (elements ≡ count) × (new ≡ between)
+  EndsCount count room old between (Err error) new elements =
       (elements < count) × StopsCopy source sink (suc elements) room old error new
+      × StopsCopy source sink 1 room between error new
 
-  -- so many elements were copied, and behind them the decoder came to this offset
+  -- so many elements were copied. Behind them the decoder came to this offset, and so many bytes were written of them
   pub record CountsCopy (count room : ℕ) (old : Sides R W) (result : Result (Unit {0}) (RecodeError E F))
-      (new : Sides R W) (elements whole : ℕ) : Type 0 where
+      (new : Sides R W) (elements whole spelled : ℕ) : Type 0 where
     pub between : Sides R W
     pub run : CopiesRun source sink elements old between
     pub behind : whole ≡ between.decoder.offset
-    pub ends : EndsCount count room old result new elements whole
+    pub counted : spelled ≡ length (spelling run.marks)
+    pub ends : EndsCount count room old between result new elements

@@ -62,6 +62,8 @@ pub struct CllReport {
     pub elements: u64,
     /// Of both the offset behind the last of them, else 0.
     pub whole: u64,
+    /// Of `cll_recode` how many of the bytes that it wrote are the spelling of these elements, else 0.
+    pub spelled: u64,
 }
 
 impl CllReport {
@@ -75,6 +77,7 @@ impl CllReport {
         self.place = place as u64;
         self.elements = 0;
         self.whole = 0;
+        self.spelled = 0;
     }
 
     /// Says the same of elements, and how many of them were done.
@@ -87,12 +90,13 @@ impl CllReport {
         tally: Tally,
     )
         ensures reports { ReportsCopy self.new consumed written place }
-        ensures elements { ReportsElements self.new tally.elements tally.whole }
+        ensures elements { ReportsElements self.new tally.elements tally.whole tally.spelled }
     {
         self.consumed = consumed as u64;
         self.written = written as u64;
         self.place = place as u64;
         self.elements = tally.elements as u64;
         self.whole = tally.whole as u64;
+        self.spelled = tally.spelled as u64;
     }
 }

@@ -59,7 +59,6 @@ use ciborium_ll_decoder::title::pull_title;
 use ciborium_ll_encoder::enc::push_title;
 use ciborium_ll_grammar::hdr::{Title, shortest};
 use ciborium_ll_text::state::{State, text_front};
-use std::mem;
 
 /// How many bytes of a string are read at a time, at most.
 const BUFFER_SIZE: usize = 1024;
@@ -199,15 +198,12 @@ fn copy_onto<'a, R: Read>(
     ensures copied { CopiesElements R.Read ⟦<SliceWriter<'a> as Write>⟧ count (length buffer.old)
         (sides decoder.old writer.old) result (sides decoder.new writer.new) }
     ensures counted { CountsCopy R.Read ⟦<SliceWriter<'a> as Write>⟧ count (length buffer.old)
-        (sides decoder.old writer.old) result (sides decoder.new writer.new) tally.new.elements tally.new.whole }
+        (sides decoder.old writer.old) result (sides decoder.new writer.new) tally.new.elements tally.new.whole
+        tally.new.spelled }
     ensures target { slice_target writer.new ≡ slice_target writer.old }
 {
-    // A loan inside a writer is followed to its end, and one inside an encoder over it is not. So the encoder has the
-    // writer for this call alone, and what it writes to then is put back.
-    let mut encoder = Encoder::from(mem::replace(writer, SliceWriter::new(&mut [])));
-    let copied = copy_counted(decoder, &mut encoder, count, buffer, tally);
-    *writer = encoder.into_inner();
-    copied
+    // A loan inside a writer is followed to its end, and one inside an encoder over it is not.
+    copy_counted(decoder, writer, count, buffer, tally)
 }
 
 /// Copies so many elements.
@@ -217,7 +213,7 @@ fn copy(bytes: &[u8], count: usize, out: &mut [u8], report: &mut CllReport) -> C
     ensures exactly { HasRoom count bytes.now (length out.old)
         → (result ≡ a.Ok ↔ RunInFront false count bytes.now) }
     ensures anyhow { CopiesAnyhow count bytes.now out.old result out.new report.new }
-    ensures counted { CountsElements count bytes.now (length out.old) result report.new }
+    ensures counted { CountsElements count bytes.now (length out.old) result out.new report.new }
 {
     let mut buffer = [0; BUFFER_SIZE];
     let mut decoder = Decoder::from(SliceReader::new(bytes));
@@ -225,6 +221,7 @@ fn copy(bytes: &[u8], count: usize, out: &mut [u8], report: &mut CllReport) -> C
     let mut tally = Tally {
         elements: 0,
         whole: 0,
+        spelled: 0,
     };
     let copied = copy_onto(&mut decoder, &mut writer, count, &mut buffer, &mut tally);
     let (answer, place) = stop_of_copy(copied);
@@ -240,7 +237,7 @@ fn copy_or_due(bytes: &[u8], count: usize, out: &mut [u8], report: &mut CllRepor
     ensures exactly { HasRoom count bytes.now (length out.old)
         → (result ≡ a.Ok ↔ RunInFront false count bytes.now) }
     ensures anyhow { CopiesAnyhow count bytes.now out.old result out.new report.new }
-    ensures counted { CountsElements count bytes.now (length out.old) result report.new }
+    ensures counted { CountsElements count bytes.now (length out.old) result out.new report.new }
     ensures due { result ≡ a.Short → ElementsLack false count bytes.now report.new.whole report.new.place }
 {
     match copy(bytes, count, out, report) {
@@ -261,7 +258,7 @@ pub fn cll_recode(bytes: &[u8], count: u64, out: &mut [u8], report: &mut CllRepo
     ensures anyhow { (answer : CllAnswer) × (result ≡ code answer)
         × CopiesAnyhow count bytes.now out.old answer out.new report.new }
     ensures counted { (answer : CllAnswer) × (result ≡ code answer)
-        × CountsElements count bytes.now (length out.old) answer report.new }
+        × CountsElements count bytes.now (length out.old) answer out.new report.new }
     ensures due { result ≡ code a.Short → ElementsLack false count bytes.now report.new.whole report.new.place }
 {
     copy_or_due(bytes, count as usize, out, report).code()
@@ -277,12 +274,14 @@ fn check(bytes: &[u8], count: usize, report: &mut CllReport) -> CllAnswer
     let mut tally = Tally {
         elements: 0,
         whole: 0,
+        spelled: 0,
     };
     let mut decoder = Decoder::strict(SliceReader::new(bytes));
     // What a strict copy writes is what it reads, so that many bytes are room enough.
-    let mut encoder = Encoder::from(Discard::new(bytes.len()));
-    let copied = copy_counted(&mut decoder, &mut encoder, count, &mut buffer, &mut tally);
+    let mut writer = Discard::new(bytes.len());
+    let copied = copy_counted(&mut decoder, &mut writer, count, &mut buffer, &mut tally);
     let (answer, place) = stop_of_copy(copied);
+    tally.spelled = 0;
     report.say_elements(decoder.offset(), 0, place, tally);
     answer
 }

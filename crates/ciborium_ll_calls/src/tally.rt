@@ -1,14 +1,14 @@
 //! Elements copied one by one, and counted.
 
-ghost use Rattle.std.specs.Prelude.{◌≡◌, ◌≤◌, length};
-ghost use Rattle.ciborium_ll.specs.Encoding.{writer_of};
-ghost use Rattle.ciborium_ll.specs.Recoding.{CopiesElements};
-ghost use Rattle.ciborium_ll.specs.Sides.{sides_of};
+ghost use Rattle.std.specs.Prelude.{◌≡◌, ◌≤◌, ℕ, Some, length};
+ghost use Rattle.ciborium_ll.specs.Recoding.{CopiesElements, CopiesOne};
+ghost use Rattle.ciborium_ll.specs.Sides.{sides};
 ghost use Rattle.ciborium_ll_calls.specs.Counting.{CountsCopy};
 
-use ciborium_ll::io::{Read, Write};
+use ciborium_ll::io::{Discard, Read, SliceWriter, Write};
 use ciborium_ll::{Decoder, Encoder, RecodeError};
 use ciborium_ll_recode::recode::copy_element;
+use std::mem;
 
 /// How many elements were done.
 #[derive(Clone, Copy)]
@@ -17,32 +17,88 @@ pub(crate) struct Tally {
     pub(crate) elements: usize,
     /// The offset behind the last of them.
     pub(crate) whole: usize,
+    /// How many bytes were written of them.
+    pub(crate) spelled: usize,
 }
 
-/// Copies so many elements, as `recode` does, and counts those that were copied whole.
+/// A writer that knows how many more bytes fit.
+pub(crate) trait Bounded: Write {
+    /// A writer into which nothing fits.
+    fn full() -> Self;
+
+    /// How many more bytes fit.
+    fn bytes_left(&self) -> usize
+        ensures { Self.room self.now ≡ Some result };
+}
+
+impl<'a> Bounded for SliceWriter<'a> {
+    #[inline(always)]
+    fn full() -> SliceWriter<'a> {
+        SliceWriter::new(&mut [])
+    }
+
+    #[inline(always)]
+    fn bytes_left(&self) -> usize {
+        self.room()
+    }
+}
+
+impl Bounded for Discard {
+    #[inline(always)]
+    fn full() -> Discard {
+        Discard::new(0)
+    }
+
+    #[inline(always)]
+    fn bytes_left(&self) -> usize {
+        self.room()
+    }
+}
+
+/// Copies one element to a writer, which an encoder has for this call alone.
 #[inline(always)]
-pub(crate) fn copy_counted<R: Read, W: Write>(
+fn copy_one<R: Read, W: Bounded + Drop>(
     decoder: &mut Decoder<R>,
-    encoder: &mut Encoder<W>,
+    writer: &mut W,
+    buffer: &mut [u8],
+) -> Result<(), RecodeError<R::Error, W::Error>>
+    requires room { 4 ≤ length buffer.old }
+    ensures { CopiesOne R.Read W.Write (length buffer.old) (sides decoder.old writer.old) result
+        (sides decoder.new writer.new) }
+{
+    let mut encoder = Encoder::from(mem::replace(writer, W::full()));
+    let copied = copy_element(decoder, &mut encoder, buffer);
+    *writer = encoder.into_inner();
+    copied
+}
+
+/// Copies so many elements, as `recode` does, and counts those that were copied whole and what was written of them.
+#[inline(always)]
+pub(crate) fn copy_counted<R: Read, W: Bounded + Drop>(
+    decoder: &mut Decoder<R>,
+    writer: &mut W,
     count: usize,
     buffer: &mut [u8],
     tally: &mut Tally,
 ) -> Result<(), RecodeError<R::Error, W::Error>>
     requires room { 4 ≤ length buffer.old }
     ensures copied { CopiesElements R.Read W.Write count (length buffer.old)
-        (sides_of decoder.old encoder.old) result (sides_of decoder.new encoder.new) }
-    ensures counted { CountsCopy R.Read W.Write count (length buffer.old) (sides_of decoder.old encoder.old) result
-        (sides_of decoder.new encoder.new) tally.new.elements tally.new.whole }
-    ensures target { W.target (writer_of encoder.new) ≡ W.target (writer_of encoder.old) }
+        (sides decoder.old writer.old) result (sides decoder.new writer.new) }
+    ensures counted { CountsCopy R.Read W.Write count (length buffer.old) (sides decoder.old writer.old) result
+        (sides decoder.new writer.new) tally.new.elements tally.new.whole tally.new.spelled }
+    ensures target { W.target writer.new ≡ W.target writer.old }
 {
+    let room = writer.bytes_left();
     tally.elements = 0;
     tally.whole = decoder.offset();
+    tally.spelled = 0;
     'elements: for _copied in 0..count {
-        if let Err(error) = copy_element(decoder, encoder, buffer) {
+        if let Err(error) = copy_one(decoder, writer, buffer) {
             return Err(error);
         }
         tally.elements += 1;
         tally.whole = decoder.offset();
+        tally.spelled = room - writer.bytes_left();
     }
     Ok(())
 }

@@ -10,6 +10,7 @@ pub fn nothing() -> CllReport {
         place: 7,
         elements: 7,
         whole: 7,
+        spelled: 7,
     }
 }
 

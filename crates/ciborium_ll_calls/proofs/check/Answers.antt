@@ -9,16 +9,16 @@ pub returns : goal.returns
 returns c =
     let due = c.args.bytes.now in
     let old = c.strict-decoder.result in
-    let writer = c.from-encoder.result.writer in
+    let writer = c.new-writer.result in
     let new = c.copy_counted-copied.new.decoder in
-    let behind = c.copy_counted-copied.new.encoder.writer in
+    let behind = c.copy_counted-copied.new.writer in
     let copied = c.copy_counted-copied.result in
     let all = c.copy_counted-copied.ensures.copied in
     let stop = c.stop_of_copy-answer in
     let ready = λ (n : ℕ). ready_to_copy _ _ true n 1024 (length due) c.new.result old writer due
     c.strict-decoder.ensures refl
-    c.new.ensures.ahead (rw (sym c.from-encoder.ensures) at c.new-2.ensures.written)
-    (rw (sym c.from-encoder.ensures) at c.new-2.ensures.room) (inr (omega arith)) (omega arith) (omega arith) in
+    c.new.ensures.ahead c.new-writer.ensures.written c.new-writer.ensures.room (inr (omega arith)) (omega arith)
+    (omega arith) in
     record {
       checked =
           check_said _ _ c.args.count due old new behind copied c.say_elements.new.self stop.result.0
@@ -35,6 +35,6 @@ returns c =
           strictly_said _ _ c.args.count due old new writer behind c.say_elements.new.self ready
           c.strict-decoder.ensures.offset
           (λ whole. whole ∙ sym (c.say_elements.ensures.reports.consumed_is ∙ c.offset.ensures.value))
-          copied stop.result.0 _ _ c.copy_counted-copied.ensures.counted c.say_elements.ensures.elements
+          copied stop.result.0 _ _ _ c.copy_counted-copied.ensures.counted c.say_elements.ensures.elements
           stop.ensures.answer;
     }

@@ -25,4 +25,9 @@ returns-in-Short-clause-exactly c = c.in-Short.ensures.exactly
 pub returns-in-Short-clause-counted : goal.returns-in-Short-clause-counted
 returns-in-Short-clause-counted c =
     let counted = c.in-Short.ensures.counted in
-    record { front = counted.front; ends = counted.ends; counts = counted.counts }
+    record {
+      front = counted.front;
+      ends = counted.ends;
+      none_spelled = counted.none_spelled;
+      counts = counted.counts;
+    }

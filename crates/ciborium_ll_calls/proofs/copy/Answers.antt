@@ -55,6 +55,6 @@ returns c =
           (omega arith) (omega arith))
           (omega arith) c.from-decoder.ensures.offset
           (λ whole. whole ∙ sym (c.say_elements.ensures.reports.consumed_is ∙ c.offset.ensures.value))
-          copied stop.result.0 _ _ c.copy_onto-copied.ensures.counted c.say_elements.ensures.elements
-          stop.ensures.answer;
+          copied stop.result.0 _ _ _ output_is c.args.out.now _ c.copy_onto-copied.ensures.counted
+          c.say_elements.ensures.elements stop.ensures.answer output c.say_elements.ensures.reports.written_is stands;
     }
