@@ -233,7 +233,9 @@ uint32_t cll_checker_init_strict(cll_checker *checker, uint32_t depth);
  * cll_skip, where no item begins as the bytes so far do. They come with the first byte of which that is so: in a text
  * that is no UTF-8, with the byte that goes wrong. CLL_TOO_LONG where the item goes on behind 2^64 - 1 bytes.
  * CLL_ARGUMENT where no checker was set up there, or what stands there now is that of none: nothing was taken, and
- * nothing has changed. After CLL_OK and after a fault a further call takes nothing, and answers the same.
+ * nothing has changed. After CLL_OK and after a fault a further call takes nothing, and answers the same. After
+ * CLL_TOO_LONG a further call takes nothing: with bytes it answers the same, and with none CLL_SHORT, as
+ * cll_checker_end does.
  *
  * As many bytes as CLL_SHORT says may be read for the next call, and none of them is one behind the item. They need not
  * come at once.
@@ -275,7 +277,9 @@ uint32_t cll_copier_init(cll_copier *copier, uint64_t count);
  * that is so, which is taken, in a text that is no UTF-8 with the byte that goes wrong, and what was written is the
  * spelling of what stands before the fault. CLL_TOO_LONG where the elements go on behind 2^64 - 1 bytes. CLL_ARGUMENT
  * where no copier was set up there, or what stands there now is that of none: nothing was taken or written, and nothing
- * has changed. After CLL_OK and after CLL_SYNTAX a further call takes and writes nothing, and answers the same.
+ * has changed. After CLL_OK and after CLL_SYNTAX a further call takes and writes nothing, and answers the same. After
+ * CLL_TOO_LONG a further call takes and writes nothing: with bytes it answers the same, and with none CLL_SHORT, as
+ * cll_copier_end does.
  *
  * Not all memory that was overwritten is found out by CLL_ARGUMENT. But whatever stands there, no call reads or writes
  * beyond what it is given.
@@ -319,7 +323,8 @@ uint32_t cll_item_copier_init_strict(cll_item_copier *copier, uint32_t depth);
  * the bytes so far do, as of cll_checker_feed: the byte with which that comes is taken, and nothing of it is written.
  * CLL_TOO_LONG where the item goes on behind 2^64 - 1 bytes. CLL_ARGUMENT where no copier was set up there, or what
  * stands there now is that of none: nothing was taken or written, and nothing has changed. After CLL_OK and after a
- * fault a further call takes and writes nothing, and answers the same.
+ * fault a further call takes and writes nothing, and answers the same. After CLL_TOO_LONG a further call takes and
+ * writes nothing: with bytes it answers the same, and with none CLL_SHORT, as cll_item_copier_end does.
  *
  * Not all memory that was overwritten is found out by CLL_ARGUMENT. But whatever stands there, no call reads or writes
  * beyond what it is given.

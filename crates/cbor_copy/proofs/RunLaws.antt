@@ -79,6 +79,11 @@ pub not_more : (pending : List ℕ) (phase : Phase) → is_due phase ≡ false �
 not_more [] p.Ended off e = cc
 not_more pending phase off e = cc
 
+-- no spot has more bytes than can be counted
+pub never_long : (pending : List ℕ) (phase : Phase) → progress_of pending phase ≡ r.TooLong → ⊥
+never_long [] p.Ended e = cc
+never_long pending phase e = cc
+
 -- the answer of a spot is none of those that were not given
 pub is_answer : (progress : Progress) (pending : List ℕ) (phase : Phase) → progress ≡ progress_of pending phase
     → IsAnswer progress pending phase

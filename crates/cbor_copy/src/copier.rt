@@ -77,6 +77,7 @@ impl Copier {
     ghost use Rattle.cbor_copy.specs.declared.phase.Within.TheVariants as w;
     ghost use Rattle.ciborium_ll_grammar.specs.Title.{IsTitle};
     ghost use Rattle.cbor_copy.specs.declared.progress.End.TheVariants as e;
+    ghost use Rattle.cbor_copy.specs.declared.progress.Progress.TheVariants as r;
 
     /// A copier of so many elements, to which nothing came.
     pub fn new(count: usize) -> Copier
@@ -527,6 +528,7 @@ impl Copier {
             → Tells count (fed ++ take result.taken bytes.now) (given ++ take result.written out.new) result.progress }
         ensures answers { IsAnswer result.progress self.new.pending self.new.phase }
         ensures all { IsMore result.progress → result.taken ≡ length bytes.now }
+        ensures long { result.progress ≡ r.TooLong → result.taken < length bytes.now }
         ensures full { IsRoom result.progress → result.written ≡ length out.old }
         ensures fits { self.old.pending ≡ [] → length bytes.now + 8 ≤ length out.old → IsRoom result.progress → ⊥ }
         ensures grown { result.written + length self.new.pending + length self.new.front

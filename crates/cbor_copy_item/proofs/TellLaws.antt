@@ -29,6 +29,18 @@ more_in : (phase : Phase) (spot : Spot) (due : ℕ) → is_due phase ≡ false
 more_in p.Ended spot due off e = cc
 more_in phase spot due off e = cc
 
+-- no spot has more bytes than can be counted
+long_in : (phase : Phase) (spot : Spot) → of_checker (progress_in phase spot) ≡ r.TooLong → ⊥
+long_in p.Title spot e = cc
+long_in (p.Bytes left) spot e = cc
+long_in (p.Text left state) spot e = cc
+long_in p.Ended spot e = cc
+long_in (p.Faulted fault) spot e = cc
+
+pub never_long : (bytes : List ℕ) (spot : Spot) → progress_of bytes spot ≡ r.TooLong → ⊥
+never_long [] spot e = long_in spot.phase spot e
+never_long (b ∷ bytes) spot e = cc
+
 -- behind an end or a fault no more bytes are due
 pub not_more : (bytes : List ℕ) (spot : Spot) (due : ℕ) → is_due spot.phase ≡ false
     → progress_of bytes spot ≡ r.More due → ⊥
@@ -42,7 +54,7 @@ due_in (p.Faulted fault) spot due e = absurd cc
 due_in phase spot due e = refl
 
 -- where more are due, nothing is pending
-more_due : (bytes : List ℕ) (spot : Spot) (due : ℕ) → r.More due ≡ progress_of bytes spot
+pub more_due : (bytes : List ℕ) (spot : Spot) (due : ℕ) → r.More due ≡ progress_of bytes spot
     → (bytes ≡ []) × (is_due spot.phase ≡ true)
 more_due [] spot due e = (refl, due_in spot.phase spot due e)
 more_due (b ∷ bytes) spot due e = absurd cc

@@ -97,6 +97,7 @@ impl ItemCopier {
     ghost use Rattle.cbor_copy.specs.Spots.{Spot as Elements};
     ghost use Rattle.cbor_copy_item.specs.Snapshots.{Holds, IsAt, kept_spot};
     ghost use Rattle.cbor_copy_item.specs.Steps.{Takes, TakesAt};
+    ghost use Rattle.cbor_copy_item.specs.declared.progress.Progress.TheVariants as r;
     ghost use Rattle.cbor_copy_item.specs.Telling.{IsAnswer, IsMore, IsRoom, Tells, TellsEnd, end_of, progress_of};
 
     /// A copier of an item to which nothing came. Tags, arrays and maps may be nested at most `depth` levels deep: each
@@ -247,6 +248,9 @@ impl ItemCopier {
             result.progress }
         ensures answers { IsAnswer result.progress (pending self.new) (item_spot self.new) }
         ensures all { IsMore result.progress → result.taken ≡ length bytes.now }
+        ensures long { result.progress ≡ r.TooLong → result.taken < length bytes.now }
+        ensures cut { (strict : Bool) (depth : ℕ) (fed given : List ℕ) → IsItemCopied strict depth fed given self.old
+            → result.progress ≡ r.TooLong → is_due (item_spot self.new).phase ≡ true }
         ensures full { IsRoom result.progress → result.written ≡ length out.old }
         ensures fits { pending self.old ≡ [] → length bytes.now + 8 ≤ length out.old → IsRoom result.progress → ⊥ }
         ensures grown { result.written + held self.new ≤ held self.old + result.taken }

@@ -93,6 +93,14 @@ pub told : (s : Bool) (d : ℕ) (fed : List ℕ) (spot : Spot) (progress : Progr
     → length spot.front ≤ affix_len (slice_index spot.front 0 % 32) → Tells s d fed progress
 told s d fed spot progress e is left short = subst (Tells s d fed) (sym e) (tells s d fed spot is left short)
 
+-- no spot has more bytes than can be counted
+pub never_long : (phase : Phase) (spot : Spot) → progress_in phase spot ≡ r.TooLong → ⊥
+never_long p.Title spot is = cc
+never_long (p.Bytes left) spot is = cc
+never_long (p.Text left state) spot is = cc
+never_long p.Ended spot is = cc
+never_long (p.Faulted fault) spot is = cc
+
 -- where more bytes are due by the answer they are by the phase
 pub more_due : (phase : Phase) (spot : Spot) (due : ℕ) → r.More due ≡ progress_in phase spot → is_due phase ≡ true
 more_due phase spot due e = grind (arith, nat_tests)

@@ -1,6 +1,7 @@
 -- What a checker does with a piece.
 use Rattle.std.specs.Prelude.{◌≡◌, ◌≤◌, ◌+◌, ◌<◌, ◌^◌, Bool, ℕ, false, List, ◌++◌, length, take}
 use Rattle.cbor_feed.specs.declared.progress.Feed.{Feed}
+use Rattle.cbor_feed.specs.declared.progress.Progress.TheVariants as r
 use Rattle.cbor_feed.specs.Spots.{Spot}
 use Rattle.cbor_feed.specs.Steps.{IsFed}
 use Rattle.cbor_feed.specs.Telling.{IsAnswer, IsMore, Tells, is_due}
@@ -11,6 +12,7 @@ use Rattle.cbor_feed.specs.Telling.{IsAnswer, IsMore, Tells, is_due}
 pub record TakesPiece (old : Spot) (bytes : List ℕ) (feed : Feed) (new : Spot) : Type 0 where
   pub taken : feed.taken ≤ length bytes
   pub all : IsMore feed.progress → feed.taken ≡ length bytes
+  pub long : feed.progress ≡ r.TooLong → feed.taken < length bytes
   pub fed : (strict : Bool) (depth : ℕ) (fed : List ℕ) → IsFed strict depth fed old
       → IsFed strict depth (fed ++ take feed.taken bytes) new
   pub tells : (strict : Bool) (depth : ℕ) (fed : List ℕ) → IsFed strict depth fed old

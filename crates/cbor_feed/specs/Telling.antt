@@ -51,9 +51,14 @@ end_in r.TooLong = e.Between
 abbrev pub end_of : Spot → End
 end_of spot = if spot.offset == 0 then e.Between else end_in (progress_of spot)
 
--- the answer is that of the spot, but where no more bytes can be counted
+-- more bytes are due
+abbrev pub IsMore : Progress → Type 0
+IsMore (r.More due) = Unit {0}
+IsMore progress = ⊥
+
+-- the answer is that of the spot; but if no more bytes can be counted, more are due there
 abbrev pub IsAnswer : Progress → Spot → Type 0
-IsAnswer r.TooLong spot = Unit {0}
+IsAnswer r.TooLong spot = IsMore (progress_of spot)
 IsAnswer progress spot = progress ≡ progress_of spot
 
 -- what the answer says of all bytes so far. More: they are no item, some more make one of them, and each that do are at
@@ -65,11 +70,6 @@ Tells strict depth bytes (r.More due) =
 Tells strict depth bytes (r.Ended len) = IsItem strict depth bytes × (len ≡ length bytes)
 Tells strict depth bytes (r.Fault fault) = (more : List ℕ) → IsItem strict depth (bytes ++ more) → ⊥
 Tells strict depth bytes r.TooLong = 2 ^ 64 ≤ length bytes + 1
-
--- more bytes are due
-abbrev pub IsMore : Progress → Type 0
-IsMore (r.More due) = Unit {0}
-IsMore progress = ⊥
 
 -- What it says that no more bytes come: they end between items, within one, or none begins so
 abbrev pub TellsEnd : Bool → ℕ → List ℕ → End → Type 0

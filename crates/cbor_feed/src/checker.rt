@@ -1,6 +1,6 @@
 //! The checker: where its bytes have come to, and what it says of them.
 
-ghost use Rattle.std.specs.Prelude.{◌≡◌, ◌+◌, ◌≤◌, length, true, false, IsSome};
+ghost use Rattle.std.specs.Prelude.{◌≡◌, ◌<◌, ◌+◌, ◌≤◌, length, true, false, IsSome};
 ghost use Rattle.cbor_feed.specs.Snapshots.{levels_in};
 
 use crate::levels::{MOST_LEVELS, copy_levels};
@@ -27,6 +27,7 @@ impl Checker {
     ghost use Rattle.std.specs.Prelude.{Bool, ℕ, ◌++◌, List, [], IfSome, take, true, false};
     ghost use Rattle.cbor_feed.specs.Steps.{IsFed, start};
     ghost use Rattle.cbor_feed.specs.Telling.{IsAnswer, IsMore, Tells, TellsEnd, end_of, is_due, progress_of};
+    ghost use Rattle.cbor_feed.specs.declared.progress.Progress.TheVariants as r;
     ghost use Rattle.cbor_feed.specs.Spots.{Spot};
 
     /// A checker of an item to which nothing came. Tags, arrays and maps may be nested at most `depth` levels deep:
@@ -109,6 +110,7 @@ impl Checker {
     pub fn feed(&mut self, bytes: &[u8]) -> Feed
         ensures taken { result.taken ≤ length bytes.now }
         ensures all { IsMore result.progress → result.taken ≡ length bytes.now }
+        ensures long { result.progress ≡ r.TooLong → result.taken < length bytes.now }
         ensures fed { (strict : Bool) (depth : ℕ) (fed : List ℕ) → IsFed strict depth fed (spot_of self.old)
             → IsFed strict depth (fed ++ take result.taken bytes.now) (spot_of self.new) }
         ensures tells { (strict : Bool) (depth : ℕ) (fed : List ℕ) → IsFed strict depth fed (spot_of self.old)

@@ -38,6 +38,7 @@ impl Position {
     ghost use Rattle.cbor_feed.specs.Spots.{Spot};
     ghost use Rattle.cbor_feed.specs.Steps.{IsFed, start};
     ghost use Rattle.cbor_feed.specs.Telling.{IsAnswer, IsMore, Tells, is_due};
+    ghost use Rattle.cbor_feed.specs.declared.progress.Progress.TheVariants as r;
 
     /// That of a checker to which nothing came.
     #[inline(always)]
@@ -135,6 +136,7 @@ impl Position {
         ensures known { IsSome (levels_in self.new.nests kinds.new counts.new) }
         ensures taken { result.taken ≤ length bytes.now }
         ensures all { IsMore result.progress → result.taken ≡ length bytes.now }
+        ensures long { result.progress ≡ r.TooLong → result.taken < length bytes.now }
         ensures fed { (strict : Bool) (depth : ℕ) (fed : List ℕ) → IsFed strict depth fed (spot_in self.old kinds.old counts.old)
             → IsFed strict depth (fed ++ take result.taken bytes.now) (spot_in self.new kinds.new counts.new) }
         ensures tells { (strict : Bool) (depth : ℕ) (fed : List ℕ) → IsFed strict depth fed (spot_in self.old kinds.old counts.old)
@@ -203,6 +205,7 @@ impl Position {
     pub(crate) fn tell(&self, left: bool) -> Progress
         requires full { left ≡ true → is_due self.now.phase ≡ true → self.now.offset ≡ usize.MAX }
         ensures all { left ≡ true → IsMore result → ⊥ }
+        ensures long { result ≡ r.TooLong → left ≡ true }
         ensures tells { (kinds counts : List ℕ) (strict : Bool) (depth : ℕ) (fed : List ℕ)
             → IsFed strict depth fed (spot_in self.now kinds counts) → Tells strict depth fed result }
         ensures answers { (kinds counts : List ℕ) → IsAnswer result (spot_in self.now kinds counts) }

@@ -1,5 +1,5 @@
 -- What the answers of a copier of items say by their numbers.
-use Rattle.std.proofs.Common.{◌≡◌, ◌+◌, ◌≤◌, Bool, ℕ, false, List, [], ◌++◌, length, take, refl, sym, ap, subst, ◌∙◌}
+use Rattle.std.proofs.Common.{◌≡◌, ◌+◌, ◌<◌, ◌≤◌, Bool, ℕ, true, false, List, [], ◌++◌, length, take, refl, sym, ap, subst, ◌∙◌}
 use Rattle.cbor_copy.specs.Spots.{Spot as Elements}
 use Rattle.cbor_copy_item.specs.declared.progress.Progress.{Progress}
 use Rattle.cbor_copy_item.specs.declared.progress.Progress.TheVariants as r
@@ -31,14 +31,15 @@ says (r.Fault (f.Deep place)) s d whole output told = told
 says r.TooLong s d whole output told = (told, refl)
 
 answers : (progress : Progress) (item : Spot) (elements : Elements) → IsProgress progress elements.put item
+    → (progress ≡ r.TooLong → is_due item.phase ≡ true)
     → IsItemAnswer (item_answer progress) (item_number progress) item elements
-answers (r.Ended len) item elements is = (ap item_answer is, ap item_number is)
-answers (r.More due) item elements is = (ap item_answer is, ap item_number is)
-answers r.Room item elements is = (ap item_answer is, ap item_number is)
-answers (r.Fault (f.Syntax place)) item elements is = (ap item_answer is, ap item_number is)
-answers (r.Fault (f.Break place)) item elements is = (ap item_answer is, ap item_number is)
-answers (r.Fault (f.Deep place)) item elements is = (ap item_answer is, ap item_number is)
-answers r.TooLong item elements is = is
+answers (r.Ended len) item elements is cut = (ap item_answer is, ap item_number is)
+answers (r.More due) item elements is cut = (ap item_answer is, ap item_number is)
+answers r.Room item elements is cut = (ap item_answer is, ap item_number is)
+answers (r.Fault (f.Syntax place)) item elements is cut = (ap item_answer is, ap item_number is)
+answers (r.Fault (f.Break place)) item elements is cut = (ap item_answer is, ap item_number is)
+answers (r.Fault (f.Deep place)) item elements is cut = (ap item_answer is, ap item_number is)
+answers r.TooLong item elements is cut = (is, cut refl)
 
 short_more : (progress : Progress) → item_answer progress ≡ a.Short → IsMore progress
 short_more (r.More due) is = tt
@@ -48,6 +49,15 @@ short_more (r.Fault (f.Syntax place)) is = absurd cc
 short_more (r.Fault (f.Break place)) is = absurd cc
 short_more (r.Fault (f.Deep place)) is = absurd cc
 short_more r.TooLong is = absurd cc
+
+long_long : (progress : Progress) → item_answer progress ≡ a.TooLong → progress ≡ r.TooLong
+long_long r.TooLong is = refl
+long_long (r.Ended len) is = absurd cc
+long_long (r.More due) is = absurd cc
+long_long r.Room is = absurd cc
+long_long (r.Fault (f.Syntax place)) is = absurd cc
+long_long (r.Fault (f.Break place)) is = absurd cc
+long_long (r.Fault (f.Deep place)) is = absurd cc
 
 room_room : (progress : Progress) → item_answer progress ≡ a.Room → IsRoom progress
 room_room r.Room is = tt
@@ -64,6 +74,7 @@ pub feeds : (s : Bool) (d : ℕ) (fed given : List ℕ) (old : Spot) (before : E
     (item : Spot) (elements : Elements)
     → Tells s d (fed ++ take taken bytes) (given ++ take written output) progress
     → IsProgress progress elements.put item → (IsMore progress → taken ≡ length bytes)
+    → (progress ≡ r.TooLong → taken < length bytes) → (progress ≡ r.TooLong → is_due item.phase ≡ true)
     → (IsRoom progress → written ≡ length out)
     → (before.put ≡ [] → length bytes + 8 ≤ length out → IsRoom progress → ⊥)
     → (is_due old.phase ≡ false → before.put ≡ [] → (taken ≡ 0) × (written ≡ 0) × (item ≡ old) × (elements ≡ before))
@@ -72,7 +83,7 @@ pub feeds : (s : Bool) (d : ℕ) (fed given : List ℕ) (old : Spot) (before : E
     → answer ≡ item_answer progress → number ≡ item_number progress → Reports report taken written number
     → FeedsItem s d fed given old before bytes out answer output report new
 feeds s d fed given old before bytes out output taken written number progress answer report new item elements told is
-    all full fits stays kept copied answer_is number_is reports =
+    all long cut full fits stays kept copied answer_is number_is reports =
     let t = reports.consumed_is in
     let w = reports.written_is in
     let told' : Tells s d (fed ++ take report.consumed bytes) (given ++ take report.written output) progress =
@@ -83,6 +94,7 @@ feeds s d fed given old before bytes out output taken written number progress an
     let at : report.place ≡ item_number progress = reports.place_is ∙ number_is in
     record {
       all = λ short. t ∙ all (short_more progress (sym answer_is ∙ short));
+      long = λ is. subst (λ (n : ℕ). n < length bytes) (sym t) (long (long_long progress (sym answer_is ∙ is)));
       full = λ room. w ∙ full (room_room progress (sym answer_is ∙ room));
       fits = λ none enough room. fits none enough (room_room progress (sym answer_is ∙ room));
       reports = record {
@@ -104,7 +116,7 @@ feeds s d fed given old before bytes out output taken written number progress an
           (sym w) copied);
       answers = subst (λ (z : CllAnswer). IsItemAnswer z report.place item elements) (sym answer_is)
           (subst (λ (n : ℕ). IsItemAnswer (item_answer progress) n item elements) (sym at)
-          (answers progress item elements is));
+          (answers progress item elements is cut));
       stays = λ off none. let same = stays off none in (t ∙ same.0, w ∙ same.1, same.2, same.3);
     }
 

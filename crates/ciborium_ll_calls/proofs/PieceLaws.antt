@@ -1,5 +1,5 @@
 -- What the answers of a copier say by their numbers.
-use Rattle.std.proofs.Common.{◌≡◌, ◌+◌, ◌≤◌, ℕ, ◌↔◌, false, List, [], ◌++◌, length, take, refl, sym, ap, subst, ◌∙◌}
+use Rattle.std.proofs.Common.{◌≡◌, ◌+◌, ◌<◌, ◌≤◌, ℕ, ◌↔◌, false, List, [], ◌++◌, length, take, refl, sym, ap, subst, ◌∙◌}
 use Rattle.cbor_copy.specs.declared.progress.Progress.{Progress}
 use Rattle.cbor_copy.specs.declared.progress.Progress.TheVariants as r
 use Rattle.cbor_copy.specs.declared.progress.End.{End}
@@ -41,6 +41,13 @@ short_more r.Room is = absurd cc
 short_more (r.Syntax place) is = absurd cc
 short_more r.TooLong is = absurd cc
 
+long_long : (progress : Progress) → progress_answer progress ≡ a.TooLong → progress ≡ r.TooLong
+long_long r.TooLong is = refl
+long_long r.Ended is = absurd cc
+long_long r.More is = absurd cc
+long_long r.Room is = absurd cc
+long_long (r.Syntax place) is = absurd cc
+
 room_room : (progress : Progress) → progress_answer progress ≡ a.Room → IsRoom progress
 room_room r.Room is = tt
 room_room r.Ended is = absurd cc
@@ -53,14 +60,14 @@ pub feeds : (count : ℕ) (fed given : List ℕ) (old : Spot) (bytes out output 
     (progress : Progress) (answer : CllAnswer) (report : CllReport) (new : CllCopier) (spot : Spot)
     → Tells count (fed ++ take taken bytes) (given ++ take written output) progress
     → IsProgress progress spot.put spot.phase → (IsMore progress → taken ≡ length bytes)
-    → (IsRoom progress → written ≡ length out)
+    → (progress ≡ r.TooLong → taken < length bytes) → (IsRoom progress → written ≡ length out)
     → (old.put ≡ [] → length bytes + 8 ≤ length out → IsRoom progress → ⊥)
     → (is_due old.phase ≡ false → old.put ≡ [] → (taken ≡ 0) × (written ≡ 0) × (spot ≡ old))
     → IsCopier new spot → IsCopiedTo count (fed ++ take taken bytes) (given ++ take written output) spot
     → answer ≡ progress_answer progress → place ≡ progress_place progress → Reports report taken written place
     → FeedsCopied count fed given old bytes out answer output report new
-feeds count fed given old bytes out output taken written place progress answer report new spot told is all full fits
-    stays kept copied answer_is place_is reports =
+feeds count fed given old bytes out output taken written place progress answer report new spot told is all long full
+    fits stays kept copied answer_is place_is reports =
     let t = reports.consumed_is in
     let w = reports.written_is in
     let told' : Tells count (fed ++ take report.consumed bytes) (given ++ take report.written output) progress =
@@ -71,6 +78,7 @@ feeds count fed given old bytes out output taken written place progress answer r
     let at : report.place ≡ progress_place progress = reports.place_is ∙ place_is in
     record {
       all = λ short. t ∙ all (short_more progress (sym answer_is ∙ short));
+      long = λ is. subst (λ (n : ℕ). n < length bytes) (sym t) (long (long_long progress (sym answer_is ∙ is)));
       full = λ room. w ∙ full (room_room progress (sym answer_is ∙ room));
       fits = λ none enough room. fits none enough (room_room progress (sym answer_is ∙ room));
       reports = record {

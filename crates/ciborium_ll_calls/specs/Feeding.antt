@@ -1,5 +1,5 @@
 -- What the calls of a checker do, which C keeps in memory of its own.
-use Rattle.std.specs.Prelude.{◌≡◌, ◌≤◌, Bool, ℕ, false, List, [], ◌++◌, length, take}
+use Rattle.std.specs.Prelude.{◌≡◌, ◌<◌, ◌≤◌, Bool, ℕ, false, List, [], ◌++◌, length, take}
 use Rattle.cbor_feed.specs.declared.phase.Fault.{Fault}
 use Rattle.cbor_feed.specs.declared.phase.Fault.TheVariants as f
 use Rattle.cbor_feed.specs.declared.progress.Progress.{Progress}
@@ -9,7 +9,7 @@ use Rattle.cbor_feed.specs.declared.progress.End.TheVariants as e
 use Rattle.cbor_feed.specs.Snapshots.{Holds}
 use Rattle.cbor_feed.specs.Spots.{Spot}
 use Rattle.cbor_feed.specs.Steps.{IsFed}
-use Rattle.cbor_feed.specs.Telling.{Tells, TellsEnd, end_of, is_due, progress_of}
+use Rattle.cbor_feed.specs.Telling.{IsMore, Tells, TellsEnd, end_of, is_due, progress_of}
 use Rattle.ciborium_ll_calls.specs.declared.answer.CllAnswer.{CllAnswer}
 use Rattle.ciborium_ll_calls.specs.declared.answer.CllAnswer.TheVariants as a
 use Rattle.ciborium_ll_calls.specs.declared.answer.CllReport.{CllReport}
@@ -68,9 +68,9 @@ end_number e.Between = 0
 end_number (e.Short due) = due
 end_number (e.Fault fault) = fault_place fault
 
--- the answer with its number is that of the spot, but where no more bytes can be counted
+-- the answer with its number is that of the spot; but if no more bytes can be counted, more are due there
 abbrev pub IsAnswer : CllAnswer → ℕ → Spot → Type 0
-IsAnswer a.TooLong number spot = Unit {0}
+IsAnswer a.TooLong number spot = IsMore (progress_of spot)
 IsAnswer answer number spot =
     (answer ≡ progress_answer (progress_of spot)) × (number ≡ progress_number (progress_of spot))
 
@@ -91,12 +91,13 @@ pub record TakesWithin (bytes : List ℕ) (report : CllReport) : Type 0 where
   pub written : report.written ≡ 0
 
 -- what `cll_checker_feed` does with a piece, for a checker that has come to the old spot: so many of its bytes were
--- taken, all of them where more are due and none where none was due. The answer says what it does of all bytes so far,
+-- taken, all of them where more are due, fewer if no more can be counted, and none where none was due. The answer says what it does of all bytes so far,
 -- which have led to where the checker is (RFC 7049, 2.1 to 2.4)
 pub record Feeds (strict : Bool) (depth : ℕ) (fed : List ℕ) (old : Spot) (bytes : List ℕ) (answer : CllAnswer) (report : CllReport)
     (new : CllChecker) : Type 0 where
   pub taken : report.consumed ≤ length bytes
   pub all : answer ≡ a.Short → report.consumed ≡ length bytes
+  pub long : answer ≡ a.TooLong → report.consumed < length bytes
   pub reports : Reports report report.consumed 0 report.place
   pub says : SaysOf strict depth (fed ++ take report.consumed bytes) answer report.place
   pub spot : Spot

@@ -1,5 +1,5 @@
 -- What the calls of a copier of items do, which C keeps in memory of its own.
-use Rattle.std.specs.Prelude.{◌≡◌, ◌+◌, ◌≤◌, Bool, ℕ, false, List, [], ◌++◌, length, take}
+use Rattle.std.specs.Prelude.{◌≡◌, ◌+◌, ◌<◌, ◌≤◌, Bool, ℕ, true, false, List, [], ◌++◌, length, take}
 use Rattle.cbor_copy.specs.Spots.{Spot as Elements, putting}
 use Rattle.cbor_copy_item.specs.declared.progress.Progress.{Progress}
 use Rattle.cbor_copy_item.specs.declared.progress.Progress.TheVariants as r
@@ -67,9 +67,9 @@ item_end_number (e.Short due) = due
 item_end_number (e.Fault fault) = fault_place fault
 item_end_number end = 0
 
--- the answer with its number is that of the spots, but where no more bytes can be counted
+-- the answer with its number is that of the spots; but if no more bytes can be counted, more are due there
 abbrev pub IsItemAnswer : CllAnswer → ℕ → Spot → Elements → Type 0
-IsItemAnswer a.TooLong number item elements = elements.put ≡ []
+IsItemAnswer a.TooLong number item elements = (elements.put ≡ []) × (is_due item.phase ≡ true)
 IsItemAnswer answer number item elements =
     (answer ≡ item_answer (progress_of elements.put item)) × (number ≡ item_number (progress_of elements.put item))
 
@@ -87,13 +87,15 @@ SaysOfItem strict depth whole output a.TooLong number = Tells strict depth whole
 SaysOfItem strict depth whole output answer number = ⊥
 
 -- A piece for a copier of an item that has come to the old spots: so many of its bytes were taken, all of them where
--- more are due, and so many were written, as many as there is room for where there are more. If nothing was pending, a
+-- more are due and fewer if no more can be counted, and so many were written, as many as there is room for where there
+-- are more. If nothing was pending, a
 -- room of eight bytes more than the piece has is enough. The answer says what it does of all bytes so far and of all
 -- that was written, which have led to where the copier is. Behind an end or a fault nothing is taken or written
 pub record FeedsItem (strict : Bool) (depth : ℕ) (fed given : List ℕ) (old : Spot) (before : Elements)
     (bytes out : List ℕ) (answer : CllAnswer) (output : List ℕ) (report : CllReport) (new : CllItemCopier)
     : Type 0 where
   pub all : answer ≡ a.Short → report.consumed ≡ length bytes
+  pub long : answer ≡ a.TooLong → report.consumed < length bytes
   pub full : answer ≡ a.Room → report.written ≡ length out
   pub fits : before.put ≡ [] → length bytes + 8 ≤ length out → answer ≡ a.Room → ⊥
   pub reports : Reports report report.consumed report.written report.place

@@ -1,5 +1,5 @@
 -- What the calls of a copier do, which C keeps in memory of its own.
-use Rattle.std.specs.Prelude.{◌≡◌, ◌+◌, ◌≤◌, ◌↔◌, ℕ, false, List, [], ◌++◌, drop, length, take}
+use Rattle.std.specs.Prelude.{◌≡◌, ◌+◌, ◌<◌, ◌≤◌, ◌↔◌, ℕ, false, List, [], ◌++◌, drop, length, take}
 use Rattle.cbor_copy.specs.declared.progress.Progress.{Progress}
 use Rattle.cbor_copy.specs.declared.progress.Progress.TheVariants as r
 use Rattle.cbor_copy.specs.declared.progress.End.{End}
@@ -78,13 +78,15 @@ pub record StaysWithin (bytes out output : List ℕ) (report : CllReport) : Type
   pub kept : drop report.written output ≡ drop report.written out
 
 -- what `cll_copier_feed` does with a piece, for a copier that has come to the old spot: so many of its bytes were
--- taken, all of them where more are due, and so many were written, as many as there is room for where there are more.
+-- taken, all of them where more are due and fewer if no more can be counted, and so many were written, as many as there
+-- is room for where there are more.
 -- If nothing was pending, a room of eight bytes more than the piece has is enough. The answer says what it does of all
 -- bytes so far and of all that was written, which have led to where the copier is. Behind an end or a fault nothing is
 -- taken or written (RFC 7049, 2.1 and 2.2)
 pub record FeedsCopied (count : ℕ) (fed given : List ℕ) (old : Spot) (bytes out : List ℕ) (answer : CllAnswer)
     (output : List ℕ) (report : CllReport) (new : CllCopier) : Type 0 where
   pub all : answer ≡ a.Short → report.consumed ≡ length bytes
+  pub long : answer ≡ a.TooLong → report.consumed < length bytes
   pub full : answer ≡ a.Room → report.written ≡ length out
   pub fits : old.put ≡ [] → length bytes + 8 ≤ length out → answer ≡ a.Room → ⊥
   pub reports : Reports report report.consumed report.written report.place

@@ -19,7 +19,7 @@ returns-clause-fed c = λ count fed given spot is kept.
     c.say-2.new.self new) same
     (feeds count fed given (spot_of c.in-Some.restored) bytes c.args.out.now out copied.taken copied.written
     c.told_progress-told.result.1 copied.progress c.told_progress-told.result.0 c.say-2.new.self new
-    (spot_of c.feed-copied.new.self) (gives.tells count fed given here) gives.answers gives.all gives.full gives.fits
+    (spot_of c.feed-copied.new.self) (gives.tells count fed given here) gives.answers gives.all gives.long gives.full gives.fits
     gives.stays (record { mark = kept.mark; state = c.save-copier.ensures.holds }) (gives.copied count fed given here)
     c.told_progress-told.ensures.answer c.told_progress-told.ensures.place c.say-2.ensures)
 

@@ -26,7 +26,7 @@ returns-clause-fed c = λ strict depth fed given item elements is kept.
     (feeds strict depth fed given (item_spot copier) (kept_spot copier) bytes c.args.out.now out copied.taken
     copied.written c.told_progress-told.result.1 copied.progress c.told_progress-told.result.0 c.say-2.new.self new
     (item_spot c.feed-copied.new.self) (kept_spot c.feed-copied.new.self) (gives.tells strict depth fed given here)
-    gives.answers gives.all gives.full gives.fits
+    gives.answers gives.all gives.long (gives.cut strict depth fed given here) gives.full gives.fits
     (λ off none. let stays = gives.stays off none in (
       stays.0,
       stays.1,

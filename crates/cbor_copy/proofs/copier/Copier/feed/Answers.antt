@@ -4,7 +4,7 @@ use Rattle.cbor_copy.specs.Copying.{spot_of}
 use Rattle.cbor_copy.specs.Spots.{Spot, putting}
 use Rattle.cbor_copy.specs.Telling.{is_due}
 use Rattle.cbor_copy.proofs.KeptLaws.{given_grows}
-use Rattle.cbor_copy.proofs.RunLaws.{is_answer, fed_behind, drop_later, more_given, not_more}
+use Rattle.cbor_copy.proofs.RunLaws.{is_answer, fed_behind, drop_later, more_given, never_long, not_more}
 use Rattle.cbor_copy.proofs.TellLaws.{copier_tells, too_long}
 use Rattle.cbor_copy.proofs.copier.Copier.feed.Goals as goal
 
@@ -82,3 +82,11 @@ returns-clause-copied c = search rules
 
 pub returns-clause-all : goal.returns-clause-all
 returns-clause-all c = search rules
+
+pub returns-in_default-clause-long : goal.returns-in_default-clause-long
+returns-in_default-clause-long c = λ is.
+    absurd (never_long c.pieces.self.pending c.pieces.self.phase (sym c.progress.ensures ∙ is))
+
+pub returns-clause-long : goal.returns-clause-long
+returns-clause-long c = λ is.
+    absurd (never_long c.pieces.self.pending c.pieces.self.phase (sym c.progress-2.ensures ∙ is))

@@ -1,12 +1,14 @@
 use Rattle.std.proofs.Common.{◌≡◌, ◌∙◌, ◌++◌, ℕ, List, false, length, take, sym, ap, subst, rules, arith}
 use Rattle.cbor_feed.specs.Telling.{is_due}
 use Rattle.cbor_copy.proofs.RunLaws.{drop_later}
+use Rattle.cbor_feed.proofs.OneSpot.{one_spot}
+use Rattle.cbor_feed.specs.Spots.{Spot}
 use Rattle.cbor_copy_item.specs.declared.copier.ItemCopier.{ItemCopier}
 use Rattle.cbor_copy_item.specs.Copying.{item_spot, elements_spot, pending}
 use Rattle.cbor_copy_item.specs.Telling.{Tells}
 use Rattle.cbor_copy_item.specs.declared.progress.Progress.TheVariants as r
 use Rattle.cbor_copy_item.proofs.FitLaws.{never_room}
-use Rattle.cbor_copy_item.proofs.TellLaws.{not_more, tells_long}
+use Rattle.cbor_copy_item.proofs.TellLaws.{more_due, never_long, not_more, tells_long}
 use Rattle.cbor_copy_item.proofs.copier.ItemCopier.feed.Goals as goal
 
 pub pieces-preserved : goal.pieces-preserved
@@ -70,3 +72,30 @@ returns-clause-fits c =
 
 pub returns-in-None-clause-grown : goal.returns-in-None-clause-grown
 returns-in-None-clause-grown c = omega (arith, c.in-None.ensures.held_same, c.pieces.invariant.grown)
+
+pub returns-in_default-clause-long : goal.returns-in_default-clause-long
+returns-in_default-clause-long c = λ is.
+    absurd (never_long (pending c.pieces.self) (item_spot c.pieces.self) (sym c.progress.ensures.answers ∙ is))
+
+pub returns-in_default-clause-cut : goal.returns-in_default-clause-cut
+returns-in_default-clause-cut c = λ strict depth fed given was is.
+    absurd (never_long (pending c.pieces.self) (item_spot c.pieces.self) (sym c.progress.ensures.answers ∙ is))
+
+pub returns-clause-long : goal.returns-clause-long
+returns-clause-long c = λ is.
+    absurd (never_long (pending c.pieces.self) (item_spot c.pieces.self) (sym c.progress-2.ensures.answers ∙ is))
+
+pub returns-clause-cut : goal.returns-clause-cut
+returns-clause-cut c = λ strict depth fed given was is.
+    absurd (never_long (pending c.pieces.self) (item_spot c.pieces.self) (sym c.progress-2.ensures.answers ∙ is))
+
+pub returns-in-None-clause-cut : goal.returns-in-None-clause-cut
+returns-in-None-clause-cut c = λ strict depth fed given was is.
+    let copier = c.pieces.self in
+    let so_far = c.pieces.invariant.copied strict depth fed given was in
+    let now = fed ++ take c.pieces.at c.args.bytes.now in
+    let behind = (c.in-None.ensures.copied strict depth now _ so_far).0 in
+    let same = one_spot strict depth now _ _ behind.checked so_far.checked in
+    let due = more_due (pending copier) (item_spot copier) c.in-More.field-0
+    (sym c.in-More.is ∙ c.progress.ensures.answers) in
+    ap (λ (z : Spot). is_due z.phase) same ∙ due.1

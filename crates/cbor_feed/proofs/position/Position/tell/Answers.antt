@@ -1,8 +1,9 @@
-use Rattle.std.proofs.Common.{◌≡◌, refl, arith, rules, true}
+use Rattle.std.proofs.Common.{◌≡◌, refl, arith, rules, subst, true}
+use Rattle.cbor_feed.specs.declared.progress.Progress.TheVariants.{More}
 use Rattle.cbor_feed.specs.Places.{spot_in}
 use Rattle.cbor_feed.specs.Spots.{Spot}
-use Rattle.cbor_feed.specs.Telling.{is_due}
-use Rattle.cbor_feed.proofs.TellLaws.{fed_counts, more_due, told}
+use Rattle.cbor_feed.specs.Telling.{IsMore, is_due, progress_of}
+use Rattle.cbor_feed.proofs.TellLaws.{fed_counts, more_due, never_long, told}
 use Rattle.cbor_feed.proofs.position.Position.tell.Goals as goal
 
 pub returns-in-More-clause-tells : goal.returns-in-More-clause-tells
@@ -11,6 +12,17 @@ returns-in-More-clause-tells c = λ kinds counts strict depth fed is.
     let due : is_due spot.phase ≡ true =
     more_due spot.phase spot c.in-More.field-0 (search (rules, c.answer.ensures spot refl refl refl)) in
     omega (arith, c.requires.full c.if-left.true due, fed_counts strict depth fed spot is)
+
+pub returns-in-More-clause-answers : goal.returns-in-More-clause-answers
+returns-in-More-clause-answers c = λ kinds counts.
+    let spot : Spot = spot_in c.args.self.now kinds counts in
+    let same : More c.in-More.field-0 ≡ progress_of spot = search (rules, c.answer.ensures spot refl refl refl) in
+    subst IsMore same tt
+
+pub returns-in_default-2-clause-long : goal.returns-in_default-2-clause-long
+returns-in_default-2-clause-long c = λ is.
+    let spot : Spot = spot_in c.args.self.now c.args.self.now.front c.args.self.now.front in
+    absurd (never_long spot.phase spot (search (rules, c.answer.ensures spot refl refl refl, is)))
 
 pub returns-in_default-clause-tells : goal.returns-in_default-clause-tells
 returns-in_default-clause-tells c = λ kinds counts strict depth fed is.

@@ -1,4 +1,4 @@
-use Rattle.std.proofs.Common.{◌≡◌, ℕ, ◌<◌, ◌≤◌, true, ltb, arith, subst}
+use Rattle.std.proofs.Common.{◌≡◌, ℕ, ◌<◌, ◌≤◌, true, ltb, arith, rules, subst}
 use borrow.Author.Tests.{lt-ltb}
 use Rattle.cbor_feed.specs.declared.progress.Feed.{Feed}
 use Rattle.cbor_feed.specs.Piece.{TakesPiece}
@@ -23,6 +23,7 @@ returns-clause-fed c = λ old is.
       subst (λ (z : Spot). TakesPiece z c.args.bytes.now feed new) (c.load.ensures.same old is) (record {
         taken = taken.taken;
         all = all_taken _ _ taken.taken c.tell.ensures.all;
+        long = λ is. search (rules, c.tell.ensures.long is);
         fed = taken.fed;
         tells = λ strict depth fed is. c.tell.ensures.tells kinds counts strict depth _ (taken.fed strict depth fed is);
         counted = λ strict depth fed is. omega (arith, taken.counted strict depth fed is);
