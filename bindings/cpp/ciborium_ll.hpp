@@ -219,7 +219,7 @@ inline std::optional<fault> end_of(std::uint32_t code, const cll_report &report,
     if (code == CLL_OK)
         return std::nullopt;
     const bool cut = code == CLL_SHORT;
-    return fault{static_cast<answer>(code), cut ? taken : report.place, 0, 0, 0, 0, cut ? report.place : 0};
+    return fault{static_cast<answer>(code), cut ? taken : report.place, 0, 0, 0, 0, cut ? report.place : 0, 0};
 }
 
 } /* namespace detail */
@@ -231,7 +231,7 @@ inline result<title> pull(input bytes) noexcept
     std::size_t consumed = 0;
     const std::uint32_t code = cll_pull(bytes.data(), bytes.size(), &got, &consumed);
     if (code != CLL_OK)
-        return detail::fault_of(code, cll_report{consumed, 0, 0, 0, 0});
+        return detail::fault_of(code, cll_report{consumed, 0, 0, 0, 0, 0});
     std::optional<std::uint64_t> value;
     if (got.indefinite == 0)
         value = got.value;
