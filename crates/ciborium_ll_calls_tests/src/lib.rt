@@ -6,6 +6,8 @@ mod calls;
 #[cfg(test)]
 mod copiers;
 #[cfg(test)]
+mod counts;
+#[cfg(test)]
 mod item_copiers;
 #[cfg(test)]
 mod told;
