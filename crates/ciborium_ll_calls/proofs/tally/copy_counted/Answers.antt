@@ -1,4 +1,4 @@
-use Rattle.std.proofs.Common.{rules, refl, sym, ◌≡◌, ◌∙◌, ◌+◌, ◌≤◌, ℕ, suc, Ok, Err, length, arith, subst}
+use Rattle.std.proofs.Common.{rules, refl, sym, ◌≡◌, ◌∙◌, ◌+◌, ℕ, suc, Ok, Err, length, arith, subst}
 use Rattle.ciborium_ll.specs.Types.Decoder.{Decoder}
 use Rattle.ciborium_ll.specs.Recoding.{CopiesRun}
 use Rattle.ciborium_ll.specs.Sides.{sides}
