@@ -1,7 +1,7 @@
 //! What the program does.
 
 /// What the program does.
-#[derive(PartialEq, Eq, Drop)]
+#[derive(Debug, PartialEq, Eq, Drop)]
 pub enum Chosen {
     /// It answers lines.
     Lines,
