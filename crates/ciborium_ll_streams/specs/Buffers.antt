@@ -29,6 +29,10 @@ module _ {T : Type 0} where
   abbrev pub buffered_read_ahead : BufferedReader T → List ℕ
   buffered_read_ahead r = held r.window
 
+  -- how many bytes the lent slice of a reader has
+  abbrev pub buffered_read_capacity : BufferedReader T → ℕ
+  buffered_read_capacity r = window_capacity r.window
+
   -- the bytes to come: those that were read ahead, and then those of the reader within, where it tells them
   abbrev pub buffered_ahead : (T → Option (List ℕ)) → BufferedReader T → Option (List ℕ)
   buffered_ahead remaining r = prepend_known (held r.window) (remaining r.source)

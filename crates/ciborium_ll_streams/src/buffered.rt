@@ -32,12 +32,13 @@ pub struct BufferedReader<'a, T> {
 
 impl<'a, T: io::Read> BufferedReader<'a, T> {
     ghost use Rattle.ciborium_ll_streams.specs.Buffers.{buffered_ahead, buffered_read_ahead, buffered_read_failures};
-    ghost use Rattle.ciborium_ll_streams.specs.Buffers.{buffered_read_fault, buffered_source};
+    ghost use Rattle.ciborium_ll_streams.specs.Buffers.{buffered_read_capacity, buffered_read_fault, buffered_source};
 
     /// A reader of all that is left within. Nothing is read yet.
     pub fn new(source: T, buffer: &'a mut [u8]) -> BufferedReader<'a, T>
         ensures source { buffered_source result ≡ source }
         ensures read_ahead { buffered_read_ahead result ≡ [] }
+        ensures capacity { buffered_read_capacity result ≡ length buffer.old }
         ensures ahead { buffered_ahead T.remaining result ≡ T.remaining source }
         ensures fault { buffered_read_fault result ≡ None }
         ensures failures { buffered_read_failures result ≡ 0 }
@@ -63,6 +64,7 @@ impl<'a, T: io::Read> BufferedReader<'a, T> {
         ensures none { buffered_read_fault self.new ≡ None }
         ensures source { buffered_source self.new ≡ buffered_source self.old }
         ensures read_ahead { buffered_read_ahead self.new ≡ buffered_read_ahead self.old }
+        ensures capacity { buffered_read_capacity self.new ≡ buffered_read_capacity self.old }
         ensures ahead { buffered_ahead T.remaining self.new ≡ buffered_ahead T.remaining self.old }
         ensures failures { buffered_read_failures self.new ≡ buffered_read_failures self.old }
     {
@@ -70,10 +72,11 @@ impl<'a, T: io::Read> BufferedReader<'a, T> {
     }
 
     /// The reader within as the last call left it, the bytes that were read ahead and not handed out, and why the last
-    /// call that failed did so.
+    /// call that failed did so. No more bytes are read ahead than the slice has.
     pub fn into_parts(self) -> (T, &'a [u8], Option<ReadFault>)
         ensures source { result.0 ≡ buffered_source self.entry }
         ensures read_ahead { result.1.now ≡ buffered_read_ahead self.entry }
+        ensures within { length result.1.now ≤ buffered_read_capacity self.entry }
         ensures fault { result.2 ≡ buffered_read_fault self.entry }
     {
         let BufferedReader {
@@ -99,6 +102,7 @@ impl<'a, T: io::Read> BufferedReader<'a, T> {
         ensures fault { OnErr result (IsSome (buffered_read_fault self.new)) }
         ensures end { OnErr result (buffered_read_fault self.new ≡ Some ReadFault.End
             → IsAtEnd (buffered_ahead T.remaining self.new)) }
+        ensures capacity { buffered_read_capacity self.new ≡ buffered_read_capacity self.old }
     {
         let mut filled = 0;
         while filled < data.len() {
@@ -122,6 +126,7 @@ impl<'a, T: io::Read> BufferedReader<'a, T> {
         ensures fault { OnErr result (IsSome (buffered_read_fault self.new)) }
         ensures end { OnErr result (buffered_read_fault self.new ≡ Some ReadFault.End
             → IsAtEnd (buffered_ahead T.remaining self.new)) }
+        ensures capacity { buffered_read_capacity self.new ≡ buffered_read_capacity self.old }
     {
         if self.window.len() == 0 {
             if self.window.capacity() <= data.len() {
@@ -154,6 +159,7 @@ impl<'a, T: io::Read> BufferedReader<'a, T> {
         ensures fault { OnErr result (IsSome (buffered_read_fault self.new)) }
         ensures end { OnErr result (buffered_read_fault self.new ≡ Some ReadFault.End
             → IsAtEnd (buffered_ahead T.remaining self.new)) }
+        ensures capacity { buffered_read_capacity self.new ≡ buffered_read_capacity self.old }
     {
         match self.source.read(data) {
             Ok(0) => Err(self.failed(ReadFault::End)),
@@ -167,6 +173,7 @@ impl<'a, T: io::Read> BufferedReader<'a, T> {
         ensures kept { buffered_read_fault self.new ≡ Some fault }
         ensures ahead { buffered_ahead T.remaining self.new ≡ buffered_ahead T.remaining self.old }
         ensures failures { buffered_read_failures self.new ≡ buffered_read_failures self.old + 1 }
+        ensures capacity { buffered_read_capacity self.new ≡ buffered_read_capacity self.old }
     {
         self.failures.raise();
         self.fault = Some(fault);
@@ -176,7 +183,8 @@ impl<'a, T: io::Read> BufferedReader<'a, T> {
 
 impl<'a, T: io::Read> Read for BufferedReader<'a, T> {
     ghost use Rattle.ciborium_ll_streams.specs.Buffers.{buffered_ahead, buffered_read_ahead, buffered_read_failures};
-    ghost use Rattle.ciborium_ll_streams.specs.Buffers.{buffered_read_fault, buffered_source, buffered_steady};
+    ghost use Rattle.ciborium_ll_streams.specs.Buffers.{buffered_read_capacity, buffered_read_fault, buffered_source};
+    ghost use Rattle.ciborium_ll_streams.specs.Buffers.{buffered_steady};
 
     type Error = FaultKept;
 
@@ -217,6 +225,7 @@ impl<'a, T: io::Read> Read for BufferedReader<'a, T> {
         ensures fault { OnErr result (IsSome (buffered_read_fault self.new)) }
         ensures end { OnErr result (buffered_read_fault self.new ≡ Some ReadFault.End
             → IsAtEnd (buffered_ahead T.remaining self.new)) }
+        ensures capacity { buffered_read_capacity self.new ≡ buffered_read_capacity self.old }
     {
         if data.len() <= self.window.len() {
             self.window.take(data);

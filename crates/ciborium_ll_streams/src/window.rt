@@ -75,7 +75,8 @@ impl<'a> Window<'a> {
     #[inline(always)]
     pub(super) fn take(&mut self, data: &mut [u8])
         requires { length «data».old ≤ length (held self.old) }
-        ensures { held self.old ≡ «data».new ++ held self.new }
+        ensures held { held self.old ≡ «data».new ++ held self.new }
+        ensures capacity { window_capacity self.new ≡ window_capacity self.old }
     {
         copy_chunk(data, &self.held()[..data.len()]);
         self.skip(data.len());
@@ -125,6 +126,7 @@ impl<'a> Window<'a> {
         ensures end { IfOk result (λ n. n ≡ 0 → IsAtEnd (R.remaining from.new)) }
         ensures err { OnErr result (held self.new ≡ []) }
         ensures keeps { OnErr result (Keeps (R.remaining from.old) (R.remaining from.new)) }
+        ensures same { window_capacity self.new ≡ window_capacity self.old }
     {
         self.restart();
         let count = from.read(self.space)?;

@@ -13,6 +13,7 @@ loop-filled-preserved g c =
     record {
       within = search rules;
       failures = search rules;
+      capacity = search rules;
       fault = search rules;
       bytes = subst (Consumes _ _) joined (Consumes-trans _ _ _ _ _ kept.bytes c.in_ok-filled.ensures.bytes);
     }

@@ -31,5 +31,5 @@ returns-clause-bytes g c =
       | else-len-eq0 w ↦ rw w.self-is (Keeps-refl _)
     ] in
     let size : length c.take.new.«data» ≡ c.min-count.result = c.take.auto.«data» ∙ length-take-le _ _ (omega arith) in
-    let moved = prepend_known-taken (g.T.Read.remaining c.if-len-eq0.self.source) _ _ _ c.take.ensures in
+    let moved = prepend_known-taken (g.T.Read.remaining c.if-len-eq0.self.source) _ _ _ c.take.ensures.held in
     subst (Consumes _ _) (sym (take_at c.take.new.«data» _ c.min-count.result size)) (kept_Consumes _ _ _ _ kept moved)
