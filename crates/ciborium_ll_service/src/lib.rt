@@ -4,11 +4,13 @@
 //! `ciborium_ll_tool` is the program that calls it.
 #![tactic(auto)]
 
+mod ahead;
 mod answer;
 mod copy;
 pub mod fault;
 mod head;
 pub mod memory;
+pub mod prompt;
 pub mod raw;
 pub mod service;
 mod skip;

@@ -1,24 +1,94 @@
 //! Elements copied from one stream of bytes to another.
 
 ghost use Rattle.std.specs.Prelude.{◌≡◌, ℕ, List, Some};
-ghost use Rattle.ciborium_ll_service.specs.Raw.{CopiesRaw, TellsFlushed};
+ghost use Rattle.ciborium_ll_service.specs.Raw.{CopiesFlushed, CopiesRaw, Tells, TellsBehind, TellsFlushed};
+ghost use Rattle.ciborium_ll_service.specs.Raw.{flushed_outcome};
 ghost use Rattle.ciborium_ll_service.specs.Restoring.{Restores, RestoresCopy, RestoresFlush};
 
+use crate::ahead::ReadAhead;
 use crate::copy::BUFFER_SIZE;
 use ciborium_ll_decoder::dec::{Decoder, Error};
 use ciborium_ll_encoder::enc::Encoder;
-use ciborium_ll_io::io::Write;
+use ciborium_ll_io::io::{Read, Write};
 use ciborium_ll_recode::recode::{RecodeError, recode};
-use ciborium_ll_streams::{BufferedReader, BufferedWriter, FaultKept, ReadFault, WriteFault};
+use ciborium_ll_streams::{BufferedWriter, FaultKept, ReadFault, StdReader, StdWriter, WriteFault};
 use std::io;
 
 /// How many bytes a buffered copy reads ahead, and how many it keeps back, at most.
-const ROOM: usize = 8192;
+pub const ROOM: usize = 8192;
+
+/// Copies so many elements through 64 bytes. It hands back the reader and the writer, and flushes nothing.
+fn copy_elements<R: Read, W: Write>(
+    reader: R,
+    writer: W,
+    count: usize,
+) -> (R, W, Result<(), RecodeError<R::Error, W::Error>>)
+    ensures { (due written : List ℕ) → R.ahead reader ≡ Some due → W.written writer ≡ Some written
+        → CopiesRaw (Tells R.ahead) (Tells W.written) count due written result.2 result.0 result.1 }
+{
+    let mut buffer = [0; BUFFER_SIZE];
+    let mut decoder = Decoder::from(reader);
+    let mut encoder = Encoder::from(writer);
+    let copied = recode(&mut decoder, &mut encoder, count, &mut buffer);
+    let reader = decoder.into_inner();
+    let writer = encoder.into_inner();
+    (reader, writer, copied)
+}
+
+/// Copies `count` elements as raw bytes, each in its shortest spelling, through 64 bytes. Then it flushes the writer,
+/// after a failure too. It hands back the reader and the writer.
+///
+/// It makes single calls of the reader and the writer, and reads nothing ahead.
+///
+/// If both tell their bytes, `Ok` says that so many elements were next. The writer then got their shortest spelling,
+/// and the reader has what follows them.
+///
+/// # Errors
+///
+/// The error is that of the copy. If the copy succeeded, it is that of the flush.
+///
+/// - `Read` with `Syntax`: the offset at which the bytes are at fault, as `recode` tells it. The writer got what stands
+///   before the fault.
+/// - `Read` with `Io`: the reader failed, or it ended within the elements. The writer got the spelling of a part of them.
+/// - `Read` with `TooLong`: the offset would pass `usize::MAX`. The writer got the spelling of a part of the elements.
+/// - `Write`: the writer failed. It got a beginning of the spelling, or all of it if the flush failed.
+///
+/// After `Syntax` and `Write` the reader has what was not read. After `Io` and `TooLong` nothing is said of it.
+pub fn raw<R: io::Read, W: io::Write>(
+    reader: R,
+    writer: W,
+    count: usize,
+) -> (R, W, Result<(), RecodeError<ReadFault, WriteFault>>)
+    ensures { (due written : List ℕ) → R.remaining reader ≡ Some due → W.contents writer ≡ Some written
+        → CopiesFlushed (Tells R.remaining) (Tells W.contents) count due written result.2 result.0 result.1 }
+{
+    let (reader, mut writer, copied) = copy_elements(
+        StdReader::new(reader),
+        StdWriter::new(writer),
+        count,
+    );
+    let flushed = writer.flush();
+    let outcome = outcome_of(copied, flushed);
+    (reader.into_inner(), writer.into_inner(), outcome)
+}
+
+/// How a copy ended with the flush after it: with its own error, otherwise with that of the flush.
+fn outcome_of(
+    copied: Result<(), RecodeError<ReadFault, WriteFault>>,
+    flushed: Result<(), WriteFault>,
+) -> Result<(), RecodeError<ReadFault, WriteFault>>
+    ensures { result ≡ flushed_outcome copied flushed }
+{
+    match copied {
+        Ok(()) => flushed.map_err(RecodeError::Write),
+        Err(error) => Err(error),
+    }
+}
 
 /// How a buffered copy ended.
 #[derive(Drop)]
 pub struct BufferedCopy<R, W> {
-    /// The reader. Bytes behind the last element that were read ahead are given up.
+    /// The reader. Bytes behind the last element that were read ahead are given up, at most `ROOM` of them.
     pub reader: R,
     /// The writer. It has all that was written, but for bytes at the end where the flush failed.
     pub writer: W,
@@ -28,29 +98,31 @@ pub struct BufferedCopy<R, W> {
     pub flushed: Result<(), WriteFault>,
 }
 
-/// Copies so many elements, and flushes the writer. It reads ahead and keeps back some 8 KiB at a time, and hands back
-/// the reader and the writer.
+/// Copies as [`raw`] does, but reads ahead and keeps back up to `ROOM` bytes. It hands back the reader and the writer.
 ///
 /// The flush comes after a failure too. A write that fails is told by the call that passes it on, which may come behind
 /// a read that failed, or be the flush.
 ///
-/// Where bytes are told on both sides, `Ok` and `Syntax` mean what they do of `recode`; after another error the writer
-/// got the spelling of a part of the elements, or a beginning of it. Only where the flush failed may it lack bytes.
+/// If both tell their bytes, each answer means what it does of [`raw`], except for two things. The reader may have lost
+/// bytes that were read ahead: at most `ROOM` of those that follow what was copied. And only if the flush failed may the
+/// writer lack bytes at the end.
 pub fn raw_buffered<R: io::Read, W: io::Write>(
     reader: R,
     writer: W,
     count: usize,
 ) -> BufferedCopy<R, W>
     ensures { (due written : List ℕ) → R.remaining reader ≡ Some due → W.contents writer ≡ Some written
-        → CopiesRaw (TellsFlushed W.contents result.flushed) count due written result.copied result.writer }
+        → CopiesRaw (TellsBehind R.remaining ROOM) (TellsFlushed W.contents result.flushed) count due written
+        result.copied result.reader result.writer }
 {
     let mut read_ahead = [0; ROOM];
     let mut kept_back = [0; ROOM];
     let mut buffer = [0; BUFFER_SIZE];
-    let mut decoder = Decoder::from(BufferedReader::new(reader, &mut read_ahead));
+    let mut decoder = Decoder::from(ReadAhead::new(reader, &mut read_ahead));
     let mut encoder = Encoder::from(BufferedWriter::new(writer, &mut kept_back));
     let copied = recode(&mut decoder, &mut encoder, count, &mut buffer);
-    let (reader, _, read_fault) = decoder.into_inner().into_parts();
+    let ReadAhead { reader } = decoder.into_inner();
+    let (reader, _, read_fault) = reader.into_parts();
     let mut writer = encoder.into_inner();
     let write_fault = writer.take_fault();
     let flushed = writer.flush();
@@ -64,7 +136,7 @@ pub fn raw_buffered<R: io::Read, W: io::Write>(
 }
 
 /// The outcome of a copy, with the fault that was kept aside.
-fn restored_copy(
+pub(crate) fn restored_copy(
     copied: Result<(), RecodeError<FaultKept, FaultKept>>,
     read_fault: Option<ReadFault>,
     write_fault: Option<WriteFault>,
@@ -78,7 +150,7 @@ fn restored_copy(
 }
 
 /// The outcome of a flush, with the fault that was kept aside.
-fn restored_flush(
+pub(crate) fn restored_flush(
     flushed: Result<(), FaultKept>,
     fault: Option<WriteFault>,
 ) -> Result<(), WriteFault>

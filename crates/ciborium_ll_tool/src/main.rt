@@ -7,7 +7,7 @@
 use ciborium_ll_requests::arguments::chosen;
 use ciborium_ll_requests::choice::Chosen;
 use ciborium_ll_service::fault::{Fault, fault_of_raw, fault_of_run};
-use ciborium_ll_service::raw::raw_buffered;
+use ciborium_ll_service::prompt::raw_prompt;
 use ciborium_ll_service::service::run;
 use std::process::ExitCode;
 use std::{env, io};
@@ -49,9 +49,10 @@ fn answered(rt: &HostRuntime) -> Result<(), Fault> {
     }
 }
 
-/// Copies so many elements from standard input to standard output.
+/// Copies so many elements from standard input to standard output. What is ready is written before more input is
+/// waited for.
 fn copied(rt: &HostRuntime, count: usize) -> Result<(), Fault> {
-    let copy = raw_buffered(rt.reader(), io::writer(rt), count);
+    let copy = raw_prompt(rt.reader(), io::writer(rt), count);
     match (copy.copied, copy.flushed) {
         (Ok(()), Ok(())) => Ok(()),
         (Ok(()), Err(_)) => Err(Fault::Write),

@@ -1,0 +1,131 @@
+//! A copy that writes what it has before it waits for more of its input.
+
+use crate::copy::BUFFER_SIZE;
+use crate::raw::{BufferedCopy, ROOM, restored_copy, restored_flush};
+use ciborium_ll_decoder::dec::Decoder;
+use ciborium_ll_encoder::enc::Encoder;
+use ciborium_ll_io::io::{Failures, Write};
+use ciborium_ll_recode::recode::recode;
+use ciborium_ll_streams::{BufferedReader, BufferedWriter, FaultKept};
+use std::cell::RefCell;
+use std::io;
+
+/// Writes to a buffered writer in a cell.
+#[derive(Drop)]
+struct Shared<'o, 'a, W> {
+    output: &'o RefCell<BufferedWriter<'a, W>>,
+    failures: Failures,
+}
+
+impl<'o, 'a, W: io::Write> Shared<'o, 'a, W> {
+    /// A writer to what the cell has.
+    fn new(output: &'o RefCell<BufferedWriter<'a, W>>) -> Shared<'o, 'a, W> {
+        Shared {
+            output,
+            failures: Failures::new(),
+        }
+    }
+}
+
+impl<'o, 'a, W: io::Write> Write for Shared<'o, 'a, W> {
+    ghost use Rattle.std.specs.Prelude.{None};
+
+    type Error = FaultKept;
+
+    ghost written = { λ _. None };
+
+    ghost room = { λ _. None };
+
+    ghost failures = { λ w. w.failures.count };
+
+    ghost flushed = { λ _ _. Unit {0} };
+
+    ghost target = { λ _. None };
+
+    /// The error is that of the writer in the cell, which keeps its fault.
+    #[inline(always)]
+    fn write_all(&mut self, data: &[u8]) -> Result<(), FaultKept> {
+        if let Ok(mut output) = self.output.try_borrow_mut()
+            && output.write_all(data).is_ok()
+        {
+            return Ok(());
+        }
+        self.failures.raise();
+        Err(FaultKept)
+    }
+
+    /// The error is that of the writer in the cell, which keeps its fault.
+    fn flush(&mut self) -> Result<(), FaultKept> {
+        if let Ok(mut output) = self.output.try_borrow_mut()
+            && output.flush().is_ok()
+        {
+            return Ok(());
+        }
+        self.failures.raise();
+        Err(FaultKept)
+    }
+}
+
+/// A reader that flushes the writer in a cell before each read, which may have to wait.
+#[derive(Drop)]
+struct Prompt<'o, 'a, R, W> {
+    source: R,
+    output: &'o RefCell<BufferedWriter<'a, W>>,
+}
+
+impl<'o, 'a, R: io::Read, W: io::Write> Prompt<'o, 'a, R, W> {
+    /// A reader of what is left within.
+    fn new(source: R, output: &'o RefCell<BufferedWriter<'a, W>>) -> Prompt<'o, 'a, R, W> {
+        Prompt { source, output }
+    }
+
+    /// The reader within.
+    fn into_inner(self) -> R {
+        self.source
+    }
+}
+
+impl<'o, 'a, R: io::Read, W: io::Write> io::Read for Prompt<'o, 'a, R, W> {
+    fn read(&mut self, buf: &mut [u8]) -> io::Result<usize> {
+        if let Ok(mut output) = self.output.try_borrow_mut() {
+            // What can't be written is kept back still, and is written or told later.
+            let _ = output.flush();
+        }
+        self.source.read(buf)
+    }
+}
+
+/// Copies as [`crate::raw::raw_buffered`] does, and flushes what was kept back before each read, which may have to
+/// wait. So what is ready can be seen while more of the input is due.
+///
+/// If such a flush fails, the bytes are kept back, and a later write or the last flush tells the fault.
+///
+/// It is safe and returns. The reader shares the writer in a cell, of which no clause can speak. So what is written
+/// no clause says.
+pub fn raw_prompt<R: io::Read, W: io::Write>(
+    reader: R,
+    writer: W,
+    count: usize,
+) -> BufferedCopy<R, W> {
+    let mut read_ahead = [0; ROOM];
+    let mut kept_back = [0; ROOM];
+    let mut buffer = [0; BUFFER_SIZE];
+    let output = RefCell::new(BufferedWriter::new(writer, &mut kept_back));
+    let source = Prompt::new(reader, &output);
+    let mut decoder = Decoder::from(BufferedReader::new(source, &mut read_ahead));
+    let mut encoder = Encoder::from(Shared::new(&output));
+    let copied = recode(&mut decoder, &mut encoder, count, &mut buffer);
+    let (source, _, read_fault) = decoder.into_inner().into_parts();
+    let reader = source.into_inner();
+    let _ = encoder.into_inner();
+    let mut sink = output.into_inner();
+    let write_fault = sink.take_fault();
+    let flushed = sink.flush();
+    let (writer, _, flush_fault) = sink.into_parts();
+    BufferedCopy {
+        reader,
+        writer,
+        copied: restored_copy(copied, read_fault, write_fault),
+        flushed: restored_flush(flushed, flush_fault),
+    }
+}
