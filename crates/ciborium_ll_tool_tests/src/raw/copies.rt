@@ -5,8 +5,10 @@ use ciborium_ll::io::{ReadFault, WriteFault};
 use ciborium_ll::{Error, RecodeError};
 use ciborium_ll_fixtures::streams::{PartReader, PartWriter};
 use ciborium_ll_service::fault::{Fault, fault_of_raw};
-use ciborium_ll_service::raw::raw_buffered;
+use ciborium_ll_service::prompt::raw_prompt;
+use ciborium_ll_service::raw::{BufferedCopy, raw, raw_buffered};
 use std::alloc::{AllocError, Global};
+use std::cell::Cell;
 use std::io;
 use std::process::Abort;
 
@@ -69,9 +71,21 @@ fn end_of_flush(outcome: Result<(), WriteFault>) -> End {
     }
 }
 
-// Copies elements as the program does.
-pub fn copies<R: io::Read, W: io::Write>(source: R, sink: W, count: usize) -> Copied<R, W> {
-    let copy = raw_buffered(source, sink, count);
+// How elements are copied.
+#[derive(Clone, Copy, PartialEq, Eq)]
+pub enum Way {
+    // By single calls of the reader and the writer.
+    Single,
+    // Through buffers.
+    Buffered,
+    // As the program does: through buffers, and with a flush before each read.
+    Prompt,
+}
+
+// All of them.
+pub const WAYS: [Way; 3] = [Way::Single, Way::Buffered, Way::Prompt];
+
+fn copied_of<R, W>(copy: BufferedCopy<R, W>) -> Copied<R, W> {
     let (copied, fault) = end_of(copy.copied);
     Copied {
         copied,
@@ -79,6 +93,33 @@ pub fn copies<R: io::Read, W: io::Write>(source: R, sink: W, count: usize) -> Co
         flushed: end_of_flush(copy.flushed),
         source: copy.reader,
         sink: copy.writer,
+    }
+}
+
+// Copies elements by single calls. What this tells of the flush, it tells as the fault of the copy.
+fn copies_singly<R: io::Read, W: io::Write>(source: R, sink: W, count: usize) -> Copied<R, W> {
+    let (source, sink, outcome) = raw(source, sink, count);
+    let (copied, fault) = end_of(outcome);
+    Copied {
+        copied,
+        fault,
+        flushed: End::Done,
+        source,
+        sink,
+    }
+}
+
+// Copies elements in this way.
+pub fn copies<R: io::Read, W: io::Write>(
+    way: Way,
+    source: R,
+    sink: W,
+    count: usize,
+) -> Copied<R, W> {
+    match way {
+        Way::Single => copies_singly(source, sink, count),
+        Way::Buffered => copied_of(raw_buffered(source, sink, count)),
+        Way::Prompt => copied_of(raw_prompt(source, sink, count)),
     }
 }
 
@@ -91,8 +132,15 @@ fn is_word(alloc: Global, fault: &Option<Fault>, word: &str) -> bool {
 }
 
 // A copy of so many elements into memory writes this, and ends by this word.
-fn is_copied(alloc: Global, count: usize, bytes: &[u8], written: &[u8], word: &str) -> bool {
-    let copy = copies(bytes, Vec::new(alloc), count);
+fn is_copied(
+    alloc: Global,
+    way: Way,
+    count: usize,
+    bytes: &[u8],
+    written: &[u8],
+    word: &str,
+) -> bool {
+    let copy = copies(way, bytes, Vec::new(alloc), count);
     let is_written = copy.sink.as_slice() == written && copy.flushed == End::Done;
     is_written && is_word(alloc, &copy.fault, word)
 }
@@ -108,26 +156,70 @@ static COPIED: [(&[u8], &[u8], &str); 3] = [
     (&[], &[], "read"),
 ];
 
-// What was written is this, and it was flushed once.
-fn has_flushed(sink: &PartWriter, written: &[u8]) -> bool {
-    sink.taken.as_slice() == written && sink.flushes == 1
+// How often a copy flushes its writer: at its end, and as the program copies before each read.
+pub fn due_flushes(way: Way, reads: usize) -> usize {
+    if way == Way::Prompt {
+        reads.saturating_add(1)
+    } else {
+        1
+    }
 }
 
 // A copy of so many elements, byte by byte, takes all bytes, writes this and flushes it.
-fn is_copied_slowly(alloc: Global, count: usize, bytes: &[u8], written: &[u8]) -> bool {
-    let copy = copies(PartReader::new(bytes, 1), PartWriter::new(alloc, 1), count);
+fn is_copied_slowly(alloc: Global, way: Way, count: usize, bytes: &[u8], written: &[u8]) -> bool {
+    let copy = copies(
+        way,
+        PartReader::new(bytes, 1),
+        PartWriter::new(alloc, 1),
+        count,
+    );
     let is_done = copy.copied == End::Done && copy.flushed == End::Done;
-    is_done && copy.source.left.is_empty() && has_flushed(&copy.sink, written)
+    let is_written = copy.sink.taken.as_slice() == written && copy.source.left.is_empty();
+    is_done && is_written && copy.sink.flushes == due_flushes(way, copy.source.calls)
 }
 
 // A copy that always answered that its reader failed would fail here.
 #[test]
 fn raw_copies(rt: HostRuntime) {
-    for &(bytes, written, word) in &COPIED {
-        holds(&rt, is_copied(rt.alloc(), 1, bytes, written, word), word);
+    for way in WAYS {
+        for &(bytes, written, word) in &COPIED {
+            let is_right = is_copied(rt.alloc(), way, 1, bytes, written, word);
+            holds(&rt, is_right, word);
+        }
+        let is_right = is_copied_slowly(rt.alloc(), way, 1, &[0x58, 1, 1], &[0x41, 1]);
+        holds(&rt, is_right, "a string between streams");
     }
-    let is_right = is_copied_slowly(rt.alloc(), 1, &[0x58, 1, 1], &[0x41, 1]);
-    holds(&rt, is_right, "a string between streams");
+}
+
+// What follows the last element is left where nothing is read ahead, and else where more than a buffer has follows.
+fn is_left(alloc: Global, way: Way, bytes: &[u8], left: usize) -> bool {
+    let copy = copies(way, bytes, Vec::new(alloc), 1);
+    copy.copied == End::Done && bytes.ends_with(copy.source) && copy.source.len() == left
+}
+
+#[test]
+fn what_follows_is_left(rt: HostRuntime) {
+    let bytes = [0; 8_200];
+    holds(
+        &rt,
+        is_left(rt.alloc(), Way::Single, &bytes, 8_199),
+        "one byte is read",
+    );
+    holds(
+        &rt,
+        is_left(rt.alloc(), Way::Single, &bytes[..2], 1),
+        "of two",
+    );
+    holds(
+        &rt,
+        is_left(rt.alloc(), Way::Buffered, &bytes, 8),
+        "8 KiB are read",
+    );
+    holds(
+        &rt,
+        is_left(rt.alloc(), Way::Buffered, &bytes[..2], 0),
+        "both of two",
+    );
 }
 
 // Adds a string and titles that are longer than a window, in their shortest spelling.
@@ -151,8 +243,8 @@ pub fn long_elements(rt: &impl Abort, alloc: Global) -> Vec<u8> {
 }
 
 // Where a write fails the first bytes are written and flushed.
-fn is_front(alloc: Global, bytes: &[u8]) -> bool {
-    let copy = copies(bytes, failing_writer(alloc, 101), 5_001);
+fn is_front(alloc: Global, way: Way, bytes: &[u8]) -> bool {
+    let copy = copies(way, bytes, failing_writer(alloc, 101), 5_001);
     let has_failed = copy.copied == End::Write(TIMED_OUT) && copy.flushed == End::Done;
     has_failed && bytes.starts_with(copy.sink.taken.as_slice()) && copy.sink.flushes == 1
 }
@@ -161,11 +253,22 @@ fn is_front(alloc: Global, bytes: &[u8]) -> bool {
 fn raw_copies_through_windows(rt: HostRuntime) {
     let bytes = long_elements(&rt, rt.alloc());
     let bytes = bytes.as_slice();
-    let is_same = is_copied(rt.alloc(), 5_001, bytes, bytes, "ok");
-    holds(&rt, is_same, "into memory");
-    let is_same = is_copied_slowly(rt.alloc(), 5_001, bytes, bytes);
-    holds(&rt, is_same, "byte by byte");
-    holds(&rt, is_front(rt.alloc(), bytes), "a write that fails");
+    for way in WAYS {
+        let is_same = is_copied(rt.alloc(), way, 5_001, bytes, bytes, "ok");
+        holds(&rt, is_same, "into memory");
+        let is_same = is_copied_slowly(rt.alloc(), way, 5_001, bytes, bytes);
+        holds(&rt, is_same, "byte by byte");
+    }
+    holds(
+        &rt,
+        is_front(rt.alloc(), Way::Single, bytes),
+        "a write that fails",
+    );
+    holds(
+        &rt,
+        is_front(rt.alloc(), Way::Buffered, bytes),
+        "a buffer that fails",
+    );
 }
 
 // A writer that takes one byte a call, and whose flush may fail.
@@ -177,9 +280,9 @@ fn flushed_writer(alloc: Global, flush_fails: bool) -> PartWriter {
     writer
 }
 
-// How a flush ends.
-fn flush_end(flush_fails: bool) -> End {
-    if flush_fails {
+// How a flush ends that is told by itself.
+fn flush_end(way: Way, flush_fails: bool) -> End {
+    if flush_fails && way != Way::Single {
         End::Write(io::ErrorKind::Other)
     } else {
         End::Done
@@ -189,32 +292,41 @@ fn flush_end(flush_fails: bool) -> End {
 // A copy writes this and flushes it once, and ends by this word, and its flush by whether that fails.
 fn is_flushed(
     alloc: Global,
+    way: Way,
     count: usize,
     bytes: &[u8],
     flush_fails: bool,
     written: &[u8],
     word: &str,
 ) -> bool {
-    let copy = copies(bytes, flushed_writer(alloc, flush_fails), count);
-    let is_once = copy.flushed == flush_end(flush_fails) && has_flushed(&copy.sink, written);
-    is_once && is_word(alloc, &copy.fault, word)
+    let source = PartReader::new(bytes, 64);
+    let copy = copies(way, source, flushed_writer(alloc, flush_fails), count);
+    let is_written = copy.sink.taken.as_slice() == written;
+    let is_due = copy.sink.flushes == due_flushes(way, copy.source.calls);
+    let is_told = copy.flushed == flush_end(way, flush_fails);
+    is_written && is_due && is_told && is_word(alloc, &copy.fault, word)
 }
 
-// How many elements are copied, of which bytes, what is written, and how the copy ends.
-static FLUSHED: [(usize, &[u8], &[u8], &str); 3] = [
-    (1, &[0x42, 1, 2], &[0x42, 1, 2], "ok"),
-    (2, &[0, 0x1f], &[0], "syntax 1"),
-    (2, &[0, 0x43, 1], &[0, 0x43], "read"),
+// How many elements are copied, of which bytes, what is written, and how the copy ends. The last word is that of a copy
+// by single calls whose flush fails: where the copy has no fault, that of the flush is told in its place.
+static FLUSHED: [(usize, &[u8], &[u8], &str, &str); 3] = [
+    (1, &[0x42, 1, 2], &[0x42, 1, 2], "ok", "write"),
+    (2, &[0, 0x1f], &[0], "syntax 1", "syntax 1"),
+    (2, &[0, 0x43, 1], &[0, 0x43], "read", "read"),
 ];
 
-// However a copy ends, its writer is flushed once, behind all that was written. Where the flush fails, that is told
-// beside how the copy ended.
+// However a copy ends, its writer is flushed, behind all that was written. Where the flush fails, that is told beside
+// how the copy ended, or in its place.
 #[test]
 fn copies_flush_once(rt: HostRuntime) {
-    for &(count, bytes, want, word) in &FLUSHED {
-        let is_right = is_flushed(rt.alloc(), count, bytes, false, want, word)
-            && is_flushed(rt.alloc(), count, bytes, true, want, word);
-        holds(&rt, is_right, word);
+    for way in WAYS {
+        for &(count, bytes, want, word, unflushed) in &FLUSHED {
+            let is_right = is_flushed(rt.alloc(), way, count, bytes, false, want, word);
+            holds(&rt, is_right, word);
+            let told = if way == Way::Single { unflushed } else { word };
+            let is_right = is_flushed(rt.alloc(), way, count, bytes, true, want, told);
+            holds(&rt, is_right, told);
+        }
     }
 }
 
@@ -229,42 +341,127 @@ fn failing_writer(alloc: Global, call: usize) -> PartWriter {
 }
 
 // How a copy of one element ended, and how its flush did.
-fn ends_of_one<R: io::Read + Drop, W: io::Write + Drop>(source: R, sink: W) -> (End, End) {
-    let copy = copies(source, sink, 1);
+fn ends_of_one<R: io::Read + Drop, W: io::Write + Drop>(
+    way: Way,
+    source: R,
+    sink: W,
+) -> (End, End) {
+    let copy = copies(way, source, sink, 1);
     (copy.copied, copy.flushed)
 }
 
 // Whether a read that fails at this call is told.
-fn tells_read(alloc: Global, call: usize) -> bool {
-    let (copied, _) = ends_of_one(failing_reader(call), Vec::new(alloc));
+fn tells_read(alloc: Global, way: Way, call: usize) -> bool {
+    let (copied, _) = ends_of_one(way, failing_reader(call), Vec::new(alloc));
     copied == End::Read(TIMED_OUT)
 }
 
-// Whether a write that fails at this call is told by the flush.
-fn tells_write(alloc: Global, call: usize) -> bool {
-    let (copied, flushed) = ends_of_one([0x42, 1, 2].as_slice(), failing_writer(alloc, call));
-    copied == End::Done && flushed == End::Write(TIMED_OUT)
+// Whether this is told of the writer: by single calls as the fault of the copy, else as that of the flush.
+fn is_told(way: Way, ends: (End, End), fault: End) -> bool {
+    if way == Way::Single {
+        ends == (fault, End::Done)
+    } else {
+        ends == (End::Done, fault)
+    }
+}
+
+// Whether a write that fails at this call is told.
+fn tells_write(alloc: Global, way: Way, call: usize) -> bool {
+    let ends = ends_of_one(way, [0x42, 1, 2].as_slice(), failing_writer(alloc, call));
+    is_told(way, ends, End::Write(TIMED_OUT))
 }
 
 // Whether an end of the bytes is told.
-fn tells_end(alloc: Global) -> bool {
-    let (copied, _) = ends_of_one([0x42, 1].as_slice(), Vec::new(alloc));
+fn tells_end(alloc: Global, way: Way) -> bool {
+    let (copied, _) = ends_of_one(way, [0x42, 1].as_slice(), Vec::new(alloc));
     copied == End::Short
 }
 
 // Whether it is told that no byte is taken.
-fn tells_zero(alloc: Global) -> bool {
-    let (copied, flushed) = ends_of_one([0].as_slice(), PartWriter::new(alloc, 0));
-    copied == End::Done && flushed == End::Zero
+fn tells_zero(alloc: Global, way: Way) -> bool {
+    let ends = ends_of_one(way, [0].as_slice(), PartWriter::new(alloc, 0));
+    is_told(way, ends, End::Zero)
 }
 
 #[test]
 fn raw_hands_faults_on(rt: HostRuntime) {
     let alloc = rt.alloc();
-    for call in 1..=3_usize {
-        holds(&rt, tells_read(alloc, call), "a read");
-        holds(&rt, tells_write(alloc, call), "a write");
+    for way in WAYS {
+        for call in 1..=3_usize {
+            holds(&rt, tells_read(alloc, way, call), "a read");
+            holds(&rt, tells_write(alloc, way, call), "a write");
+        }
+        holds(&rt, tells_end(alloc, way), "an end of the bytes");
+        holds(&rt, tells_zero(alloc, way), "no byte is taken");
     }
-    holds(&rt, tells_end(alloc), "an end of the bytes");
-    holds(&rt, tells_zero(alloc), "no byte is taken");
+}
+
+// Counts bytes that are written.
+#[derive(Drop)]
+struct Counter<'c> {
+    written: &'c Cell<usize>,
+}
+
+impl io::Write for Counter<'_> {
+    fn write(&mut self, buf: &[u8]) -> io::Result<usize> {
+        self.written
+            .set(self.written.get().saturating_add(buf.len()));
+        Ok(buf.len())
+    }
+
+    fn flush(&mut self) -> io::Result<()> {
+        Ok(())
+    }
+}
+
+// Gives a byte a call, and looks how many were written before it.
+#[derive(Drop)]
+struct Watcher<'c> {
+    left: &'static [(u8, usize)],
+    written: &'c Cell<usize>,
+    is_prompt: bool,
+}
+
+impl io::Read for Watcher<'_> {
+    fn read(&mut self, buf: &mut [u8]) -> io::Result<usize> {
+        let [(byte, due), rest @ ..] = self.left else {
+            return Ok(0);
+        };
+        if let Some(place) = buf.first_mut() {
+            *place = *byte;
+            self.is_prompt = self.is_prompt && self.written.get() == *due;
+            self.left = rest;
+            return Ok(1);
+        }
+        Ok(0)
+    }
+}
+
+// The bytes of three elements, and how many bytes are written before each is asked for. The elements are a number, one
+// whose title has two bytes, and a string of the indefinite form with one piece.
+static WATCHED: [(u8, usize); 8] = [
+    (0x01, 0),
+    (0x18, 1),
+    (0x05, 1),
+    (0x5f, 2),
+    (0x42, 3),
+    (0x07, 4),
+    (0x08, 4),
+    (0xff, 6),
+];
+
+// What is ready is written before the next byte is asked for.
+#[test]
+fn what_is_ready_is_written(rt: HostRuntime) {
+    let written = Cell::new(0);
+    let source = Watcher {
+        left: &WATCHED,
+        written: &written,
+        is_prompt: true,
+    };
+    let sink = Counter { written: &written };
+    let copy = copies(Way::Prompt, source, sink, 3);
+    holds(&rt, copy.copied == End::Done, "three elements");
+    holds(&rt, copy.source.is_prompt, "what is ready");
+    holds(&rt, copy.source.left.is_empty(), "all bytes");
 }

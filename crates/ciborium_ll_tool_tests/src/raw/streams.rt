@@ -1,6 +1,6 @@
 // Copies of raw bytes between streams that move few bytes a call, or fail at one, beside a plain reading.
 
-use super::copies::{self, End, long_elements};
+use super::copies::{self, End, WAYS, Way, due_flushes, long_elements};
 use crate::answers::{MOST, decoded, holds_call};
 use ciborium_ll_fixtures::plain::{self, Copied, Fault};
 use ciborium_ll_fixtures::samples::COPIES;
@@ -20,6 +20,7 @@ const INTERRUPTED: io::ErrorKind = io::ErrorKind::Interrupted;
 // How a copy ended, and what was written, given and flushed by then.
 #[derive(Drop)]
 struct Ended {
+    way: Way,
     copied: End,
     flushed: End,
     reads: usize,
@@ -28,9 +29,10 @@ struct Ended {
 }
 
 // Copies elements.
-fn copies(count: usize, bytes: &[u8], source: PartReader<'_>, sink: PartWriter) -> Ended {
-    let copy = copies::copies(source, sink, count);
+fn copies(way: Way, count: usize, bytes: &[u8], source: PartReader<'_>, sink: PartWriter) -> Ended {
+    let copy = copies::copies(way, source, sink, count);
     Ended {
+        way,
         copied: copy.copied,
         flushed: copy.flushed,
         reads: copy.source.calls,
@@ -60,7 +62,8 @@ fn end_of_write(kind: Option<io::ErrorKind>) -> End {
 // What was written is what a plain reading gives, and it was flushed.
 fn is_flushed(ended: &Ended, want: &Copied) -> bool {
     let is_written = ended.sink.taken.as_slice() == want.output.as_slice();
-    is_written && ended.sink.flushes == 1 && ended.flushed == End::Done
+    let flushes = due_flushes(ended.way, ended.reads);
+    is_written && ended.sink.flushes == flushes && ended.flushed == End::Done
 }
 
 // A copy whose reader was interrupted tells it, and stops within a title or a body.
@@ -80,21 +83,29 @@ fn is_due(ended: &Ended, want: &Copied, has_failed: bool) -> bool {
 }
 
 // Copies from a reader that gives few bytes a call, and is interrupted at one.
-fn interrupted(alloc: Global, count: usize, bytes: &[u8], most: usize, call: usize) -> Ended {
+fn interrupted(
+    alloc: Global,
+    way: Way,
+    count: usize,
+    bytes: &[u8],
+    most: usize,
+    call: usize,
+) -> Ended {
     let source = PartReader::new(bytes, most).failing_at(call, INTERRUPTED);
-    copies(count, bytes, source, PartWriter::new(alloc, most))
+    copies(way, count, bytes, source, PartWriter::new(alloc, most))
 }
 
 // What such a copy does is what a plain reading says. It tells whether that call came.
 fn stops_reading(
     rt: &impl Abort,
     alloc: Global,
+    way: Way,
     count: usize,
     bytes: &[u8],
     most: usize,
     call: usize,
 ) -> Result<bool, Fail> {
-    let ended = interrupted(alloc, count, bytes, most, call);
+    let ended = interrupted(alloc, way, count, bytes, most, call);
     let has_failed = ended.reads >= call;
     let length = if has_failed { ended.given } else { bytes.len() };
     let want = plain::copy(alloc, false, count, front_of(bytes, length))?;
@@ -107,9 +118,12 @@ fn is_front(ended: &Ended, want: &Copied, length: usize) -> bool {
     want.output.as_slice().get(..length) == Some(ended.sink.taken.as_slice())
 }
 
-// A copy whose writer failed tells it. So few bytes are kept back to the end, so that the flush has the fault, and not
-// the copy.
+// A copy whose writer failed tells it. Through buffers so few bytes are kept back to the end, so that the flush has the
+// fault, and not the copy.
 fn is_unwritten(ended: &Ended, want: &Copied, fault: End) -> bool {
+    if ended.way == Way::Single {
+        return ended.copied == fault && ended.flushed == End::Done;
+    }
     ended.flushed == fault && is_answer(ended.copied, want.fault)
 }
 
@@ -133,6 +147,7 @@ fn is_due_of(ended: &Ended, want: &Copied, kind: Option<io::ErrorKind>, call: us
 fn stops_writing(
     rt: &impl Abort,
     alloc: Global,
+    way: Way,
     count: usize,
     bytes: &[u8],
     want: &Copied,
@@ -140,7 +155,7 @@ fn stops_writing(
     call: usize,
 ) -> bool {
     let sink = PartWriter::new(alloc, 1).failing_at(call, kind);
-    let ended = copies(count, bytes, PartReader::new(bytes, 64), sink);
+    let ended = copies(way, count, bytes, PartReader::new(bytes, 64), sink);
     holds_call(rt, is_due_of(&ended, want, kind, call), call, bytes);
     ended.sink.calls >= call
 }
@@ -149,13 +164,14 @@ fn stops_writing(
 fn interrupts_reads(
     rt: &impl Abort,
     alloc: Global,
+    way: Way,
     count: usize,
     bytes: &[u8],
     most: usize,
 ) -> Result<(), Fail> {
     let mut last = 0usize;
     for call in 1..64usize {
-        if !stops_reading(rt, alloc, count, bytes, most, call)? {
+        if !stops_reading(rt, alloc, way, count, bytes, most, call)? {
             break;
         }
         last = call;
@@ -168,6 +184,7 @@ fn interrupts_reads(
 fn fails_writes(
     rt: &impl Abort,
     alloc: Global,
+    way: Way,
     count: usize,
     bytes: &[u8],
     want: &Copied,
@@ -175,7 +192,7 @@ fn fails_writes(
 ) {
     let mut last = 0usize;
     for call in 1..64usize {
-        if !stops_writing(rt, alloc, count, bytes, want, kind, call) {
+        if !stops_writing(rt, alloc, way, count, bytes, want, kind, call) {
             break;
         }
         last = call;
@@ -185,8 +202,10 @@ fn fails_writes(
 
 // Reads fail through readers of each kind.
 fn fails_reads(rt: &impl Abort, alloc: Global, count: usize, bytes: &[u8]) -> Result<(), Fail> {
-    for most in [1, 2, 3, 64usize] {
-        interrupts_reads(rt, alloc, count, bytes, most)?;
+    for way in WAYS {
+        for most in [1, 2, 3, 64usize] {
+            interrupts_reads(rt, alloc, way, count, bytes, most)?;
+        }
     }
     Ok(())
 }
@@ -197,8 +216,10 @@ fn fails_sample(rt: &impl Abort, alloc: Global, count: usize, digits: &str) -> R
     let bytes = decoded(rt, digits, &mut space);
     fails_reads(rt, alloc, count, bytes)?;
     let want = plain::copy(alloc, false, count, bytes)?;
-    fails_writes(rt, alloc, count, bytes, &want, None);
-    fails_writes(rt, alloc, count, bytes, &want, Some(INTERRUPTED));
+    for way in [Way::Single, Way::Buffered] {
+        fails_writes(rt, alloc, way, count, bytes, &want, None);
+        fails_writes(rt, alloc, way, count, bytes, &want, Some(INTERRUPTED));
+    }
     Ok(())
 }
 
@@ -225,7 +246,13 @@ fn is_read_on(ended: &Ended, bytes: &[u8], has_failed: bool) -> bool {
 // A long copy whose read of this number is interrupted. It tells whether that call came.
 fn stops_reading_on(rt: &impl Abort, alloc: Global, bytes: &[u8], call: usize) -> bool {
     let source = PartReader::new(bytes, 1_000).failing_at(call, INTERRUPTED);
-    let ended = copies(5_001, bytes, source, PartWriter::new(alloc, 1_000));
+    let ended = copies(
+        Way::Buffered,
+        5_001,
+        bytes,
+        source,
+        PartWriter::new(alloc, 1_000),
+    );
     let has_failed = ended.reads >= call;
     holds_call(rt, is_read_on(&ended, bytes, has_failed), call, &[]);
     has_failed
@@ -255,7 +282,13 @@ fn is_written_on(ended: &Ended, bytes: &[u8], has_failed: bool) -> bool {
 // The same of a write.
 fn stops_writing_on(rt: &impl Abort, alloc: Global, bytes: &[u8], call: usize) -> bool {
     let sink = PartWriter::new(alloc, 1_000).failing_at(call, Some(INTERRUPTED));
-    let ended = copies(5_001, bytes, PartReader::new(bytes, 1_000), sink);
+    let ended = copies(
+        Way::Buffered,
+        5_001,
+        bytes,
+        PartReader::new(bytes, 1_000),
+        sink,
+    );
     let has_failed = ended.sink.calls >= call;
     holds_call(rt, is_written_on(&ended, bytes, has_failed), call, &[]);
     has_failed
