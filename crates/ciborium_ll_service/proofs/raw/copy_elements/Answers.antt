@@ -1,5 +1,5 @@
-use Rattle.std.proofs.Common.{◌≡◌, Some, ap, subst, sym, ◌∙◌}
-use Rattle.ciborium_ll_service.specs.Raw.{CopiesRaw, Tells}
+use Rattle.std.proofs.Common.{ap, ◌∙◌}
+use Rattle.ciborium_ll_service.specs.Raw.{Tells}
 use Rattle.ciborium_ll_service.proofs.RawLaws.{handed_on, raw_any, told_ahead}
 use Rattle.ciborium_ll_service.proofs.raw.copy_elements.Goals as goal
 
