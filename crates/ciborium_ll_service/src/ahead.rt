@@ -1,20 +1,21 @@
 //! A reader that reads at most so many bytes ahead.
 
-ghost use Rattle.std.specs.Prelude.{◌≡◌, ◌≤◌, ℕ, List, Some, length};
+ghost use Rattle.std.specs.Prelude.{◌≡◌, ◌≤◌, length};
 ghost use Rattle.std.proofs.Common.{rules};
 ghost use Rattle.ciborium_ll_streams.specs.Buffers.{buffered_ahead, buffered_read_capacity, buffered_read_failures};
-ghost use Rattle.ciborium_ll_streams.specs.Buffers.{buffered_read_fault, buffered_steady};
+ghost use Rattle.ciborium_ll_streams.specs.Buffers.{buffered_steady};
+ghost use Rattle.ciborium_ll_service.specs.declared.raw.TheConstants.{ROOM};
 
 use crate::raw::ROOM;
 use ciborium_ll_io::io::Read;
 use ciborium_ll_streams::{BufferedReader, FaultKept, ReadFault};
 use std::io;
 
-/// A buffered reader whose slice has at most `ROOM` bytes. So it has that too behind a call that says nothing of it.
+/// A buffered reader whose slice has at most `ROOM` bytes. So that is known after a call that says nothing of the slice.
 #[derive(Drop)]
 pub(crate) struct ReadAhead<'a, T> {
     pub(crate) reader: BufferedReader<'a, T>,
-    ghost bound: { buffered_read_capacity reader ≤ 8192 },
+    ghost bound: { buffered_read_capacity reader ≤ ROOM },
 }
 
 impl<'a, T: io::Read> ReadAhead<'a, T> {
