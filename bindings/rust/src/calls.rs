@@ -6,7 +6,8 @@ use crate::{Error, Header};
 use core::str;
 
 /// How many bytes were consumed and written, and how many elements were done.
-#[derive(Clone, Copy, Debug, PartialEq, Eq)]
+#[derive(Clone, Copy, Debug, PartialEq, Eq, Hash)]
+#[non_exhaustive]
 pub struct Copied {
     /// How many bytes were read.
     pub consumed: usize,
@@ -31,7 +32,8 @@ impl Copied {
 }
 
 /// Why a copy stopped, and how far it came.
-#[derive(Clone, Copy, Debug, PartialEq, Eq)]
+#[derive(Clone, Copy, Debug, PartialEq, Eq, Hash)]
+#[non_exhaustive]
 pub struct Stopped {
     /// Why.
     pub error: Error,

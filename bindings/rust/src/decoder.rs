@@ -44,11 +44,13 @@ impl<'a> Decoder<'a> {
     }
 
     /// How many bytes were taken so far.
+    #[must_use]
     pub fn offset(&self) -> usize {
         self.offset
     }
 
     /// The bytes that were not taken.
+    #[must_use]
     pub fn rest(&self) -> &'a [u8] {
         &self.bytes[self.offset..]
     }
@@ -93,6 +95,7 @@ impl<'a> Decoder<'a> {
 
 /// The segments of a string: the one body of a definite length, or those within an indefinite one.
 #[derive(Clone, Debug)]
+#[must_use = "the segments come one by one"]
 pub struct Segments<'a, T: ?Sized> {
     /// What is left of the string, which has been read whole.
     string: &'a [u8],

@@ -75,6 +75,7 @@ impl<'a> Encoder<'a> {
     }
 
     /// What was written so far.
+    #[must_use]
     pub fn written(&self) -> &[u8] {
         &self.out[..self.length]
     }
