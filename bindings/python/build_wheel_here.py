@@ -37,15 +37,17 @@ OLD_TAGS = {(2, 5): "manylinux1", (2, 12): "manylinux2010", (2, 17): "manylinux2
 def project():
     """The strings and the lists of strings of pyproject.toml, by table and key.
 
-    Both are spelled as in Python, so a Python that has no module for TOML reads them.
+    Both are spelled as in Python, so a Python that has no module for TOML reads them. A table in braces has one key.
     """
     found, table = {}, None
     text = (HERE / "pyproject.toml").read_text("utf-8")
-    for match in re.finditer(r'^\[([\w.-]+)\]$|^([\w-]+) = ("[^"\n]*"|\[[^]]*\])$', text, re.MULTILINE):
+    lines = r'^\[([\w.-]+)\]$|^([\w-]+) = (?:\{ (\w+) = )?("[^"\n]*"|\[[^]]*\])(?: \})?$'
+    for match in re.finditer(lines, text, re.MULTILINE):
         if match[1]:
             table = found.setdefault(match[1], {})
         else:
-            table[match[2]] = ast.literal_eval(match[3])
+            value = ast.literal_eval(match[4])
+            table[match[2]] = {match[3]: value} if match[3] else value
     return found
 
 
@@ -89,10 +91,10 @@ def licence():
 
 
 def metadata():
+    """What an index reads, in the version that all of its tools know."""
     of = project()["project"]
-    lines = ["Metadata-Version: 2.4", f"Name: {of['name']}", f"Version: {version()}", f"Summary: {of['description']}",
-             f"Keywords: {','.join(of['keywords'])}", f"License-Expression: {of['license']}",
-             *(f"License-File: {name}" for name in of["license-files"]),
+    lines = ["Metadata-Version: 2.1", f"Name: {of['name']}", f"Version: {version()}", f"Summary: {of['description']}",
+             f"Keywords: {','.join(of['keywords'])}", f"License: {of['license']['text']}",
              *(f"Classifier: {name}" for name in of["classifiers"]), f"Requires-Python: {of['requires-python']}",
              *(f"Project-URL: {name}, {at}" for name, at in project()["project.urls"].items()),
              "Description-Content-Type: text/markdown"]
@@ -144,7 +146,7 @@ def write_wheel(folder, files):
     """Writes a wheel with these files, by their names in it, and gives its name."""
     info = f"ciborium_ll-{version()}.dist-info"
     made = "".join(f"Tag: {tag}\n" for tag in tags())
-    files = {**files, f"{info}/METADATA": metadata(), f"{info}/licenses/LICENSE": licence().read_bytes(),
+    files = {**files, f"{info}/METADATA": metadata(), f"{info}/LICENSE": licence().read_bytes(),
              f"{info}/WHEEL": f"Wheel-Version: 1.0\nGenerator: ciborium_ll\nRoot-Is-Purelib: false\n{made}".encode()}
     record = ""
     for path, data in files.items():

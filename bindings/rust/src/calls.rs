@@ -146,6 +146,17 @@ pub fn utf8(bytes: &[u8]) -> Result<&str, Error> {
     }
 }
 
+/// The longest front of the bytes that is UTF-8, and whether more bytes may complete what stands behind it.
+#[cfg(feature = "std")]
+pub(crate) fn utf8_in_front(bytes: &[u8]) -> (&str, bool) {
+    let mut report = cll_report::default();
+    // SAFETY: as this file says.
+    let answer = unsafe { sys::cll_utf8(bytes.as_ptr(), bytes.len(), &mut report) };
+    let front = &bytes[..report.consumed as usize];
+    // SAFETY: whatever the answer, so many bytes in front are UTF-8.
+    (unsafe { str::from_utf8_unchecked(front) }, answer < 2)
+}
+
 /// A checker of an item that contains at most so many levels, to which nothing came. A strict one takes the shortest
 /// spelling alone.
 pub(crate) fn new_checker(depth: u32, strict: bool) -> Result<cll_checker, Error> {

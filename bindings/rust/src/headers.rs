@@ -1,7 +1,6 @@
-use crate::calls::{pull, skip};
+use crate::calls::{pull, skip, utf8};
 use crate::{Error, Header};
 use core::iter::FusedIterator;
-use core::str;
 
 /// A header, and where its title stands.
 #[derive(Clone, Copy, Debug, PartialEq, Eq, Hash)]
@@ -15,16 +14,15 @@ pub struct Title<'a> {
     pub end: usize,
     /// Of a string of a definite length what stands behind the title.
     pub body: Option<&'a [u8]>,
+    /// The same as a text, if it is one.
+    text: Option<&'a str>,
 }
 
 impl<'a> Title<'a> {
     /// The body of a text of a definite length.
     #[must_use]
     pub fn text(&self) -> Option<&'a str> {
-        match self.header {
-            Header::Text(Some(_)) => str::from_utf8(self.body?).ok(),
-            _ => None,
-        }
+        self.text
     }
 }
 
@@ -60,19 +58,29 @@ impl<'a> Headers<'a> {
     fn read(&mut self) -> Result<Title<'a>, Error> {
         let (start, rest) = (self.offset, &self.bytes[self.offset..]);
         let (header, length) = pull(rest, start)?;
-        let (end, mut body) = (start + length, None);
-        self.offset = end;
-        if let Header::Bytes(Some(_)) | Header::Text(Some(_)) = header {
-            // A string has no levels.
-            self.offset = start + skip(rest, 0, start)?;
-            body = Some(&self.bytes[end..self.offset]);
-        }
-        Ok(Title {
+        let end = start + length;
+        let mut title = Title {
             header,
             start,
             end,
-            body,
-        })
+            body: None,
+            text: None,
+        };
+        self.offset = end;
+        if let Header::Bytes(Some(length)) | Header::Text(Some(length)) = header {
+            let body = rest[end - start..].get(..length);
+            let is_text = matches!(header, Header::Text(_));
+            if is_text {
+                title.text = body.and_then(|body| utf8(body).ok());
+            }
+            // If the body is not there, or is none, a skip says why. A string has no levels.
+            if body.is_none() || is_text && title.text.is_none() {
+                skip(rest, 0, start)?;
+            }
+            title.body = body;
+            self.offset = end + length;
+        }
+        Ok(title)
     }
 }
 

@@ -4,6 +4,8 @@
 //! The names are those of the crate `ciborium-ll` where they mean the same. Nothing here takes memory. Without the feature
 //! `std`, which is on by default, the crate needs `core` alone.
 //!
+//! [`stream`] has the names of `ciborium-ll` over any reader and writer of `std`.
+//!
 //! A sequence of items may be empty, so [`Checker::end`] is `Ok` before the first byte. [`Checker::is_ended`] tells
 //! whether the item has ended.
 //!
@@ -31,6 +33,8 @@ mod encoder;
 mod error;
 mod header;
 mod headers;
+#[cfg(feature = "std")]
+pub mod stream;
 pub mod sys;
 
 pub use calls::{recode, skip_item, strict, strict_len, utf8, Copied, Stopped};
