@@ -15,7 +15,7 @@ mod strict;
 
 pub use self::copy::copy_headers;
 pub use self::drains::{Drained, End, drain_bytes, drain_text, drained_in_all, enough_sizes};
-pub use self::headers::{pull_again, same_header};
+pub use self::headers::{copied_float, copied_header, pull_again, same_float, same_header};
 pub use self::pieces::{Piece, copy_spelled, write_pieces};
 pub use self::shortening::shortened_run;
 pub use self::strict::strict_run;

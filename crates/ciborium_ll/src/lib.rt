@@ -9,6 +9,7 @@ pub mod laws;
 pub mod recode;
 pub mod simple;
 pub mod tag;
+pub mod title;
 
 pub use ciborium_ll_decoder::copy::RecodeError;
 pub use ciborium_ll_decoder::dec::{Decoder, Error};

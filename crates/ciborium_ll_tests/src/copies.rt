@@ -70,7 +70,22 @@ static PAIRS: [(&str, Header, Header, bool); 5] = [
 fn headers_and_floats_as_values(rt: HostRuntime) {
     for (what, one, other, want) in &PAIRS {
         holds(&rt, laws::same_header(*one, *other) == *want, what);
+        let copied = laws::copied_header(one);
+        holds(&rt, laws::same_header(*one, copied), what);
     }
+}
+
+#[test]
+fn floats_as_values(rt: HostRuntime) {
+    let zero = Float::Half(0);
+    let copied = laws::copied_float(&zero);
+    holds(&rt, laws::same_float(zero, copied), "a copy");
+    let signed = Float::Half(0x8000);
+    holds(&rt, !laws::same_float(zero, signed), "the other sign");
+    let wider = Float::Single(0);
+    holds(&rt, !laws::same_float(zero, wider), "another width");
+    let nan = Float::Double(0x7ff8_0000_0000_0000);
+    holds(&rt, laws::same_float(nan, nan), "a NaN");
 }
 
 #[test]
