@@ -341,7 +341,7 @@ static int copies_on(const uint8_t *data, size_t len)
     static uint8_t want[MOST];
     uint8_t *out = output.end - len;
     struct finding found;
-    cll_recode(at_end(&input, data, len), len, UINT64_MAX, out, len, report);
+    found.answer = cll_recode(at_end(&input, data, len), len, UINT64_MAX, out, len, report);
     const uint64_t count = below(report->elements + 2);
     found.answer = cll_recode(at_end(&input, data, len), len, count, out, len, report);
     found.taken = report->consumed;

@@ -150,9 +150,9 @@ static void use_short(size_t plain)
         memcpy(data, rows[i].bytes, sizeof rows[i].bytes);
         len = rows[i].len;
         depth = 4;
-        cll_checker_init(&checker, DEEPEST);
-        cll_copier_init(&copier, UINT64_MAX);
-        cll_item_copier_init(&item_copier, DEEPEST);
+        checker_init();
+        answer = cll_copier_init(&copier, UINT64_MAX);
+        item_copier_init();
         for (size_t j = 0; j < sizeof calls / sizeof *calls; j++)
             printf("%s %zu\n", calls[j].name, used(calls[j].call) - plain);
     }

@@ -42,7 +42,8 @@ static int take(cll_checker *checker, const uint8_t *data, size_t len)
         if (answer != CLL_OK)
             return tell(answer, report.place);
         printf("item %llu\n", (unsigned long long)report.place);
-        cll_checker_init(checker, DEPTH);
+        if (cll_checker_init(checker, DEPTH) != CLL_OK)
+            return tell(CLL_ARGUMENT, DEPTH);
     }
     return 0;
 }
@@ -52,7 +53,8 @@ int main(void)
     static uint8_t data[4096];
     cll_checker checker;
     cll_report report;
-    cll_checker_init(&checker, DEPTH);
+    if (cll_checker_init(&checker, DEPTH) != CLL_OK)
+        return 2;
     for (;;) {
         const ssize_t came = read(STDIN_FILENO, data, sizeof data);
         if (came < 0 && errno == EINTR)

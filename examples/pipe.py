@@ -26,11 +26,11 @@ async def check(stream):
             while start < len(data):
                 progress = checker.feed(data, start)
                 start, due = start + progress.consumed, progress.due
-                if progress.length is not None:
+                if progress.ended:
                     print("item", progress.length, flush=True)
                     checker = ciborium_ll.Checker(DEPTH)
         checker.end()
-    except ciborium_ll.Short:
+    except ciborium_ll.ShortError:
         print("short", due)
         return False
     except ciborium_ll.Error as error:

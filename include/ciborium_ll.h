@@ -27,6 +27,20 @@
 #include <stddef.h>
 #include <stdint.h>
 
+/*
+ * The compiler warns of a call that drops an answer which may be a fault. A program that defines this as nothing before
+ * it includes this header gets no such warning.
+ */
+#ifndef CLL_NODISCARD
+#if (defined(__cplusplus) && __cplusplus >= 201703L) || (defined(__STDC_VERSION__) && __STDC_VERSION__ >= 202311L)
+#define CLL_NODISCARD [[nodiscard]]
+#elif defined(__GNUC__)
+#define CLL_NODISCARD __attribute__((warn_unused_result))
+#else
+#define CLL_NODISCARD
+#endif
+#endif
+
 #ifdef __cplusplus
 extern "C" {
 #endif
@@ -126,7 +140,7 @@ uint32_t cll_version(void);
  * CLL_OK; CLL_SHORT where `data` ends before a title or inside it; CLL_SYNTAX for a first byte with which no title
  * begins. After the last two `header` is as it was, and `consumed` counts the first byte if there is one.
  */
-uint32_t cll_pull(const uint8_t *data, size_t len, cll_header *header, size_t *consumed);
+CLL_NODISCARD cll_answer cll_pull(const uint8_t *data, size_t len, cll_header *header, size_t *consumed);
 
 /*
  * Writes the shortest title of a header in front of `out`, whole or not at all. `written` is its length, at most 9.
@@ -134,7 +148,7 @@ uint32_t cll_pull(const uint8_t *data, size_t len, cll_header *header, size_t *c
  * CLL_OK; CLL_ROOM where the title is longer than `room`; CLL_ARGUMENT where `kind` is no kind, or `value` and
  * `indefinite` are not such as cll_pull gives with that kind. After the last two `out` is as it was.
  */
-uint32_t cll_push(const cll_header *header, uint8_t *out, size_t room, cll_report *report);
+CLL_NODISCARD cll_answer cll_push(const cll_header *header, uint8_t *out, size_t room, cll_report *report);
 
 /*
  * Writes the title of a header that has `width` bytes behind its first one in front of `out`, whole or not at all. It
@@ -145,7 +159,8 @@ uint32_t cll_push(const cll_header *header, uint8_t *out, size_t room, cll_repor
  * CLL_OK; CLL_ROOM where the title is longer than `room`; CLL_ARGUMENT where cll_push gives that, and where the header
  * has no title of that width. After the last two `out` is as it was.
  */
-uint32_t cll_push_wide(const cll_header *header, uint32_t width, uint8_t *out, size_t room, cll_report *report);
+CLL_NODISCARD cll_answer cll_push_wide(const cll_header *header, uint32_t width, uint8_t *out, size_t room,
+    cll_report *report);
 
 /*
  * Copies `count` elements to `out`, each in its shortest spelling. An element is a title that begins no string, or a
@@ -167,7 +182,8 @@ uint32_t cll_push_wide(const cll_header *header, uint32_t width, uint8_t *out, s
  * Bodies are read through a buffer of 1,024 bytes. So if a text is no UTF-8 and `data` ends within it, the answer is
  * CLL_SHORT or CLL_SYNTAX, depending on its length and on where it goes wrong.
  */
-uint32_t cll_recode(const uint8_t *data, size_t len, uint64_t count, uint8_t *out, size_t room, cll_report *report);
+CLL_NODISCARD cll_answer cll_recode(const uint8_t *data, size_t len, uint64_t count, uint8_t *out, size_t room,
+    cll_report *report);
 
 /*
  * Whether `data` begins with `count` elements in their one shortest spelling, with no simple value from 24 to 31 and no
@@ -180,7 +196,7 @@ uint32_t cll_recode(const uint8_t *data, size_t len, uint64_t count, uint8_t *ou
  * With CLL_SHORT and CLL_SYNTAX within a body `consumed` is at least the offset of the body, and at most the end of the
  * body or of `data`.
  */
-uint32_t cll_strict(const uint8_t *data, size_t len, uint64_t count, cll_report *report);
+CLL_NODISCARD cll_answer cll_strict(const uint8_t *data, size_t len, uint64_t count, cll_report *report);
 
 /*
  * Skips the one item in front of `data`, whatever it contains. `consumed` is its length. A tag, an array and a map take
@@ -194,7 +210,7 @@ uint32_t cll_strict(const uint8_t *data, size_t len, uint64_t count, cll_report 
  * With CLL_SHORT and CLL_SYNTAX within a body `consumed` is at least the offset of the body, and at most the end of the
  * body or of `data`.
  */
-uint32_t cll_skip(const uint8_t *data, size_t len, uint32_t depth, cll_report *report);
+CLL_NODISCARD cll_answer cll_skip(const uint8_t *data, size_t len, uint32_t depth, cll_report *report);
 
 /*
  * Finds the longest front of `data` that is UTF-8 (RFC 3629). `consumed` is its length.
@@ -206,7 +222,7 @@ uint32_t cll_skip(const uint8_t *data, size_t len, uint32_t depth, cll_report *r
  * So a text may come in pieces. What is behind the front then stands in front of the next piece: the whole text is
  * UTF-8 just where that is. Where none follows, CLL_SHORT says that the text ends too early.
  */
-uint32_t cll_utf8(const uint8_t *data, size_t len, cll_report *report);
+CLL_NODISCARD cll_answer cll_utf8(const uint8_t *data, size_t len, cll_report *report);
 
 /*
  * Sets a checker up for one item to which nothing came, whatever stood in `checker` before. A tag, an array and a map
@@ -215,14 +231,14 @@ uint32_t cll_utf8(const uint8_t *data, size_t len, cll_report *report);
  *
  * CLL_OK; and CLL_ARGUMENT for a depth above 256, after which `checker` is as it was.
  */
-uint32_t cll_checker_init(cll_checker *checker, uint32_t depth);
+CLL_NODISCARD cll_answer cll_checker_init(cll_checker *checker, uint32_t depth);
 
 /*
  * The same of one item in its shortest spelling, as cll_strict takes it. CLL_SYNTAX comes also for a title that isn't
  * the shortest, for a simple value below 32 in two bytes and for a string of indefinite length inside another one, each
  * with the first byte behind which no shortest spelling goes on.
  */
-uint32_t cll_checker_init_strict(cll_checker *checker, uint32_t depth);
+CLL_NODISCARD cll_answer cll_checker_init_strict(cll_checker *checker, uint32_t depth);
 
 /*
  * Gives a checker the next bytes of its item, as many as there are. `consumed` says how many of them it took: all, but
@@ -244,7 +260,7 @@ uint32_t cll_checker_init_strict(cll_checker *checker, uint32_t depth);
  * Not all memory that was overwritten is found out by CLL_ARGUMENT. But whatever stands there, no call reads or writes
  * beyond what it is given.
  */
-uint32_t cll_checker_feed(cll_checker *checker, const uint8_t *data, size_t len, cll_report *report);
+CLL_NODISCARD cll_answer cll_checker_feed(cll_checker *checker, const uint8_t *data, size_t len, cll_report *report);
 
 /*
  * Says what it means that no more bytes come, and leaves the checker as it is. `consumed` is 0.
@@ -252,7 +268,7 @@ uint32_t cll_checker_feed(cll_checker *checker, const uint8_t *data, size_t len,
  * CLL_OK where no byte came at all, or the item has ended; CLL_SHORT where it is cut off: `place` says how many bytes
  * more were due at least. A fault and CLL_ARGUMENT are answered as by cll_checker_feed.
  */
-uint32_t cll_checker_end(const cll_checker *checker, cll_report *report);
+CLL_NODISCARD cll_answer cll_checker_end(const cll_checker *checker, cll_report *report);
 
 /*
  * Sets a copier up for `count` elements to which nothing came, whatever stood in `copier` before. An element is a title
@@ -260,7 +276,7 @@ uint32_t cll_checker_end(const cll_checker *checker, cll_report *report);
  *
  * CLL_OK, whatever `count` is. Of no elements the copier has ended.
  */
-uint32_t cll_copier_init(cll_copier *copier, uint64_t count);
+cll_answer cll_copier_init(cll_copier *copier, uint64_t count);
 
 /*
  * Gives a copier the next bytes of its elements, as many as there are, and writes their shortest spelling to the start
@@ -285,8 +301,8 @@ uint32_t cll_copier_init(cll_copier *copier, uint64_t count);
  * Not all memory that was overwritten is found out by CLL_ARGUMENT. But whatever stands there, no call reads or writes
  * beyond what it is given.
  */
-uint32_t cll_copier_feed(cll_copier *copier, const uint8_t *data, size_t len, uint8_t *out, size_t room,
-    cll_report *report);
+CLL_NODISCARD cll_answer cll_copier_feed(cll_copier *copier, const uint8_t *data, size_t len, uint8_t *out,
+    size_t room, cll_report *report);
 
 /*
  * Says what it means that no more bytes come, and leaves the copier as it is. `consumed` and `written` are 0.
@@ -295,7 +311,7 @@ uint32_t cll_copier_feed(cll_copier *copier, const uint8_t *data, size_t len, ui
  * elements too; CLL_SHORT where they are cut off; CLL_ROOM where there is more to write, which cll_copier_feed does.
  * CLL_SYNTAX and CLL_ARGUMENT are answered as by cll_copier_feed.
  */
-uint32_t cll_copier_end(const cll_copier *copier, cll_report *report);
+CLL_NODISCARD cll_answer cll_copier_end(const cll_copier *copier, cll_report *report);
 
 /*
  * Sets a copier of one item up to which nothing came, whatever stood in `copier` before. Tags, arrays and maps may be
@@ -303,13 +319,13 @@ uint32_t cll_copier_end(const cll_copier *copier, cll_report *report);
  *
  * CLL_OK. CLL_ARGUMENT for a depth above 256: then `copier` is as it was.
  */
-uint32_t cll_item_copier_init(cll_item_copier *copier, uint32_t depth);
+CLL_NODISCARD cll_answer cll_item_copier_init(cll_item_copier *copier, uint32_t depth);
 
 /*
  * The same for an item that is in its shortest spelling: any other title is CLL_SYNTAX, and so is a string of
  * indefinite length inside another one.
  */
-uint32_t cll_item_copier_init_strict(cll_item_copier *copier, uint32_t depth);
+CLL_NODISCARD cll_answer cll_item_copier_init_strict(cll_item_copier *copier, uint32_t depth);
 
 /*
  * Gives a copier the next bytes of its item, as many as there are, and writes their shortest spelling to the start of
@@ -330,8 +346,8 @@ uint32_t cll_item_copier_init_strict(cll_item_copier *copier, uint32_t depth);
  * Not all memory that was overwritten is found out by CLL_ARGUMENT. But whatever stands there, no call reads or writes
  * beyond what it is given.
  */
-uint32_t cll_item_copier_feed(cll_item_copier *copier, const uint8_t *data, size_t len, uint8_t *out, size_t room,
-    cll_report *report);
+CLL_NODISCARD cll_answer cll_item_copier_feed(cll_item_copier *copier, const uint8_t *data, size_t len, uint8_t *out,
+    size_t room, cll_report *report);
 
 /*
  * Says what it means that no more bytes come, and leaves the copier as it is. `consumed` and `written` are 0.
@@ -340,7 +356,7 @@ uint32_t cll_item_copier_feed(cll_item_copier *copier, const uint8_t *data, size
  * with at least how many bytes were due as `place`; CLL_ROOM where there is more to write, which cll_item_copier_feed
  * does. A fault and CLL_ARGUMENT are answered as by cll_item_copier_feed.
  */
-uint32_t cll_item_copier_end(const cll_item_copier *copier, cll_report *report);
+CLL_NODISCARD cll_answer cll_item_copier_end(const cll_item_copier *copier, cll_report *report);
 
 #ifdef __cplusplus
 }
@@ -374,7 +390,11 @@ static inline const char *cll_strerror(uint32_t answer)
 /* Whether two pieces of memory overlap: 1 where they do, else 0. One without bytes overlaps none. */
 static inline int cll_overlap(const void *one, size_t one_len, const void *other, size_t other_len)
 {
+#ifdef __cplusplus
+    const uintptr_t first = reinterpret_cast<uintptr_t>(one), second = reinterpret_cast<uintptr_t>(other);
+#else
     const uintptr_t first = (uintptr_t)one, second = (uintptr_t)other;
+#endif
     if (one_len == 0 || other_len == 0)
         return 0;
     return first <= second ? second - first < one_len : first - second < other_len;

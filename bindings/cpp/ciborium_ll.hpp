@@ -15,6 +15,14 @@
 #include <optional>
 #include <type_traits>
 #include <utility>
+#if defined(__has_include)
+#if __has_include(<version>)
+#include <version>
+#endif
+#endif
+#if defined(__cpp_lib_ranges)
+#include <ranges>
+#endif
 
 #include "ciborium_ll.h"
 
@@ -158,10 +166,13 @@ private:
     char text_[48];
 };
 
-/* A value, or a fault. */
+/* A value, or a fault. The names are those of std::expected, and `fault()` is a second name of `error()`. */
 template <typename T>
 class [[nodiscard]] result {
 public:
+    using value_type = T;
+    using error_type = ciborium_ll::fault;
+
     constexpr result(T value) noexcept : value_(value) {}
     constexpr result(const ciborium_ll::fault &why) noexcept : fault_(why) {}
 
@@ -170,13 +181,23 @@ public:
     /* These two ask nothing, as those of std::optional do. */
     constexpr const T &operator*() const noexcept { return *value_; }
     constexpr const T *operator->() const noexcept { return &*value_; }
-    /* The fault, where there is no value. */
+    /* The value, or the other one if there is none. */
+    constexpr T value_or(T other) const noexcept { return value_ ? *value_ : other; }
+    /* The fault, if there is no value. */
+    constexpr const ciborium_ll::fault &error() const noexcept { return fault_; }
     constexpr const ciborium_ll::fault &fault() const noexcept { return fault_; }
 #if defined(__cpp_exceptions)
-    const T &value() const
+    /* Of a result that is about to end it gives the value itself, so no reference outlives it. */
+    const T &value() const &
     {
         if (!value_)
-            throw error(fault_);
+            throw ciborium_ll::error(fault_);
+        return *value_;
+    }
+    T value() &&
+    {
+        if (!value_)
+            throw ciborium_ll::error(fault_);
         return *value_;
     }
 #endif
@@ -346,9 +367,12 @@ public:
             ended ? 0 : report.place};
     }
 
+    /* Whether the item has ended. Before its first byte, and after a fault, it has not. */
+    bool ended() const noexcept { return taken_ != 0 && !end(); }
+
     /*
-     * Why no end may stand here, or nothing where no byte came or the item has ended. `too_short` names how many bytes
-     * came, and how many more were due at least.
+     * Why no end may stand here, or nothing if no byte came or the item has ended: `ended()` tells which.
+     * `too_short` names how many bytes came, and how many more were due at least.
      */
     std::optional<fault> end() const noexcept
     {
@@ -411,6 +435,9 @@ public:
         return detail::copying_of(code, report);
     }
 
+    /* Whether all elements have come and are written. Of no elements that is so before the first byte. */
+    bool ended() const noexcept { return !end(); }
+
     /*
      * Why no end may stand here, or nothing where all elements have come and are written. `too_short` names how many
      * bytes came.
@@ -457,9 +484,12 @@ public:
         return detail::copying_of(code, report);
     }
 
+    /* Whether the item has ended and is written. Before its first byte, and after a fault, it has not. */
+    bool ended() const noexcept { return taken_ != 0 && !end(); }
+
     /*
-     * Why no end may stand here, or nothing where no byte came, or the item has ended and is written. `too_short` names
-     * how many bytes came, and how many more were due at least.
+     * Why no end may stand here, or nothing if no byte came, or the item has ended and is written: `ended()` tells
+     * which. `too_short` names how many bytes came, and how many more were due at least.
      */
     std::optional<fault> end() const noexcept
     {
@@ -526,6 +556,126 @@ private:
     std::size_t offset_ = 0;
 };
 
+/*
+ * A header, and where its title starts and ends. Of a string of a definite length `body` is what stands behind the
+ * title, which of a text is UTF-8.
+ */
+struct located {
+    ciborium_ll::header header;
+    std::size_t start;
+    std::size_t end;
+    std::optional<input> body;
+};
+
+/*
+ * Goes over the titles of bytes, up to their end. Each is a `result`: a fault is the last one. A string of a definite
+ * length is read whole, and its body is passed over. Nothing is said of how the titles nest.
+ */
+class headers {
+public:
+    class iterator {
+    public:
+        using iterator_category = std::input_iterator_tag;
+        using value_type = result<located>;
+        using difference_type = std::ptrdiff_t;
+        using pointer = const value_type *;
+        using reference = const value_type &;
+
+        /* The end. */
+        iterator() noexcept = default;
+
+        reference operator*() const noexcept { return *now_; }
+        pointer operator->() const noexcept { return &*now_; }
+        iterator &operator++() noexcept
+        {
+            step();
+            return *this;
+        }
+        iterator operator++(int) noexcept
+        {
+            iterator old = *this;
+            step();
+            return old;
+        }
+        /* Two are the same at the same offset of the same bytes, or if both are ends. */
+        friend bool operator==(const iterator &a, const iterator &b) noexcept
+        {
+            return a.now_.has_value() == b.now_.has_value() && (!a.now_ || a.next_ == b.next_);
+        }
+        friend bool operator!=(const iterator &a, const iterator &b) noexcept { return !(a == b); }
+
+    private:
+        friend class headers;
+
+        explicit iterator(input bytes) noexcept : begin_(bytes.data()), next_(bytes.data()), left_(bytes.size())
+        {
+            step();
+        }
+
+        /* Reads the next title, or ends. */
+        void step() noexcept
+        {
+            if (left_ == 0 || (now_ && !*now_)) {
+                now_.reset();
+                return;
+            }
+            const input rest{next_, left_};
+            const auto start = static_cast<std::size_t>(next_ - begin_);
+            const result<title> got = pull(rest);
+            if (!got) {
+                stop(got.error(), start);
+                return;
+            }
+            located found{got->header, start, start + got->length, std::nullopt};
+            std::size_t length = got->length;
+            if ((got->header.kind == kind::bytes || got->header.kind == kind::text) && got->header.value) {
+                /* A string has no levels. */
+                const result<std::size_t> whole = skip(rest, 0);
+                if (!whole) {
+                    stop(whole.error(), start);
+                    return;
+                }
+                found.body = rest.first(*whole).behind(length);
+                length = *whole;
+            }
+            next_ += length;
+            left_ -= length;
+            now_.emplace(found);
+        }
+
+        void stop(fault why, std::size_t start) noexcept
+        {
+            why.place += start;
+            now_.emplace(why);
+        }
+
+        const std::uint8_t *begin_ = nullptr;
+        const std::uint8_t *next_ = nullptr;
+        std::size_t left_ = 0;
+        std::optional<value_type> now_;
+    };
+
+    explicit headers(input bytes) noexcept : bytes_(bytes) {}
+
+    iterator begin() const noexcept { return iterator(bytes_); }
+    iterator end() const noexcept { return iterator(); }
+
+private:
+    input bytes_;
+};
+
 } /* namespace ciborium_ll */
+
+/* A span is a view, and what it gives stays where it is after its end: in C++20 so for std::ranges too. */
+#if defined(__cpp_lib_ranges)
+template <typename T>
+inline constexpr bool std::ranges::enable_borrowed_range<ciborium_ll::span<T>> = true;
+template <typename T>
+inline constexpr bool std::ranges::enable_view<ciborium_ll::span<T>> = true;
+template <>
+inline constexpr bool std::ranges::enable_borrowed_range<ciborium_ll::headers> = true;
+template <>
+inline constexpr bool std::ranges::enable_view<ciborium_ll::headers> = true;
+#endif
 
 #endif

@@ -1,80 +1,192 @@
-"""Makes the wheel, with Python's own library alone: the package's files, the shared library and what names them.
+"""Makes the wheel and the source archive, with Python's own library alone.
 
-The shared library is the one of CIBORIUM_LL_LIBRARY, or of a release archive, or the one that `make` builds in the
-folder above.
+A wheel has the package's files, the shared library and what names them; `library` says which library that is. The source
+archive has none, and one has to be there where a wheel is built from it.
 """
+import ast
 import base64
+import ctypes
 import functools
+import gzip
 import hashlib
+import io
 import os
 import re
+import struct
 import subprocess
+import sys
 import sysconfig
+import tarfile
 import zipfile
 from pathlib import Path
 
 HERE = Path(__file__).resolve().parent
-PACKAGE = HERE / "ciborium_ll"
 FILES = ("__init__.py", "__init__.pyi", "py.typed")
+SOURCES = ("README.md", "pyproject.toml", "build_wheel_here.py", *(f"ciborium_ll/{name}" for name in FILES),
+           "tests/test_package.py", "tests/test_rows.py")
+NAME = "libciborium_ll.so"
+
+# Kinds of sections, and of an entry of the first, in the format ELF.
+DYNAMIC, VERSIONS_NEEDED, NEEDED = 6, 0x6FFFFFFE, 1
+
+# The names that tags of old had, by the version of glibc.
+OLD_TAGS = {(2, 5): "manylinux1", (2, 12): "manylinux2010", (2, 17): "manylinux2014"}
+
+
+@functools.lru_cache(maxsize=None)
+def project():
+    """The strings and the lists of strings of pyproject.toml, by table and key.
+
+    Both are spelled as in Python, so a Python that has no module for TOML reads them. A table in braces has one key.
+    """
+    found, table = {}, None
+    text = (HERE / "pyproject.toml").read_text("utf-8")
+    lines = r'^\[([\w.-]+)\]$|^([\w-]+) = (?:\{ (\w+) = )?("[^"\n]*"|\[[^]]*\])(?: \})?$'
+    for match in re.finditer(lines, text, re.MULTILINE):
+        if match[1]:
+            table = found.setdefault(match[1], {})
+        else:
+            value = ast.literal_eval(match[4])
+            table[match[2]] = {match[3]: value} if match[3] else value
+    return found
 
 
 def version():
-    """That of the shared library, whose name ends in it."""
-    return library().name.partition(".so.")[2] or "0"
+    return project()["project"]["version"]
+
+
+def installed():
+    """The library that pkg-config finds with the calls of this version, if there is one."""
+    major, minor, _ = version().split(".")
+    name = f"ciborium_ll-{major}.{minor}" if major == "0" else f"ciborium_ll-{major}"
+    try:
+        said = subprocess.run(["pkg-config", "--variable=libdir", name], stdout=subprocess.PIPE,
+                              stderr=subprocess.DEVNULL, universal_newlines=True, check=True)
+    except (OSError, subprocess.CalledProcessError):
+        return None
+    return Path(said.stdout.strip(), NAME)
 
 
 @functools.lru_cache(maxsize=None)
 def library():
-    """The shared library, by the name that ends in its version."""
-    if "CIBORIUM_LL_LIBRARY" in os.environ:
-        return Path(os.environ["CIBORIUM_LL_LIBRARY"]).resolve()
-    if not (HERE.parent / "Makefile").exists():
-        return (HERE.parent / "lib" / "libciborium_ll.so").resolve()
-    subprocess.run(["make", "-s", "-C", str(HERE.parent)], check=True)
-    return (HERE.parent / "out" / "libciborium_ll.so").resolve()
+    """The shared library: that of CIBORIUM_LL_LIBRARY, of a release archive, of `make`, or that is installed."""
+    named = os.environ.get("CIBORIUM_LL_LIBRARY")
+    near = (HERE.parent / "lib" / NAME, HERE.parent / "out" / NAME)
+    found = Path(named) if named else next((at for at in near if at.exists()), None) or installed()
+    if found is None or not found.exists():
+        what = f"no file {found}, seen from {Path.cwd()}" if named else f"no {NAME}"
+        sys.exit(f"ciborium_ll: there is {what}. The variable CIBORIUM_LL_LIBRARY names the file of the library, by "
+                 "its whole path. `make -C bindings` of the repository makes it, which takes a proof, and "
+                 "`make -C bindings install` installs it for all")
+    number = ctypes.CDLL(str(found.resolve())).cll_version()
+    has = f"{number >> 16}.{number >> 8 & 255}.{number & 255}"
+    if has != version():
+        sys.exit(f"ciborium_ll: {found} has the version {has}, and this package {version()}")
+    return found.resolve()
 
 
 def licence():
-    """The licence, of a release archive or of the repository."""
-    return next(at for at in (HERE.parent / "LICENSE", HERE.parent.parent / "LICENSE") if at.exists())
+    """The licence, of a source archive, of a release archive or of the repository."""
+    return next(at for at in (folder / "LICENSE" for folder in (HERE, *HERE.parents)) if at.exists())
 
 
 def metadata():
-    lines = ("Metadata-Version: 2.1", "Name: ciborium_ll", f"Version: {version()}", "Requires-Python: >=3.8",
-             "Summary: CBOR (RFC 7049), one header at a time, each call proved", "License: Apache-2.0",
-             "License-File: LICENSE")
-    return ("\n".join(lines) + "\n").encode()
+    """What an index reads, in the version that all of its tools know."""
+    of = project()["project"]
+    lines = ["Metadata-Version: 2.1", f"Name: {of['name']}", f"Version: {version()}", f"Summary: {of['description']}",
+             f"Keywords: {','.join(of['keywords'])}", f"License: {of['license']['text']}",
+             *(f"Classifier: {name}" for name in of["classifiers"]), f"Requires-Python: {of['requires-python']}",
+             *(f"Project-URL: {name}, {at}" for name, at in project()["project.urls"].items()),
+             "Description-Content-Type: text/markdown"]
+    return ("\n".join(lines) + "\n\n").encode() + (HERE / of["readme"]).read_bytes()
 
 
-def tag():
-    return "py3-none-" + re.sub(r"[-.]", "_", sysconfig.get_platform())
+def needed(data):
+    """What a shared library needs: the names of libraries, and the versions of their symbols."""
+    at, = struct.unpack_from("<Q", data, 0x28)
+    size, count = struct.unpack_from("<HH", data, 0x3A)
+    sections = [struct.unpack_from("<IIQQQQII", data, at + size * index) for index in range(count)]
+
+    def text(section, offset):
+        start = sections[section[6]][4] + offset
+        return data[start:data.index(b"\0", start)].decode()
+
+    libraries, versions = set(), set()
+    for section in sections:
+        kind, start, length = section[1], section[4], section[5]
+        if kind == DYNAMIC:
+            for tag, value in struct.iter_unpack("<QQ", data[start:start + length]):
+                if tag == NEEDED:
+                    libraries.add(text(section, value))
+        step = kind == VERSIONS_NEEDED
+        while step:
+            _, count, _, first, step = struct.unpack_from("<HHIII", data, start)
+            there, start = start + first, start + step
+            for _ in range(count):
+                _, _, _, name, more = struct.unpack_from("<IHHII", data, there)
+                versions.add(text(section, name))
+                there += more
+    return libraries, versions
 
 
-def contents():
-    """What the wheel has, by its name there."""
+def tags():
+    """The systems that the library runs on: with a glibc that has its symbols, if it needs nothing more."""
+    libraries, versions = needed(library().read_bytes())
+    of_glibc = [re.fullmatch(r"GLIBC_(\d+)\.(\d+)[.\d]*", name) for name in versions]
+    plain = re.sub(r"[-.]", "_", sysconfig.get_platform())
+    if not libraries <= {"libc.so.6"} or not all(of_glibc) or plain != "linux_x86_64":
+        return [f"py3-none-{plain}"]
+    least = max(((int(match[1]), int(match[2])) for match in of_glibc), default=(2, 5))
+    least = min((known for known in OLD_TAGS if known >= least), default=least)
+    names = ["manylinux_{}_{}".format(*least), *filter(None, [OLD_TAGS.get(least)])]
+    return [f"py3-none-{name}_x86_64" for name in names]
+
+
+def write_wheel(folder, files):
+    """Writes a wheel with these files, by their names in it, and gives its name."""
     info = f"ciborium_ll-{version()}.dist-info"
-    wheel = f"Wheel-Version: 1.0\nGenerator: ciborium_ll\nRoot-Is-Purelib: false\nTag: {tag()}\n"
-    files = {f"ciborium_ll/{name}": (PACKAGE / name).read_bytes() for name in FILES}
-    files["ciborium_ll/libciborium_ll.so"] = library().read_bytes()
-    files[f"{info}/METADATA"] = metadata()
-    files[f"{info}/WHEEL"] = wheel.encode()
-    files[f"{info}/LICENSE"] = licence().read_bytes()
-    return info, files
-
-
-def build_wheel(wheel_directory, config_settings=None, metadata_directory=None):
-    info, files = contents()
-    name = f"ciborium_ll-{version()}-{tag()}.whl"
+    made = "".join(f"Tag: {tag}\n" for tag in tags())
+    files = {**files, f"{info}/METADATA": metadata(), f"{info}/LICENSE": licence().read_bytes(),
+             f"{info}/WHEEL": f"Wheel-Version: 1.0\nGenerator: ciborium_ll\nRoot-Is-Purelib: false\n{made}".encode()}
     record = ""
-    with zipfile.ZipFile(Path(wheel_directory, name), "w", zipfile.ZIP_DEFLATED) as wheel:
+    for path, data in files.items():
+        sum_of = base64.urlsafe_b64encode(hashlib.sha256(data).digest()).rstrip(b"=").decode()
+        record += f"{path},sha256={sum_of},{len(data)}\n"
+    files[f"{info}/RECORD"] = f"{record}{info}/RECORD,,\n".encode()
+    name = f"ciborium_ll-{version()}-py3-none-{'.'.join(tag.split('-')[2] for tag in tags())}.whl"
+    with zipfile.ZipFile(Path(folder, name), "w") as wheel:
         for path, data in files.items():
-            sum_of = base64.urlsafe_b64encode(hashlib.sha256(data).digest()).rstrip(b"=").decode()
-            record += f"{path},sha256={sum_of},{len(data)}\n"
             # With one time for all, so that the same files make the same wheel.
-            wheel.writestr(zipfile.ZipInfo(path), data)
-        wheel.writestr(zipfile.ZipInfo(f"{info}/RECORD"), record + f"{info}/RECORD,,\n")
+            entry = zipfile.ZipInfo(path)
+            entry.external_attr = (0o100755 if path.endswith(".so") else 0o100644) << 16
+            wheel.writestr(entry, data, zipfile.ZIP_DEFLATED)
     return name
 
 
+def build_wheel(wheel_directory, config_settings=None, metadata_directory=None):
+    files = {f"ciborium_ll/{name}": (HERE / "ciborium_ll" / name).read_bytes() for name in FILES}
+    return write_wheel(wheel_directory, {**files, f"ciborium_ll/{NAME}": library().read_bytes()})
+
+
+def build_editable(wheel_directory, config_settings=None, metadata_directory=None):
+    """A wheel that leads to the package where it stands, and to the library."""
+    return write_wheel(wheel_directory, {
+        "ciborium_ll.pth": f"{HERE}\n".encode(),
+        "_ciborium_ll_library.py": f"# The library of the package in {HERE}.\nLIBRARY = {str(library())!r}\n".encode()})
+
+
 def build_sdist(sdist_directory, config_settings=None):
-    raise NotImplementedError("the shared library is part of the package: build a wheel")
+    folder = f"ciborium_ll-{version()}"
+    rows = next((at for at in (HERE / "tests" / "rows", HERE.parent / "tests" / "rows") if at.exists()), None)
+    files = {name: (HERE / name).read_bytes() for name in SOURCES if (HERE / name).exists()}
+    files.update({"LICENSE": licence().read_bytes(), "PKG-INFO": metadata()})
+    if rows is not None:
+        files["tests/rows"] = rows.read_bytes()
+    with open(Path(sdist_directory, f"{folder}.tar.gz"), "wb") as file, \
+            gzip.GzipFile("", "wb", fileobj=file, mtime=0) as packed, \
+            tarfile.open(fileobj=packed, mode="w", format=tarfile.PAX_FORMAT) as archive:
+        for name, data in sorted(files.items()):
+            entry = tarfile.TarInfo(f"{folder}/{name}")
+            entry.size = len(data)
+            archive.addfile(entry, io.BytesIO(data))
+    return f"{folder}.tar.gz"

@@ -3,7 +3,7 @@
 
 use std::env;
 use std::path::PathBuf;
-use std::process::Command;
+use std::process::{exit, Command};
 
 const NAME: &str = "libciborium_ll.a";
 
@@ -18,9 +18,20 @@ fn folder() -> Option<PathBuf> {
         .or_else(installed)
 }
 
+/// The name by which pkg-config finds no version with other calls.
+fn name_with_interface() -> Option<String> {
+    let [major, minor] =
+        ["CARGO_PKG_VERSION_MAJOR", "CARGO_PKG_VERSION_MINOR"].map(|name| env::var(name).ok());
+    let major = major?;
+    Some(match &*major {
+        "0" => format!("ciborium_ll-0.{}", minor?),
+        _ => format!("ciborium_ll-{major}"),
+    })
+}
+
 fn installed() -> Option<PathBuf> {
     let said = Command::new("pkg-config")
-        .args(["--variable=libdir", "ciborium_ll"])
+        .args(["--variable=libdir", &name_with_interface()?])
         .output()
         .ok()?;
     let folder = String::from_utf8(said.stdout).ok()?;
@@ -28,11 +39,23 @@ fn installed() -> Option<PathBuf> {
 }
 
 fn main() {
-    let folder = folder().filter(|folder| folder.join(NAME).exists());
-    let folder =
-        folder.expect("no libciborium_ll.a: install it, or name its folder in CIBORIUM_LL_LIB_DIR");
+    println!("cargo:rerun-if-env-changed=CIBORIUM_LL_LIB_DIR");
+    println!("cargo:rerun-if-env-changed=DOCS_RS");
+    // There the pages alone are built, and nothing is linked.
+    if env::var_os("DOCS_RS").is_some() {
+        return;
+    }
+    let folder = match folder() {
+        Some(folder) if folder.join(NAME).exists() => folder,
+        found => {
+            let what = found.map_or(String::new(), |folder| format!(" in {}", folder.display()));
+            eprintln!(
+                "there is no {NAME}{what}: install it, or name its folder in CIBORIUM_LL_LIB_DIR"
+            );
+            exit(1);
+        }
+    };
     println!("cargo:rustc-link-search=native={}", folder.display());
     println!("cargo:rustc-link-lib=static=ciborium_ll");
     println!("cargo:rerun-if-changed={}", folder.join(NAME).display());
-    println!("cargo:rerun-if-env-changed=CIBORIUM_LL_LIB_DIR");
 }

@@ -39,14 +39,14 @@ static const char *told(char *text, const cll_header *header)
 static uint32_t fed(char *text, const uint8_t *data, size_t len, uint32_t depth, int strict, cll_report *report)
 {
     cll_checker checker;
+    cll_answer made, answer;
     uint64_t taken = 0;
-    uint32_t answer;
+    int same;
     memset(&checker, 0, sizeof checker);
-    if (strict)
-        cll_checker_init_strict(&checker, depth);
-    else
-        cll_checker_init(&checker, depth);
+    made = strict ? cll_checker_init_strict(&checker, depth) : cll_checker_init(&checker, depth);
+    /* Memory in which none was set up is answered by CLL_ARGUMENT too. */
     answer = cll_checker_feed(&checker, data, 0, report);
+    same = answer == (made == CLL_OK ? CLL_SHORT : made);
     for (size_t i = 0; i < len; i++) {
         answer = cll_checker_feed(&checker, data + i, 1, report);
         taken += report->consumed;
@@ -55,8 +55,11 @@ static uint32_t fed(char *text, const uint8_t *data, size_t len, uint32_t depth,
         sprintf(text, "%s/%" PRIu64, answer == CLL_OK ? "length" : "due", report->place);
     else
         strcpy(text, "-");
-    if (taken > 0 && cll_checker_end(&checker, report) != answer)
-        strcpy(text, "another end");
+    same &= taken == 0 || cll_checker_end(&checker, report) == answer;
+    /* No bytes change nothing, and their answer says whether the item has ended: after no byte at all it has not. */
+    same &= cll_checker_feed(&checker, NULL, 0, report) == answer;
+    if (!same)
+        strcpy(text, "another answer");
     if (answer == CLL_OK)
         report->place = 0;
     report->consumed = taken;
@@ -71,7 +74,8 @@ static uint32_t copied(char *text, const uint8_t *data, size_t len, uint64_t cou
     uint64_t taken = 0, written = 0, place;
     uint32_t answer;
     memset(&copier, 0, sizeof copier);
-    cll_copier_init(&copier, count);
+    if (cll_copier_init(&copier, count) != CLL_OK)
+        return CLL_ARGUMENT;
     do {
         answer = cll_copier_feed(&copier, data + taken, taken < len, out + written, written < ROOM, report);
         taken += report->consumed;

@@ -70,7 +70,8 @@ bool feeds(const row &row, const std::vector<std::uint8_t> &data)
         place = checker.taken();
     }
     const auto end = checker.end();
-    const bool may_end = checker.taken() == 0 ? !end || !got : !end == (name == "ok");
+    const bool may_end = (checker.taken() == 0 ? !end || !got : !end == (name == "ok"))
+        && checker.ended() == (name == "ok");
     return name == answer_names[row.answer] && checker.taken() == row.consumed && place == row.place && made == row.made
         && may_end && (!end || (end->name() == name && end->place == row.place))
         && (!end || !got || end->due == got->due);
@@ -92,7 +93,7 @@ bool copies(const row &row, const std::vector<std::uint8_t> &data)
     const std::uint64_t place = name == "short" ? copier.taken() : got.fault().place;
     const auto end = copier.end();
     return name == answer_names[row.answer] && copier.taken() == row.consumed && place == row.place
-        && shown({out.data(), written}) == row.made && !end == (name == "ok")
+        && shown({out.data(), written}) == row.made && !end == (name == "ok") && copier.ended() == !end
         && (!end || (end->name() == name && end->place == row.place));
 }
 
@@ -131,6 +132,56 @@ int holds(const row *row)
     const auto lacks = call == "utf8" ? std::string() : due(got);
     return fits(*row, got, got ? *got : 0, lacks.empty() ? "-" : lacks);
 }
+
+/* A result has the names of std::expected, and a call that can't fail throws nothing. */
+bool has_values()
+{
+    const auto good = cll::skip("\x05"sv), bad = cll::skip("\x1c"sv);
+    static_assert(std::is_same_v<decltype(good)::value_type, std::size_t>);
+    static_assert(std::is_same_v<decltype(cll::skip({}).value()), std::size_t>);
+    static_assert(noexcept(bad.value_or(0)) && noexcept(bad.error()) && noexcept(cll::headers({}).begin()));
+    return good.value_or(7) == 1 && bad.value_or(7) == 7 && bad.error().code == cll::answer::syntax
+        && &bad.error() == &bad.fault();
+}
+
+/* Whether a title that was found has such a header, stands there, and has such a body, or none. */
+bool is_found(const cll::result<cll::located> &got, const cll::header &header, std::size_t start, std::size_t end,
+    std::optional<std::string_view> body)
+{
+    return got && got->header == header && got->start == start && got->end == end
+        && got->body.has_value() == body.has_value()
+        && (!body || std::string_view(reinterpret_cast<const char *>(got->body->data()), got->body->size()) == *body);
+}
+
+/* All titles of some bytes, with the bodies of strings of a definite length, and the fault that ends them. */
+bool goes_over()
+{
+    const auto bytes = "\x9f\x0a\x63\xe2\x81\x8c\x5f\x41\x01\xff\xff"sv;
+    std::vector<cll::result<cll::located>> all;
+    for (const auto &got : cll::headers(bytes))
+        all.push_back(got);
+    const bool whole = all.size() == 7 && is_found(all[0], {cll::kind::array, std::nullopt}, 0, 1, {})
+        && is_found(all[1], {cll::kind::positive, 10}, 1, 2, {})
+        && is_found(all[2], {cll::kind::text, 3}, 2, 3, "\xe2\x81\x8c"sv)
+        && is_found(all[3], {cll::kind::bytes, std::nullopt}, 6, 7, {})
+        && is_found(all[4], {cll::kind::bytes, 1}, 7, 8, "\x01"sv)
+        && is_found(all[5], {cll::kind::break_, 0}, 9, 10, {}) && is_found(all[6], {cll::kind::break_, 0}, 10, 11, {});
+    const cll::headers none({}), damaged("\x82\x60\x61\xff\x05"sv), cut("\x05\x42\x01"sv);
+    auto at = damaged.begin();
+    const bool first = at != damaged.end() && (*at++)->header == cll::header{cll::kind::array, 2};
+    const bool empty = at->has_value() && (*at)->body->empty();
+    const auto fault = (++at)->error();
+    const auto last = ++at;
+    const auto due = (++cut.begin())->error();
+    return whole && none.begin() == none.end() && first && empty && fault.code == cll::answer::syntax
+        && fault.place == 2 && last == damaged.end() && due.code == cll::answer::too_short && due.place == 2 && due.due == 1
+        && std::distance(damaged.begin(), damaged.end()) == 3;
+}
+
+#if defined(__cpp_lib_ranges)
+static_assert(std::ranges::input_range<cll::headers> && std::ranges::view<cll::headers>);
+static_assert(std::ranges::contiguous_range<cll::input> && std::ranges::borrowed_range<cll::input>);
+#endif
 
 /* A fault that is thrown has its name and its place, also as text. */
 bool throws()
@@ -198,6 +249,7 @@ bool checks()
     const auto last = checker.feed("\xa9\x05\x06\x07"sv);
     const auto fault = copy.feed("\x28\x05"sv).fault();
     return first->consumed == 3 && !first->ended && first->due == 1 && last->consumed == 2 && last->ended
+        && !copy.ended() && checker.ended() && !cll::checker().ended()
         && last->length == 5 && checker.feed("\x06"sv)->consumed == 0 && !checker.end() && checker.taken() == 5
         && fault.code == cll::answer::syntax && fault.place == 1 && fault.consumed == 1
         && copy.feed("\xa9"sv).fault().consumed == 0 && copy.end()->code == cll::answer::syntax
@@ -242,7 +294,8 @@ bool copies_item()
     return first->consumed == 3 && first->written == 1 && !first->ended && !first->full && begun
         && early->code == cll::answer::too_short && early->place == 3 && early->due == 1 && full->full
         && full->consumed == 2 && full->written == 1 && next->ended && next->consumed == 1 && next->written == 2 && whole
-        && !copier.end() && copier.taken() == 6 && copier.feed("\x07"sv, out)->consumed == 0
+        && !copier.end() && copier.ended() && !copy.ended() && !cll::item_copier().ended() && copier.taken() == 6
+        && copier.feed("\x07"sv, out)->consumed == 0
         && fault.code == cll::answer::syntax && fault.place == 1 && fault.consumed == 3 && fault.written == 1
         && cll::item_copier(257).feed({}, out).fault().code == cll::answer::argument && !cll::item_copier().end();
 }
@@ -263,8 +316,8 @@ bool spans()
 
 int main(int argc, char **argv)
 {
-    if (argc != 2 || !throws() || !goes_on() || !reads() || !joins() || !checks() || !copies_on() || !copies_item()
-        || !spans())
+    if (argc != 2 || !has_values() || !goes_over() || !throws() || !goes_on() || !reads() || !joins() || !checks()
+        || !copies_on() || !copies_item() || !spans())
         return 2;
     return go_through(argv[1], holds);
 }

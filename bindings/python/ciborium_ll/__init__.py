@@ -1,40 +1,101 @@
 """CBOR (RFC 7049, 2.1 to 2.4) in memory, one header at a time, by a library whose every answer is proved.
 
-Bytes are read out of whatever lends its memory, as ``bytes``, ``bytearray``, ``memoryview``, ``mmap`` and ``array`` do,
-and never copied. No other thread may change them while a call reads them. A call that fails raises an ``Error`` with a
-name and a place.
+Bytes are read where they lie, out of any object with the buffer protocol: ``bytes``, ``bytearray``, ``memoryview``,
+``mmap``, ``array`` and others. No other thread may change them while a call reads them. A call that fails raises an
+``Error`` with a name and a place.
+
+A sequence of items may be empty, so ``end()`` of a ``Checker`` to which no byte came raises nothing. ``ended`` tells
+whether the item has ended.
 """
+import array
+import collections.abc
 import ctypes
 import enum
+import mmap
 import os
-from collections import namedtuple
+from typing import Any, ClassVar, Dict, Iterator, NamedTuple, Optional, Tuple, Type, Union
 
-__all__ = ["Kind", "Header", "Title", "Recoded", "Error", "Short", "Syntax", "Room", "BreakDue", "TooDeep", "Argument",
-           "Progress", "Checker", "Copied", "Copier", "ItemCopier", "pull", "push", "recode", "strict", "skip", "utf8", "headers"]
+__all__ = ["Kind", "Header", "Title", "Recoded", "Error", "ShortError", "CborSyntaxError", "RoomError", "BreakDueError",
+           "TooDeepError", "ArgumentError", "Short", "Syntax", "Room", "BreakDue", "TooDeep", "Argument", "Progress",
+           "Checker", "Copied", "Copier", "ItemCopier", "pull", "push", "recode", "strict", "skip", "utf8", "headers"]
 
-Kind = enum.IntEnum("Kind", "POSITIVE NEGATIVE BYTES TEXT ARRAY MAP TAG SIMPLE HALF SINGLE DOUBLE BREAK", start=0)
+# What has the buffer protocol. Python has a name for it from 3.12 on.
+_Bytes = getattr(collections.abc, "Buffer", Union[bytes, bytearray, memoryview, mmap.mmap, array.array])
 
-Header = namedtuple("Header", "kind value")
-Header.__doc__ = """What a title means.
-
-``value`` is the number; of NEGATIVE the number is -1 - value; the length in bytes, the count of items or of pairs, or a
-float's raw bits. It is ``None`` for an indefinite form, and 0 for a break."""
-
-Title = namedtuple("Title", "header start end body")
-Title.__doc__ = """A header, where its title starts and ends, and of a string of a definite length the body."""
-
-Recoded = namedtuple("Recoded", "data consumed")
-Recoded.__doc__ = """Elements in their shortest spelling, and how many bytes they were read from."""
+# The versions of the library that have the calls of this package begin so.
+_INTERFACE = "0.1"
 
 
-Progress = namedtuple("Progress", "consumed length due")
-Progress.__doc__ = """How far an item has come: how many bytes were taken of a piece, how long the item is, or ``None``
-where it has not ended, and how many bytes more are due at least, which is 0 where it has."""
+class Kind(enum.IntEnum):
+    """What a title begins, or is."""
+
+    POSITIVE = 0
+    NEGATIVE = 1
+    BYTES = 2
+    TEXT = 3
+    ARRAY = 4
+    MAP = 5
+    TAG = 6
+    SIMPLE = 7
+    HALF = 8
+    SINGLE = 9
+    DOUBLE = 10
+    BREAK = 11
 
 
-Copied = namedtuple("Copied", "data consumed ended")
-Copied.__doc__ = """What elements have become of which a copier got a piece: what can be written of them so far, how
-many bytes were taken of the piece, and whether all elements have come."""
+class Header(NamedTuple):
+    """What a title means.
+
+    ``value`` is the number; of NEGATIVE the number is -1 - value; the length in bytes, the count of items or of pairs,
+    or a float's raw bits. It is ``None`` for an indefinite form, and 0 for a break.
+    """
+
+    kind: Kind
+    value: Optional[int]
+
+
+class Title(NamedTuple):
+    """A header, where its title starts and ends, and of a string of a definite length the body."""
+
+    header: Header
+    start: int
+    end: int
+    body: Optional[memoryview]
+
+
+class Recoded(NamedTuple):
+    """Elements in their shortest spelling, and how many bytes they were read from."""
+
+    data: bytes
+    consumed: int
+
+
+class Progress(NamedTuple):
+    """How far an item has come.
+
+    How many bytes were taken of a piece, how long the item is, or ``None`` if it has not ended, and how many bytes more
+    are due at least, which is 0 if it has.
+    """
+
+    consumed: int
+    length: Optional[int]
+    due: int
+
+    @property
+    def ended(self) -> bool:
+        """Whether the item has ended."""
+        return self.length is not None
+
+
+class Copied(NamedTuple):
+    """What elements have become of which a copier got a piece.
+
+    What can be written of them so far, how many bytes were taken of the piece, and whether all elements have come.
+    """
+
+    data: bytes
+    consumed: int
+    ended: bool
 
 
 class Error(ValueError):
@@ -48,58 +109,69 @@ class Error(ValueError):
     follow makes it good; else it is 0.
     """
 
-    name = "error"
+    name: str = "error"
 
-    def __init__(self, place, consumed, written, elements=0, whole=0, data=b"", due=0, spelled=0):
+    def __init__(self, place: int, consumed: int, written: int, elements: int = 0, whole: int = 0, data: bytes = b"",
+                 due: int = 0, spelled: int = 0) -> None:
         super().__init__(f"{self.name} at {place}")
         self.place, self.consumed, self.written = place, consumed, written
         self.elements, self.whole, self.data, self.due, self.spelled = elements, whole, data, due, spelled
 
-    def __reduce__(self):
+    def __reduce__(self) -> Tuple[Any, ...]:
         return type(self), (self.place, self.consumed, self.written, self.elements, self.whole, self.data, self.due,
                             self.spelled)
 
+    def __repr__(self) -> str:
+        more = ((name, getattr(self, name)) for name in ("elements", "whole", "data", "due", "spelled"))
+        told = "".join(f", {name}={value!r}" for name, value in more if value)
+        return f"{type(self).__name__}(place={self.place}, consumed={self.consumed}, written={self.written}{told})"
 
-class Short(Error):
+
+class ShortError(Error):
     """The bytes end too early."""
 
     name = "short"
 
 
-class Syntax(Error):
+class CborSyntaxError(Error):
     """At the place stands no CBOR, or of ``utf8`` no UTF-8, that could stand there."""
 
     name = "syntax"
 
 
-class Room(Error):
+class RoomError(Error):
     """There is no room for what is to be written."""
 
     name = "room"
 
 
-class BreakDue(Error):
+class BreakDueError(Error):
     """At the place a break stands where an item is due."""
 
     name = "break_due"
 
 
-class TooDeep(Error):
+class TooDeepError(Error):
     """At the place a tag, an array or a map stands deeper than was allowed."""
 
     name = "too_deep"
 
 
-class Argument(Error):
+class ArgumentError(Error):
     """An argument is out of its range, and nothing was done."""
 
     name = "argument"
 
 
+# Shorter names of the same.
+Short, Syntax, Room, BreakDue, TooDeep, Argument = (
+    ShortError, CborSyntaxError, RoomError, BreakDueError, TooDeepError, ArgumentError)
+
 _STRINGS = (Kind.BYTES, Kind.TEXT)
 
 # By the answers' numbers. Number 4 is never answered of bytes in memory.
-_ERRORS = {1: Short, 2: Syntax, 3: Room, 5: BreakDue, 6: TooDeep, 7: Argument}
+_ERRORS: Dict[int, Type[Error]] = {1: ShortError, 2: CborSyntaxError, 3: RoomError, 5: BreakDueError, 6: TooDeepError,
+                                   7: ArgumentError}
 
 
 class _Header(ctypes.Structure):
@@ -131,11 +203,48 @@ class _Buffer(ctypes.Structure):
                 ("suboffsets", ctypes.c_void_p), ("internal", ctypes.c_void_p)]
 
 
-def _library():
-    """The library's calls: of CIBORIUM_LL_LIBRARY, or of the wheel, or of the system."""
-    inside = os.path.join(os.path.dirname(os.path.abspath(__file__)), "libciborium_ll.so")
-    name = os.environ.get("CIBORIUM_LL_LIBRARY") or (inside if os.path.exists(inside) else "libciborium_ll.so.0")
-    calls = ctypes.CDLL(name)
+def _named() -> str:
+    """The library's file: of CIBORIUM_LL_LIBRARY, of the wheel, of an editable install, or that stands near the source.
+
+    Otherwise it is the name by which the system finds it.
+    """
+    here = os.path.dirname(os.path.abspath(__file__))
+    inside = os.path.join(here, "libciborium_ll.so")
+    if os.environ.get("CIBORIUM_LL_LIBRARY"):
+        return os.environ["CIBORIUM_LL_LIBRARY"]
+    if os.path.exists(inside):
+        return inside
+    try:
+        from _ciborium_ll_library import LIBRARY
+        return LIBRARY
+    except ImportError:
+        pass
+    source = os.path.dirname(here)
+    if os.path.exists(os.path.join(source, "build_wheel_here.py")):
+        for folder in "out", "lib":
+            near = os.path.join(os.path.dirname(source), folder, "libciborium_ll.so")
+            if os.path.exists(near):
+                return near
+    return f"libciborium_ll.so.{_INTERFACE}"
+
+
+def _version_of(calls: ctypes.CDLL) -> str:
+    number = calls.cll_version()
+    return f"{number >> 16}.{number >> 8 & 255}.{number & 255}"
+
+
+def _library() -> ctypes.CDLL:
+    """The library's calls. An ImportError says what is missing."""
+    name = _named()
+    try:
+        calls = ctypes.CDLL(name)
+        version = _version_of(calls)
+    except (OSError, AttributeError) as error:
+        raise ImportError(f"ciborium_ll lacks its shared library: {error}. The variable CIBORIUM_LL_LIBRARY names its "
+                          "file, which `make -C bindings` of the repository leaves in bindings/out") from None
+    if not f"{version}.".startswith(f"{_INTERFACE}."):
+        raise ImportError(f"{name} has the version {version}, and this package takes {_INTERFACE} alone. The variable "
+                          "CIBORIUM_LL_LIBRARY names another one")
     data, size, number = ctypes.c_void_p, ctypes.c_size_t, ctypes.c_uint64
     header, report = ctypes.POINTER(_Header), ctypes.POINTER(_Report)
     checker, copier, item = map(ctypes.POINTER, (_Checker, _Copier, _ItemCopier))
@@ -166,7 +275,7 @@ def _library():
 
 
 _CALLS = _library()
-__version__ = ".".join(map(str, divmod(_CALLS.cll_version() >> 8, 256) + (_CALLS.cll_version() & 255,)))
+__version__: str = _version_of(_CALLS)
 _GET = ctypes.pythonapi.PyObject_GetBuffer
 _GET.argtypes = [ctypes.py_object, ctypes.POINTER(_Buffer), ctypes.c_int]
 _RELEASE = ctypes.pythonapi.PyBuffer_Release
@@ -197,7 +306,7 @@ class _Memory:
         _RELEASE(self.buffer)
 
 
-def _held(number, bits, what):
+def _held(number: int, bits: int, what: str) -> int:
     """The number, if it has so many bits: else ctypes would drop some of them."""
     if not 0 <= number < 1 << bits:
         raise OverflowError(f"{what} has to be from 0 to 2**{bits} - 1")
@@ -226,14 +335,14 @@ def _skipped(at, length, depth, offset):
     return report.consumed
 
 
-def pull(data, offset=0):
+def pull(data: _Bytes, offset: int = 0) -> Title:
     """The title at the offset, of which no body is read."""
     with _Memory(data, offset) as (at, length):
         header, consumed = _pulled(at, length, offset)
     return Title(header, offset, offset + consumed, None)
 
 
-def push(header, width=None):
+def push(header: Header, width: Optional[int] = None) -> bytes:
     """The shortest title of a header, or the one that has so many bytes behind its first one: 0, 1, 2, 4 or 8."""
     value = 0 if header.value is None else _held(header.value, 64, "the value")
     parts, report = _Header(value, _held(header.kind, 8, "the kind"), header.value is None), _Report()
@@ -247,7 +356,7 @@ def push(header, width=None):
     return out.raw[:report.written]
 
 
-def recode(data, count=1, offset=0):
+def recode(data: _Bytes, count: int = 1, offset: int = 0) -> Recoded:
     """So many elements in their shortest spelling.
 
     An element is a title that begins no string, or a whole string.
@@ -261,7 +370,7 @@ def recode(data, count=1, offset=0):
     return Recoded(bytes(memoryview(out)[:report.written]), report.consumed)
 
 
-def strict(data, count=1, offset=0):
+def strict(data: _Bytes, count: int = 1, offset: int = 0) -> int:
     """The length of so many elements in their one shortest spelling."""
     report = _Report()
     with _Memory(data, offset) as (at, length):
@@ -269,17 +378,17 @@ def strict(data, count=1, offset=0):
     return report.consumed
 
 
-def skip(data, depth=256, offset=0):
+def skip(data: _Bytes, depth: int = 256, offset: int = 0) -> int:
     """The length of the item at the offset, which contains at most so many levels, and no more than 256."""
     with _Memory(data, offset) as (at, length):
         return _skipped(at, length, _held(depth, 32, "the depth"), offset)
 
 
-def utf8(data, offset=0):
+def utf8(data: _Bytes, offset: int = 0) -> int:
     """The length of the bytes from the offset on, where all of them are UTF-8.
 
-    Else the place of the error is the end of their longest front that is: ``Short`` where a character is cut off there,
-    which more bytes may complete, and ``Syntax`` where no UTF-8 goes on.
+    Else the place of the error is the end of their longest front that is: ``ShortError`` where a character is cut off
+    there, which more bytes may complete, and ``CborSyntaxError`` where no UTF-8 goes on.
     """
     report = _Report()
     with _Memory(data, offset) as (at, length):
@@ -287,13 +396,22 @@ def utf8(data, offset=0):
     return report.consumed
 
 
-def headers(data, offset=0):
+def _view(data: _Bytes) -> memoryview:
+    """The bytes of an object as a view. If its items have a format that no view can be cast from, they are copied."""
+    view = memoryview(data)
+    try:
+        return view.cast("B")
+    except (TypeError, ValueError):
+        return memoryview(view.tobytes()) if view.c_contiguous else view
+
+
+def headers(data: _Bytes, offset: int = 0) -> Iterator[Title]:
     """Each title from the offset on, up to the end of the bytes.
 
     A string of a definite length is read whole, and its body is a view of the bytes; that of a text is UTF-8. Nothing
     is said of how the titles nest. Up to its end the iterator holds the bytes where they are.
     """
-    view = memoryview(data).cast("B")
+    view = _view(data)
     with _Memory(view, offset) as (at, length):
         start, stop = offset, offset + length
         while start < stop:
@@ -306,21 +424,66 @@ def headers(data, offset=0):
             start = end if body is None else end + len(body)
 
 
-class Checker:
+class _Fed:
+    """What takes bytes in pieces: how many it took, and its state, which a copy of it has for itself."""
+
+    __slots__ = ("consumed", "_kept")
+    _END: ClassVar[Any]
+    # Whether it may have ended before a byte came.
+    _MAY_BE_EMPTY: ClassVar[bool] = False
+    consumed: int
+
+    @property
+    def ended(self) -> bool:
+        """Whether all that was asked for has come. An item has not ended before its first byte, nor after an error."""
+        return (self.consumed > 0 or self._MAY_BE_EMPTY) and self._answer()[0] == 0
+
+    def end(self) -> None:
+        """Says that no more bytes come.
+
+        It raises ``ShortError`` if the item is cut off, with how many bytes came as the place, and the error that
+        ``feed`` raised, if it did. If no byte came or the item has ended it raises nothing, and ``ended`` tells which.
+        """
+        answer, report = self._answer()
+        if answer == 1:
+            raise ShortError(self.consumed, 0, 0, due=report.place)
+        _check(answer, report)
+
+    def _answer(self) -> Tuple[int, _Report]:
+        report = _Report()
+        return self._END(self._kept, report), report
+
+    def __copy__(self) -> Any:
+        twin = object.__new__(type(self))
+        twin.consumed, twin._kept = self.consumed, type(self._kept).from_buffer_copy(self._kept)
+        return twin
+
+    def __deepcopy__(self, memo: Dict[int, Any]) -> Any:
+        return self.__copy__()
+
+    def __repr__(self) -> str:
+        answer, report = self._answer()
+        state = f"{_ERRORS[answer].name} at {report.place}" if answer > 3 or answer == 2 else "more due"
+        return f"<{type(self).__name__}: {self.consumed} bytes, {'ended' if self.ended else state}>"
+
+
+class Checker(_Fed):
     """Checks one item whose bytes come in pieces, as out of a socket, however they are cut.
 
     The item contains at most ``depth`` levels, and no more than 256. Where ``shortest`` is true it is taken in its
-    shortest spelling alone. ``consumed`` is how many bytes were taken of all pieces.
+    shortest spelling alone. ``consumed`` is how many bytes were taken of all pieces, and ``ended`` whether the item has
+    ended. A copy goes on by itself.
     """
 
-    __slots__ = ("consumed", "_kept")
+    __slots__ = ()
+    _END = _CALLS.cll_checker_end
 
-    def __init__(self, depth=256, *, shortest=False):
+    def __init__(self, depth: int = 256, *, shortest: bool = False) -> None:
         self.consumed, self._kept = 0, _Checker()
         init = _CALLS.cll_checker_init_strict if shortest else _CALLS.cll_checker_init
         _check(init(self._kept, _held(depth, 32, "the depth")), _Report())
 
-    def feed(self, data, offset=0):
+    def feed(self, data: _Bytes, offset: int = 0) -> Progress:
         """Takes the bytes from the offset on: all of them, but none behind the end of the item.
 
         An error comes with the first byte behind which no item goes on, and names an offset in the item. Behind the end
@@ -335,33 +498,24 @@ class Checker:
         _check(answer, report)
         return Progress(report.consumed, report.place, 0)
 
-    def end(self):
-        """Says that no more bytes come.
 
-        It raises ``Short`` where the item is cut off, with how many bytes came as the place, and the error that
-        ``feed`` raised, if it did. Where no byte came or the item has ended all is well.
-        """
-        report = _Report()
-        answer = _CALLS.cll_checker_end(self._kept, report)
-        if answer == 1:
-            raise Short(self.consumed, 0, 0, due=report.place)
-        _check(answer, report)
-
-
-class Copier:
+class Copier(_Fed):
     """Copies so many elements whose bytes come in pieces to their shortest spelling, however they are cut.
 
-    ``consumed`` is how many bytes were taken of all pieces.
+    ``consumed`` is how many bytes were taken of all pieces, and ``ended`` whether all elements have come. Of no elements
+    that is so at once. A copy goes on by itself.
     """
 
-    __slots__ = ("consumed", "_kept")
-    _FEED, _END = _CALLS.cll_copier_feed, _CALLS.cll_copier_end
+    __slots__ = ()
+    _FEED: ClassVar[Any] = _CALLS.cll_copier_feed
+    _END = _CALLS.cll_copier_end
+    _MAY_BE_EMPTY = True
 
-    def __init__(self, count=1):
+    def __init__(self, count: int = 1) -> None:
         self.consumed, self._kept = 0, _Copier()
         _check(_CALLS.cll_copier_init(self._kept, _held(count, 64, "the count")), _Report())
 
-    def feed(self, data, offset=0):
+    def feed(self, data: _Bytes, offset: int = 0) -> Copied:
         """Takes the bytes from the offset on: all of them, but none behind the end of the elements.
 
         It gives what can be written of all bytes so far, and was not given before. An error comes with the first byte
@@ -381,31 +535,20 @@ class Copier:
             raise _ERRORS[answer](report.place, taken, len(out), data=bytes(out))
         return Copied(bytes(out), taken, answer == 0)
 
-    def end(self):
-        """Says that no more bytes come.
-
-        It raises ``Short`` where the elements are cut off, with how many bytes came as the place, and the error that
-        ``feed`` raised, if it did. Where all of them have come all is well.
-        """
-        report = _Report()
-        answer = self._END(self._kept, report)
-        if answer == 1:
-            raise Short(self.consumed, 0, 0, due=report.place)
-        _check(answer, report)
-
 
 class ItemCopier(Copier):
     """Copies one item whose bytes come in pieces to its shortest spelling, and ends where the item ends.
 
     The item contains at most ``depth`` levels, and no more than 256. Where ``shortest`` is true it is taken in its
     shortest spelling alone. All else is as of a ``Copier``, of the item's elements: an error comes with the first byte
-    behind which no item goes on, and where no byte came, ``end`` has nothing to say.
+    behind which no item goes on. If no byte came the item has not ended, but ``end`` raises nothing.
     """
 
     __slots__ = ()
     _FEED, _END = _CALLS.cll_item_copier_feed, _CALLS.cll_item_copier_end
+    _MAY_BE_EMPTY = False
 
-    def __init__(self, depth=256, *, shortest=False):
+    def __init__(self, depth: int = 256, *, shortest: bool = False) -> None:
         self.consumed, self._kept = 0, _ItemCopier()
         init = _CALLS.cll_item_copier_init_strict if shortest else _CALLS.cll_item_copier_init
         _check(init(self._kept, _held(depth, 32, "the depth")), _Report())

@@ -1,9 +1,16 @@
 """What the table of rows can't say: which bytes are taken, where errors are, and what the iterator gives."""
 import array
 import ast
+import contextlib
+import copy
+import ctypes
 import inspect
+import io
 import mmap
 import pickle
+import re
+import sys
+import typing
 import unittest
 from pathlib import Path
 
@@ -11,6 +18,12 @@ import ciborium_ll
 from ciborium_ll import Error, Header, Kind
 
 MAP = bytes.fromhex("a16161820102")
+SOURCE = Path(__file__).resolve().parents[1]
+
+
+def struct_of(numbers):
+    """The bytes of numbers of four bytes each."""
+    return b"".join(number.to_bytes(4, "little") for number in numbers)
 
 
 class Bytes(unittest.TestCase):
@@ -22,9 +35,22 @@ class Bytes(unittest.TestCase):
                 self.assertEqual(ciborium_ll.skip(data), 6)
                 self.assertEqual(ciborium_ll.recode(data, 1).data, b"\xa1")
 
+    def test_memory_of_any_format_is_taken(self):
+        # As bytes 61 00 00 02 and 19 00 00 05.
+        numbers = [0x02000061, 0x05000019]
+        plain = struct_of(numbers)
+        wide = array.array("I", numbers), (ctypes.c_uint32 * 2)(*numbers), memoryview(plain).cast("I", (2, 1))
+        for data in (*wide, (ctypes.c_ubyte * 8)(*plain), pickle.PickleBuffer(plain)):
+            titles = list(ciborium_ll.headers(data))
+            self.assertEqual([(title.start, title.header.value) for title in titles[:2]], [(0, 1), (2, 0)])
+            self.assertEqual((titles[0].body, titles[0].body.format), (b"\0", "B"))
+            self.assertEqual(ciborium_ll.pull(data, 4), (Header(Kind.POSITIVE, 0), 4, 7, None))
+            self.assertEqual(ciborium_ll.Checker().feed(data, 4), (3, 3, 0))
+
     def test_what_lends_none_is_refused(self):
         self.assertRaises(TypeError, ciborium_ll.pull, "a1")
         self.assertRaises(BufferError, ciborium_ll.pull, memoryview(MAP)[::2])
+        self.assertRaises(BufferError, next, ciborium_ll.headers(memoryview(MAP)[::2]))
 
     def test_memory_is_given_back(self):
         data = bytearray(b"\x9c")
@@ -43,16 +69,64 @@ class Bytes(unittest.TestCase):
 
 
 class Stub(unittest.TestCase):
-    def test_types_are_given_of_what_is_there(self):
+    def setUp(self):
         stub = ast.parse(Path(ciborium_ll.__file__).with_suffix(".pyi").read_text())
-        calls = {it.name: [arg.arg for arg in it.args.args] for it in stub.body if isinstance(it, ast.FunctionDef)}
-        classes = [it.name for it in stub.body if isinstance(it, ast.ClassDef)]
-        self.assertEqual(sorted([*calls, *classes]), sorted(ciborium_ll.__all__))
-        for name, parameters in calls.items():
-            self.assertEqual(list(inspect.signature(getattr(ciborium_ll, name)).parameters), parameters)
+        self.calls = [it for it in stub.body if isinstance(it, ast.FunctionDef)]
+        self.classes = [it for it in stub.body if isinstance(it, ast.ClassDef)]
+        self.others = [target.id for it in stub.body if isinstance(it, ast.Assign) for target in it.targets]
+
+    def same_types(self, call, there):
+        """The types of a stub's call and those that it has at run time."""
+        told = typing.get_type_hints(there)
+        parameters = [*call.args.args, *call.args.kwonlyargs]
+        self.assertEqual([it.arg for it in parameters], list(inspect.signature(there).parameters))
+        of_parameters = [(it.arg, it.annotation) for it in parameters if it.arg != "self"]
+        for name, type_of in [*of_parameters, ("return", call.returns)]:
+            want = eval(compile(ast.Expression(type_of), "", "eval"), dict(vars(ciborium_ll)))
+            self.assertEqual(told[name], type(None) if want is None else want, f"{call.name} {name}")
+
+    def test_types_are_given_of_what_is_there(self):
+        names = [it.name for it in [*self.calls, *self.classes]] + [it for it in self.others if it[0] != "_"]
+        self.assertEqual(sorted(names), sorted(ciborium_ll.__all__))
+        for call in self.calls:
+            self.same_types(call, getattr(ciborium_ll, call.name))
+
+    def test_types_of_methods(self):
+        for it in self.classes:
+            there = getattr(ciborium_ll, it.name)
+            for call in it.body:
+                if isinstance(call, ast.FunctionDef) and not call.args.args[0].annotation:
+                    found = getattr(there, call.name)
+                    self.same_types(call, found.fget if isinstance(found, property) else found)
+
+    def test_fields_have_their_types(self):
+        self.assertEqual(typing.get_type_hints(Header), {"kind": Kind, "value": typing.Optional[int]})
+        self.assertEqual(typing.get_type_hints(ciborium_ll.Progress)["length"], typing.Optional[int])
 
     def test_the_version_is_three_numbers(self):
         self.assertRegex(ciborium_ll.__version__, r"^\d+\.\d+\.\d+$")
+
+
+class Readme(unittest.TestCase):
+    def test_its_programs_run(self):
+        said = io.StringIO()
+        for block in re.findall(r"```python\n(.*?)```", (SOURCE / "README.md").read_text("utf-8"), re.DOTALL):
+            with contextlib.redirect_stdout(said):
+                exec(block, {})
+        self.assertEqual(said.getvalue().splitlines(), [
+            "0 MAP 1", "1 TEXT 1", "3 ARRAY 2", "4 POSITIVE 1", "5 POSITIVE 2", "syntax at 5", "an item of 5 bytes"])
+
+    @unittest.skipIf(sys.version_info < (3, 11), "Python reads no TOML before 3.11")
+    def test_what_the_build_reads_of_the_project(self):
+        import tomllib
+        sys.path.insert(0, str(SOURCE))
+        import build_wheel_here
+        sys.path.remove(str(SOURCE))
+        with open(SOURCE / "pyproject.toml", "rb") as file:
+            project = tomllib.load(file)["project"]
+        urls = project.pop("urls")
+        self.assertEqual(build_wheel_here.project()["project"], project)
+        self.assertEqual(build_wheel_here.project()["project.urls"], urls)
 
 
 class Numbers(unittest.TestCase):
@@ -82,7 +156,19 @@ class Errors(unittest.TestCase):
         with self.assertRaises(Error) as caught:
             ciborium_ll.skip(MAP, 1)
         sent = pickle.loads(pickle.dumps(caught.exception))
-        self.assertEqual((type(sent), sent.place, sent.consumed), (ciborium_ll.TooDeep, 3, 4))
+        self.assertEqual((type(sent), sent.place, sent.consumed), (ciborium_ll.TooDeepError, 3, 4))
+
+    def test_each_has_a_second_name(self):
+        for name in "Short", "Room", "BreakDue", "TooDeep", "Argument":
+            self.assertIs(getattr(ciborium_ll, name), getattr(ciborium_ll, f"{name}Error"))
+        self.assertIs(ciborium_ll.Syntax, ciborium_ll.CborSyntaxError)
+
+    def test_its_repr_makes_it_again(self):
+        for error in (ciborium_ll.ShortError(3, 1, 0, due=2), ciborium_ll.RoomError(0, 4, 2, 1, 3, b"\x05")):
+            again = eval(repr(error), vars(ciborium_ll))
+            self.assertEqual((type(again), vars(again)), (type(error), vars(error)))
+        short = ciborium_ll.ShortError(3, 1, 0, due=2)
+        self.assertEqual(repr(short), "ShortError(place=3, consumed=1, written=0, due=2)")
 
     def test_what_was_copied_whole(self):
         with self.assertRaises(ciborium_ll.Short) as caught:
@@ -151,6 +237,41 @@ class Checkers(unittest.TestCase):
             checker.end()
         self.assertEqual(caught.exception.place, 3)
 
+    def test_whether_it_has_ended(self):
+        checker = ciborium_ll.Checker()
+        checker.end()
+        self.assertFalse(checker.ended)
+        self.assertFalse(checker.feed(b"\x18").ended)
+        self.assertFalse(checker.ended)
+        self.assertTrue(checker.feed(b"\x05\x05").ended)
+        self.assertTrue(checker.ended)
+        damaged = ciborium_ll.Checker()
+        self.assertRaises(ciborium_ll.Syntax, damaged.feed, b"\x1c")
+        self.assertFalse(damaged.ended)
+
+    def test_a_copy_goes_on_by_itself(self):
+        for make in copy.copy, copy.deepcopy, lambda it: pickle.loads(pickle.dumps(it)):
+            for first in ciborium_ll.Checker(1), ciborium_ll.ItemCopier(1), ciborium_ll.Copier(2):
+                first.feed(b"\x81\x19")
+                twin = make(first)
+                first.feed(b"\x03\xe8")
+                self.assertEqual((first.ended, first.consumed, twin.ended, twin.consumed), (True, 4, False, 2))
+                self.assertRaises(ciborium_ll.Short, twin.end)
+                twin.feed(b"\0\0")
+                self.assertEqual((type(twin), twin.ended, twin.consumed), (type(first), True, 4))
+
+    def test_its_repr_tells_how_far_it_is(self):
+        checker = ciborium_ll.Checker(1)
+        told = [repr(checker)]
+        for data in b"\x81", b"\x05":
+            checker.feed(data)
+            told.append(repr(checker))
+        deep = ciborium_ll.ItemCopier(1)
+        self.assertRaises(ciborium_ll.TooDeep, deep.feed, b"\x81\x81")
+        self.assertEqual([*told, repr(deep), repr(ciborium_ll.Copier(0))], [
+            "<Checker: 0 bytes, more due>", "<Checker: 1 bytes, more due>", "<Checker: 2 bytes, ended>",
+            "<ItemCopier: 2 bytes, too_deep at 1>", "<Copier: 0 bytes, ended>"])
+
     def test_a_fault_stays(self):
         checker = ciborium_ll.Checker(1)
         checker.feed(b"\x81")
@@ -197,6 +318,7 @@ class Copiers(unittest.TestCase):
     def test_no_elements(self):
         copier = ciborium_ll.Copier(0)
         copier.end()
+        self.assertTrue(copier.ended)
         self.assertEqual(copier.feed(b"\x05"), (b"", 0, True))
 
     def test_what_is_refused(self):
@@ -237,6 +359,7 @@ class ItemCopiers(unittest.TestCase):
 
     def test_what_is_refused(self):
         ciborium_ll.ItemCopier().end()
+        self.assertFalse(ciborium_ll.ItemCopier().ended)
         self.assertRaises(ciborium_ll.Argument, ciborium_ll.ItemCopier, 257)
         self.assertRaises(OverflowError, ciborium_ll.ItemCopier, 1 << 32)
 

@@ -5,8 +5,9 @@ from pathlib import Path
 import ciborium_ll
 from ciborium_ll import Header, Kind
 
-# The table stands beside the package in the repository.
-TABLE = Path(__file__).resolve().parents[2] / "tests" / "rows"
+# The table stands beside the package in the repository, and beside this file in a source archive.
+HERE = Path(__file__).resolve()
+TABLE = next(at for at in (HERE.with_name("rows"), HERE.parents[2] / "tests" / "rows") if at.exists())
 
 
 def told(header):
@@ -46,6 +47,7 @@ def fed(depth, data, shortest):
         for at in range(len(data)):
             progress = checker.feed(data[:at + 1], at)
             taken = checker.consumed
+            assert progress.ended == checker.ended == (progress.length is not None)
     except ciborium_ll.Error as error:
         return error.name, taken + error.consumed, error.place, "-"
     if progress.length is None:
@@ -64,6 +66,7 @@ def copied(count, data):
     except ciborium_ll.Error as error:
         return error.name, copier.consumed, error.place, (out + error.data).hex() or "-"
     taken = copier.consumed
+    assert got.ended == copier.ended
     return ("ok", taken, 0, out.hex() or "-") if got.ended else ("short", taken, taken, out.hex() or "-")
 
 

@@ -6,7 +6,8 @@ use crate::{Error, Header};
 use core::str;
 
 /// How many bytes were consumed and written, and how many elements were done.
-#[derive(Clone, Copy, Debug, PartialEq, Eq)]
+#[derive(Clone, Copy, Debug, PartialEq, Eq, Hash)]
+#[non_exhaustive]
 pub struct Copied {
     /// How many bytes were read.
     pub consumed: usize,
@@ -34,7 +35,8 @@ impl Copied {
 }
 
 /// Why a copy stopped, and how far it came.
-#[derive(Clone, Copy, Debug, PartialEq, Eq)]
+#[derive(Clone, Copy, Debug, PartialEq, Eq, Hash)]
+#[non_exhaustive]
 pub struct Stopped {
     /// Why.
     pub error: Error,
@@ -145,6 +147,17 @@ pub fn utf8(bytes: &[u8]) -> Result<&str, Error> {
         0 => Ok(unsafe { str::from_utf8_unchecked(bytes) }),
         answer => Err(Error::of(answer, &report, 0)),
     }
+}
+
+/// The longest front of the bytes that is UTF-8, and whether more bytes may complete what stands behind it.
+#[cfg(feature = "std")]
+pub(crate) fn utf8_in_front(bytes: &[u8]) -> (&str, bool) {
+    let mut report = cll_report::default();
+    // SAFETY: as this file says.
+    let answer = unsafe { sys::cll_utf8(bytes.as_ptr(), bytes.len(), &mut report) };
+    let front = &bytes[..report.consumed as usize];
+    // SAFETY: whatever the answer, so many bytes in front are UTF-8.
+    (unsafe { str::from_utf8_unchecked(front) }, answer < 2)
 }
 
 /// A checker of an item that contains at most so many levels, to which nothing came. A strict one takes the shortest

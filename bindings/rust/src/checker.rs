@@ -1,9 +1,10 @@
 use crate::calls;
 use crate::sys::cll_checker;
 use crate::Error;
+use core::fmt;
 
 /// How far an item has come.
-#[derive(Clone, Copy, Debug, PartialEq, Eq)]
+#[derive(Clone, Copy, Debug, PartialEq, Eq, Hash)]
 pub enum Progress {
     /// At least so many bytes more are due.
     More(usize),
@@ -12,7 +13,9 @@ pub enum Progress {
 }
 
 /// The answer to a piece.
-#[derive(Clone, Copy, Debug, PartialEq, Eq)]
+#[derive(Clone, Copy, Debug, PartialEq, Eq, Hash)]
+#[non_exhaustive]
+#[must_use = "it says how many bytes were taken, and whether the item has ended"]
 pub struct Feed {
     /// How many bytes of the piece were taken: all of them, or those up to the end of the item.
     pub taken: usize,
@@ -31,7 +34,7 @@ pub struct Feed {
 /// let feed = checker.feed(b"\x03\xe8\x05\x06").unwrap();
 /// assert_eq!((feed.taken, feed.progress), (3, Progress::Ended(5)));
 /// ```
-#[derive(Clone, Debug)]
+#[derive(Clone)]
 pub struct Checker {
     kept: cll_checker,
     taken: usize,
@@ -67,12 +70,20 @@ impl Checker {
     }
 
     /// How many bytes were taken of all pieces.
+    #[must_use]
     pub fn taken(&self) -> usize {
         self.taken
     }
 
-    /// Says that no more bytes come. All is well where no byte came or the item has ended. `Short` says how many bytes
-    /// came where it is cut off, and how many more were due, and the other errors are those of `feed`.
+    /// Whether the item has ended. Before its first byte, and after an error, it has not.
+    #[must_use]
+    pub fn is_ended(&self) -> bool {
+        self.taken > 0 && self.end().is_ok()
+    }
+
+    /// Says that no more bytes come. All is well if no byte came or the item has ended, which `is_ended` tells apart.
+    /// `Short` says how many bytes came where it is cut off, and how many more were due, and the other errors are those
+    /// of `feed`.
     pub fn end(&self) -> Result<(), Error> {
         match calls::end(&self.kept) {
             (0, _) => Ok(()),
@@ -82,5 +93,15 @@ impl Checker {
             }),
             (answer, report) => Err(Error::of(answer, &report, 0)),
         }
+    }
+}
+
+impl fmt::Debug for Checker {
+    fn fmt(&self, f: &mut fmt::Formatter<'_>) -> fmt::Result {
+        let mut shown = f.debug_struct("Checker");
+        shown.field("taken", &self.taken);
+        shown
+            .field("is_ended", &self.is_ended())
+            .finish_non_exhaustive()
     }
 }

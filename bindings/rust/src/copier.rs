@@ -1,9 +1,10 @@
 use crate::calls;
 use crate::sys::{cll_copier, cll_item_copier, cll_report};
 use crate::Error;
+use core::fmt;
 
 /// How far elements, or an item, have come.
-#[derive(Clone, Copy, Debug, PartialEq, Eq)]
+#[derive(Clone, Copy, Debug, PartialEq, Eq, Hash)]
 pub enum Copying {
     /// More bytes are due, and all is written that can be before they come.
     More,
@@ -14,7 +15,9 @@ pub enum Copying {
 }
 
 /// The answer to a piece.
-#[derive(Clone, Copy, Debug, PartialEq, Eq)]
+#[derive(Clone, Copy, Debug, PartialEq, Eq, Hash)]
+#[non_exhaustive]
+#[must_use = "it says how many bytes were taken and written, and whether that is all"]
 pub struct Fed {
     /// How many bytes of the piece were taken.
     pub taken: usize,
@@ -55,7 +58,7 @@ impl Fed {
 /// assert_eq!((fed.taken, fed.written, fed.progress), (3, 3, Copying::Ended));
 /// assert_eq!(&out[..3], b"\x05\x61a");
 /// ```
-#[derive(Clone, Debug)]
+#[derive(Clone)]
 pub struct Copier {
     kept: cll_copier,
     taken: usize,
@@ -80,8 +83,15 @@ impl Copier {
     }
 
     /// How many bytes were taken of all pieces.
+    #[must_use]
     pub fn taken(&self) -> usize {
         self.taken
+    }
+
+    /// Whether all elements have come and are written. Of no elements that is so before the first byte.
+    #[must_use]
+    pub fn is_ended(&self) -> bool {
+        self.end().is_ok()
     }
 
     /// Says that no more bytes come. All is well where all elements have come and are written. `Short` says how many
@@ -112,7 +122,7 @@ impl Copier {
 /// assert_eq!((fed.taken, fed.written, fed.progress), (3, 3, Copying::Ended));
 /// assert_eq!(&out[..4], b"\x82\x05\x61a");
 /// ```
-#[derive(Clone, Debug)]
+#[derive(Clone)]
 pub struct ItemCopier {
     kept: cll_item_copier,
     taken: usize,
@@ -143,13 +153,20 @@ impl ItemCopier {
     }
 
     /// How many bytes were taken of all pieces.
+    #[must_use]
     pub fn taken(&self) -> usize {
         self.taken
     }
 
-    /// Says that no more bytes come. All is well where no byte came, or the item has ended and is written. `Short` says
-    /// how many bytes came where it is cut off, and how many more were due, `Room` that there is more to write, and the
-    /// other errors are those of `feed`.
+    /// Whether the item has ended and is written. Before its first byte, and after an error, it has not.
+    #[must_use]
+    pub fn is_ended(&self) -> bool {
+        self.taken > 0 && self.end().is_ok()
+    }
+
+    /// Says that no more bytes come. All is well if no byte came, or the item has ended and is written, which `is_ended`
+    /// tells apart. `Short` says how many bytes came where it is cut off, and how many more were due, `Room` that there is
+    /// more to write, and the other errors are those of `feed`.
     pub fn end(&self) -> Result<(), Error> {
         match calls::end_item_copier(&self.kept) {
             (0, _) => Ok(()),
@@ -159,5 +176,25 @@ impl ItemCopier {
             }),
             (answer, report) => Err(Error::of(answer, &report, 0)),
         }
+    }
+}
+
+impl fmt::Debug for Copier {
+    fn fmt(&self, f: &mut fmt::Formatter<'_>) -> fmt::Result {
+        let mut shown = f.debug_struct("Copier");
+        shown.field("taken", &self.taken);
+        shown
+            .field("is_ended", &self.is_ended())
+            .finish_non_exhaustive()
+    }
+}
+
+impl fmt::Debug for ItemCopier {
+    fn fmt(&self, f: &mut fmt::Formatter<'_>) -> fmt::Result {
+        let mut shown = f.debug_struct("ItemCopier");
+        shown.field("taken", &self.taken);
+        shown
+            .field("is_ended", &self.is_ended())
+            .finish_non_exhaustive()
     }
 }

@@ -1,6 +1,5 @@
-use crate::calls::{pull, skip};
+use crate::calls::{pull, skip, utf8};
 use crate::{Error, Header};
-use core::marker::PhantomData;
 use core::str;
 
 /// Gives the headers of a slice, one after the other. A call that fails leaves it where it was.
@@ -44,11 +43,13 @@ impl<'a> Decoder<'a> {
     }
 
     /// How many bytes were taken so far.
+    #[must_use]
     pub fn offset(&self) -> usize {
         self.offset
     }
 
     /// The bytes that were not taken.
+    #[must_use]
     pub fn rest(&self) -> &'a [u8] {
         &self.bytes[self.offset..]
     }
@@ -56,12 +57,12 @@ impl<'a> Decoder<'a> {
     /// Takes the byte string whose header, with that length, was pulled last, and gives its segments. They have been
     /// read, so the error comes here. It is `Argument` where another header was pulled last.
     pub fn bytes(&mut self, length: Option<usize>) -> Result<Segments<'a, [u8]>, Error> {
-        self.string(Header::Bytes(length))
+        self.string(Header::Bytes(length), length, Some)
     }
 
     /// The same of a text string. Each segment is UTF-8 by itself.
     pub fn text(&mut self, length: Option<usize>) -> Result<Segments<'a, str>, Error> {
-        self.string(Header::Text(length))
+        self.string(Header::Text(length), length, |body| utf8(body).ok())
     }
 
     /// Takes the next item, with all that it contains, and gives its bytes. Tags, arrays and maps may nest so many
@@ -74,29 +75,53 @@ impl<'a> Decoder<'a> {
     }
 
     /// Takes the string whose header was just pulled.
-    fn string<T: ?Sized>(&mut self, header: Header) -> Result<Segments<'a, T>, Error> {
-        match self.last {
-            Some((last, start)) if last == header => {
-                // A string has no levels.
-                let length = skip(&self.bytes[start..], 0, start)?;
+    fn string<T: ?Sized>(
+        &mut self,
+        header: Header,
+        length: Option<usize>,
+        body_of: fn(&'a [u8]) -> Option<&'a T>,
+    ) -> Result<Segments<'a, T>, Error> {
+        let start = match self.last {
+            Some((last, start)) if last == header => start,
+            _ => return Err(Error::Argument),
+        };
+        let behind = self.rest();
+        // The body of a definite length is read once. If it is not there, or is none, a skip says why.
+        if let Some(body) = length.and_then(|length| behind.get(..length)) {
+            if let Some(whole) = body_of(body) {
                 self.last = None;
-                self.offset = start + length;
-                Ok(Segments {
-                    string: &self.bytes[start..self.offset],
-                    kind: PhantomData,
-                })
+                self.offset += body.len();
+                return Ok(Segments {
+                    whole: Some(whole),
+                    string: &[],
+                });
             }
-            _ => Err(Error::Argument),
         }
+        // A string has no levels.
+        let length = skip(&self.bytes[start..], 0, start)?;
+        self.last = None;
+        self.offset = start + length;
+        Ok(Segments {
+            whole: None,
+            string: &self.bytes[start..self.offset],
+        })
     }
 }
 
 /// The segments of a string: the one body of a definite length, or those within an indefinite one.
-#[derive(Clone, Debug)]
+#[derive(Debug)]
+#[must_use = "the segments come one by one"]
 pub struct Segments<'a, T: ?Sized> {
-    /// What is left of the string, which has been read whole.
+    /// The one body of a definite length.
+    whole: Option<&'a T>,
+    /// What is left of another string, which has been read whole.
     string: &'a [u8],
-    kind: PhantomData<&'a T>,
+}
+
+impl<T: ?Sized> Clone for Segments<'_, T> {
+    fn clone(&self) -> Self {
+        Segments { ..*self }
+    }
 }
 
 impl<'a, T: ?Sized> Segments<'a, T> {
@@ -119,7 +144,7 @@ impl<'a> Iterator for Segments<'a, [u8]> {
     type Item = &'a [u8];
 
     fn next(&mut self) -> Option<&'a [u8]> {
-        self.body()
+        self.whole.take().or_else(|| self.body())
     }
 }
 
@@ -127,7 +152,9 @@ impl<'a> Iterator for Segments<'a, str> {
     type Item = &'a str;
 
     fn next(&mut self) -> Option<&'a str> {
-        self.body()
-            .map(|body| str::from_utf8(body).expect("a text that was read is UTF-8"))
+        self.whole.take().or_else(|| {
+            self.body()
+                .map(|body| str::from_utf8(body).expect("a text that was read is UTF-8"))
+        })
     }
 }

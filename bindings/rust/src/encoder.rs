@@ -62,12 +62,7 @@ impl<'a> Encoder<'a> {
         self.push(Header::Text(None))?;
         let mut rest = value;
         while !rest.is_empty() {
-            let most = limit.min(rest.len());
-            let end = (0..=most)
-                .rev()
-                .find(|&end| rest.is_char_boundary(end))
-                .unwrap_or(most);
-            let (piece, behind) = rest.split_at(end);
+            let (piece, behind) = split_at_most(rest, limit);
             self.piece(Header::Text(Some(piece.len())), piece.as_bytes())?;
             rest = behind;
         }
@@ -75,6 +70,7 @@ impl<'a> Encoder<'a> {
     }
 
     /// What was written so far.
+    #[must_use]
     pub fn written(&self) -> &[u8] {
         &self.out[..self.length]
     }
@@ -84,4 +80,14 @@ impl<'a> Encoder<'a> {
         self.push(header)?;
         self.write_all(body)
     }
+}
+
+/// The longest front of a text that has no more than so many bytes, at least 4, and what stands behind it.
+pub(crate) fn split_at_most(text: &str, limit: usize) -> (&str, &str) {
+    let most = limit.min(text.len());
+    let end = (0..=most)
+        .rev()
+        .find(|&end| text.is_char_boundary(end))
+        .unwrap_or(most);
+    text.split_at(end)
 }

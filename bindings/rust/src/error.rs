@@ -1,8 +1,10 @@
+use crate::calls::Stopped;
 use crate::sys::cll_report;
 use core::fmt;
 
 /// Why a call failed. The numbers are offsets in the bytes, but for what is due.
-#[derive(Clone, Copy, Debug, PartialEq, Eq)]
+#[derive(Clone, Copy, Debug, PartialEq, Eq, Hash)]
+#[non_exhaustive]
 pub enum Error {
     /// The bytes end too early.
     Short {
@@ -43,6 +45,7 @@ impl Error {
     }
 
     /// The name of the answer.
+    #[must_use]
     pub fn name(&self) -> &'static str {
         match self {
             Error::Short { .. } => "short",
@@ -55,6 +58,7 @@ impl Error {
     }
 
     /// The offset that it names, if it names one.
+    #[must_use]
     pub fn place(&self) -> Option<usize> {
         match *self {
             Error::Short { place, .. }
@@ -66,6 +70,7 @@ impl Error {
     }
 
     /// How many bytes more are due at least, which is 0 of all but `Short`.
+    #[must_use]
     pub fn due(&self) -> usize {
         match *self {
             Error::Short { due, .. } => due,
@@ -84,3 +89,27 @@ impl fmt::Display for Error {
 
 #[cfg(feature = "std")]
 impl std::error::Error for Error {}
+
+impl fmt::Display for Stopped {
+    fn fmt(&self, f: &mut fmt::Formatter<'_>) -> fmt::Result {
+        let (read, written) = (self.copied.consumed, self.copied.written);
+        write!(
+            f,
+            "{}, with {read} bytes read and {written} written",
+            self.error
+        )
+    }
+}
+
+#[cfg(feature = "std")]
+impl std::error::Error for Stopped {
+    fn source(&self) -> Option<&(dyn std::error::Error + 'static)> {
+        Some(&self.error)
+    }
+}
+
+impl From<Stopped> for Error {
+    fn from(stopped: Stopped) -> Error {
+        stopped.error
+    }
+}

@@ -1,8 +1,13 @@
 //! CBOR (RFC 7049, 2.1 to 2.4) out of slices and into slices, one header at a time, by a library whose every answer is
 //! proved.
 //!
-//! The names are those of the crate `ciborium-ll` where they mean the same. Nothing here takes memory, and nothing
-//! needs `std`.
+//! The names are those of the crate `ciborium-ll` where they mean the same. Nothing here takes memory. Without the feature
+//! `std`, which is on by default, the crate needs `core` alone.
+//!
+//! [`stream`] has the names of `ciborium-ll` over any reader and writer of `std`.
+//!
+//! A sequence of items may be empty, so [`Checker::end`] is `Ok` before the first byte. [`Checker::is_ended`] tells
+//! whether the item has ended.
 //!
 //! ```
 //! use ciborium_ll_proved::{Decoder, Error, Header};
@@ -27,6 +32,9 @@ mod decoder;
 mod encoder;
 mod error;
 mod header;
+mod headers;
+#[cfg(feature = "std")]
+pub mod stream;
 pub mod sys;
 
 pub use calls::{recode, skip_item, strict, strict_len, utf8, Copied, Stopped};
@@ -36,3 +44,9 @@ pub use decoder::{Decoder, Segments};
 pub use encoder::Encoder;
 pub use error::Error;
 pub use header::{Float, Header};
+pub use headers::{headers, Headers, Title};
+
+/// The programs of the page on this crate.
+#[cfg(all(doctest, feature = "std"))]
+#[doc = include_str!("../README.md")]
+pub struct Readme;

@@ -130,6 +130,8 @@ fn fed(depth: u32, data: &[u8], strict: bool) -> String {
         got = checker.feed(&[*byte]);
     }
     let taken = checker.taken();
+    let has_ended = matches!(got, Ok(feed) if matches!(feed.progress, Progress::Ended(_)));
+    assert_eq!(checker.is_ended(), has_ended);
     match got.map(|feed| feed.progress) {
         Ok(Progress::Ended(length)) => {
             assert_eq!(checker.end(), Ok(()));
@@ -169,6 +171,7 @@ fn copied(count: u64, data: &[u8]) -> String {
         }
     };
     let (taken, made) = (copier.taken(), hex_of(&made));
+    assert_eq!(copier.is_ended(), got == Ok(Copying::Ended));
     match got {
         Ok(Copying::Ended) => {
             assert_eq!(copier.end(), Ok(()));

@@ -35,8 +35,7 @@ static uint64_t titles(const uint8_t *bytes, size_t size) {
 /* How many bytes are written. No more elements than bytes are there, so the copy ends where the bytes do. */
 static uint64_t copied(const uint8_t *bytes, size_t size, uint8_t *out) {
     cll_report report;
-    cll_recode(bytes, size, size, out, size, &report);
-    return report.written;
+    return cll_recode(bytes, size, size, out, size, &report) == CLL_ARGUMENT ? 0 : report.written;
 }
 
 /* How many items are skipped. */
@@ -64,7 +63,8 @@ static uint64_t fed(const uint8_t *bytes, size_t size, size_t piece) {
     size_t offset = 0, end = 0, ended = 0;
     cll_checker checker;
     cll_report report;
-    cll_checker_init(&checker, 256);
+    if (cll_checker_init(&checker, 256) != CLL_OK)
+        return 0;
     while (offset < size) {
         end = piece_end(offset, end, size, piece);
         uint32_t answer = cll_checker_feed(&checker, bytes + offset, end - offset, &report);
@@ -74,7 +74,8 @@ static uint64_t fed(const uint8_t *bytes, size_t size, size_t piece) {
         if (answer != CLL_OK)
             return 0;
         ended = offset;
-        cll_checker_init(&checker, 256);
+        if (cll_checker_init(&checker, 256) != CLL_OK)
+            return 0;
     }
     return ended;
 }
@@ -84,7 +85,8 @@ static uint64_t copied_in_pieces(const uint8_t *bytes, size_t size, size_t piece
     size_t offset = 0, end = 0, written = 0;
     cll_copier copier;
     cll_report report;
-    cll_copier_init(&copier, size);
+    if (cll_copier_init(&copier, size) != CLL_OK)
+        return 0;
     while (offset < size) {
         end = piece_end(offset, end, size, piece);
         uint32_t answer =
@@ -102,7 +104,8 @@ static uint64_t each_copied(const uint8_t *bytes, size_t size, size_t piece, uin
     size_t offset = 0, end = 0, written = 0;
     cll_item_copier copier;
     cll_report report;
-    cll_item_copier_init(&copier, 256);
+    if (cll_item_copier_init(&copier, 256) != CLL_OK)
+        return 0;
     while (offset < size) {
         end = piece_end(offset, end, size, piece);
         uint32_t answer =
@@ -113,7 +116,8 @@ static uint64_t each_copied(const uint8_t *bytes, size_t size, size_t piece, uin
             continue;
         if (answer != CLL_OK)
             return 0;
-        cll_item_copier_init(&copier, 256);
+        if (cll_item_copier_init(&copier, 256) != CLL_OK)
+            return 0;
     }
     return written;
 }

@@ -1,7 +1,8 @@
-//! The same bytes through the proved crate and through `ciborium-ll`: headers, titles and strings have to be the same.
+//! The same bytes through the proved crate and through `ciborium-ll`: headers, titles and strings have to be the same, out
+//! of slices and out of readers.
 
 use ciborium_ll as original;
-use ciborium_ll_proved::{Decoder, Encoder, Error, Float, Header};
+use ciborium_ll_proved::{stream, Decoder, Encoder, Error, Float, Header};
 
 /// What the table of rows gives to its calls, and all of up to two bytes.
 fn inputs() -> Vec<Vec<u8>> {
@@ -170,6 +171,117 @@ fn strings_are_the_same() {
                     .map(|string| string.map(|text| text.as_bytes().to_vec()).collect());
                 let theirs = segments_by_original!(&bytes[..], text, length);
                 assert_eq!(ours.map_err(is_syntax), theirs, "{bytes:x?}");
+            }
+            _ => {}
+        }
+    }
+}
+
+/// The header of a stream as the original has it.
+fn original_of_stream(header: stream::Header) -> original::Header {
+    match header {
+        stream::Header::Positive(n) => original::Header::Positive(n),
+        stream::Header::Negative(n) => original::Header::Negative(n),
+        stream::Header::Float(float) => original::Header::Float(float),
+        stream::Header::Simple(n) => original::Header::Simple(n),
+        stream::Header::Tag(n) => original::Header::Tag(n),
+        stream::Header::Break => original::Header::Break,
+        stream::Header::Bytes(length) => original::Header::Bytes(length),
+        stream::Header::Text(length) => original::Header::Text(length),
+        stream::Header::Array(length) => original::Header::Array(length),
+        stream::Header::Map(length) => original::Header::Map(length),
+    }
+}
+
+/// The title that both write of a header, floats too.
+fn titles_of_streams_are_the_same(ours: stream::Header, theirs: original::Header) {
+    let (mut a, mut b) = (Vec::new(), Vec::new());
+    stream::Encoder::from(&mut a).push(ours).unwrap();
+    original::Encoder::from(&mut b).push(theirs).unwrap();
+    assert_eq!(a, b, "{ours:?}");
+}
+
+#[test]
+fn headers_of_streams_are_the_same() {
+    for bytes in inputs() {
+        let mut ours = stream::Decoder::from(&bytes[..]);
+        let mut theirs = original::Decoder::from(&bytes[..]);
+        loop {
+            match (ours.pull(), theirs.pull()) {
+                (Ok(a), Ok(b)) => {
+                    assert!(same(original_of_stream(a), b), "{a:?} {b:?} of {bytes:x?}");
+                    assert_eq!(ours.offset(), theirs.offset());
+                    titles_of_streams_are_the_same(a, b);
+                    ours.push(a);
+                    theirs.push(b);
+                    assert_eq!(ours.offset(), theirs.offset());
+                    let again = original_of_stream(ours.pull().unwrap());
+                    assert!(same(again, theirs.pull().unwrap()), "{bytes:x?}");
+                }
+                (Err(stream::Error::Syntax(a)), Err(original::Error::Syntax(b))) => {
+                    assert_eq!(a, b, "{bytes:x?}");
+                    break;
+                }
+                (Err(stream::Error::Io(a)), Err(original::Error::Io(b))) => {
+                    assert_eq!(
+                        (a.kind(), ours.offset()),
+                        (b.kind(), theirs.offset()),
+                        "{bytes:x?}"
+                    );
+                    break;
+                }
+                (a, b) => panic!("{a:?} {b:?} of {bytes:x?}"),
+            }
+        }
+    }
+}
+
+/// The segments of the string in front, by a decoder over a reader, or whether it is a syntax error that ends them.
+macro_rules! segments_by_stream {
+    ($bytes:expr, $string:ident, $length:expr, $room:expr) => {{
+        let mut decoder = stream::Decoder::from($bytes);
+        decoder.pull().unwrap();
+        let mut segments = decoder.$string($length);
+        let mut bodies: Vec<Vec<u8>> = Vec::new();
+        loop {
+            match segments.pull() {
+                Err(error) => break Err(matches!(error, stream::Error::Syntax(_))),
+                Ok(None) => break Ok(bodies),
+                Ok(Some(mut segment)) => {
+                    let (mut body, mut buffer) = (Vec::new(), [0; $room]);
+                    let read = loop {
+                        match segment.pull(&mut buffer) {
+                            Err(error) => break Err(matches!(error, stream::Error::Syntax(_))),
+                            Ok(None) => break Ok(()),
+                            Ok(Some(chunk)) => body.extend::<&[u8]>(chunk.as_ref()),
+                        }
+                    };
+                    if let Err(syntax) = read {
+                        break Err(syntax);
+                    }
+                    bodies.push(body);
+                }
+            }
+        }
+    }};
+}
+
+#[test]
+fn strings_of_streams_are_the_same() {
+    for bytes in inputs() {
+        match original::Decoder::from(&bytes[..]).pull() {
+            Ok(original::Header::Bytes(length)) => {
+                let ours = segments_by_stream!(&bytes[..], bytes, length, 64);
+                let theirs = segments_by_original!(&bytes[..], bytes, length);
+                assert_eq!(ours, theirs, "{bytes:x?}");
+            }
+            Ok(original::Header::Text(length)) => {
+                let ours = segments_by_stream!(&bytes[..], text, length, 64);
+                let theirs = segments_by_original!(&bytes[..], text, length);
+                assert_eq!(ours, theirs, "{bytes:x?}");
+                if ours.is_ok() {
+                    assert_eq!(ours, segments_by_stream!(&bytes[..], text, length, 4));
+                }
             }
             _ => {}
         }
