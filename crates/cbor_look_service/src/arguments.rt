@@ -1,62 +1,117 @@
 //! What the arguments ask for.
 
-ghost use Rattle.std.specs.Prelude.{◌≤◌, length, IfSome};
+ghost use Rattle.std.specs.Prelude.{◌≡◌, ◌≤◌, ◌↔◌, List, String, false, drop, length, IfNone, IfSome, IsTrue};
+ghost use Rattle.std.specs.declared.alloc.Global.{Global};
+ghost use Rattle.cbor_look_service.specs.Arguments.{AsksFor, Choices, IsOption, choices_of};
+ghost use Rattle.cbor_look_service.specs.declared.options.Word.{Word};
 
+pub use crate::options::{Colors, Options, View, Word};
 use cbor_diag::Layout;
 use ciborium_ll_requests::number::{MOST_DEPTH, number_up_to};
 
-/// What is done.
-#[derive(Clone, Copy)]
-pub enum Word {
-    /// The input is checked.
-    Check,
-    /// It is shown.
-    Show(View),
+impl Word {
+    ghost use Rattle.cbor_look_service.specs.Arguments.{word_name};
+
+    /// The one of this name.
+    fn named(name: &str) -> Option<Word>
+        ensures some { IfSome result (λ word. name.now ≡ word_name word) }
+        ensures none { IfNone result ((word : Word) → name.now ≡ word_name word → ⊥) }
+    {
+        match name {
+            "check" => Some(Word::Check),
+            "dump" => Some(Word::Show(View::Titles)),
+            "diag" => Some(Word::Show(View::Notation)),
+            _ => None,
+        }
+    }
 }
 
-/// What of an input is shown.
+/// One option, with its value.
 #[derive(Clone, Copy)]
-pub enum View {
-    /// Its titles.
-    Titles,
-    /// Its items, in diagnostic notation.
-    Notation,
+enum Setting {
+    /// `--strict`
+    Strict,
+    /// `--one`
+    One,
+    /// `--hex`
+    Hex,
+    /// `--offsets`
+    Offsets,
+    /// `--color=WHEN`
+    Colors(Colors),
+    /// `--pretty`
+    Pretty,
+    /// `--depth N`
+    Depth(usize),
 }
 
-/// When a dump has colors.
-#[derive(Clone, Copy)]
-pub enum Colors {
-    /// Where standard output is a terminal, and the environment has no `NO_COLOR`, or an empty one.
-    Auto,
-    /// Always.
-    Always,
-    /// Never.
-    Never,
-}
+impl Setting {
+    ghost use Rattle.cbor_look_service.specs.Arguments.{IsKnown, IsShallow, SpellsValue, has_value, setting_name};
+    ghost use Rattle.cbor_look_service.specs.declared.arguments.Setting.{Setting};
 
-/// How it is done.
-#[derive(Clone, Copy)]
-pub struct Options {
-    /// Whether the shortest spelling alone is taken.
-    pub strict: bool,
-    /// Whether just one item is wanted.
-    pub one: bool,
-    /// Whether the input is hexadecimal digits.
-    pub hex: bool,
-    /// Whether each line of a dump has its offset.
-    pub offsets: bool,
-    /// When a dump has colors.
-    pub colors: Colors,
-    /// How items in diagnostic notation are laid out.
-    pub layout: Layout,
-    /// How many levels deep tags, arrays and maps may be nested.
-    pub depth: usize,
-    ghost shallow: { depth ≤ 256 },
+    /// Whether the first word has this option.
+    fn is_known(self, word: Word) -> bool
+        ensures { IsTrue result ↔ IsKnown word self }
+    {
+        match (self, word) {
+            (Setting::Strict | Setting::Hex | Setting::Depth(_), _) => true,
+            (Setting::One, Word::Check) => true,
+            (Setting::Offsets | Setting::Colors(_), Word::Show(View::Titles)) => true,
+            (Setting::Pretty, Word::Show(View::Notation)) => true,
+            _ => false,
+        }
+    }
+
+    /// The option of this name. Options with a value are not among them.
+    fn named(name: &str) -> Option<Setting>
+        ensures some { IfSome result (λ setting. (has_value setting ≡ false) × (name.now ≡ setting_name setting)) }
+        ensures none { IfNone result ((setting : Setting) → has_value setting ≡ false
+            → name.now ≡ setting_name setting → ⊥) }
+    {
+        match name {
+            "--strict" => Some(Setting::Strict),
+            "--one" => Some(Setting::One),
+            "--hex" => Some(Setting::Hex),
+            "--offsets" => Some(Setting::Offsets),
+            "--color=auto" => Some(Setting::Colors(Colors::Auto)),
+            "--color=always" => Some(Setting::Colors(Colors::Always)),
+            "--color=never" => Some(Setting::Colors(Colors::Never)),
+            "--pretty" => Some(Setting::Pretty),
+            _ => None,
+        }
+    }
+
+    /// Reads the option that has this name. The value comes from the words after the name.
+    ///
+    /// It hands out the option and the words after it. It is `None` if the first word has no such option, or if the value
+    /// is missing or no number of at most 256.
+    fn parse<'w>(word: Word, name: &str, words: &'w [String]) -> Option<(Setting, &'w [String])>
+        ensures some { IfSome result (λ parsed. IsKnown word parsed.0 × IsShallow parsed.0
+            × (name.now ≡ setting_name parsed.0) × SpellsValue parsed.0 words.now parsed.1.now) }
+        ensures none { IfNone result ((setting : Setting) → (behind : List (String Global)) → IsKnown word setting
+            → name.now ≡ setting_name setting → SpellsValue setting words.now behind → ⊥) }
+    {
+        if name == "--depth" {
+            let (value, behind) = words.split_first()?;
+            let depth = number_up_to(MOST_DEPTH, value.as_str())?;
+            return Some((Setting::Depth(depth), behind));
+        }
+        let setting = Setting::named(name)?;
+        if setting.is_known(word) {
+            Some((setting, words))
+        } else {
+            None
+        }
+    }
 }
 
 impl Options {
-    /// What holds where nothing else is asked for.
-    pub fn new() -> Options {
+    ghost use Rattle.cbor_look_service.specs.Arguments.{AsksWith, IsShallow, default_choices, with_setting};
+
+    /// What holds without options: bytes in any spelling, as many items as there are, to a depth of 256.
+    pub fn new() -> Options
+        ensures { choices_of result ≡ default_choices }
+    {
         Options {
             strict: false,
             one: false,
@@ -68,85 +123,53 @@ impl Options {
         }
     }
 
-    /// Takes a depth. `None` says that no read of an item takes it, or that the word is no number.
-    fn set_depth(&mut self, word: &str) -> Option<()> {
-        self.depth = number_up_to(MOST_DEPTH, word)?;
-        Some(())
-    }
-
-    /// Takes an option that has no word behind it. `None` says that there is no such one for what is done.
-    fn set(&mut self, word: Word, option: &str) -> Option<()> {
-        match option {
-            "--strict" => self.strict = true,
-            "--hex" => self.hex = true,
-            _ => return self.set_of(word, option),
-        }
-        Some(())
-    }
-
-    /// Takes one that only one word knows.
-    fn set_of(&mut self, word: Word, option: &str) -> Option<()> {
-        match word {
-            Word::Check => self.set_of_check(option),
-            Word::Show(View::Titles) => self.set_of_titles(option),
-            Word::Show(View::Notation) => self.set_of_notation(option),
-        }
-    }
-
-    fn set_of_check(&mut self, option: &str) -> Option<()> {
-        if option != "--one" {
-            return None;
-        }
-        self.one = true;
-        Some(())
-    }
-
-    fn set_of_titles(&mut self, option: &str) -> Option<()> {
-        match option {
-            "--offsets" => self.offsets = true,
-            "--color=auto" => self.colors = Colors::Auto,
-            "--color=always" => self.colors = Colors::Always,
-            "--color=never" => self.colors = Colors::Never,
-            _ => return None,
-        }
-        Some(())
-    }
-
-    fn set_of_notation(&mut self, option: &str) -> Option<()> {
-        if option != "--pretty" {
-            return None;
-        }
-        self.layout = Layout::Indented;
-        Some(())
-    }
-
-    /// Takes the options behind the first word, and says from which word on files are named.
-    fn take(&mut self, word: Word, words: &[String]) -> Option<usize>
-        ensures within { IfSome result (λ files. files ≤ length words.now) }
+    /// Takes one more option.
+    fn set(&mut self, setting: Setting)
+        requires { IsShallow setting }
+        ensures { choices_of self.new ≡ with_setting setting (choices_of self.old) }
     {
-        let mut at = words.len().min(1);
-        'options: while at < words.len() {
-            let option = words[at].as_str();
-            if !is_option(option) {
-                break;
-            }
-            at += 1;
-            match option {
-                "--" => break,
-                "--depth" => {
-                    self.set_depth(words.get(at)?.as_str())?;
-                    at += 1;
-                }
-                _ => self.set(word, option)?,
-            }
+        match setting {
+            Setting::Strict => self.strict = true,
+            Setting::One => self.one = true,
+            Setting::Hex => self.hex = true,
+            Setting::Offsets => self.offsets = true,
+            Setting::Colors(colors) => self.colors = colors,
+            Setting::Pretty => self.layout = Layout::Indented,
+            Setting::Depth(depth) => self.depth = depth,
         }
-        Some(at)
+    }
+
+    /// Takes the options that the words begin with, and hands out the files after them. `None` says that the words ask
+    /// for nothing.
+    fn take<'w>(&mut self, word: Word, words: &'w [String]) -> Option<&'w [String]>
+        ensures some { IfSome result (λ files. AsksWith word (choices_of self.old) words.now (choices_of self.new)
+            files.now) }
+        ensures none { IfNone result ((choices : Choices) → (files : List (String Global))
+            → AsksWith word (choices_of self.old) words.now choices files → ⊥) }
+    {
+        let mut behind = words;
+        'options: while let Some((first, rest)) = behind.split_first() {
+            let name = first.as_str();
+            if !is_option(name) {
+                return Some(behind);
+            }
+            if name == "--" {
+                return Some(rest);
+            }
+            let (setting, more) = Setting::parse(word, name, rest)?;
+            self.set(setting);
+            behind = more;
+        }
+        Some(behind)
     }
 }
 
 /// Whether a word is an option. `-` names a file.
-fn is_option(word: &str) -> bool {
-    word.starts_with('-') && word != "-"
+fn is_option(word: &str) -> bool
+    ensures { IsTrue result ↔ IsOption word.now }
+{
+    let bytes = word.as_bytes();
+    bytes.len() > 1 && bytes[0] == b'-'
 }
 
 /// What the words ask for.
@@ -160,27 +183,22 @@ pub struct Asked {
     pub files: usize,
 }
 
-/// What the words behind the program's name ask for: one for what is done, then options, then files. `--` ends the
+/// What the words after the program's name ask for: one for what is done, then options, then files. `--` ends the
 /// options, and `-` is a file. Other words ask for nothing.
 pub fn asked_by(words: &[String]) -> Option<Asked>
+    ensures some { IfSome result (λ asked. AsksFor words.now asked.word (choices_of asked.options)
+        (drop asked.files words.now)) }
+    ensures none { IfNone result ((word : Word) → (choices : Choices) → (files : List (String Global))
+        → AsksFor words.now word choices files → ⊥) }
     ensures within { IfSome result (λ asked. asked.files ≤ length words.now) }
 {
-    let word = word_named(words.first()?.as_str())?;
+    let (name, behind) = words.split_first()?;
+    let word = Word::named(name.as_str())?;
     let mut options = Options::new();
-    let files = options.take(word, words)?;
+    let files = options.take(word, behind)?;
     Some(Asked {
         word,
         options,
-        files,
+        files: words.len() - files.len(),
     })
-}
-
-/// What the first word asks for.
-fn word_named(name: &str) -> Option<Word> {
-    match name {
-        "check" => Some(Word::Check),
-        "dump" => Some(Word::Show(View::Titles)),
-        "diag" => Some(Word::Show(View::Notation)),
-        _ => None,
-    }
 }

@@ -1,12 +1,14 @@
 //! The word `diag`.
 
+ghost use Rattle.cbor_look_service.specs.Shows.{ShowsInput};
+
 use crate::arguments::Options;
 use crate::check::ROOM;
 use crate::shared::{Prompt, Shared};
 use cbor_look_verdicts::check::decoder_of;
 use cbor_look_verdicts::diag::{diag_verdict, items};
 use cbor_look_verdicts::verdict::Verdict;
-use ciborium_ll::io::{BufferedReader, BufferedWriter, Write, WriteFault};
+use ciborium_ll::io::{BufferedReader, BufferedWriter, Read, Write, WriteFault};
 use std::cell::RefCell;
 use std::io;
 
@@ -54,7 +56,7 @@ pub fn diag_input<R: io::Read + Drop, W: io::Write + Drop>(
         writer: Shared::new(&output),
         is_open: false,
     };
-    let outcome = paged(Prompt::new(reader, &output), &mut page, options);
+    let outcome = write_page(Prompt::new(reader, &output), &mut page, options);
     if let Err(Verdict::Output(_)) = &outcome {
         return outcome;
     }
@@ -65,14 +67,14 @@ pub fn diag_input<R: io::Read + Drop, W: io::Write + Drop>(
 }
 
 /// Writes it on a page, by few writes.
-fn paged<R: io::Read + Drop, W: io::Write>(
+fn write_page<R: io::Read + Drop, W: io::Write>(
     reader: R,
     page: &mut Page<W>,
     options: Options,
 ) -> Result<(), Verdict> {
     let mut kept = [0; ROOM];
     let mut writer = BufferedWriter::new(page, &mut kept);
-    let outcome = shown(reader, &mut writer, options);
+    let outcome = show_items(reader, &mut writer, options);
     let _ = writer.flush();
     let (_, _, fault) = writer.into_parts();
     match fault {
@@ -82,12 +84,15 @@ fn paged<R: io::Read + Drop, W: io::Write>(
     }
 }
 
-/// Writes it to any writer, whose error is the outer one.
-fn shown<R: io::Read + Drop, W: Write>(
+/// Writes the items of what a reader gives, from its start, to any writer. The outer error is the writer's.
+fn show_items<R: io::Read + Drop, W: Write>(
     reader: R,
     writer: &mut W,
     options: Options,
-) -> Result<Result<(), Verdict>, W::Error> {
+) -> Result<Result<(), Verdict>, W::Error>
+    ensures { ShowsInput ⟦<BufferedReader<'static, R> as Read>⟧ W.Write options.strict options.depth options.layout
+        reader writer.old result writer.new }
+{
     let mut ahead = [0; ROOM];
     let reader = BufferedReader::new(reader, &mut ahead);
     let mut decoder = decoder_of(reader, options.strict);

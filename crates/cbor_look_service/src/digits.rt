@@ -100,8 +100,12 @@ fn step_from(state: State, byte: u8) -> Step {
 }
 
 impl<R: io::Read> Digits<R> {
+    ghost use Rattle.cbor_look_service.specs.Inputs.{digits_from};
+
     /// A reader of the bytes whose digits are left within.
-    pub fn new(source: R) -> Digits<R> {
+    pub fn new(source: R) -> Digits<R>
+        ensures { result ≡ digits_from source }
+    {
         Digits {
             source,
             state: State::Between,

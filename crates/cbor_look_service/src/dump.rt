@@ -3,10 +3,12 @@
 ghost use Rattle.std.specs.Prelude.{◌≤◌, ◌↔◌, ℕ, List, length, IsOk, None};
 ghost use Rattle.ciborium_ll.specs.Decoding.{offset_of};
 ghost use Rattle.cbor_skip.specs.SkippingTold.{IsReadyToSkip};
+ghost use Rattle.cbor_look.specs.Checking.{ReadsAsCheck};
 ghost use Rattle.cbor_look.specs.Dumps.{AreRowsTaken};
 ghost use Rattle.cbor_look.specs.Sequences.{IsSequence};
 ghost use Rattle.cbor_look.specs.Takings.{IsAlike, most_bytes};
 ghost use Rattle.cbor_look_verdicts.specs.Checking.{FindsBehindRows, dump_said};
+ghost use Rattle.cbor_look_service.specs.Shows.{DumpsInput};
 
 use crate::arguments::Options;
 use crate::patient::Patient;
@@ -128,7 +130,7 @@ pub fn dump_input<R: io::Read + Drop, W: io::Write + Drop>(
         colors,
         below: 0,
     };
-    let outcome = dumped(Prompt::new(reader, &output), &mut printer, options);
+    let outcome = dump_rows(Prompt::new(reader, &output), &mut printer, options);
     let ended = match &outcome {
         Ok(()) | Err(Verdict::Output(_)) => Ok(()),
         Err(verdict) => printer.end(verdict),
@@ -139,17 +141,19 @@ pub fn dump_input<R: io::Read + Drop, W: io::Write + Drop>(
     }
 }
 
-/// Prints the rows.
-fn dumped<R: io::Read + Drop, W: io::Write>(
+/// Prints the rows of what a reader gives, from its start, and what is left of a title or of a body behind them.
+fn dump_rows<R: io::Read + Drop, W: io::Write>(
     reader: R,
     printer: &mut Printer<W>,
     options: Options,
-) -> Result<(), Verdict> {
+) -> Result<(), Verdict>
+    ensures { DumpsInput ⟦<Patient<R> as Read>⟧ options.strict options.depth reader result }
+{
     let mut decoder = decoder_of(Patient::new(reader), options.strict);
-    let outcome = printed(&mut decoder, options.depth, options.strict, printer);
+    let outcome = print_rows(&mut decoder, options.depth, options.strict, printer);
     let offset = decoder.offset();
     let outcome = left_shown(&mut decoder, outcome, printer.below, printer);
-    let fault = decoder.into_inner().take_fault();
+    let (_, fault) = decoder.into_inner().into_parts();
     dump_verdict(outcome, fault, offset)
 }
 
@@ -158,7 +162,7 @@ fn dumped<R: io::Read + Drop, W: io::Write>(
 /// Where every row was printed, a steady reader tells its bytes and the offset fits, all is well exactly where the
 /// bytes are a sequence of items to the depth, of a strict dump in their shortest spelling; else behind so many items
 /// the first fault is named, with its offset.
-fn printed<R: Read, W: io::Write>(
+fn print_rows<R: Read, W: io::Write>(
     decoder: &mut Decoder<R>,
     depth: usize,
     strict: bool,
@@ -172,6 +176,7 @@ where
         → (IsOk result ↔ IsSequence strict depth due) }
     ensures told { (due : List ℕ) → IsReadyToSkip R.Read most_bytes decoder.old due → AreRowsTaken result
         → FindsBehindRows strict depth due (offset_of decoder.old) (dump_said result None (offset_of decoder.new)) }
+    ensures reads { AreRowsTaken result → ReadsAsCheck R.Read depth decoder.old result decoder.new }
 {
     dump(decoder, depth, strict, printer)
 }

@@ -1,6 +1,8 @@
 //! A reader that keeps what came of a read that failed.
 
-ghost use Rattle.std.specs.Prelude.{◌≡◌, ◌+◌, ◌-◌, ◌≤◌, ◌<◌, length, false, IfOk, IsTrue, None};
+ghost use Rattle.std.specs.Prelude.{◌≡◌, ◌+◌, ◌≤◌, ◌<◌, ◌++◌, ℕ, List, [], length, false, None, Some, IfOk, IsOk, IsSome};
+ghost use Rattle.std.specs.Prelude.{IsTrue, OnErr, OnOk};
+ghost use Rattle.std.specs.Io.KnownBytes.{Consumes, IsAtEnd, Keeps};
 ghost use Rattle.std.proofs.Common.{rules};
 
 use crate::check::ROOM;
@@ -22,8 +24,12 @@ struct Window {
 }
 
 impl Window {
+    ghost use Rattle.cbor_look_service.specs.Patience.{window_held};
+
     /// None.
-    fn new() -> Window {
+    fn new() -> Window
+        ensures { window_held result ≡ [] }
+    {
         Window {
             bytes: [0; ROOM],
             start: 0,
@@ -33,14 +39,15 @@ impl Window {
 
     /// How many they are.
     fn len(&self) -> usize
-        ensures { result ≡ self.now.end - self.now.start }
+        ensures { result ≡ length (window_held self.now) }
     {
         self.end - self.start
     }
 
     /// Takes the first ones.
     fn take(&mut self, data: &mut [u8])
-        requires { length «data».old ≤ self.old.end - self.old.start }
+        requires { length «data».old ≤ length (window_held self.old) }
+        ensures { window_held self.old ≡ «data».new ++ window_held self.new }
     {
         let end = self.start + data.len();
         data.copy_from_slice(&self.bytes[self.start..end]);
@@ -49,17 +56,21 @@ impl Window {
 
     /// Moves them to the front, so that there is room behind them.
     fn restart(&mut self)
-        ensures first { self.new.start ≡ 0 }
-        ensures len { self.new.end ≡ self.old.end - self.old.start }
+        ensures held { window_held self.new ≡ window_held self.old }
+        ensures len { self.new.end ≡ length (window_held self.old) }
     {
         self.bytes.copy_within(self.start..self.end, 0);
         self.end -= self.start;
         self.start = 0;
     }
 
-    /// Reads more behind them.
+    /// Reads more behind them, by one call. It tells how many came: none only at the end, or if there is no room.
     fn fill<R: io::Read>(&mut self, source: &mut R) -> io::Result<usize>
-        ensures { IfOk result (λ count. self.new.end - self.new.start ≡ self.old.end - self.old.start + count) }
+        ensures more { IfOk result (λ count. (bytes : List ℕ) × (window_held self.new ≡ window_held self.old ++ bytes)
+            × (length bytes ≡ count) × Consumes (R.remaining source.old) (R.remaining source.new) bytes) }
+        ensures none { IfOk result (λ count. count ≡ 0 → self.old.end < 8192 → IsAtEnd (R.remaining source.new)) }
+        ensures held { OnErr result (window_held self.new ≡ window_held self.old) }
+        ensures keeps { OnErr result (Keeps (R.remaining source.old) (R.remaining source.new)) }
     {
         let count = source.read(&mut self.bytes[self.end..])?;
         self.end += count;
@@ -71,7 +82,7 @@ impl Window {
 ///
 /// What came of a read that failed is kept, and smaller reads get it. Behind that each read fails, and nothing more is
 /// asked of the reader within: a terminal at its end would ask its user again. No read may be of more bytes than are
-/// read ahead; one that is fails too. It tells no bytes: that it hands out those it read, in their order, is tested.
+/// read ahead; one that is fails too.
 #[derive(Drop)]
 pub(crate) struct Patient<T> {
     source: T,
@@ -81,8 +92,17 @@ pub(crate) struct Patient<T> {
 }
 
 impl<T: io::Read> Patient<T> {
+    ghost use Rattle.cbor_look_service.specs.Patience.{HoldsMore, patient_ahead, patient_failures, patient_fault, patient_held};
+    ghost use Rattle.cbor_look_service.specs.Patience.{patient_source};
+
     /// A reader of all that is left within. Nothing is read yet.
-    pub(crate) fn new(source: T) -> Patient<T> {
+    pub(crate) fn new(source: T) -> Patient<T>
+        ensures source { patient_source result ≡ source }
+        ensures held { patient_held result ≡ [] }
+        ensures ahead { patient_ahead T.remaining result ≡ T.remaining source }
+        ensures fault { patient_fault result ≡ None }
+        ensures failures { patient_failures result ≡ 0 }
+    {
         Patient {
             source,
             window: Window::new(),
@@ -91,16 +111,32 @@ impl<T: io::Read> Patient<T> {
         }
     }
 
-    /// Why the reader within failed, where it did. It is kept no longer.
-    pub(crate) fn take_fault(&mut self) -> Option<ReadFault> {
-        self.fault.take()
+    /// The reader within as the last call left it, and why it failed, if it did.
+    pub(crate) fn into_parts(self) -> (T, Option<ReadFault>)
+        ensures source { result.0 ≡ patient_source self }
+        ensures fault { result.1 ≡ patient_fault self }
+    {
+        let Patient {
+            source,
+            window: _,
+            fault,
+            failures: _,
+        } = self;
+        (source, fault)
     }
 
-    /// Reads more ahead, by one call of the reader within. It tells whether some came.
+    /// Reads more ahead, by at most one call of the reader within. It tells whether some came. If none came, the fault is
+    /// kept.
     fn more(&mut self) -> bool
-        ensures grows { IsTrue result → self.old.window.end - self.old.window.start
-            < self.new.window.end - self.new.window.start }
-        ensures failures { self.new.failures.count ≡ self.old.failures.count }
+        ensures grows { IsTrue result → length (patient_held self.old) < length (patient_held self.new) }
+        ensures holds { HoldsMore T.remaining self.old self.new }
+        ensures same { IsTrue result → patient_fault self.new ≡ patient_fault self.old }
+        ensures none { result ≡ false → IsSome (patient_fault self.new)
+            × (patient_held self.new ≡ patient_held self.old) }
+        ensures ended { IsSome (patient_fault self.old) → self.new ≡ self.old }
+        ensures end { patient_fault self.old ≡ None → patient_fault self.new ≡ Some ReadFault.End
+            → length (patient_held self.old) < 8192 → IsAtEnd (T.remaining (patient_source self.new)) }
+        ensures failures { patient_failures self.new ≡ patient_failures self.old }
     {
         if self.fault.is_some() {
             return false;
@@ -116,18 +152,44 @@ impl<T: io::Read> Patient<T> {
 }
 
 impl<T: io::Read> Read for Patient<T> {
+    ghost use Rattle.cbor_look_service.specs.Patience.{HoldsMore, patient_ahead, patient_failures, patient_fault, patient_held};
+    ghost use Rattle.cbor_look_service.specs.Patience.{patient_source};
+
     type Error = Ended;
 
-    ghost ahead = { λ _. None };
+    ghost ahead = { λ r. patient_ahead T.remaining r };
 
     ghost steady = { λ _. false };
 
-    ghost failures = { λ r. r.failures.count };
+    ghost failures = { λ r. patient_failures r };
 
     ghost steady_is_told = { λ _ h. Prim.search rules };
 
-    /// Fills the whole of `data`, or fails and keeps what there is.
-    fn read_exact(&mut self, data: &mut [u8]) -> Result<(), Ended> {
+    /// Fills the whole of `data`, or fails and keeps what there is. Bytes that are held are handed out before the reader
+    /// within is asked for more, and after its first failure it is asked for no more.
+    ///
+    /// After an error the fault is kept: `End` if a call moved no byte, and `Failed` if a call failed. All that came is
+    /// held then, in its order: the bytes that were held before, and those that came with this read.
+    fn read_exact(&mut self, data: &mut [u8]) -> Result<(), Ended>
+        // The trait's.
+        ensures bytes { OnOk result
+            (Consumes (patient_ahead T.remaining self.old) (patient_ahead T.remaining self.new) «data».new) }
+        ensures ok { OnOk result (patient_failures self.new ≡ patient_failures self.old) }
+        ensures err { OnErr result (patient_failures self.new ≡ patient_failures self.old + 1) }
+
+        // The reader's own.
+        ensures within { length «data».old ≤ length (patient_held self.old)
+            → IsOk result × (patient_source self.new ≡ patient_source self.old)
+            × (patient_held self.old ≡ «data».new ++ patient_held self.new) }
+        ensures keeps { OnErr result (HoldsMore T.remaining self.old self.new) }
+        ensures short { OnErr result (length (patient_held self.new) < length «data».new) }
+        ensures same { OnOk result (patient_fault self.new ≡ patient_fault self.old) }
+        ensures fault { OnErr result (IsSome (patient_fault self.new)) }
+        ensures ended { IsSome (patient_fault self.old) → (patient_source self.new ≡ patient_source self.old)
+            × (patient_fault self.new ≡ patient_fault self.old) }
+        ensures end { OnErr result (patient_fault self.old ≡ None → patient_fault self.new ≡ Some ReadFault.End
+            → length «data».new ≤ 8192 → IsAtEnd (T.remaining (patient_source self.new))) }
+    {
         'more: while self.window.len() < data.len() {
             if !self.more() {
                 self.failures.raise();

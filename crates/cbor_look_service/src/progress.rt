@@ -1,5 +1,7 @@
 //! How far a long input is, said on a terminal.
 
+ghost use Rattle.std.specs.Prelude.{◌≡◌};
+
 use std::io;
 
 /// So many bytes are read before it is said, and before it is said again: 32 MiB.
@@ -38,7 +40,9 @@ impl<'p, R: io::Read, P: io::Eprint> Watched<'p, R, P> {
     }
 
     /// Counts what was read.
-    fn count(&mut self, more: usize) {
+    fn count(&mut self, more: usize)
+        ensures { self.new.source ≡ self.old.source }
+    {
         self.bytes = self.bytes.saturating_add(more as u64);
         if self.is_on && self.bytes >= self.next {
             self.next = self.bytes.saturating_add(STEP);
@@ -50,6 +54,8 @@ impl<'p, R: io::Read, P: io::Eprint> Watched<'p, R, P> {
 }
 
 impl<R: io::Read, P: io::Eprint> io::Read for Watched<'_, R, P> {
+    ghost remaining = { λ r. R.remaining r.source };
+
     fn read(&mut self, buf: &mut [u8]) -> io::Result<usize> {
         let count = self.source.read(buf)?;
         self.count(count);

@@ -47,6 +47,8 @@ impl<'o, R: io::Read, W: io::Write> Prompt<'o, R, W> {
 }
 
 impl<R: io::Read, W: io::Write> io::Read for Prompt<'_, R, W> {
+    ghost remaining = { λ r. R.remaining r.source };
+
     fn read(&mut self, buf: &mut [u8]) -> io::Result<usize> {
         if let Ok(mut output) = self.output.try_borrow_mut() {
             // A writer that fails here says so again at the next write, or at the end.

@@ -1,9 +1,17 @@
-use Rattle.std.proofs.Common.{◌≡◌, ◌-◌, length}
+use Rattle.std.proofs.Common.{◌≡◌, ◌<◌, ◌≤◌, ◌-◌, length, IsSome, None, Some, Option}
+use Rattle.std.specs.Io.KnownBytes.{IsAtEnd}
+use Rattle.cbor_look_service.specs.Patience.{HoldsMore, patient_failures, patient_fault, patient_held, patient_source}
 use Rattle.cbor_look_service.proofs.patient.PatientRead.read_exact.Given as goal
 
 abbrev pub invariant-more : goal.invariant-more
-invariant-more g l = l.self.failures.count ≡ l.fn.self.failures.count
+invariant-more g l = record {
+  failures : patient_failures l.self ≡ patient_failures l.fn.self;
+  holds : HoldsMore g.T.Read.remaining l.fn.self l.self;
+  fault : patient_fault l.self ≡ patient_fault l.fn.self;
+  still : IsSome (patient_fault l.fn.self) → l.self ≡ l.fn.self;
+  within : length l.«data» ≤ length (patient_held l.fn.self) → l.self ≡ l.fn.self;
+}
 
 -- each call adds bytes to those that are at hand
 abbrev pub decreases-more : goal.decreases-more
-decreases-more g l = length l.fn.«data» - (l.self.window.end - l.self.window.start)
+decreases-more g l = length l.«data» - length (patient_held l.self)

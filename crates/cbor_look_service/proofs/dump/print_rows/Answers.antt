@@ -1,7 +1,7 @@
 use Rattle.std.proofs.Common.{Bool, subst, ◌↔◌, IsOk}
 use Rattle.cbor_look.specs.Sequences.{IsSequence}
 use Rattle.cbor_look_verdicts.proofs.FoundLaws.{dump_found}
-use Rattle.cbor_look_service.proofs.dump.printed.Goals as goal
+use Rattle.cbor_look_service.proofs.dump.print_rows.Goals as goal
 
 pub returns-clause-exactly : goal.returns-clause-exactly
 returns-clause-exactly g c = λ due ready all.

@@ -1,0 +1,3 @@
+pub mod ArgumentLaws
+pub mod InputLaws
+pub mod PatientLaws

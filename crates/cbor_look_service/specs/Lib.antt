@@ -1,0 +1,4 @@
+pub mod Arguments
+pub mod Inputs
+pub mod Patience
+pub mod Shows
