@@ -7,8 +7,8 @@
 use cbor_look_service::arguments::{Asked, Colors, Options, View, Word, asked_by};
 use cbor_look_service::check::check_input;
 use cbor_look_service::diag::diag_input;
-use cbor_look_service::digits::Digits;
 use cbor_look_service::dump::dump_input;
+use cbor_look_service::input::Input;
 use cbor_look_service::progress::Watched;
 use cbor_look_verdicts::verdict::{Status, Verdict};
 use std::env::VarError;
@@ -28,7 +28,7 @@ fn main(rt: HostRuntime) -> ExitCode {
         return ExitCode::from(Status::Failed.code());
     };
     let status = match asked_by(words.as_slice()) {
-        Some(asked) => answered(&rt, &asked, &words[asked.files..]),
+        Some(asked) => run_all(&rt, &asked, &words[asked.files..]),
         None => {
             let _ = eprintln!(rt; "{USAGE}");
             Status::Usage
@@ -48,42 +48,42 @@ fn words_of(rt: &HostRuntime) -> io::Result<Vec<String>> {
     Ok(words)
 }
 
-/// Answers for each file, and for standard input where none is named. The status is the worst one.
-fn answered(rt: &HostRuntime, asked: &Asked, files: &[String]) -> Status {
+/// Does what is asked for with each file, or with standard input if none is named. The status is the worst one.
+fn run_all(rt: &HostRuntime, asked: &Asked, files: &[String]) -> Status {
     if files.is_empty() {
-        return answered_for(rt, asked, "-", false);
+        return run_file(rt, asked, "-", false);
     }
     let mut status = Status::Well;
     for file in files {
-        status = status.worse(answered_for(rt, asked, file.as_str(), files.len() > 1));
+        status = status.worse(run_file(rt, asked, file.as_str(), files.len() > 1));
     }
     status
 }
 
-/// Answers for one file, in a line that has its name where there are several.
-fn answered_for(rt: &HostRuntime, asked: &Asked, file: &str, several: bool) -> Status {
+/// Does what is asked for with one file. If there are several files, its name goes before what is printed.
+fn run_file(rt: &HostRuntime, asked: &Asked, file: &str, several: bool) -> Status {
     match asked.word {
-        Word::Check => said(rt, file, several, checked(rt, asked.options, file)),
-        Word::Show(view) => shown(rt, file, several, view, asked.options),
+        Word::Check => print_verdict(rt, file, several, check_file(rt, asked.options, file)),
+        Word::Show(view) => show_file(rt, file, several, view, asked.options),
     }
 }
 
 /// Checks a file, or standard input for `-`.
-fn checked(rt: &HostRuntime, options: Options, file: &str) -> Verdict {
+fn check_file(rt: &HostRuntime, options: Options, file: &str) -> Verdict {
     if file == "-" {
-        return watched(rt, rt.reader(), options);
+        return check_stream(rt, rt.reader(), options);
     }
     match File::open(rt, file) {
-        Ok(file) => watched(rt, file, options),
+        Ok(file) => check_stream(rt, file, options),
         Err(error) => Verdict::Failed(error),
     }
 }
 
-/// Checks what a reader gives, and says meanwhile on standard error how far it is, where that is a terminal.
-fn watched<R: io::Read + Drop>(rt: &HostRuntime, reader: R, options: Options) -> Verdict {
+/// Checks what a reader gives. If standard error is a terminal, it says there how far the check is.
+fn check_stream<R: io::Read + Drop>(rt: &HostRuntime, reader: R, options: Options) -> Verdict {
     let is_on = rt.stderr().is_terminal() && !is_set(rt, "NO_COLOR") && !is_set(rt, "CI");
     let mut reader = Watched::new(reader, rt, is_on);
-    let verdict = checked_bytes(&mut reader, options);
+    let verdict = check_input(Input::new(&mut reader, options), options);
     reader.clear();
     verdict
 }
@@ -106,24 +106,15 @@ fn has_colors(rt: &HostRuntime, colors: Colors) -> bool {
     }
 }
 
-/// Checks what a reader gives: bytes, or with `--hex` their digits.
-fn checked_bytes<R: io::Read + Drop>(reader: R, options: Options) -> Verdict {
-    if options.hex {
-        check_input(Digits::new(reader), options)
-    } else {
-        check_input(reader, options)
-    }
-}
-
-/// Shows a file, or standard input for `-`, behind a line with its name where there are several.
-fn shown(rt: &HostRuntime, file: &str, several: bool, view: View, options: Options) -> Status {
+/// Shows a file, or standard input for `-`. If there are several files, a line with its name goes before it.
+fn show_file(rt: &HostRuntime, file: &str, several: bool, view: View, options: Options) -> Status {
     let named = if several {
         println!(rt; "# {file}")
     } else {
         Ok(())
     };
     let outcome = match named {
-        Ok(()) => written(rt, view, options, file),
+        Ok(()) => write_file(rt, view, options, file),
         Err(error) => Err(Verdict::Output(error)),
     };
     match outcome {
@@ -136,32 +127,18 @@ fn shown(rt: &HostRuntime, file: &str, several: bool, view: View, options: Optio
 }
 
 /// Writes what is shown of a file, or of standard input for `-`.
-fn written(rt: &HostRuntime, view: View, options: Options, file: &str) -> Result<(), Verdict> {
+fn write_file(rt: &HostRuntime, view: View, options: Options, file: &str) -> Result<(), Verdict> {
     if file == "-" {
-        return written_bytes(rt, rt.reader(), view, options);
+        return write_view(rt, rt.reader(), view, options);
     }
     match File::open(rt, file) {
-        Ok(file) => written_bytes(rt, file, view, options),
+        Ok(file) => write_view(rt, file, view, options),
         Err(error) => Err(Verdict::Failed(error)),
     }
 }
 
-/// Writes what is shown of what a reader gives: bytes, or with `--hex` their digits.
-fn written_bytes<R: io::Read + Drop>(
-    rt: &HostRuntime,
-    reader: R,
-    view: View,
-    options: Options,
-) -> Result<(), Verdict> {
-    if options.hex {
-        written_view(rt, Digits::new(reader), view, options)
-    } else {
-        written_view(rt, reader, view, options)
-    }
-}
-
-/// Writes what is shown of bytes.
-fn written_view<R: io::Read + Drop>(
+/// Writes what is shown of what a reader gives.
+fn write_view<R: io::Read + Drop>(
     rt: &HostRuntime,
     reader: R,
     view: View,
@@ -171,6 +148,7 @@ fn written_view<R: io::Read + Drop>(
         Ok(writer) => writer,
         Err(error) => return Err(Verdict::Output(error)),
     };
+    let reader = Input::new(reader, options);
     match view {
         View::Notation => diag_input(reader, writer, options),
         View::Titles => {
@@ -180,8 +158,13 @@ fn written_view<R: io::Read + Drop>(
     }
 }
 
-/// Says what was found: on standard output, and what failed on standard error.
-fn said(rt: &(impl Print + Eprint), file: &str, several: bool, verdict: Verdict) -> Status {
+/// Prints what was found: on standard output, and what failed on standard error.
+fn print_verdict(
+    rt: &(impl Print + Eprint),
+    file: &str,
+    several: bool,
+    verdict: Verdict,
+) -> Status {
     let status = verdict.status();
     let printed = match (verdict, several) {
         (Verdict::Failed(error), _) => {
