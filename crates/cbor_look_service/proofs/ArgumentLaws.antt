@@ -1,5 +1,6 @@
 -- What the words of a command line ask for, word by word.
-use Rattle.std.proofs.Common.{◌≡◌, ℕ, ◌+◌, ◌-◌, ◌≤◌, List, [], ◌∷◌, ◌++◌, length, drop, length-append, ◌⊎◌, inl, inr, codes, refl, subst, ap, sym, ◌∙◌, arith}
+use Rattle.std.proofs.Common.{◌≡◌, ◌+◌, ◌-◌, ◌≤◌, List, [], ◌∷◌, ◌++◌, length, drop, length-append, inl, inr}
+use Rattle.std.proofs.Common.{codes, refl, subst, ap, sym, ◌∙◌, arith}
 use Rattle.std.proofs.Math.Seq.{drop-append_seam}
 use Rattle.std.specs.Prelude.{String, string_bytes}
 use Rattle.std.specs.declared.alloc.Global.{Global}
@@ -8,7 +9,6 @@ use Rattle.cbor_look_service.specs.Arguments.{SpellsSettings, SpellsValue, defau
 use Rattle.cbor_look_service.specs.Arguments.{with_settings, word_name}
 use Rattle.cbor_look_service.specs.declared.arguments.Setting.{Setting}
 use Rattle.cbor_look_service.specs.declared.arguments.Setting.TheVariants as s
-use Rattle.cbor_look_service.specs.declared.options.Colors.TheVariants as c
 use Rattle.cbor_look_service.specs.declared.options.Word.{Word}
 
 -- two options of one name and one value are the same, and so are the words behind them

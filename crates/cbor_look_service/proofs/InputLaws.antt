@@ -1,16 +1,14 @@
 -- What the verdict of a check says of an input whose bytes are told.
-use Rattle.std.proofs.Common.{◌≡◌, ℕ, ◌+◌, Bool, true, false, List, ◌++◌, length, Option, None, Some, Result, Ok, Err}
-use Rattle.std.proofs.Common.{IfSome, arith, ap, sym, ◌∙◌, subst}
+use Rattle.std.proofs.Common.{◌≡◌, ℕ, Bool, true, false, List, Option, None, Some, Result, Ok, Err}
+use Rattle.std.proofs.Common.{IfSome, arith}
 use Rattle.std.specs.Io.KnownBytes.{Consumes}
 use Rattle.ciborium_ll.specs.Types.BufferedReader.{BufferedReader}
 use Rattle.ciborium_ll.specs.Types.Decoder.{Decoder}
-use Rattle.ciborium_ll.specs.Types.Error.TheVariants as e
 use Rattle.ciborium_ll.specs.Types.Read.{Ghosts}
 use Rattle.ciborium_ll.specs.Types.ReadFault.{ReadFault}
 use Rattle.ciborium_ll.specs.Types.ReadFault.TheVariants as r
 use Rattle.ciborium_ll.specs.Decoding.{IsFreshAs, Passes, view}
 use Rattle.cbor_skip.specs.declared.SkipError.{SkipError}
-use Rattle.cbor_skip.specs.declared.SkipError.TheVariants as s
 use Rattle.cbor_skip.specs.Skipping.{strictness}
 use Rattle.cbor_look.specs.declared.sequence.Sequence.{Sequence}
 use Rattle.cbor_look.specs.declared.sequence.Stopped.{Stopped}
@@ -18,10 +16,9 @@ use Rattle.cbor_look.specs.declared.single.NotOne.{NotOne}
 use Rattle.cbor_look.specs.declared.single.NotOne.TheVariants as n
 use Rattle.cbor_look.specs.Sequences.{ChecksItems}
 use Rattle.cbor_look.specs.Singles.{ChecksOne}
-use Rattle.cbor_look_verdicts.specs.Checking.{SaysItems, SaysOne, SaysVerdict, fault_said, sequence_said, single_said}
+use Rattle.cbor_look_verdicts.specs.Checking.{SaysVerdict, fault_said, sequence_said, single_said}
 use Rattle.cbor_look_verdicts.specs.Checking.{unless_failed}
 use Rattle.cbor_look_verdicts.specs.declared.verdict.Verdict.{Verdict}
-use Rattle.cbor_look_verdicts.specs.declared.verdict.Verdict.TheVariants as v
 use Rattle.cbor_look_service.specs.Inputs.{CountsItems, IsFront}
 
 -- told bytes begin with those that were consumed
@@ -85,8 +82,8 @@ unless_counted false strict depth bytes (Some (r.Failed error)) found counted = 
 
 -- the verdict of a check from the start, of bytes that are told or not
 pub verdict_counted : {T E : Type 0} (reads : Ghosts (BufferedReader T) E) (strict one : Bool) (depth : ℕ)
-    (known : Option (List ℕ)) (start : BufferedReader T) (old new : Decoder (BufferedReader T)) (found verdict : Verdict)
-    (fault : Option ReadFault) → IsFreshAs strict start 0 old → reads.ahead start ≡ known
+    (known : Option (List ℕ)) (start : BufferedReader T) (old new : Decoder (BufferedReader T))
+    (found verdict : Verdict) (fault : Option ReadFault) → IsFreshAs strict start 0 old → reads.ahead start ≡ known
     → SaysVerdict reads one depth 512 old found new → verdict ≡ unless_failed fault found
     → IfSome known (λ bytes. CountsItems one strict depth bytes verdict)
 verdict_counted reads strict one depth None start old new found verdict fault fresh ahead says said = tt

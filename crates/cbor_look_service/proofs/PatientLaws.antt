@@ -1,6 +1,6 @@
 -- Lemmas on the part of a window that is held.
-use Rattle.std.proofs.Common.{◌≡◌, ℕ, ◌+◌, ◌-◌, ◌≤◌, List, ◌++◌, length, length-take-le, take, drop, slice_range, refl}
-use Rattle.std.proofs.Common.{arith, sym}
+use Rattle.std.proofs.Common.{◌≡◌, ℕ, ◌+◌, ◌-◌, ◌≤◌, List, ◌++◌, length, length-take-le, take, slice_range}
+use Rattle.std.proofs.Common.{arith}
 use Rattle.std.proofs.lemmas.List.{drop-append-le, drop-take}
 use Rattle.std.proofs.lemmas.Slice.{take-put_mid_below}
 use Rattle.ciborium_ll_streams.proofs.BufferLaws.{filled_more}

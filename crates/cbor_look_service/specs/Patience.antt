@@ -1,6 +1,6 @@
 -- What a reader that keeps what came of a failed read holds, tells, and keeps aside.
-use Rattle.std.specs.Prelude.{◌≡◌, ℕ, ◌≤◌, ◌<◌, List, ◌++◌, length, slice_range, Option, Some}
-use Rattle.std.specs.Io.KnownBytes.{Consumes, IsAtEnd, Keeps, prepend_known}
+use Rattle.std.specs.Prelude.{◌≡◌, ℕ, List, ◌++◌, slice_range, Option}
+use Rattle.std.specs.Io.KnownBytes.{Consumes, prepend_known}
 use Rattle.ciborium_ll.specs.Types.ReadFault.{ReadFault}
 use Rattle.cbor_look_service.specs.declared.patient.Patient.{Patient}
 use Rattle.cbor_look_service.specs.declared.patient.Window.{Window}

@@ -1,5 +1,5 @@
 -- How an input is shown.
-use Rattle.std.specs.Prelude.{◌≡◌, ℕ, Bool, List, [], Result}
+use Rattle.std.specs.Prelude.{◌≡◌, ℕ, Bool, [], Result}
 use Rattle.std.specs.declared.io.Error.{Error}
 use Rattle.ciborium_ll.specs.Types.BufferedReader.{BufferedReader}
 use Rattle.ciborium_ll.specs.Types.Decoder.{Decoder}

@@ -83,8 +83,8 @@ impl Setting {
 
     /// Reads the option that has this name. The value comes from the words after the name.
     ///
-    /// It hands out the option and the words after it. It is `None` if the first word has no such option, or if the value
-    /// is missing or no number of at most 256.
+    /// It hands out the option and the words after it. It is `None` if the first word has no such option, or if the
+    /// value is missing or no number of at most 256.
     fn parse<'w>(word: Word, name: &str, words: &'w [String]) -> Option<(Setting, &'w [String])>
         ensures some { IfSome result (λ parsed. IsKnown word parsed.0 × IsShallow parsed.0
             × (name.now ≡ setting_name parsed.0) × SpellsValue parsed.0 words.now parsed.1.now) }

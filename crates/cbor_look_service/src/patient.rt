@@ -1,7 +1,7 @@
 //! A reader that keeps what came of a read that failed.
 
-ghost use Rattle.std.specs.Prelude.{◌≡◌, ◌+◌, ◌≤◌, ◌<◌, ◌++◌, ℕ, List, [], length, false, None, Some, IfOk, IsOk, IsSome};
-ghost use Rattle.std.specs.Prelude.{IsTrue, OnErr, OnOk};
+ghost use Rattle.std.specs.Prelude.{◌≡◌, ◌+◌, ◌≤◌, ◌<◌, ◌++◌, ℕ, List, [], length, false, None, Some, IfOk, IsOk};
+ghost use Rattle.std.specs.Prelude.{IsSome, IsTrue, OnErr, OnOk};
 ghost use Rattle.std.specs.Io.KnownBytes.{Consumes, IsAtEnd, Keeps};
 ghost use Rattle.std.proofs.Common.{rules};
 
@@ -92,8 +92,8 @@ pub(crate) struct Patient<T> {
 }
 
 impl<T: io::Read> Patient<T> {
-    ghost use Rattle.cbor_look_service.specs.Patience.{HoldsMore, patient_ahead, patient_failures, patient_fault, patient_held};
-    ghost use Rattle.cbor_look_service.specs.Patience.{patient_source};
+    ghost use Rattle.cbor_look_service.specs.Patience.{HoldsMore, patient_ahead, patient_failures, patient_fault};
+    ghost use Rattle.cbor_look_service.specs.Patience.{patient_held, patient_source};
 
     /// A reader of all that is left within. Nothing is read yet.
     pub(crate) fn new(source: T) -> Patient<T>
@@ -125,8 +125,8 @@ impl<T: io::Read> Patient<T> {
         (source, fault)
     }
 
-    /// Reads more ahead, by at most one call of the reader within. It tells whether some came. If none came, the fault is
-    /// kept.
+    /// Reads more ahead, by at most one call of the reader within. It tells whether some came. If none came, the fault
+    /// is kept.
     fn more(&mut self) -> bool
         ensures grows { IsTrue result → length (patient_held self.old) < length (patient_held self.new) }
         ensures holds { HoldsMore T.remaining self.old self.new }
@@ -152,8 +152,8 @@ impl<T: io::Read> Patient<T> {
 }
 
 impl<T: io::Read> Read for Patient<T> {
-    ghost use Rattle.cbor_look_service.specs.Patience.{HoldsMore, patient_ahead, patient_failures, patient_fault, patient_held};
-    ghost use Rattle.cbor_look_service.specs.Patience.{patient_source};
+    ghost use Rattle.cbor_look_service.specs.Patience.{HoldsMore, patient_ahead, patient_failures, patient_fault};
+    ghost use Rattle.cbor_look_service.specs.Patience.{patient_held, patient_source};
 
     type Error = Ended;
 
@@ -165,8 +165,8 @@ impl<T: io::Read> Read for Patient<T> {
 
     ghost steady_is_told = { λ _ h. Prim.search rules };
 
-    /// Fills the whole of `data`, or fails and keeps what there is. Bytes that are held are handed out before the reader
-    /// within is asked for more, and after its first failure it is asked for no more.
+    /// Fills the whole of `data`, or fails and keeps what there is. Bytes that are held are handed out before the
+    /// reader within is asked for more, and after its first failure it is asked for no more.
     ///
     /// After an error the fault is kept: `End` if a call moved no byte, and `Failed` if a call failed. All that came is
     /// held then, in its order: the bytes that were held before, and those that came with this read.

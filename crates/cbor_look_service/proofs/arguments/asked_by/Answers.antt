@@ -1,4 +1,4 @@
-use Rattle.std.proofs.Common.{rules, ◌≡◌, ◌∙◌, sym}
+use Rattle.std.proofs.Common.{◌≡◌, ◌∙◌, sym}
 use Rattle.std.specs.Prelude.{string_bytes}
 use Rattle.cbor_look_service.specs.Arguments.{word_name}
 use Rattle.cbor_look_service.proofs.ArgumentLaws.{asks_behind, files_at}

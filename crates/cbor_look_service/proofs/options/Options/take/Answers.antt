@@ -1,7 +1,8 @@
-use Rattle.std.proofs.Common.{rules, ◌≡◌, ◌∙◌, codes, sym, subst}
+use Rattle.std.proofs.Common.{rules, ◌≡◌, ◌∙◌, codes, sym}
 use Rattle.std.specs.Prelude.{string_bytes}
 use Rattle.cbor_look_service.specs.Arguments.{IsOption, choices_of, setting_name}
-use Rattle.cbor_look_service.proofs.ArgumentLaws.{asks_file, asks_first, asks_hyphens, asks_more, asks_none, same_setting}
+use Rattle.cbor_look_service.proofs.ArgumentLaws.{asks_file, asks_first, asks_hyphens, asks_more, asks_none}
+use Rattle.cbor_look_service.proofs.ArgumentLaws.{same_setting}
 use Rattle.cbor_look_service.proofs.options.Options.take.Goals as goal
 
 pub returns-then-not-is_option-clause-some : goal.returns-then-not-is_option-clause-some

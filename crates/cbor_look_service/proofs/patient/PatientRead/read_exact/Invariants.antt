@@ -1,6 +1,5 @@
-use Rattle.std.proofs.Common.{◌≡◌, ◌<◌, ◌≤◌, ◌-◌, length, IsSome, None, Some, Option}
-use Rattle.std.specs.Io.KnownBytes.{IsAtEnd}
-use Rattle.cbor_look_service.specs.Patience.{HoldsMore, patient_failures, patient_fault, patient_held, patient_source}
+use Rattle.std.proofs.Common.{◌≡◌, ◌≤◌, ◌-◌, length, IsSome}
+use Rattle.cbor_look_service.specs.Patience.{HoldsMore, patient_failures, patient_fault, patient_held}
 use Rattle.cbor_look_service.proofs.patient.PatientRead.read_exact.Given as goal
 
 abbrev pub invariant-more : goal.invariant-more
