@@ -1,0 +1,40 @@
+-- What stands in front of bytes, and where they stop, by the rest of them.
+use Rattle.std.proofs.Common.{◌≡◌, ℕ, List, ◌-◌, ◌∙◌, ap, arith, length, length-append, take}
+use Rattle.std.proofs.Common.{◌++◌, refl, sym}
+use Rattle.std.specs.List.{IsSplitAt}
+use Rattle.std.proofs.lemmas.List.{take-append-drop}
+use Rattle.std.proofs.Math.Seq.{take-append_seam}
+use Rattle.cbor_deterministic.specs.declared.Why.{Why}
+use Rattle.cbor_deterministic.specs.Fronts.{InFront, NoneInFront}
+
+-- what stands in front of the rest leads to what stands in front of the bytes, with the same behind it; and where the
+-- rest stops, the bytes do
+pub record Leads (P : List ℕ → Type 0) (S : List ℕ → Why → ℕ → Type 0) (bytes : List ℕ) (Q : List ℕ → Type 0)
+    (T : List ℕ → Why → ℕ → Type 0) (rest : List ℕ) : Type 0 where
+  pub there : (more : List ℕ) → InFront Q rest more → InFront P bytes more
+  pub stops : (why : Why) (left : ℕ) → T rest why left → S bytes why left
+
+pub leads_same : (P : List ℕ → Type 0) (S : List ℕ → Why → ℕ → Type 0) (bytes : List ℕ) → Leads P S bytes P S bytes
+leads_same P S bytes = record { there = λ more f. f; stops = λ why left f. f }
+
+-- what is of the one kind is of the other
+pub map_front : (P Q : List ℕ → Type 0) (bytes rest : List ℕ) → ((w : List ℕ) → P w → Q w) → InFront P bytes rest
+    → InFront Q bytes rest
+map_front P Q bytes rest f i = record { front = i.front; is = f i.front i.is; whole = i.whole }
+
+pub map_none : (P Q : List ℕ → Type 0) (bytes : List ℕ) → ((w : List ℕ) → Q w → P w) → NoneInFront P bytes
+    → NoneInFront Q bytes
+map_none P Q bytes f none rest i = none rest (map_front Q P bytes rest f i)
+
+-- the bytes in front of a rest
+pub front_is : (P : List ℕ → Type 0) (rest behind : List ℕ) (f : InFront P rest behind)
+    → take (length rest - length behind) rest ≡ f.front
+front_is P rest behind f =
+    let l : length rest - length behind ≡ length f.front =
+    omega (arith, ap length f.whole, length-append f.front behind) in
+    ap (λ (n : ℕ). take n rest) l ∙ ap (λ (z : List ℕ). take (length f.front) z) f.whole
+    ∙ take-append_seam f.front behind
+
+-- bytes that are split are their two parts
+pub split_whole : (xs front back : List ℕ) (mid : ℕ) → IsSplitAt xs mid front back → xs ≡ front ++ back
+split_whole xs front back mid s = sym (take-append-drop mid xs) ∙ sym (rw (s.1, s.2) refl)

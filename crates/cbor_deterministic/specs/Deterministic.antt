@@ -1,0 +1,55 @@
+-- Items in the deterministic encoding (RFC 8949, 4.2.1): each title is a preferred one, and the keys of each map ascend
+-- by their encodings, in one of two orders, and no two of them are the same.
+use Rattle.std.specs.Prelude.{◌≡◌, ℕ, zero, suc, ◌≤◌, List, [], ◌++◌, length, take, Some}
+use Rattle.ciborium_ll_text.specs.Text.{IsCharacters}
+use Rattle.ciborium_ll_grammar.specs.declared.hdr.Header.{Header}
+use Rattle.ciborium_ll_grammar.specs.declared.hdr.Header.TheVariants as h
+use Rattle.ciborium_ll_grammar.specs.declared.hdr.Float.{Float}
+use Rattle.cbor_deterministic.specs.declared.Order.{Order}
+use Rattle.cbor_deterministic.specs.Orders.{Precedes}
+use Rattle.cbor_deterministic.specs.Preferred.{IsPreferredTitle}
+
+mutual
+  -- `Completes order depth header rest`: after a title of the header, the rest completes an item: nothing, a body of
+  -- the
+  -- length that the header tells, one item after a tag, so many items, or so many pairs (RFC 8949, 3.1 and 4.2.1)
+  pub data Completes (order : Order) : ℕ → Header → List ℕ → Type 0 where
+    positive : {depth number : ℕ} → Completes order depth (h.Positive number) []
+    negative : {depth number : ℕ} → Completes order depth (h.Negative number) []
+    float : {depth : ℕ} {value : Float} → Completes order depth (h.Float value) []
+    simple : {depth number : ℕ} → Completes order depth (h.Simple number) []
+    byte_string : {depth len : ℕ} {body : List ℕ} → length body ≡ len → Completes order depth (h.Bytes (Some len)) body
+    text_string : {depth len : ℕ} {body : List ℕ} → length body ≡ len → IsCharacters body
+        → Completes order depth (h.Text (Some len)) body
+    tag : {depth number : ℕ} {item : List ℕ} → IsDeterministic order depth item
+        → Completes order (suc depth) (h.Tag number) item
+    array : {depth count : ℕ} {items : List ℕ} → AreDeterministic order depth count items
+        → Completes order (suc depth) (h.Array (Some count)) items
+    pairs : {depth count : ℕ} {bytes : List ℕ} → AreSortedPairs order depth count [] bytes
+        → Completes order (suc depth) (h.Map (Some count)) bytes
+
+  -- `IsDeterministic order depth bytes`: the bytes are one item in its deterministic encoding, with tags, arrays and
+  -- maps nested at most so deep (RFC 8949, 4.2.1, and 4.2.3 for the length-first order). Strings take no depth
+  pub data IsDeterministic (order : Order) : ℕ → List ℕ → Type 0 where
+    item : {depth : ℕ} {title rest : List ℕ} {header : Header} → IsPreferredTitle title header
+        → Completes order depth header rest → IsDeterministic order depth (title ++ rest)
+
+  -- the bytes are so many such items, joined
+  pub data AreDeterministic (order : Order) : ℕ → ℕ → List ℕ → Type 0 where
+    no_items : {depth : ℕ} → AreDeterministic order depth zero []
+    more_items : {depth count : ℕ} {first others : List ℕ} → IsDeterministic order depth first
+        → AreDeterministic order depth count others → AreDeterministic order depth (suc count) (first ++ others)
+
+  -- `AreSortedPairs order depth count above bytes`: the bytes are so many pairs of a key and a value. The keys ascend,
+  -- and each comes after the key `above`. No key is empty, so each one comes after the empty list (RFC 8949, 4.2.1)
+  pub data AreSortedPairs (order : Order) : ℕ → ℕ → List ℕ → List ℕ → Type 0 where
+    no_pairs : {depth : ℕ} {above : List ℕ} → AreSortedPairs order depth zero above []
+    more_pairs : {depth count : ℕ} {above key value others : List ℕ} → IsDeterministic order depth key
+        → Precedes order above key → IsDeterministic order depth value
+        → AreSortedPairs order depth count key others
+        → AreSortedPairs order depth (suc count) above (key ++ (value ++ others))
+
+-- there are so many bytes, and the first so many are one item in its deterministic encoding
+pub record HasDeterministic (order : Order) (depth : ℕ) (bytes : List ℕ) (len : ℕ) : Type 0 where
+  pub enough : len ≤ length bytes
+  pub is_item : IsDeterministic order depth (take len bytes)

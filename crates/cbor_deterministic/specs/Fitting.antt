@@ -1,0 +1,49 @@
+-- The values that have a deterministic encoding: each number is in its range, each text is UTF-8, and no two keys of a
+-- map are the same.
+use Rattle.std.specs.Prelude.{ℕ, ◌<◌, ◌≤◌, ◌^◌, ◌⊎◌, List, length}
+use Rattle.ciborium_ll_text.specs.Text.{IsCharacters}
+use Rattle.cbor_deterministic.specs.declared.Order.{Order}
+use Rattle.cbor_deterministic.specs.Values.{Value, Values, Pairs, Unsigned, Negative, Bytes, Text, Array, Map, Tagged}
+use Rattle.cbor_deterministic.specs.Values.{Simple, Float}
+use Rattle.cbor_deterministic.specs.Values.{End, Item, None, Pair, item_count, pair_count, Same}
+use Rattle.cbor_deterministic.specs.Spellings.{Encodes}
+use Rattle.cbor_deterministic.specs.Deterministic.{IsDeterministic}
+
+-- no key of the pairs is the same as this one: no value is the same as both (RFC 8949, 5.6)
+abbrev pub IsNewKey : Value → Pairs → Type 0
+IsNewKey key None = Unit {0}
+IsNewKey key (Pair other value pairs) = ((v : Value) → Same key v → Same v other → ⊥) × IsNewKey key pairs
+
+mutual
+  -- each number of the value is in its range, each text is UTF-8, and no two keys of a map are the same (RFC 8949, 3.1,
+  -- 3.3 and 5.6)
+  pub data Fits : Value → Type 0 where
+    fits_unsigned : {n : ℕ} → n < 2 ^ 64 → Fits (Unsigned n)
+    fits_negative : {n : ℕ} → n < 2 ^ 64 → Fits (Negative n)
+    fits_bytes : {body : List ℕ} → length body < 2 ^ 64 → Fits (Bytes body)
+    fits_text : {body : List ℕ} → length body < 2 ^ 64 → IsCharacters body → Fits (Text body)
+    fits_array : {values : Values} → item_count values < 2 ^ 64 → AllFit values → Fits (Array values)
+    fits_map : {pairs : Pairs} → pair_count pairs < 2 ^ 64 → PairsFit pairs → Fits (Map pairs)
+    fits_tagged : {n : ℕ} {value : Value} → n < 2 ^ 64 → Fits value → Fits (Tagged n value)
+    fits_simple : {n : ℕ} → (n < 24) ⊎ ((32 ≤ n) × (n < 2 ^ 8)) → Fits (Simple n)
+    fits_float : {bits : ℕ} → bits < 2 ^ 64 → Fits (Float bits)
+
+  -- the values of an array fit
+  pub data AllFit : Values → Type 0 where
+    fits_end : AllFit End
+    fits_item : {value : Value} {values : Values} → Fits value → AllFit values → AllFit (Item value values)
+
+  -- the keys and values of a map fit, and no two keys are the same
+  pub data PairsFit : Pairs → Type 0 where
+    fits_none : PairsFit None
+    fits_pair : {key value : Value} {pairs : Pairs} → Fits key → Fits value → IsNewKey key pairs → PairsFit pairs
+        → PairsFit (Pair key value pairs)
+
+-- some bytes are the deterministic encoding of a value that is the same as this one
+pub record HasEncoding (order : Order) (value : Value) : Type 0 where
+  pub depth : ℕ
+  pub bytes : List ℕ
+  pub same : Value
+  pub is_deterministic : IsDeterministic order depth bytes
+  pub encodes : Encodes same bytes
+  pub to : Same value same

@@ -1,0 +1,11 @@
+pub mod Deterministic
+pub mod Fitting
+pub mod Floats
+pub mod Fronts
+pub mod Laws
+pub mod Orders
+pub mod Preferred
+pub mod RefusalTexts
+pub mod Refusals
+pub mod Spellings
+pub mod Values

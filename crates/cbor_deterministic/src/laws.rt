@@ -1,0 +1,56 @@
+//! Laws of the deterministic encoding, each the contract of an empty function. Each holds for both orders of keys.
+
+ghost use Rattle.std.specs.Prelude.{◌≡◌, ◌++◌, ℕ, List, true};
+ghost use Rattle.ciborium_ll_grammar.specs.Items.{IsItem};
+ghost use Rattle.cbor_deterministic.specs.declared.Order.{Order as AnyOrder};
+ghost use Rattle.cbor_deterministic.specs.declared.Why.{Why as AnyWhy};
+ghost use Rattle.cbor_deterministic.specs.Deterministic.{IsDeterministic};
+ghost use Rattle.cbor_deterministic.specs.Refusals.{HasRefusal};
+ghost use Rattle.cbor_deterministic.specs.Values.{Value, Same};
+ghost use Rattle.cbor_deterministic.specs.Spellings.{Encodes};
+ghost use Rattle.cbor_deterministic.specs.Laws.{IsSpelling};
+ghost use Rattle.cbor_deterministic.specs.Fitting.{Fits, HasEncoding};
+
+/// Values that are the same have one deterministic encoding: two items in it that are spellings of such values are the
+/// same bytes, whatever the order in which the pairs of maps are listed.
+#[tactic(auto, using(crate::proofs::Law::one_deterministic))]
+pub fn one_encoding()
+    ensures { (order : AnyOrder) (depth other : ℕ) (value same : Value) (bytes others : List ℕ)
+        → IsDeterministic order depth bytes → Encodes value bytes → IsDeterministic order other others
+        → Encodes same others → Same value same → bytes ≡ others }
+{}
+
+/// An item in the deterministic encoding is a spelling of some value.
+#[tactic(auto, using(crate::proofs::Law::some_value))]
+pub fn stands_for_a_value()
+    ensures { (order : AnyOrder) (depth : ℕ) (bytes : List ℕ) → IsDeterministic order depth bytes → IsSpelling bytes }
+{}
+
+/// Bytes are a spelling of one value alone, and no spelling begins another one.
+#[tactic(auto, using(crate::proofs::OneValue::one_value))]
+pub fn one_value()
+    ensures { (value other : Value) (bytes others rest more : List ℕ) → Encodes value bytes → Encodes other others
+        → bytes ++ rest ≡ others ++ more → (value ≡ other) × (bytes ≡ others) × (rest ≡ more) }
+{}
+
+/// An item in the deterministic encoding is an item in its shortest spelling, as a strict decoder takes it, nested as
+/// deep.
+#[tactic(auto, using(crate::proofs::ItemLaws::well_formed))]
+pub fn is_well_formed()
+    ensures { (order : AnyOrder) (depth : ℕ) (bytes : List ℕ) → IsDeterministic order depth bytes
+        → IsItem true depth bytes }
+{}
+
+/// Bytes are refused at one place alone, for one reason.
+pub fn one_refusal()
+    ensures { (order : AnyOrder) (depth place another : ℕ) (bytes : List ℕ) (why other : AnyWhy)
+        → HasRefusal order depth bytes why place → HasRefusal order depth bytes other another
+        → (why ≡ other) × (place ≡ another) }
+{}
+
+/// Each value whose numbers are in their ranges, whose texts are UTF-8 and whose maps have no key twice has a
+/// deterministic encoding.
+#[tactic(auto, using(crate::proofs::Exists::has_encoding))]
+pub fn has_encoding()
+    ensures { (order : AnyOrder) (value : Value) → Fits value → HasEncoding order value }
+{}
