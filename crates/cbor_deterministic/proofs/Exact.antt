@@ -1,4 +1,4 @@
--- The length of an item in front.
+-- The length of the item that begins bytes.
 use Rattle.cbor_deterministic.specs.declared.Order.{Order}
 use Rattle.std.proofs.Common.{◌≡◌, ℕ, ◌-◌, ◌+◌, List, length, take, drop, sym, ◌∙◌, ap, subst, arith}
 use Rattle.std.proofs.Common.{length-append}

@@ -9,7 +9,7 @@ use Rattle.cbor_deterministic.specs.Floats.{Parts, half, single, double, parts, 
 use Rattle.cbor_deterministic.specs.Floats.{subnormal}
 use Rattle.cbor_deterministic.proofs.FloatTests.{same_parts}
 
--- ---- the first one of a number
+-- ---- the first 1 of a number
 
 pub record Leading (n : ℕ) : Type 0 where
   pub p : ℕ

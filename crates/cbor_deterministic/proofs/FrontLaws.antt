@@ -1,4 +1,4 @@
--- What stands in front of bytes, and where they stop, by the rest of them.
+-- What stands at the beginning of bytes, and where they fail, by the rest of them.
 use Rattle.std.proofs.Common.{◌≡◌, ℕ, List, ◌-◌, ◌∙◌, ap, arith, length, length-append, take}
 use Rattle.std.proofs.Common.{◌++◌, refl, sym}
 use Rattle.std.specs.List.{IsSplitAt}
@@ -7,8 +7,8 @@ use Rattle.std.proofs.Math.Seq.{take-append_seam}
 use Rattle.cbor_deterministic.specs.declared.Why.{Why}
 use Rattle.cbor_deterministic.specs.Fronts.{InFront, NoneInFront}
 
--- what stands in front of the rest leads to what stands in front of the bytes, with the same behind it; and where the
--- rest stops, the bytes do
+-- what stands at the beginning of the rest leads to what stands at the beginning of the bytes, with the same rest after
+-- it, and the bytes fail as the rest does
 pub record Leads (P : List ℕ → Type 0) (S : List ℕ → Why → ℕ → Type 0) (bytes : List ℕ) (Q : List ℕ → Type 0)
     (T : List ℕ → Why → ℕ → Type 0) (rest : List ℕ) : Type 0 where
   pub there : (more : List ℕ) → InFront Q rest more → InFront P bytes more
@@ -26,7 +26,7 @@ pub map_none : (P Q : List ℕ → Type 0) (bytes : List ℕ) → ((w : List ℕ
     → NoneInFront Q bytes
 map_none P Q bytes f none rest i = none rest (map_front Q P bytes rest f i)
 
--- the bytes in front of a rest
+-- the bytes before a rest
 pub front_is : (P : List ℕ → Type 0) (rest behind : List ℕ) (f : InFront P rest behind)
     → take (length rest - length behind) rest ≡ f.front
 front_is P rest behind f =

@@ -1,4 +1,4 @@
--- Items in front of bytes, one after the other, and where the bytes stop.
+-- Items at the beginning of bytes, one after the other, and where the bytes fail.
 use Rattle.cbor_deterministic.specs.Orders.{Precedes}
 use Rattle.ciborium_ll_grammar.specs.declared.hdr.Header.{Header}
 use Rattle.ciborium_ll_grammar.specs.declared.hdr.Header.TheVariants as h
@@ -21,7 +21,7 @@ use Rattle.cbor_deterministic.specs.declared.Why.TheVariants.{Deep}
 use Rattle.cbor_deterministic.specs.Fronts.{InFront, IsOfLength, IsTextOfLength}
 use Rattle.cbor_deterministic.proofs.FrontLaws.{Leads, map_front, front_is}
 
--- the answer of a call that looks for so much in front
+-- the answer of a call: what it looks for stands at the beginning, or the bytes fail
 abbrev pub Gives : (List ℕ → Type 0) → (List ℕ → Why → ℕ → Type 0) → List ℕ → Result (Bor (List ℕ)) Stop → Type 0
 Gives P S bytes result =
     MatchResult result (λ rest. InFront P bytes rest.now) (λ stop. S bytes stop.why stop.left)
@@ -29,7 +29,7 @@ Gives P S bytes result =
 -- ---- one item
 
 module _ (ord : Order) where
-  -- a head and what completes it
+  -- a title and what completes it
   item_in_front : (e : ℕ) (x : Header) (bytes rest more : List ℕ) → InFront (λ t. IsPreferredTitle t x) bytes rest
       → InFront (Completes ord e x) rest more → InFront (IsDeterministic ord e) bytes more
   item_in_front e x bytes rest more f g = record {
@@ -111,7 +111,7 @@ module _ (ord : Order) where
 
 -- ---- so many items
 
--- the way from the items that are due in front of the rest to all of them
+-- the way from the items that are due at the beginning of the rest to all of them
 abbrev pub ItemsLead : Order → ℕ → ℕ → List ℕ → ℕ → List ℕ → Type 0
 ItemsLead ord e n bytes k rest = Leads (AreDeterministic ord e n) (FailsItems ord e n) bytes (AreDeterministic ord e k)
     (FailsItems ord e k) rest

@@ -19,3 +19,5 @@ pub mod OneValue
 pub mod Law
 pub mod Insertion
 pub mod Exists
+pub mod ViewLaws
+pub mod StrictRuns

@@ -1,4 +1,4 @@
--- Where bytes stop no item stands in front, and the place is among them.
+-- Bytes that fail begin with no item, and the place is one of theirs.
 use Rattle.cbor_deterministic.specs.Orders.{Precedes}
 use Rattle.ciborium_ll_grammar.specs.declared.hdr.Header.{Header}
 use Rattle.cbor_deterministic.specs.declared.Order.{Order}

@@ -22,14 +22,14 @@ Ascends ord above [] = Unit {0}
 Ascends ord above (e ∷ es) = Precedes ord above e.key × Ascends ord e.key es
 
 module _ (ord : Order) where
-  -- each member is behind what they ascend from
+  -- each member comes after what they ascend from
   pub behind : (above : List ℕ) (es : List Entry) (x : Entry) → Ascends ord above es → Has x es
       → Precedes ord above x.key
   behind above [] x a i = absurd i
   behind above (e ∷ es) x a (inl s) = subst (λ (y : Entry). Precedes ord above y.key) (sym s) a.0
   behind above (e ∷ es) x a (inr i) = precedes_trans ord above e.key x.key a.0 (behind e.key es x a.1 i)
 
-  -- members behind the first of another list are among its others
+  -- members that come after the first one of another list are among its others
   drop_first : (f : Entry) (es fs : List Entry) (above : List ℕ) → Ascends ord above es → above ≡ f.key
       → AllIn es (f ∷ fs) → AllIn es fs
   drop_first f [] fs above a s i = tt

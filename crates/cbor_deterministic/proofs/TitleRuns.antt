@@ -153,7 +153,7 @@ title_once b b' w w' (small_simple {title = t} {header = x} v p d) (small_simple
 pub told : {P : Type 0} (r : Bool) → r ≡ true → (IsTrue r → P) × (P → IsTrue r) → P
 told r e i = i.0 e
 
-not_both_ways : (r : Bool) → r ≡ false → IsTrue r → ⊥
+pub not_both_ways : (r : Bool) → r ≡ false → IsTrue r → ⊥
 not_both_ways r e f = cc
 
 -- and one that doesn't

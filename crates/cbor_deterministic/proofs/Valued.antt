@@ -84,7 +84,7 @@ module _ {ord : Order} where
     filled d x t w i (c_pairs {depth = e} {count = n} q) =
         let v = valued_pairs e n [] w q in record { value = Map v.pairs; fills = map v.are }
 
-    -- each item in its deterministic encoding is that of a value
+    -- each item in the deterministic encoding is that of a value
     pub valued : (d : ℕ) (w : List ℕ) → IsDeterministic ord d w → Valued ord w
     valued d w (item {title = t} {rest = r} {header = x} q f) =
         let v = filled d x t r q f in record { value = v.value; is = det q v.fills }

@@ -1,5 +1,6 @@
 -- What laws say of bytes.
 use Rattle.std.specs.Prelude.{ℕ, List}
+use Rattle.ciborium_ll_grammar.specs.Elements.{Mark, IsStrictRun}
 use Rattle.cbor_deterministic.specs.Values.{Value}
 use Rattle.cbor_deterministic.specs.Spellings.{Encodes}
 
@@ -7,3 +8,10 @@ use Rattle.cbor_deterministic.specs.Spellings.{Encodes}
 pub record IsSpelling (bytes : List ℕ) : Type 0 where
   pub value : Value
   pub encodes : Encodes value bytes
+
+-- the bytes are some number of elements in their shortest spelling, as `strict_len` takes them. A copy of elements
+-- writes `spelling marks`, which are the same bytes
+pub record HasStrictRun (bytes : List ℕ) : Type 0 where
+  pub count : ℕ
+  pub marks : List Mark
+  pub strict : IsStrictRun count bytes marks

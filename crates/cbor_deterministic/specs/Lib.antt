@@ -9,3 +9,4 @@ pub mod RefusalTexts
 pub mod Refusals
 pub mod Spellings
 pub mod Values
+pub mod Views

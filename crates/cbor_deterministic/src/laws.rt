@@ -8,7 +8,7 @@ ghost use Rattle.cbor_deterministic.specs.Deterministic.{IsDeterministic};
 ghost use Rattle.cbor_deterministic.specs.Refusals.{HasRefusal};
 ghost use Rattle.cbor_deterministic.specs.Values.{Value, Same};
 ghost use Rattle.cbor_deterministic.specs.Spellings.{Encodes};
-ghost use Rattle.cbor_deterministic.specs.Laws.{IsSpelling};
+ghost use Rattle.cbor_deterministic.specs.Laws.{HasStrictRun, IsSpelling};
 ghost use Rattle.cbor_deterministic.specs.Fitting.{Fits, HasEncoding};
 
 /// Values that are the same have one deterministic encoding: two items in it that are spellings of such values are the
@@ -39,6 +39,14 @@ pub fn one_value()
 pub fn is_well_formed()
     ensures { (order : AnyOrder) (depth : ℕ) (bytes : List ℕ) → IsDeterministic order depth bytes
         → IsItem true depth bytes }
+{}
+
+/// An item in the deterministic encoding is a run of elements in their shortest spelling. So `strict_len` takes it whole,
+/// for the number of its elements, and `recode` writes it as it is.
+#[tactic(auto, using(crate::proofs::StrictRuns::strict_run))]
+pub fn is_strict_run()
+    ensures { (order : AnyOrder) (depth : ℕ) (bytes : List ℕ) → IsDeterministic order depth bytes
+        → HasStrictRun bytes }
 {}
 
 /// Bytes are refused at one place alone, for one reason.

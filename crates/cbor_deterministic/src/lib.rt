@@ -1,7 +1,7 @@
 //! One encoding of each value: items in the deterministic encoding of RFC 8949, 4.2.1, or, with the shorter keys first,
 //! of 4.2.3. No call takes memory.
 //!
-//! [`deterministic_len`] says whether bytes begin with such an item. [`laws`] says that
+//! [`deterministic_len`] says whether bytes begin with such an item. [`view::Item`] looks into one. [`laws`] says that
 //! values which are the same have one such item.
 #![tactic(auto)]
 
@@ -15,6 +15,7 @@ mod items;
 pub mod laws;
 mod messages;
 mod title;
+pub mod view;
 
 use crate::items::skip_item;
 

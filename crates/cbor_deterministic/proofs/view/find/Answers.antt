@@ -1,0 +1,58 @@
+use Rattle.std.proofs.Common.{arith}
+use Rattle.cbor_deterministic.proofs.ViewLaws.{key_there, value_there, pairs_left, first_here, later_there, later_back}
+use Rattle.cbor_deterministic.proofs.ViewLaws.{no_more}
+use Rattle.cbor_deterministic.proofs.ViewLaws.{none_left, apart}
+use Rattle.cbor_deterministic.proofs.view.find.Goals as goal
+
+pub unreachable-requires : goal.unreachable-requires
+unreachable-requires c =
+    key_there c.args.depth c.pairs.due c.pairs.rest.now c.in_default.field-0.why c.in_default.field-0.left
+    c.pairs.invariant.are c.pairs-test.true c.in_default.ensures.fails
+
+pub unreachable-requires-in_default-next_item : goal.unreachable-requires-in_default-next_item
+unreachable-requires-in_default-next_item c =
+    value_there c.args.depth c.pairs.due c.pairs.rest.now c.in-Ok.other.bytes.now c.in-Ok.after.now
+    c.in_default-next_item.field-0.why c.in_default-next_item.field-0.left c.pairs.invariant.are c.pairs-test.true
+    c.in-Ok.ensures.item c.in-Ok.ensures.whole c.in_default-next_item.ensures.fails
+
+pub returns : goal.returns
+returns c =
+    λ value q. none_left c.args.depth c.pairs.due c.pairs.rest.now c.args.key.now value c.pairs.invariant.are
+    (omega (arith, c.pairs-test.false)) (c.pairs.invariant.back value q)
+
+pub pairs-preserved : goal.pairs-preserved
+pairs-preserved c =
+    let differ = apart c.args.order c.in-Ok.other.bytes.now c.args.key.now c.in-Less.ensures in
+    record {
+      are = pairs_left c.args.depth c.pairs.due c.pairs.rest.now c.in-Ok.other.bytes.now
+          c.in-Ok-next_item.value.bytes.now
+          c.in-Ok.after.now c.in-Ok-next_item.last.now c.pairs.invariant.are
+          c.pairs-test.true c.in-Ok.ensures.item c.in-Ok.ensures.whole c.in-Ok-next_item.ensures.item
+          c.in-Ok-next_item.ensures.whole;
+      there = λ value q. c.pairs.invariant.there value
+          (later_there c.args.depth c.pairs.rest.now c.in-Ok.other.bytes.now c.in-Ok-next_item.value.bytes.now
+          c.in-Ok.after.now c.in-Ok-next_item.last.now c.args.key.now value c.in-Ok.ensures.item c.in-Ok.ensures.whole
+          c.in-Ok-next_item.ensures.item
+          c.in-Ok-next_item.ensures.whole q);
+      back = λ value q. later_back c.args.depth c.pairs.rest.now
+          c.in-Ok.other.bytes.now c.in-Ok-next_item.value.bytes.now
+          c.in-Ok.after.now c.in-Ok-next_item.last.now c.args.key.now value c.in-Ok.ensures.item c.in-Ok.ensures.whole
+          c.in-Ok-next_item.ensures.item
+          c.in-Ok-next_item.ensures.whole differ (c.pairs.invariant.back value q);
+    }
+
+pub returns-in-Equal : goal.returns-in-Equal
+returns-in-Equal c =
+    c.pairs.invariant.there c.in-Ok-next_item.value.bytes.now
+    (first_here c.args.depth c.pairs.rest.now c.in-Ok.other.bytes.now c.in-Ok-next_item.value.bytes.now
+    c.in-Ok.after.now c.in-Ok-next_item.last.now c.args.key.now c.in-Ok.ensures.item c.in-Ok.ensures.whole
+    c.in-Ok-next_item.ensures.item
+    c.in-Ok-next_item.ensures.whole c.in-Equal.ensures)
+
+pub returns-in-Greater : goal.returns-in-Greater
+returns-in-Greater c =
+    λ value q. no_more c.args.depth c.pairs.due c.pairs.rest.now c.in-Ok.other.bytes.now
+    c.in-Ok-next_item.value.bytes.now
+    c.in-Ok.after.now c.in-Ok-next_item.last.now c.args.key.now value
+    c.pairs.invariant.are c.pairs-test.true c.in-Ok.ensures.item c.in-Ok.ensures.whole c.in-Ok-next_item.ensures.item
+    c.in-Ok-next_item.ensures.whole c.in-Greater.ensures (c.pairs.invariant.back value q)

@@ -1,0 +1,17 @@
+use Rattle.std.proofs.Common.{ℕ, List, ◌++◌}
+use Rattle.ciborium_ll_grammar.specs.Title.{shortest_title}
+use Rattle.cbor_deterministic.specs.Views.{HasPairs, IsPairOf}
+use Rattle.cbor_deterministic.proofs.view.find_titled.Given as goal
+
+-- the pairs that are left are the last ones of the map, and the key has the same values among them as among all
+abbrev pub invariant-pairs : goal.invariant-pairs
+invariant-pairs l = record {
+  are : ∥ HasPairs l.order l.depth l.due l.rest ∥₁;
+  there : (value : List ℕ) → IsPairOf l.order l.depth l.rest (shortest_title l.title ++ l.body) value
+      → IsPairOf l.order l.depth l.fn.pairs (shortest_title l.title ++ l.body) value;
+  back : (value : List ℕ) → IsPairOf l.order l.depth l.fn.pairs (shortest_title l.title ++ l.body) value
+      → IsPairOf l.order l.depth l.rest (shortest_title l.title ++ l.body) value;
+}
+
+abbrev pub decreases-pairs : goal.decreases-pairs
+decreases-pairs l = l.due

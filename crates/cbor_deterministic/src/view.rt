@@ -1,0 +1,486 @@
+//! An item in the deterministic encoding, as it stands in memory.
+//!
+//! No call takes memory. A call that passes items reads each byte of them once.
+
+ghost use Rattle.std.specs.Prelude.{◌≡◌, ◌↔◌, ◌++◌, ◌+◌, ◌≤◌, ℕ, List, IfErr, IfOk, IsTrue, MatchOption};
+ghost use Rattle.std.specs.Prelude.{IfSome, Some, length};
+ghost use Rattle.ciborium_ll_grammar.specs.Title.{IsInRange, shortest_title};
+ghost use Rattle.ciborium_ll_grammar.specs.declared.hdr.Float.{Float as AnyFloat};
+ghost use Rattle.cbor_deterministic.specs.Preferred.{IsPreferredTitle};
+ghost use Rattle.cbor_deterministic.specs.Deterministic.{IsDeterministic, AreDeterministic};
+ghost use Rattle.cbor_deterministic.specs.Refusals.{FailsItem, HasRefusal};
+ghost use Rattle.cbor_deterministic.specs.Views.{Opens, HasPairs, HasKey, HasNoKey, IsPairOf, IsBytesOf, IsTextOf};
+ghost use Rattle.cbor_deterministic.specs.Views.{IsOpenedBy};
+
+use crate::items::{compare_keys, skip_item};
+use crate::title::next_title;
+use crate::{MAX_DEPTH, Order, Refusal, Stop};
+use ciborium_ll_grammar::hdr::{Float, Header};
+use ciborium_ll_text::state::text_of;
+use std::cmp::Ordering;
+
+/// An item in the deterministic encoding, which was checked. A copy of it takes no memory.
+#[derive(Clone, Copy)]
+pub struct Item<'a> {
+    bytes: &'a [u8],
+    depth: usize,
+    order: Order,
+    ghost is: { ∥ IsDeterministic order depth bytes.now ∥₁ },
+}
+
+/// The items of an array that are left.
+#[derive(Clone, Copy)]
+pub struct Elements<'a> {
+    rest: &'a [u8],
+    due: usize,
+    depth: usize,
+    order: Order,
+    ghost are: { ∥ AreDeterministic order depth due rest.now ∥₁ },
+}
+
+/// The pairs of a map that are left.
+#[derive(Clone, Copy)]
+pub struct Entries<'a> {
+    rest: &'a [u8],
+    due: usize,
+    depth: usize,
+    order: Order,
+    ghost are: { ∥ HasPairs order depth due rest.now ∥₁ },
+}
+
+/// The item in front, and the rest.
+fn next_item(bytes: &[u8], depth: usize, order: Order) -> Result<(Item, &[u8]), Stop>
+    ensures whole { IfOk result (λ found. bytes.now ≡ found.0.bytes.now ++ found.1.now) }
+    ensures item { IfOk result (λ found. IsDeterministic order depth found.0.bytes.now) }
+    ensures depth { IfOk result (λ found. found.0.depth ≡ depth) }
+    ensures order { IfOk result (λ found. found.0.order ≡ order) }
+    ensures fails { IfErr result (λ stop. FailsItem order depth bytes.now stop.why stop.left) }
+{
+    let rest = skip_item(bytes, depth, order)?;
+    let item = Item {
+        bytes: &bytes[..bytes.len() - rest.len()],
+        depth,
+        order,
+    };
+    Ok((item, rest))
+}
+
+/// How many items an array has, if the header is that of one.
+fn array_count(header: Header) -> Option<usize>
+    ensures { MatchOption result ((count : ℕ) → header ≡ Header.Array (Some count) → ⊥)
+        (λ count. header ≡ Header.Array (Some count)) }
+{
+    match header {
+        Header::Array(count) => count,
+        _ => None,
+    }
+}
+
+/// How many pairs a map has, if the header is that of one.
+fn map_count(header: Header) -> Option<usize>
+    ensures { MatchOption result ((count : ℕ) → header ≡ Header.Map (Some count) → ⊥)
+        (λ count. header ≡ Header.Map (Some count)) }
+{
+    match header {
+        Header::Map(count) => count,
+        _ => None,
+    }
+}
+
+impl<'a> Item<'a> {
+    /// The item in front of the bytes, and the bytes that follow it. The item is in the deterministic encoding with this
+    /// order of keys, and its tags, arrays and maps are nested at most `depth` levels deep. `depth` is at most
+    /// [`MAX_DEPTH`].
+    ///
+    /// # Errors
+    ///
+    /// The refusals of [`crate::deterministic_len`], which takes the same items.
+    ///
+    /// ```rust
+    /// let (item, rest) = Item::parse(bytes, 16, Order::Bytewise)?;
+    /// ```
+    pub fn parse(
+        bytes: &'a [u8],
+        depth: usize,
+        order: Order,
+    ) -> Result<(Item<'a>, &'a [u8]), Refusal>
+        requires shallow { depth ≤ MAX_DEPTH }
+        ensures whole { IfOk result (λ found. bytes.now ≡ found.0.bytes.now ++ found.1.now) }
+        ensures item { IfOk result (λ found. IsDeterministic order depth found.0.bytes.now) }
+        ensures depth { IfOk result (λ found. found.0.depth ≡ depth) }
+        ensures order { IfOk result (λ found. found.0.order ≡ order) }
+        ensures refused { IfErr result (λ refusal. HasRefusal order depth bytes.now refusal.why refusal.place) }
+    {
+        match next_item(bytes, depth, order) {
+            Ok(found) => Ok(found),
+            Err(stop) => Err(stop.refusal(bytes.len())),
+        }
+    }
+
+    /// Its bytes.
+    pub fn bytes(&self) -> &'a [u8]
+        ensures { result.now ≡ self.now.bytes.now }
+    {
+        self.bytes
+    }
+
+    /// The header of its title, and its contents: the bytes that follow the title.
+    pub fn open(&self) -> (Header, &'a [u8])
+        ensures { Opens self.now.order self.now.depth self.now.bytes.now result.0 result.1.now }
+    {
+        match next_title(self.bytes) {
+            Ok(found) => found,
+            Err(_) => unreachable!(),
+        }
+    }
+
+    /// The header of its title. It is never [`Header::Break`], and never of the indefinite form.
+    pub fn header(&self) -> Header
+        ensures { IsOpenedBy self.now.bytes.now result }
+    {
+        self.open().0
+    }
+
+    /// The number of an unsigned integer, or `None` for any other item.
+    pub fn positive(&self) -> Option<u64>
+        ensures { MatchOption result ((number : ℕ) → IsPreferredTitle self.now.bytes.now (Header.Positive number) → ⊥)
+            (λ number. IsPreferredTitle self.now.bytes.now (Header.Positive number)) }
+    {
+        let (header, _contents) = self.open();
+        match header {
+            Header::Positive(number) => Some(number),
+            _ => None,
+        }
+    }
+
+    /// The `n` of the negative integer -1 - n, or `None` for any other item.
+    pub fn negative(&self) -> Option<u64>
+        ensures { MatchOption result ((number : ℕ) → IsPreferredTitle self.now.bytes.now (Header.Negative number) → ⊥)
+            (λ number. IsPreferredTitle self.now.bytes.now (Header.Negative number)) }
+    {
+        let (header, _contents) = self.open();
+        match header {
+            Header::Negative(number) => Some(number),
+            _ => None,
+        }
+    }
+
+    /// The number of a simple value, or `None` for any other item.
+    pub fn simple(&self) -> Option<u8>
+        ensures { MatchOption result ((number : ℕ) → IsPreferredTitle self.now.bytes.now (Header.Simple number) → ⊥)
+            (λ number. IsPreferredTitle self.now.bytes.now (Header.Simple number)) }
+    {
+        let (header, _contents) = self.open();
+        match header {
+            Header::Simple(number) => Some(number),
+            _ => None,
+        }
+    }
+
+    /// The bits of a float, with their width, or `None` for any other item. No smaller width has the float.
+    pub fn float(&self) -> Option<Float>
+        ensures { MatchOption result ((float : AnyFloat) → IsPreferredTitle self.now.bytes.now (Header.Float float) → ⊥)
+            (λ float. IsPreferredTitle self.now.bytes.now (Header.Float float)) }
+    {
+        let (header, _contents) = self.open();
+        match header {
+            Header::Float(float) => Some(float),
+            _ => None,
+        }
+    }
+
+    /// The body of a byte string, or `None` for any other item.
+    pub fn byte_string(&self) -> Option<&'a [u8]>
+        ensures { MatchOption result ((body : List ℕ) → IsBytesOf self.now.bytes.now body → ⊥)
+            (λ body. IsBytesOf self.now.bytes.now body.now) }
+    {
+        let (header, contents) = self.open();
+        match header {
+            Header::Bytes(_) => Some(contents),
+            _ => None,
+        }
+    }
+
+    /// The body of a text string, or `None` for any other item.
+    pub fn text(&self) -> Option<&'a str>
+        ensures { MatchOption result ((body : List ℕ) → IsTextOf self.now.bytes.now body → ⊥)
+            (λ body. IsTextOf self.now.bytes.now body.now) }
+    {
+        let (header, contents) = self.open();
+        match header {
+            Header::Text(_) => Some(text_of(contents)),
+            _ => None,
+        }
+    }
+
+    /// The number of a tag and the item that it tags, or `None` for any other item.
+    pub fn tag(&self) -> Option<(u64, Item<'a>)>
+        ensures { MatchOption result ((number : ℕ) → IsOpenedBy self.now.bytes.now (Header.Tag number) → ⊥)
+            (λ found. Opens self.now.order self.now.depth self.now.bytes.now (Header.Tag found.0) found.1.bytes.now
+            × (self.now.depth ≡ found.1.depth + 1) × (found.1.order ≡ self.now.order)) }
+    {
+        let (header, contents) = self.open();
+        match header {
+            Header::Tag(number) => {
+                let item = Item {
+                    bytes: contents,
+                    depth: self.depth - 1,
+                    order: self.order,
+                };
+                Some((number, item))
+            }
+            _ => None,
+        }
+    }
+
+    /// The items of an array, or `None` for any other item.
+    pub fn elements(&self) -> Option<Elements<'a>>
+        ensures { MatchOption result ((count : ℕ) → IsOpenedBy self.now.bytes.now (Header.Array (Some count)) → ⊥)
+            (λ elements. Opens self.now.order self.now.depth self.now.bytes.now (Header.Array (Some elements.due))
+            elements.rest.now × (self.now.depth ≡ elements.depth + 1) × (elements.order ≡ self.now.order)) }
+    {
+        let (header, contents) = self.open();
+        match array_count(header) {
+            Some(count) => Some(Elements {
+                rest: contents,
+                due: count,
+                depth: self.depth - 1,
+                order: self.order,
+            }),
+            None => None,
+        }
+    }
+
+    /// The pairs of a map, in the order of their keys, or `None` for any other item.
+    pub fn entries(&self) -> Option<Entries<'a>>
+        ensures { MatchOption result ((count : ℕ) → IsOpenedBy self.now.bytes.now (Header.Map (Some count)) → ⊥)
+            (λ entries. Opens self.now.order self.now.depth self.now.bytes.now (Header.Map (Some entries.due))
+            entries.rest.now × (self.now.depth ≡ entries.depth + 1) × (entries.order ≡ self.now.order)) }
+    {
+        let (header, contents) = self.open();
+        match map_count(header) {
+            Some(count) => Some(Entries {
+                rest: contents,
+                due: count,
+                depth: self.depth - 1,
+                order: self.order,
+            }),
+            None => None,
+        }
+    }
+}
+
+impl<'a> Item<'a> {
+    /// The value of the key with these bytes, or `None` if the map has no such key and if the item is no map. The bytes
+    /// are the key in its deterministic encoding. The search stops at the first greater key.
+    pub fn get(&self, key: &[u8]) -> Option<Item<'a>>
+        ensures { MatchOption result (HasNoKey self.now.order self.now.depth self.now.bytes.now key.now)
+            (λ item. HasKey self.now.order self.now.depth self.now.bytes.now key.now item.bytes.now) }
+    {
+        let (header, contents) = self.open();
+        match map_count(header) {
+            Some(count) => find(contents, count, self.depth - 1, self.order, key),
+            None => None,
+        }
+    }
+
+    /// The value of the key that is this text, or `None` if the map has no such key and if the item is no map. The
+    /// search passes all pairs up to the key.
+    pub fn get_text(&self, key: &str) -> Option<Item<'a>>
+        ensures { MatchOption result (HasNoKey self.now.order self.now.depth self.now.bytes.now
+            (shortest_title (Header.Text (Some (length key.now))) ++ key.now))
+            (λ item. HasKey self.now.order self.now.depth self.now.bytes.now
+            (shortest_title (Header.Text (Some (length key.now))) ++ key.now) item.bytes.now) }
+    {
+        self.get_titled(Header::Text(Some(key.len())), key.as_bytes())
+    }
+
+    /// The value of the key that is this unsigned integer, or `None` if the map has no such key and if the item is no
+    /// map. The search passes all pairs up to the key.
+    pub fn get_positive(&self, key: u64) -> Option<Item<'a>>
+        ensures { MatchOption result (HasNoKey self.now.order self.now.depth self.now.bytes.now
+            (shortest_title (Header.Positive key)))
+            (λ item. HasKey self.now.order self.now.depth self.now.bytes.now (shortest_title (Header.Positive key))
+            item.bytes.now) }
+    {
+        self.get_titled(Header::Positive(key), &[])
+    }
+
+    /// The value of the key that is the negative integer -1 - n, or `None` if the map has no such key and if the item is
+    /// no map. The search passes all pairs up to the key.
+    pub fn get_negative(&self, n: u64) -> Option<Item<'a>>
+        ensures { MatchOption result (HasNoKey self.now.order self.now.depth self.now.bytes.now
+            (shortest_title (Header.Negative n)))
+            (λ item. HasKey self.now.order self.now.depth self.now.bytes.now (shortest_title (Header.Negative n))
+            item.bytes.now) }
+    {
+        self.get_titled(Header::Negative(n), &[])
+    }
+
+    /// The value of the key that is the shortest title of this header and these contents.
+    fn get_titled(&self, title: Header, body: &[u8]) -> Option<Item<'a>>
+        requires { IsInRange title }
+        ensures { MatchOption result (HasNoKey self.now.order self.now.depth self.now.bytes.now
+            (shortest_title title ++ body.now))
+            (λ item. HasKey self.now.order self.now.depth self.now.bytes.now (shortest_title title ++ body.now)
+            item.bytes.now) }
+    {
+        let (header, contents) = self.open();
+        match map_count(header) {
+            Some(count) => find_titled(contents, count, self.depth - 1, self.order, title, body),
+            None => None,
+        }
+    }
+
+    /// Whether it is the shortest title of this header and these contents.
+    fn is_titled(&self, title: Header, body: &[u8]) -> bool
+        requires { IsInRange title }
+        ensures { IsTrue result ↔ (self.now.bytes.now ≡ shortest_title title ++ body.now) }
+    {
+        let (header, contents) = self.open();
+        is_same_header(header, title) && is_same(contents, body)
+    }
+}
+
+/// Whether the two headers are the same.
+fn is_same_header(header: Header, other: Header) -> bool
+    ensures { IsTrue result ↔ (header ≡ other) }
+{
+    header == other
+}
+
+/// Whether the two are the same bytes.
+fn is_same(bytes: &[u8], others: &[u8]) -> bool
+    ensures { IsTrue result ↔ (bytes.now ≡ others.now) }
+{
+    bytes == others
+}
+
+/// The value of the key with these bytes among so many pairs, whose keys ascend.
+fn find<'a>(
+    pairs: &'a [u8],
+    count: usize,
+    depth: usize,
+    order: Order,
+    key: &[u8],
+) -> Option<Item<'a>>
+    requires { ∥ HasPairs order depth count pairs.now ∥₁ }
+    ensures { MatchOption result ((value : List ℕ) → IsPairOf order depth pairs.now key.now value → ⊥)
+        (λ item. IsPairOf order depth pairs.now key.now item.bytes.now) }
+{
+    let mut rest = pairs;
+    let mut due = count;
+    'pairs: while due > 0 {
+        let Ok((other, after)) = next_item(rest, depth, order) else {
+            unreachable!()
+        };
+        let Ok((value, last)) = next_item(after, depth, order) else {
+            unreachable!()
+        };
+        match compare_keys(order, other.bytes, key) {
+            Ordering::Less => {}
+            Ordering::Equal => return Some(value),
+            // No key after it is this one, since they ascend.
+            Ordering::Greater => return None,
+        }
+        rest = last;
+        due -= 1;
+    }
+    None
+}
+
+/// The value of the key that is the shortest title of this header and these contents, among so many pairs.
+fn find_titled<'a>(
+    pairs: &'a [u8],
+    count: usize,
+    depth: usize,
+    order: Order,
+    title: Header,
+    body: &[u8],
+) -> Option<Item<'a>>
+    requires range { IsInRange title }
+    requires pairs { ∥ HasPairs order depth count pairs.now ∥₁ }
+    ensures { MatchOption result
+        ((value : List ℕ) → IsPairOf order depth pairs.now (shortest_title title ++ body.now) value → ⊥)
+        (λ item. IsPairOf order depth pairs.now (shortest_title title ++ body.now) item.bytes.now) }
+{
+    let mut rest = pairs;
+    let mut due = count;
+    'pairs: while due > 0 {
+        let Ok((other, after)) = next_item(rest, depth, order) else {
+            unreachable!()
+        };
+        let Ok((value, last)) = next_item(after, depth, order) else {
+            unreachable!()
+        };
+        if other.is_titled(title, body) {
+            return Some(value);
+        }
+        rest = last;
+        due -= 1;
+    }
+    None
+}
+
+impl<'a> Elements<'a> {
+    /// How many items are left.
+    pub fn left(&self) -> usize
+        ensures { result ≡ self.now.due }
+    {
+        self.due
+    }
+
+    /// The next item, or `None` after the last one.
+    pub fn next(&mut self) -> Option<Item<'a>>
+        ensures next { MatchOption result ((self.old.due ≡ 0) × (self.new.due ≡ 0)
+            × (self.new.rest.now ≡ self.old.rest.now))
+            (λ item. (self.old.rest.now ≡ item.bytes.now ++ self.new.rest.now)
+            × (self.old.due ≡ self.new.due + 1) × (item.depth ≡ self.old.depth) × (item.order ≡ self.old.order)) }
+        ensures depth { self.new.depth ≡ self.old.depth }
+        ensures order { self.new.order ≡ self.old.order }
+    {
+        if self.due == 0 {
+            return None;
+        }
+        let Ok((item, rest)) = next_item(self.rest, self.depth, self.order) else {
+            unreachable!()
+        };
+        self.rest = rest;
+        self.due -= 1;
+        Some(item)
+    }
+}
+
+impl<'a> Entries<'a> {
+    /// How many pairs are left.
+    pub fn left(&self) -> usize
+        ensures { result ≡ self.now.due }
+    {
+        self.due
+    }
+
+    /// The next key and its value, or `None` after the last one.
+    pub fn next(&mut self) -> Option<(Item<'a>, Item<'a>)>
+        ensures next { MatchOption result ((self.old.due ≡ 0) × (self.new.due ≡ 0)
+            × (self.new.rest.now ≡ self.old.rest.now))
+            (λ pair. (self.old.rest.now ≡ pair.0.bytes.now ++ (pair.1.bytes.now ++ self.new.rest.now))
+            × (self.old.due ≡ self.new.due + 1)) }
+        ensures key { IfSome result (λ pair. (pair.0.depth ≡ self.old.depth) × (pair.0.order ≡ self.old.order)) }
+        ensures value { IfSome result (λ pair. (pair.1.depth ≡ self.old.depth) × (pair.1.order ≡ self.old.order)) }
+        ensures depth { self.new.depth ≡ self.old.depth }
+        ensures order { self.new.order ≡ self.old.order }
+    {
+        if self.due == 0 {
+            return None;
+        }
+        let Ok((key, after)) = next_item(self.rest, self.depth, self.order) else {
+            unreachable!()
+        };
+        let Ok((value, last)) = next_item(after, self.depth, self.order) else {
+            unreachable!()
+        };
+        self.rest = last;
+        self.due -= 1;
+        Some((key, value))
+    }
+}
