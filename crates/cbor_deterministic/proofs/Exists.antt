@@ -35,7 +35,7 @@ use Rattle.cbor_deterministic.specs.Fitting.{fits_map, fits_tagged, fits_simple,
 use Rattle.cbor_deterministic.specs.Fitting.{fits_item}
 use Rattle.cbor_deterministic.specs.Fitting.{PairsFit, fits_none, fits_pair, HasEncoding}
 use Rattle.cbor_deterministic.proofs.FloatTests.{same_parts}
-use Rattle.cbor_deterministic.proofs.FloatFacts.{bits32}
+use Rattle.cbor_deterministic.proofs.FloatFacts.{bits32, from_parts}
 use Rattle.cbor_deterministic.proofs.FloatLaws.{decide as decide16}
 use Rattle.cbor_deterministic.proofs.FloatLaws64.{decide as decide32}
 use Rattle.cbor_deterministic.proofs.OrderLaws.{first_key}
@@ -210,7 +210,7 @@ narrowest_single n bits l r w =
           float = fl.Half b.n;
           range = b.range;
           none = no;
-          is = half_of n l (subst (λ (z : Parts). IsWidened half single z (parts single n)) (sym b.is) v.widened) r w;
+          is = half_of n l (from_parts half single v.a (parts single n) (parts half b.n) b.is v.widened) r w;
         }
 
 narrowest : (bits : ℕ) → bits < 2 ^ 64 → Narrowest bits
@@ -225,7 +225,7 @@ narrowest bits l =
         let s = g.sign in
         let b = bits32 v.a (omega arith) g.exponent g.mantissa in
         narrowest_single b.n bits b.range l
-        (subst (λ (z : Parts). IsWidened single double z (parts double bits)) (sym b.is) v.widened)
+        (from_parts single double v.a (parts double bits) (parts single b.n) b.is v.widened)
 
 -- ---- values
 

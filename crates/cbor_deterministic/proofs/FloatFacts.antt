@@ -4,7 +4,7 @@ use Rattle.ciborium_ll_grammar.specs.declared.hdr.Float.{Float}
 use Rattle.ciborium_ll_grammar.specs.declared.hdr.Float.TheVariants as fl
 use Rattle.ciborium_ll_grammar.specs.Title.{IsFloatInRange}
 use Rattle.cbor_deterministic.specs.Preferred.{IsWideFloat}
-use Rattle.cbor_deterministic.specs.Floats.{Parts, half, single, double, parts, IsWidened, IsFloatOf, double_of}
+use Rattle.cbor_deterministic.specs.Floats.{Parts, Format, half, single, double, parts, IsWidened, IsFloatOf, double_of}
 use Rattle.cbor_deterministic.specs.Floats.{single_of, half_of}
 use Rattle.cbor_deterministic.proofs.FloatTests.{same_parts}
 use Rattle.cbor_deterministic.proofs.FloatOne.{widened16, widened32, one_half, one_single, half_once}
@@ -51,6 +51,13 @@ pub record HasBits (x : Float) : Type 0 where
   pub bits : ℕ
   pub is : IsFloatOf x bits
 
+-- the parts on either side may be told as others that are the same
+pub to_parts : (narrow wide : Format) (a b c : Parts) → c ≡ b → IsWidened narrow wide a b → IsWidened narrow wide a c
+to_parts narrow wide a b c e w = subst (λ (z : Parts). IsWidened narrow wide a z) (sym e) w
+
+pub from_parts : (narrow wide : Format) (a b c : Parts) → c ≡ a → IsWidened narrow wide a b → IsWidened narrow wide c b
+from_parts narrow wide a b c e w = subst (λ (z : Parts). IsWidened narrow wide z b) (sym e) w
+
 record Between (n : ℕ) : Type 0 where
   pub bits : ℕ
   pub range : bits < 2 ^ 32
@@ -64,8 +71,7 @@ between n l =
     record {
       bits = b.n;
       range = b.range;
-      is = subst (λ (z : Parts). IsWidened half single (parts half n) z) (sym b.is)
-          w.is;
+      is = to_parts half single (parts half n) w.b (parts single b.n) b.is w.is;
     }
 
 pub single_bits : (n : ℕ) → n < 2 ^ 32 → HasBits (fl.Single n)
@@ -75,7 +81,7 @@ single_bits n l =
     let b = bits64 w.b (omega arith) w.exponent w.mantissa in
     record {
       bits = b.n;
-      is = single_of b.range (subst (λ (z : Parts). IsWidened single double (parts single n) z) (sym b.is) w.is);
+      is = single_of {bits = b.n} b.range (to_parts single double (parts single n) w.b (parts double b.n) b.is w.is);
     }
 
 half_go : (n s : ℕ) → s < 2 ^ 32 → IsWidened half single (parts half n) (parts single s) → (x : Float) → x ≡ fl.Single s

@@ -277,6 +277,13 @@ module _ {ord : Order} where
   no_more e n w key value behind last k v t l i z j y o q =
       not_there t (λ p. no_more_go e n w key value behind last k v p l i z j y o q)
 
+  pub none_after : (e n : ℕ) (all w key value behind last k : List ℕ)
+      → ((v : List ℕ) → IsPairOf ord e all k v → IsPairOf ord e w k v) → ∥ HasPairs ord e n w ∥₁ → 0 < n
+      → IsDeterministic ord e key → w ≡ key ++ behind → IsDeterministic ord e value → behind ≡ value ++ last
+      → Precedes ord k key → (v : List ℕ) → IsPairOf ord e all k v → ⊥
+  none_after e n all w key value behind last k back t l i z j y o v q =
+      no_more e n w key value behind last k v t l i z j y o (back v q)
+
   none_go : (e n : ℕ) (above w k v : List ℕ) → AreSortedPairs ord e n above w → n ≡ 0 → IsPairOf ord e w k v → ⊥
   none_go e n above w k v no_pairs z q = omega (arith, pair_some e [] k v q)
   none_go e n above w k v (more_pairs i o u is) z q = omega arith

@@ -1,6 +1,6 @@
 use Rattle.std.proofs.Common.{arith}
 use Rattle.cbor_deterministic.proofs.ViewLaws.{key_there, value_there, pairs_left, first_here, later_there, later_back}
-use Rattle.cbor_deterministic.proofs.ViewLaws.{no_more}
+use Rattle.cbor_deterministic.proofs.ViewLaws.{none_after}
 use Rattle.cbor_deterministic.proofs.ViewLaws.{none_left, apart}
 use Rattle.cbor_deterministic.proofs.view.find.Goals as goal
 
@@ -51,8 +51,7 @@ returns-in-Equal c =
 
 pub returns-in-Greater : goal.returns-in-Greater
 returns-in-Greater c =
-    λ value q. no_more c.args.depth c.pairs.due c.pairs.rest.now c.in-Ok.other.bytes.now
-    c.in-Ok-next_item.value.bytes.now
-    c.in-Ok.after.now c.in-Ok-next_item.last.now c.args.key.now value
-    c.pairs.invariant.are c.pairs-test.true c.in-Ok.ensures.item c.in-Ok.ensures.whole c.in-Ok-next_item.ensures.item
-    c.in-Ok-next_item.ensures.whole c.in-Greater.ensures (c.pairs.invariant.back value q)
+    none_after c.args.depth c.pairs.due c.args.pairs.now c.pairs.rest.now c.in-Ok.other.bytes.now
+    c.in-Ok-next_item.value.bytes.now c.in-Ok.after.now c.in-Ok-next_item.last.now c.args.key.now
+    c.pairs.invariant.back c.pairs.invariant.are c.pairs-test.true c.in-Ok.ensures.item c.in-Ok.ensures.whole
+    c.in-Ok-next_item.ensures.item c.in-Ok-next_item.ensures.whole c.in-Greater.ensures
