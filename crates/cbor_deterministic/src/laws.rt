@@ -41,8 +41,8 @@ pub fn is_well_formed()
         → IsItem true depth bytes }
 {}
 
-/// An item in the deterministic encoding is a run of elements in their shortest spelling. So `strict_len` takes it whole,
-/// for the number of its elements, and `recode` writes it as it is.
+/// An item in the deterministic encoding is a run of elements in their shortest spelling. So `strict_len` takes it
+/// whole, for the number of its elements, and `recode` writes it as it is.
 #[tactic(auto, using(crate::proofs::StrictRuns::strict_run))]
 pub fn is_strict_run()
     ensures { (order : AnyOrder) (depth : ℕ) (bytes : List ℕ) → IsDeterministic order depth bytes

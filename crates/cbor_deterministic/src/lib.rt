@@ -27,8 +27,8 @@ pub const MAX_DEPTH: usize = 256;
 pub enum Order {
     /// By their bytes (RFC 8949, 4.2.1). Integers and strings are then in the order of CTAP2 too.
     Bytewise,
-    /// The shorter key first, and keys of the same length by their bytes (RFC 7049, 3.9, and RFC 8949, 4.2.3). Of texts,
-    /// which the keys of DAG-CBOR are, this is the same order as the bytewise one.
+    /// The shorter key first, and keys of the same length by their bytes (RFC 7049, 3.9, and RFC 8949, 4.2.3). Of
+    /// texts, which the keys of DAG-CBOR are, this is the same order as the bytewise one.
     LengthFirst,
 }
 

@@ -88,8 +88,8 @@ fn map_count(header: Header) -> Option<usize>
 }
 
 impl<'a> Item<'a> {
-    /// The item in front of the bytes, and the bytes that follow it. The item is in the deterministic encoding with this
-    /// order of keys, and its tags, arrays and maps are nested at most `depth` levels deep. `depth` is at most
+    /// The item in front of the bytes, and the bytes that follow it. The item is in the deterministic encoding with
+    /// this order of keys, and its tags, arrays and maps are nested at most `depth` levels deep. `depth` is at most
     /// [`MAX_DEPTH`].
     ///
     /// # Errors
@@ -306,8 +306,8 @@ impl<'a> Item<'a> {
         self.get_titled(Header::Positive(key), &[])
     }
 
-    /// The value of the key that is the negative integer -1 - n, or `None` if the map has no such key and if the item is
-    /// no map. The search passes all pairs up to the key.
+    /// The value of the key that is the negative integer -1 - n, or `None` if the map has no such key and if the item
+    /// is no map. The search passes all pairs up to the key.
     pub fn get_negative(&self, n: u64) -> Option<Item<'a>>
         ensures { MatchOption result (HasNoKey self.now.order self.now.depth self.now.bytes.now
             (shortest_title (Header.Negative n)))
