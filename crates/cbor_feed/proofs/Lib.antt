@@ -10,6 +10,7 @@ pub mod LiveLaws
 pub mod LongerBegun
 pub mod OneSpot
 pub mod PlainLaws
+pub mod PlainRuns
 pub mod RunLaws
 pub mod SettledLaws
 pub mod StackLaws

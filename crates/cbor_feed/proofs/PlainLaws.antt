@@ -7,9 +7,12 @@ use Rattle.std.proofs.lemmas.Bool.{agree_below_at, and_parts}
 use Rattle.std.proofs.lemmas.Bool.Decides.{nat_tests}
 use Rattle.std.proofs.lemmas.List.{length-take-le}
 use Rattle.std.proofs.Math.Seq.{take-add}
-use Rattle.std.specs.Str.{IsAscii}
 use Rattle.ciborium_ll_text.proofs.Lists.{Below}
-use Rattle.ciborium_ll_text.proofs.StateLaws.{ascii_stays}
+use Rattle.ciborium_ll_text.specs.declared.state.State.TheVariants as s
+use Rattle.ciborium_ll_text.specs.declared.state.State.{State}
+use Rattle.ciborium_ll_text.specs.States.{after}
+use Rattle.ciborium_ll_text.specs.Text.{IsFront}
+use Rattle.ciborium_ll_text.proofs.StateLaws.{after-append, text_ends}
 use Rattle.ciborium_ll_grammar.specs.declared.hdr.table.TitleKind.TheVariants as k
 use Rattle.ciborium_ll_grammar.specs.Title.{IsTitle, Major, Unsigned, Negative, ByteString, TextString, Other, Size}
 use Rattle.ciborium_ll_grammar.specs.Title.{Small, One, NamesNoTitle, affix_len, major_code, numbered, numbered_header}
@@ -25,6 +28,16 @@ use Rattle.cbor_feed.specs.Blocked.{blocked, is_single}
 use Rattle.cbor_feed.specs.Plain.{ArePlain, IsPlainItem, IsSpan, IsValueMajor, more}
 use Rattle.cbor_feed.specs.Spots.{Spot, item_done, item_entered}
 use Rattle.cbor_feed.proofs.ItemLeads.{bytes_item, one_long, text_item, title_item, value_item}
+
+-- ---- text
+
+-- where the longest front of some bytes that is text leaves no character begun, they are a text
+pub front_ends : (xs front : List ℕ) (state : State) → IsFront xs front (drop (length front) xs)
+    → state ≡ after s.Between (drop (length front) xs) → state ≡ s.Between → s.Between ≡ after s.Between xs
+front_ends xs front state is behind between =
+    let rest = drop (length front) xs in
+    sym (ap (λ (z : List ℕ). after s.Between z) is.parts ∙ (after-append s.Between front rest
+    ∙ (ap (λ (z : State). after z rest) (text_ends front is.text) ∙ (sym behind ∙ between))))
 
 -- ---- the table
 
@@ -108,28 +121,37 @@ major_of code (inl e) = record { major = Unsigned; is = sym e; value = refl; end
 major_of code (inr (inl e)) = record { major = Negative; is = sym e; value = refl; ends = λ n u. refl }
 major_of code (inr (inr e)) = record { major = Other; is = sym e; value = refl; ends = λ n u. refl }
 
--- of a longer title any spelling is taken, and of a text the body is ASCII
+-- of a longer title any spelling is taken, and the body of a text is one by itself
 pub span_plain : (xs : List ℕ) (len text_len : ℕ) (strict : Bool) → Below xs → 0 < length xs
     → IsSpan (slice_index xs 0) len text_len → 0 < len → len ≤ length xs → (24 ≤ slice_index xs 0 % 32 → strict ≡ false)
-    → IsAscii (take text_len (drop 1 xs)) → IsPlainItem strict (take len xs)
-span_plain [] len text_len strict below some is least le any ascii = absurd (omega arith)
-span_plain (b ∷ xs) len text_len strict below some (inl none) least le any ascii = absurd (omega (arith, none, least))
-span_plain (b ∷ xs) len text_len strict below some (inr (inl v)) least le any ascii =
+    → s.Between ≡ after s.Between (take text_len (drop 1 xs)) → IsPlainItem strict (take len xs)
+span_plain [] len text_len strict below some is least le any text = absurd (omega arith)
+span_plain (b ∷ xs) len text_len strict below some (inl none) least le any text = absurd (omega (arith, none, least))
+span_plain (b ∷ xs) len text_len strict below some (inr (inl v)) least le any text =
     let m = major_of (b / 32) v.2 in
     title_item (b ∷ xs) len strict (numbered_header m.major Small (b % 32)) below least le
     (λ more. absurd (omega (arith, more, v.0))) (rw v.0 (one_taken strict b (b % 32) m.major (omega arith) v.1))
     (m.ends (b % 32))
-span_plain (b ∷ xs) len text_len strict below some (inr (inr (inl v))) least le any ascii =
+span_plain (b ∷ xs) len text_len strict below some (inr (inr (inl v))) least le any text =
     bytes_item (b ∷ xs) 1 (b % 32) len strict below (omega arith) v.0 le (λ more. absurd (omega (arith, more)))
     (one_taken strict b (b % 32) ByteString (omega (arith, v.2)) v.1)
-span_plain (b ∷ xs) len text_len strict below some (inr (inr (inr (inl v)))) least le any ascii =
+span_plain (b ∷ xs) len text_len strict below some (inr (inr (inr (inl v)))) least le any text =
     let m = major_of (b / 32) v.4 in
     rw (any v.2) (value_item (b ∷ xs) len (kind_of m.major) below m.value (omega (arith, v.0, v.1)) le v.0
     (kind_names m.major (b / 32) (b % 32) m.is (named b v.3)))
-span_plain (b ∷ xs) len text_len strict below some (inr (inr (inr (inr v)))) least le any ascii =
+span_plain (b ∷ xs) len text_len strict below some (inr (inr (inr (inr v)))) least le any text =
     let title = one_taken strict b (b % 32) TextString (omega (arith, v.2)) v.1 in
     text_item (b ∷ xs) 1 (b % 32) len strict below (omega arith) v.0 le (λ more. absurd (omega (arith, more))) title
-    (one_long (b ∷ []) (b % 32) title.0 refl) (ascii_stays _ (rw v.3 at ascii))
+    (one_long (b ∷ []) (b % 32) title.0 refl) (rw v.3 at text)
+
+-- a text of which the first byte tells the length
+pub short_text : (xs : List ℕ) (len : ℕ) (strict : Bool) → Below xs → 0 < length xs → slice_index xs 0 / 32 ≡ 3
+    → slice_index xs 0 % 32 < 24 → len ≡ 1 + slice_index xs 0 % 32 → len ≤ length xs
+    → s.Between ≡ after s.Between (take (len - 1) (drop 1 xs)) → IsPlainItem strict (take len xs)
+short_text xs len strict below some major small is le text =
+    let body : len - 1 ≡ slice_index xs 0 % 32 = omega (arith, is) in
+    span_plain xs len (slice_index xs 0 % 32) strict below some (inr (inr (inr (inr (is, small, major, refl)))))
+    (omega (arith, is)) le (λ high. absurd (omega (arith, high, small))) (rw body at text)
 
 -- ---- a string of which one byte behind the first says how long it is
 
@@ -143,8 +165,9 @@ module _ (xs : List ℕ) (len : ℕ) (strict : Bool) (below : Below xs) (some : 
       (λ more d place. record { kind = k.Bytes; is = known; free = (strings_free d place).0 })
       (two_taken strict xs ByteString some is (below 1 some) (le-ltb (slice_index xs 1) 24 least))
 
-  pub long_text : slice_index xs 0 ≡ 120 → IsAscii (take (len - 2) (drop 2 xs)) → IsPlainItem strict (take len xs)
-  long_text is ascii =
+  pub long_text : slice_index xs 0 ≡ 120 → s.Between ≡ after s.Between (take (len - 2) (drop 2 xs))
+      → IsPlainItem strict (take len xs)
+  long_text is text =
       let c = slice_index xs 1 in
       let known : NamesTitle 3 (slice_index xs 0 / 32) (slice_index xs 0 % 32) =
       (omega (arith, is), named (slice_index xs 0) (omega (arith, is))) in
@@ -153,7 +176,7 @@ module _ (xs : List ℕ) (len : ℕ) (strict : Bool) (below : Below xs) (some : 
       text_item xs 2 c len strict below (omega arith) e le
       (λ more d place. record { kind = k.Text; is = known; free = (strings_free d place).1 })
       (two_taken strict xs TextString some is (below 1 some) (le-ltb c 24 least))
-      (rw (le-ltb c 24 least, lt-ltb c (2 ^ 8) long) refl) (ascii_stays _ (rw less at ascii))
+      (rw (le-ltb c 24 least, lt-ltb c (2 ^ 8) long) refl) (rw less at text)
 
 -- ---- items one behind the other
 

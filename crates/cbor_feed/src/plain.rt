@@ -2,7 +2,11 @@
 
 ghost use Rattle.std.specs.Prelude.{Bool, ℕ, ◌≡◌, ◌+◌, ◌-◌, ◌<◌, ◌≤◌, drop, take, length, slice_index, true};
 ghost use Rattle.std.specs.Str.{IsAscii};
+ghost use Rattle.ciborium_ll_text.specs.declared.state.State.TheVariants as s;
+ghost use Rattle.ciborium_ll_text.specs.States.{after};
 ghost use Rattle.cbor_feed.specs.Plain.{ArePlain, IsPlainItem, IsSpan};
+
+use ciborium_ll_text::state::{State, text_front};
 
 /// Of each first byte that tells it, two lines for each major type: how many bytes the item has with its title. 0 is
 /// nothing.
@@ -257,6 +261,98 @@ fn run_of(bytes: &[u8], most: usize, strict: bool, offset: usize, place: &mut us
 /// The same, in a loop for each kind of checker, so that where any spelling is taken it asks nothing of a longer title.
 /// It stays a function of its own, in which all that a title needs is in registers.
 #[inline(never)]
+fn ascii_run(bytes: &[u8], most: usize, strict: bool, offset: usize, place: &mut usize) -> Run
+    requires room { offset + length bytes.now ≤ usize.MAX }
+    ensures within { result.len ≤ length bytes.now }
+    ensures most { result.left ≤ most }
+    ensures some { result.left < most → 0 < result.len }
+    ensures plain { ArePlain strict offset place.old (most - result.left) place.new (take result.len bytes.now) }
+{
+    if strict {
+        run_of(bytes, most, true, offset, place)
+    } else {
+        run_of(bytes, most, false, offset, place)
+    }
+}
+
+/// Whether these bytes are a text by themselves.
+fn is_text(bytes: &[u8]) -> bool
+    ensures { result ≡ true → s.Between ≡ after s.Between bytes.now }
+{
+    matches!(text_front(bytes, 0, State::Between).1, State::Between)
+}
+
+/// The number of bytes of the text that these bytes begin with, title and body, if its title has one byte. It is 0 if
+/// they begin with no such text, if the body is not all there, or if it is not UTF-8 by itself.
+fn short_text_len(bytes: &[u8]) -> usize
+    requires some { 0 < length bytes.now }
+    ensures within { result ≤ length bytes.now }
+    ensures plain { (strict : Bool) → 0 < result → IsPlainItem strict (take result bytes.now) }
+{
+    let len = 1 + usize::from(bytes[0] % 32);
+    if bytes[0] / 32 != 3 || bytes[0] % 32 >= LONGER || len > bytes.len() {
+        return 0;
+    }
+    if is_text(&bytes[1..len]) { len } else { 0 }
+}
+
+/// The same of a text of up to 255 bytes under its shortest title.
+fn text_len(bytes: &[u8]) -> usize
+    requires some { 0 < length bytes.now }
+    ensures within { result ≤ length bytes.now }
+    ensures plain { (strict : Bool) → 0 < result → IsPlainItem strict (take result bytes.now) }
+{
+    if bytes[0] != 0x78 {
+        return short_text_len(bytes);
+    }
+    if bytes.len() < 2 || bytes[1] < LONGER {
+        return 0;
+    }
+    let len = 2 + usize::from(bytes[1]);
+    if len > bytes.len() {
+        return 0;
+    }
+    if is_text(&bytes[2..len]) { len } else { 0 }
+}
+
+/// Texts one behind the other, at most so many, of which [`text_len`] tells the length. The place becomes the offset of
+/// the last one.
+#[inline(never)]
+fn text_run(bytes: &[u8], most: usize, offset: usize, place: &mut usize) -> Run
+    requires room { offset + length bytes.now ≤ usize.MAX }
+    ensures within { result.len ≤ length bytes.now }
+    ensures most { result.left ≤ most }
+    ensures some { result.left < most → 0 < result.len }
+    ensures plain { (strict : Bool)
+        → ArePlain strict offset place.old (most - result.left) place.new (take result.len bytes.now) }
+{
+    let mut at = 0;
+    let mut left = most;
+    let mut last = *place;
+    'texts: while left > 0 && at < bytes.len() {
+        let len = text_len(&bytes[at..]);
+        if len == 0 {
+            break 'texts;
+        }
+        last = offset + at;
+        at += len;
+        left -= 1;
+    }
+    *place = last;
+    Run { len: at, left }
+}
+
+/// Whether a title of a text stands there.
+#[inline(always)]
+fn begins_text(bytes: &[u8], at: usize) -> bool
+    ensures { result ≡ true → at < length bytes.now }
+{
+    at < bytes.len() && bytes[at] / 32 == 3
+}
+
+/// Items that their first byte tells, and texts of up to 255 bytes, at most so many, if an item is due at this offset.
+/// The place becomes the offset of the last one. The loop over items takes ASCII alone, and is left for other texts.
+#[inline(always)]
 pub(crate) fn plain_run(
     bytes: &[u8],
     most: usize,
@@ -270,9 +366,18 @@ pub(crate) fn plain_run(
     ensures some { result.left < most → 0 < result.len }
     ensures plain { ArePlain strict offset place.old (most - result.left) place.new (take result.len bytes.now) }
 {
-    if strict {
-        run_of(bytes, most, true, offset, place)
-    } else {
-        run_of(bytes, most, false, offset, place)
+    let mut run = ascii_run(bytes, most, strict, offset, place);
+    'runs: while run.left > 0 && begins_text(bytes, run.len) {
+        let texts = text_run(&bytes[run.len..], run.left, offset + run.len, place);
+        if texts.len == 0 {
+            break 'runs;
+        }
+        let at = run.len + texts.len;
+        let items = ascii_run(&bytes[at..], texts.left, strict, offset + at, place);
+        run = Run {
+            len: at + items.len,
+            left: items.left,
+        };
     }
+    run
 }

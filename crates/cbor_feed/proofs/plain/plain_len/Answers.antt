@@ -2,6 +2,7 @@ use Rattle.std.proofs.Common.{◌≡◌, ℕ, ◌+◌, ◌-◌, ◌%◌, ◌≤�
 use Rattle.std.proofs.Common.{ap, add-zero}
 use Rattle.std.proofs.lemmas.List.{drop_more, get_or-drop}
 use Rattle.ciborium_ll_text.proofs.Lists.{Below}
+use Rattle.ciborium_ll_text.proofs.StateLaws.{ascii_stays}
 use Rattle.cbor_feed.proofs.PlainLaws.{span_plain}
 use Rattle.cbor_feed.proofs.plain.plain_len.Goals as goal
 use Rattle.cbor_feed.proofs.plain.plain_len.Goals.{else-strict-via-then-strict+else-bytes-at-ge-LONGER}
@@ -23,4 +24,5 @@ returns-then-is_ascii_from-clause-plain c = λ more.
     ] in
     span_plain rest c.span_of-span.result.len c.span_of-span.result.text_len c.args.strict below
     (omega (arith, long, c.requires.some)) (rw first c.span_of-span.ensures.span) more
-    (omega (arith, long, c.if-span-bytes.false)) any (rw behind (c.is_ascii_from.ensures c.if-is_ascii_from.true))
+    (omega (arith, long, c.if-span-bytes.false)) any
+    (rw behind (ascii_stays _ (c.is_ascii_from.ensures c.if-is_ascii_from.true)))
