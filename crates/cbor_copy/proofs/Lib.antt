@@ -4,6 +4,7 @@ pub mod KeptLaws
 pub mod LiveLaws
 pub mod PendingLaws
 pub mod Reached
+pub mod PlainLaws
 pub mod RunLaws
 pub mod StepLaws
 pub mod TellLaws

@@ -9,6 +9,7 @@ ghost use Rattle.ciborium_ll_text.specs.States.{may_end};
 use crate::few::Few;
 use crate::pending::Pending;
 use crate::phase::{Phase, StringKind, Within};
+use crate::plain::{Run, kept_run};
 use crate::progress::{Copied, End, Progress};
 use crate::snapshot::{Snapshot, is_state};
 use crate::title::header_of;
@@ -68,6 +69,7 @@ impl Copier {
     ghost use Rattle.cbor_copy.specs.Spots.{string_closed, string_done, string_entered, string_open, within_entered};
     ghost use Rattle.cbor_copy.specs.Spots.{piece_entered, refused};
     ghost use Rattle.cbor_copy.specs.Fronts.{most_cut};
+    ghost use Rattle.cbor_copy.specs.Plain.{AreKept};
     ghost use Rattle.cbor_copy.specs.Steps.{Step, TitleStep, byte_put, counted_by, text_left};
     ghost use Rattle.cbor_copy.specs.Steps.{title_place, with_byte, with_char};
     ghost use Rattle.cbor_copy.specs.Telling.{IsAnswer, IsMore, IsRoom, Tells, is_due, progress_of};
@@ -420,8 +422,60 @@ impl Copier {
         }
     }
 
-    /// Some bytes more: of a body as many as are written as they are, or a whole title where an element is due, else
-    /// one. What they put out is written behind the first `at` of `out`. Says how many there were, and where that ends.
+    /// Elements in front of some bytes that are copied as they are, where an element is due of whose title nothing came:
+    /// as many as are whole, and fit into this room.
+    #[inline(always)]
+    fn run(&self, bytes: &[u8], room: usize) -> Option<Run>
+        ensures due { IfSome result (λ run. (self.now.phase ≡ p.Title) × (self.now.within ≡ w.Nothing)
+            × (self.now.front ≡ [])) }
+        ensures fits { IfSome result (λ run. (0 < run.len) × (run.len ≤ length bytes.now) × (run.len ≤ room)
+            × (self.now.offset + run.len ≤ usize.MAX) × (run.last ≤ run.len) × (run.left ≤ self.now.left)) }
+        ensures kept { IfSome result (λ run. AreKept (self.now.left - run.left) run.last (take run.len bytes.now)) }
+    {
+        let (Phase::Title, Within::Nothing, 0) = (self.phase, self.within, self.front.len()) else {
+            return None;
+        };
+        let most = bytes.len().min(room).min(usize::MAX - self.offset);
+        let run = kept_run(&bytes[..most], self.left);
+        if run.len == 0 {
+            return None;
+        }
+        Some(run)
+    }
+
+    /// These bytes are elements that are written as they are behind the first `at` of `out`: the last one begins there,
+    /// and so many are left. Says where they end.
+    #[inline(always)]
+    fn run_put(
+        &mut self,
+        last: usize,
+        left: usize,
+        bytes: &[u8],
+        out: &mut [u8],
+        at: usize,
+    ) -> usize
+        requires clear { self.old.front ≡ [] }
+        requires counted { self.old.offset + length bytes.now ≤ usize.MAX }
+        requires last { last ≤ length bytes.now }
+        requires room { at + length bytes.now ≤ length out.old }
+        ensures put { let spot = spot_of self.old in
+            let counted = record spot { place = spot.offset + last; offset = spot.offset + length bytes.now } in
+            spot_of self.new ≡ elements_due left counted }
+        ensures end { result ≡ at + length bytes.now }
+        ensures given { take result out.new ≡ take at out.old ++ bytes.now }
+        ensures rest { drop result out.new ≡ drop result out.old }
+    {
+        let end = at + bytes.len();
+        out[at..end].copy_from_slice(bytes);
+        self.place = self.offset + last;
+        self.offset += bytes.len();
+        self.elements_due(left);
+        end
+    }
+
+    /// Some bytes more: whole elements that are copied as they are, of a body as many as are written as they are, or a
+    /// whole title where an element is due, else one. What they put out is written behind the first `at` of `out`. Says
+    /// how many there were, and where that ends.
     #[inline(always)]
     fn advance(&mut self, bytes: &[u8], out: &mut [u8], at: usize) -> (usize, usize)
         requires some { 0 < length bytes.now }
@@ -438,6 +492,10 @@ impl Copier {
         ensures grown { result.1 + length self.new.pending + length self.new.front
             ≤ at + length self.old.front + result.0 }
     {
+        if let Some(kept) = self.run(bytes, out.len() - at) {
+            let end = self.run_put(kept.last, kept.left, &bytes[..kept.len], out, at);
+            return (kept.len, end);
+        }
         if let Some((kind, left)) = self.body() {
             let most = left
                 .min(bytes.len())

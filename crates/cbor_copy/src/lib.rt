@@ -10,6 +10,7 @@ mod few;
 pub mod laws;
 mod pending;
 mod phase;
+mod plain;
 mod progress;
 mod snapshot;
 mod title;

@@ -1,12 +1,23 @@
-use Rattle.std.proofs.Common.{◌≡◌, ◌+◌, ◌-◌, ◌≤◌, [], length, length-take, take, ap, ◌∙◌, inl, subst, sym, rules, arith}
+use Rattle.std.proofs.Common.{◌≡◌, ◌+◌, ◌-◌, ◌≤◌, [], length, length-take, take, ap, ◌∙◌, inl, refl, subst, sym, rules, arith}
 use Rattle.std.proofs.lemmas.List.{length-take-le, take-take}
 use Rattle.ciborium_ll_text.proofs.Lists.{below_take}
 use Rattle.cbor_copy.specs.Copying.{spot_of}
 use Rattle.cbor_copy.specs.Spots.{Spot}
 use Rattle.cbor_copy.specs.Steps.{counted_by}
 use Rattle.cbor_copy.proofs.KeptLaws.{body_kept, enters, entered_put, steps, given_grows}
+use Rattle.cbor_copy.proofs.PlainLaws.{run_given}
 use Rattle.cbor_copy.proofs.RunLaws.{body_given, first_on, title_given}
 use Rattle.cbor_copy.proofs.copier.Copier.advance.Goals as goal
+
+pub returns-in-Some-clause-copied : goal.returns-in-Some-clause-copied
+returns-in-Some-clause-copied c = λ count fed given is.
+    let run = c.in-Some.kept in
+    let spot = spot_of c.args.self.now in
+    let xs = take run.len c.args.bytes.now in
+    let fits : run.len ≤ length c.args.bytes.now = search rules in
+    run_given count (spot.left - run.left) run.last run.left xs spot (spot_of c.run_put-end.new.self) fed given
+    (take c.args.at c.args.out.now) _ (search rules) (search rules) (search rules) (search rules) c.requires.given refl
+    (search rules) c.run_put-end.ensures.put c.run_put-end.ensures.given is
 
 pub returns-then-len-gt0-clause-copied : goal.returns-then-len-gt0-clause-copied
 returns-then-len-gt0-clause-copied c = λ count fed given is.
@@ -17,11 +28,11 @@ returns-then-len-gt0-clause-copied c = λ count fed given is.
     let within : n ≤ most = omega (arith, length-take-le most bytes fits, c.whole_len-len.ensures.within) in
     let long = length-take-le n bytes (omega (arith, within, fits)) in
     let whole = rw (take-take n most bytes within) at c.whole_len-len.ensures.whole in
-    body_given c.in-Some.kind count c.in-Some.left (take n bytes) (spot_of c.args.self.now)
+    body_given c.in-Some-body.kind count c.in-Some-body.left (take n bytes) (spot_of c.args.self.now)
     (spot_of c.bytes_put.new.self) fed given (take c.args.at c.args.out.now) _
     (below_take n bytes (omega (arith, within, fits)) (λ i less. search rules)) (search rules) (search rules)
     c.requires.given (omega (arith, long, c.if-len-gt0.true))
-    (omega (arith, long, within, c.min-most.ensures, c.min-in-Some.ensures)) whole
+    (omega (arith, long, within, c.min-most.ensures, c.min-in-Some-body.ensures)) whole
     c.bytes_put.ensures.put c.bytes_put.ensures.given is
 
 pub returns-in-Some-title-clause-copied : goal.returns-in-Some-title-clause-copied
@@ -67,13 +78,13 @@ returns-clause-grown c =
 pub returns-then-len-gt0-clause-all : goal.returns-then-len-gt0-clause-all
 returns-then-len-gt0-clause-all c =
     let len = length (take c.whole_len-len.result c.args.bytes.now) in
-    let kept = body_kept c.in-Some.kind (c.in-Some.left - len) (counted_by len (spot_of c.args.self.now)) in
+    let kept = body_kept c.in-Some-body.kind (c.in-Some-body.left - len) (counted_by len (spot_of c.args.self.now)) in
     inl (ap (λ (z : Spot). z.put) c.bytes_put.ensures.put ∙ (kept.2 ∙ c.requires.given))
 
 pub returns-then-len-gt0-clause-grown : goal.returns-then-len-gt0-clause-grown
 returns-then-len-gt0-clause-grown c =
     let len = length (take c.whole_len-len.result c.args.bytes.now) in
-    let kept = body_kept c.in-Some.kind (c.in-Some.left - len) (counted_by len (spot_of c.args.self.now)) in
+    let kept = body_kept c.in-Some-body.kind (c.in-Some-body.left - len) (counted_by len (spot_of c.args.self.now)) in
     let put = ap (λ (z : Spot). length z.put) c.bytes_put.ensures.put ∙ ap length (kept.2 ∙ c.requires.given) in
     let front = ap (λ (z : Spot). length z.front) c.bytes_put.ensures.put ∙ ap length kept.0 in
     omega (arith, put, front, c.bytes_put.ensures.end, length-take c.whole_len-len.result c.args.bytes.now)
