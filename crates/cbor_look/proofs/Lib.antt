@@ -1,6 +1,7 @@
 pub mod ItemRows
 pub mod SequenceLaws
 pub mod SingleLaws
+pub mod TableLaws
 pub mod TakingLaws
 pub mod RowLaws
 pub mod LeaveLaws

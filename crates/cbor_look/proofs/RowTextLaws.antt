@@ -88,6 +88,11 @@ module _ {W : Type 0} (took : W → List ℕ → W → Type 0) where
   then_written f g h first next all wrote goes_on same plain =
       let done = wrote plain in put_two took f g h first next all done (goes_on done.plain) same
 
+  -- a text that is the one that is meant
+  pub text_is : (f g : Formatter W) (one other : List ℕ) → one ≡ other → HasWritten took f one g
+      → HasWritten took f other g
+  text_is f g one other same wrote = subst (λ z. HasWritten took f z g) same wrote
+
   -- a text that is known, where a write of it is told
   pub shows : (f g : Formatter W) (result : Result (Unit {0}) _) (output : Option (List ℕ)) (text : List ℕ)
       → output ≡ Some text → DisplaysOnOk took f result output g → WritesOnOk took f result text g

@@ -1,6 +1,7 @@
 -- The text of a row of a dump: its bytes as digits, indented by its level, and behind a `#` what they mean, as RFC 8949
 -- shows its examples (section 3).
 use Rattle.std.specs.Prelude.{ℕ, zero, suc, ◌+◌, ◌-◌, ◌*◌, ◌==◌, min, nat_lt, List, [], ◌∷◌, ◌++◌, length}
+use Rattle.std.specs.Prelude.{◌≢◌, ◌<◌, ◌≤◌, slice_index}
 use Rattle.std.specs.Prelude.{codes, decimal, negsuc, Option, Some, None, if◌then◌else◌}
 use Rattle.std.specs.Char.{encode_utf8}
 use Rattle.std.specs.Fmt.{signed_decimal}
@@ -87,6 +88,11 @@ character_text character =
     else (if nat_lt character 127 then encode_utf8 character
     else (if nat_lt character 160 then 92 ∷ 117 ∷ 48 ∷ 48 ∷ hex_text character
     else encode_utf8 character)))))))
+
+-- characters that stand for themselves between quotes: ASCII, but no control character, no quote and no backslash
+abbrev pub ArePlain : List ℕ → Type 0
+ArePlain characters = (i : ℕ) → i < length characters → (32 ≤ slice_index characters i)
+    × (slice_index characters i < 127) × (slice_index characters i ≢ 34) × (slice_index characters i ≢ 92)
 
 -- characters, one behind the other
 abbrev pub characters_text : List ℕ → List ℕ

@@ -1,12 +1,14 @@
 //! The rows of a dump: what stands on each line.
 
-ghost use Rattle.std.specs.Prelude.{◌≡◌, List, OnErr, OnOk, [], ◌∷◌, ◌++◌, Some, negsuc};
+ghost use Rattle.std.specs.Prelude.{◌≡◌, List, OnErr, OnOk, [], ◌∷◌, ◌++◌, Some, negsuc, true};
 ghost use Rattle.std.specs.Fmt.{WritesOnOk, signed_decimal};
 ghost use Rattle.std.specs.Str.{chars};
 ghost use Rattle.std.specs.declared.option.Option.{Option};
+ghost use Rattle.ciborium_ll_text.specs.Digits.{hex_text};
 ghost use Rattle.cbor_look.specs.Levels.{Line};
 ghost use Rattle.cbor_look.specs.Dumps.{Draws};
-ghost use Rattle.cbor_look.specs.RowTexts.{blank, character_text, characters_text, counted_text, digits_text, float_text};
+ghost use Rattle.cbor_look.specs.RowTexts.{ArePlain, blank, character_text, characters_text, counted_text, digits_text};
+ghost use Rattle.cbor_look.specs.RowTexts.{float_text};
 ghost use Rattle.cbor_look.specs.RowTexts.{header_text, joined_text, margin_text, quoted_text, row_text, simple_text};
 
 use ciborium_ll::{Float, Header, simple};
@@ -17,6 +19,28 @@ const COLUMNS: usize = 36;
 
 /// How many levels are shown by an indent at most.
 const MOST_INDENT: usize = 256;
+
+/// Of each byte its two digits behind a space, one behind the other.
+const DIGITS: &str = " \
+    00 01 02 03 04 05 06 07 08 09 0a 0b 0c 0d 0e 0f \
+    10 11 12 13 14 15 16 17 18 19 1a 1b 1c 1d 1e 1f \
+    20 21 22 23 24 25 26 27 28 29 2a 2b 2c 2d 2e 2f \
+    30 31 32 33 34 35 36 37 38 39 3a 3b 3c 3d 3e 3f \
+    40 41 42 43 44 45 46 47 48 49 4a 4b 4c 4d 4e 4f \
+    50 51 52 53 54 55 56 57 58 59 5a 5b 5c 5d 5e 5f \
+    60 61 62 63 64 65 66 67 68 69 6a 6b 6c 6d 6e 6f \
+    70 71 72 73 74 75 76 77 78 79 7a 7b 7c 7d 7e 7f \
+    80 81 82 83 84 85 86 87 88 89 8a 8b 8c 8d 8e 8f \
+    90 91 92 93 94 95 96 97 98 99 9a 9b 9c 9d 9e 9f \
+    a0 a1 a2 a3 a4 a5 a6 a7 a8 a9 aa ab ac ad ae af \
+    b0 b1 b2 b3 b4 b5 b6 b7 b8 b9 ba bb bc bd be bf \
+    c0 c1 c2 c3 c4 c5 c6 c7 c8 c9 ca cb cc cd ce cf \
+    d0 d1 d2 d3 d4 d5 d6 d7 d8 d9 da db dc dd de df \
+    e0 e1 e2 e3 e4 e5 e6 e7 e8 e9 ea eb ec ed ee ef \
+    f0 f1 f2 f3 f4 f5 f6 f7 f8 f9 fa fb fc fd fe ff";
+
+/// Spaces, of which a row has no more at once as a rule.
+const SPACES: &str = "                                                                ";
 
 /// What the bytes of a row mean.
 #[derive(Debug, Clone, Copy)]
@@ -68,10 +92,30 @@ pub trait Rows {
 fn spaces<W: fmt::Write>(f: &mut fmt::Formatter<W>, count: usize) -> fmt::Result
     ensures { WritesOnOk W.Write.write_str_gives f.old result (blank count) f.new }
 {
-    'spaces: for _space in 0..count {
-        f.write_str(" ")?;
+    let mut left = count;
+    'spaces: while left > SPACES.len() {
+        f.write_str(SPACES)?;
+        left -= SPACES.len();
     }
-    Ok(())
+    f.write_str(&SPACES[..left])
+}
+
+/// The two digits of a byte.
+#[inline(always)]
+fn digits_of(byte: u8) -> &'static str
+    ensures { result.now ≡ hex_text byte }
+{
+    let at = 3 * usize::from(byte) + 1;
+    &DIGITS[at..at + 2]
+}
+
+/// The same behind a space.
+#[inline(always)]
+fn digits_behind(byte: u8) -> &'static str
+    ensures { result.now ≡ 32 ∷ hex_text byte }
+{
+    let at = 3 * usize::from(byte);
+    &DIGITS[at..at + 3]
 }
 
 /// Writes bytes as digits, with spaces between them.
@@ -79,9 +123,9 @@ fn digits<W: fmt::Write>(f: &mut fmt::Formatter<W>, bytes: &[u8]) -> fmt::Result
     ensures { WritesOnOk W.Write.write_str_gives f.old result (digits_text bytes.now) f.new }
 {
     if let [first, rest @ ..] = bytes {
-        write!(f, "{first:02x}")?;
+        f.write_str(digits_of(*first))?;
         'bytes: for byte in rest {
-            write!(f, " {byte:02x}")?;
+            f.write_str(digits_behind(*byte))?;
         }
     }
     Ok(())
@@ -123,7 +167,7 @@ fn bits<W: fmt::Write>(f: &mut fmt::Formatter<W>, name: &str, bytes: &[u8]) -> f
 {
     f.write_str(name)?;
     'bytes: for byte in bytes {
-        write!(f, "{byte:02x}")?;
+        f.write_str(digits_of(*byte))?;
     }
     Ok(())
 }
@@ -182,10 +226,27 @@ fn quoted<W: fmt::Write>(f: &mut fmt::Formatter<W>, bytes: &[u8]) -> fmt::Result
     f.write_str("\"")
 }
 
+/// Whether each of these bytes is a character that stands for itself between quotes.
+fn is_plain(bytes: &[u8]) -> bool
+    ensures { result ≡ true → ArePlain bytes.now }
+{
+    let mut at = 0;
+    'bytes: while at < bytes.len() {
+        if bytes[at] < b' ' || bytes[at] >= 127 || bytes[at] == b'"' || bytes[at] == b'\\' {
+            return false;
+        }
+        at += 1;
+    }
+    true
+}
+
 /// Writes what stands between those.
 fn characters<W: fmt::Write>(f: &mut fmt::Formatter<W>, text: &str) -> fmt::Result
     ensures { WritesOnOk W.Write.write_str_gives f.old result (characters_text (chars text.now)) f.new }
 {
+    if is_plain(text.as_bytes()) {
+        return f.write_str(text);
+    }
     'characters: for c in text.chars() {
         character(f, c)?;
     }

@@ -1,8 +1,8 @@
-use Rattle.std.proofs.Common.{◌∙◌, ◌<◌, ◌++◌, List, ℕ, Ok, rules, append_assoc, ap, get_or, length, refl, sym, take}
+use Rattle.std.proofs.Common.{◌∙◌, ◌<◌, ◌++◌, List, ℕ, append_assoc, ap, get_or, length, refl, sym, take}
 use Rattle.std.proofs.Common.{take_all}
 use Rattle.ciborium_ll_text.specs.Digits.{hex_text}
 use Rattle.cbor_look.specs.RowTexts.{joined_text}
-use Rattle.cbor_look.proofs.RowTextLaws.{hex_shown, joined_at, shows, then_written}
+use Rattle.cbor_look.proofs.RowTextLaws.{joined_at, text_is, then_written}
 use Rattle.cbor_look.proofs.rows.bits.Goals as goal
 
 pub bytes-preserved : goal.bytes-preserved
@@ -12,11 +12,9 @@ bytes-preserved g c =
     let all = c.args.bytes.now in
     let at = c.bytes.byte-index in
     let less : at < length all = c.bytes-test.true in
-    let small : get_or all at 0 < 256 = search (rules, c.type_inv.bytes at) in
-    let shown = hex_shown c.in_radix.result c.laid_out.result (get_or all at 0) c.laid_out.ensures c.in_radix.ensures
-    small in
     then_written took _ _ _ (name ++ joined_text (take at all)) (hex_text (get_or all at 0)) _ c.bytes.invariant
-    (λ plain. shows took _ _ (Ok c.in_ok-write.field-0) _ _ shown c.in_ok-write.ensures.writes plain refl)
+    (λ plain. text_is took _ _ _ _ c.digits_of.ensures
+    (c.in_ok-write_str-2.ensures.writes plain refl))
     (append_assoc name (joined_text (take at all)) (hex_text (get_or all at 0))
     ∙ ap (λ (z : List ℕ). name ++ z) (sym (joined_at all at less)))
 

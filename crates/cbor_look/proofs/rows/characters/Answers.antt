@@ -3,9 +3,16 @@ use Rattle.std.proofs.lemmas.Iterator.{YieldsList-from_chars}
 use Rattle.std.proofs.lemmas.Iterator.Consumers.{YieldsList-end}
 use Rattle.std.specs.Fmt.{HasWritten}
 use Rattle.std.specs.Str.{chars}
-use Rattle.cbor_look.specs.RowTexts.{character_text, characters_text}
-use Rattle.cbor_look.proofs.RowTextLaws.{characters_more, then_written}
+use Rattle.cbor_look.specs.RowTexts.{ArePlain, character_text, characters_text}
+use Rattle.cbor_look.proofs.RowTextLaws.{characters_more, text_is, then_written}
+use Rattle.cbor_look.proofs.TableLaws.{plain_shown}
 use Rattle.cbor_look.proofs.rows.characters.Goals as goal
+
+pub returns-then-is_plain : goal.returns-then-is_plain
+returns-then-is_plain g c = λ plain ok.
+    text_is g.W.Write.write_str_gives _ _ _ _ (plain_shown c.args.text.now
+    (subst (λ (z : List ℕ). ArePlain z) c.as_bytes.ensures.value (c.is_plain.ensures c.if-is_plain.true)))
+    (c.write_str.ensures.writes plain ok)
 
 pub characters-preserved : goal.characters-preserved
 characters-preserved g c =

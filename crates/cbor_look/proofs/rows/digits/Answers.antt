@@ -1,20 +1,16 @@
-use Rattle.std.proofs.Common.{◌≡◌, ◌∙◌, ◌-◌, ◌+◌, ◌<◌, ◌∷◌, ◌++◌, List, ℕ, Ok, Some, rules, append_assoc, ap, arith}
-use Rattle.std.proofs.Common.{drop, get_or, length}
-use Rattle.std.proofs.Common.{[], refl, subst, sym, take}
+use Rattle.std.proofs.Common.{◌≡◌, ◌∙◌, ◌-◌, ◌<◌, ◌∷◌, ◌++◌, List, ℕ, append_assoc, ap, arith, drop, get_or, length}
+use Rattle.std.proofs.Common.{refl, subst, sym, take}
 use Rattle.std.proofs.lemmas.Grind.{common_steps}
-use Rattle.std.specs.Fmt.{◌++?◌, HasWritten}
+use Rattle.std.specs.Fmt.{HasWritten}
 use Rattle.ciborium_ll_text.specs.Digits.{hex_text}
 use Rattle.cbor_look.specs.RowTexts.{more_text, digits_text}
-use Rattle.cbor_look.proofs.RowTextLaws.{hex_shown, more_at, shows, then_written}
+use Rattle.cbor_look.proofs.RowTextLaws.{more_at, text_is, then_written}
 use Rattle.cbor_look.proofs.rows.digits.Goals as goal
 
 pub bytes-init : goal.bytes-init
 bytes-init g c = λ plain.
-    let took = g.W.Write.write_str_gives in
-    let small : get_or c.args.bytes.now 0 0 < 256 = search (rules, c.type_inv.bytes 0) in
-    let shown = hex_shown c.in_radix.result c.laid_out.result (get_or c.args.bytes.now 0 0) c.laid_out.ensures
-    c.in_radix.ensures small in
-    shows took _ _ (Ok c.in_ok-write.field-0) _ _ shown c.in_ok-write.ensures.writes plain refl
+    text_is g.W.Write.write_str_gives _ _ _ _ c.digits_of.ensures
+    (c.in_ok-write_str.ensures.writes plain refl)
 
 pub bytes-preserved : goal.bytes-preserved
 bytes-preserved g c =
@@ -24,13 +20,10 @@ bytes-preserved g c =
     let at = c.bytes.byte-index in
     let less : at < length rest = c.bytes-test.true in
     let byte = get_or rest at 0 in
-    let fits = c.type_inv.bytes (at + 1) in
-    let small : byte < 256 = grind (arith, common_steps) in
-    let shown = hex_shown c.in_radix-in-bytes.result c.laid_out-in-bytes.result byte c.laid_out-in-bytes.ensures
-    c.in_radix-in-bytes.ensures small in
     let first = hex_text (get_or all 0 0) in
     then_written took _ _ _ (digits_text (get_or all 0 0 ∷ take at rest)) (32 ∷ hex_text byte) _ c.bytes.invariant
-    (λ plain. shows took _ _ (Ok c.in_ok-write-2.field-0) _ _ (ap (λ z. Some (32 ∷ []) ++? z) shown) c.in_ok-write-2.ensures.writes plain refl)
+    (λ plain. text_is took _ _ _ _ c.digits_behind.ensures
+    (c.in_ok-write_str-2.ensures.writes plain refl))
     (append_assoc first (more_text (take at rest)) (32 ∷ hex_text byte)
     ∙ ap (λ (z : List ℕ). first ++ z) (sym (more_at rest at less)))
 
