@@ -17,9 +17,9 @@
  * cll_checker_init_strict, cll_checker_end and cll_copier_init take less than 128 bytes, cll_checker_feed,
  * cll_copier_feed, cll_copier_end and cll_item_copier_end less than 1 KiB, cll_recode and cll_strict less than 2 KiB,
  * cll_item_copier_init and cll_item_copier_init_strict less than 3 KiB, and cll_item_copier_feed less than 4 KiB.
- * cll_skip takes less than 2 KiB and 328 bytes for each level that it goes down: 8 KiB at 16 levels, 23 KiB at 64, and
- * 84 KiB at 256. If the bytes end too early, cll_recode and cll_strict take less than 4.5 KiB, and cll_skip takes less
- * than 4 KiB or as much as above, if that is more.
+ * If the bytes end too early, cll_recode and cll_strict take less than 4.5 KiB. cll_skip takes less than 4 KiB. If the
+ * bytes begin with no item, it takes less than 2 KiB and 328 bytes for each level that it goes down, if that is more: 8
+ * KiB at 16 levels, 23 KiB at 64, and 84 KiB at 256.
  */
 #ifndef CIBORIUM_LL_H
 #define CIBORIUM_LL_H

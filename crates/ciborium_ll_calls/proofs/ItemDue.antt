@@ -91,3 +91,17 @@ module _ (strict : Bool) (depth : ℕ) (bytes : List ℕ) (cut : ItemInFront str
         is_item = tells.0;
         is = sym (take-append-drop taken bytes);
       })
+
+-- where a checker says that an item ended, one of that length is in front
+pub ended_in_front : (strict : Bool) (depth : ℕ) (bytes : List ℕ) (taken len : ℕ)
+    → Tells strict depth (take taken bytes) (r.Ended len)
+    → (front : ItemInFront strict depth bytes) × (len ≡ length front.item)
+ended_in_front strict depth bytes taken len tells = (
+  record {
+    item = take taken bytes;
+    rest = drop taken bytes;
+    is_item = tells.0;
+    is = sym (take-append-drop taken bytes);
+  },
+  tells.1,
+)

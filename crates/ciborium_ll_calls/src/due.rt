@@ -1,6 +1,7 @@
-//! How many bytes more are due where some end too early.
+//! What a checker says of some bytes: how long the item in front of them is, and how many more are due where they end
+//! too early.
 
-ghost use Rattle.std.specs.Prelude.{◌≤◌, Bool, []};
+ghost use Rattle.std.specs.Prelude.{◌≡◌, ◌≤◌, Bool, [], IfSome, false, length};
 ghost use Rattle.cbor_feed.specs.Checking.{spot_of};
 ghost use Rattle.cbor_feed.specs.Steps.{IsFed};
 ghost use Rattle.cbor_skip.specs.ItemFaults.{ItemInFront};
@@ -32,5 +33,19 @@ pub(crate) fn due_behind(bytes: &[u8], depth: usize, strict: bool) -> usize
     match checker.feed(bytes).progress {
         Progress::More(due) => due,
         Progress::Ended(_) | Progress::Fault(_) | Progress::TooLong => 0,
+    }
+}
+
+/// How long the item in front of these bytes is, where one stands there. A checker takes it in runs, and faster than a
+/// skip. It is not a part of the call that needs it, as `due_behind` is not.
+#[inline(never)]
+pub(crate) fn item_len(bytes: &[u8], depth: usize) -> Option<usize>
+    requires shallow { depth ≤ 256 }
+    ensures { IfSome result (λ len. (front : ItemInFront false depth bytes.now) × (len ≡ length front.item)) }
+{
+    let mut checker = Checker::new(depth);
+    match checker.feed(bytes).progress {
+        Progress::Ended(len) => Some(len),
+        Progress::More(_) | Progress::Fault(_) | Progress::TooLong => None,
     }
 }

@@ -46,7 +46,7 @@ mod wide;
 pub use self::answer::{CllAnswer, CllReport};
 pub use self::checker::CllChecker;
 pub use self::copier::CllCopier;
-use self::due::due_behind;
+use self::due::{due_behind, item_len};
 pub use self::header::CllHeader;
 pub use self::item_copier::CllItemCopier;
 use self::tally::{Tally, copy_counted};
@@ -351,6 +351,11 @@ fn skip_or_due(bytes: &[u8], depth: usize, report: &mut CllReport) -> CllAnswer
     ensures exactly { result ≡ a.Ok ↔ ItemInFront false depth bytes.now }
     ensures due { result ≡ a.Short → ItemLacks false depth bytes.now report.new.place }
 {
+    // An item that stands in front is found in runs; what stops the read of one, and its place, are told by the skip.
+    if let Some(len) = item_len(bytes, depth) {
+        report.say(len, 0, 0);
+        return CllAnswer::Ok;
+    }
     match skip(bytes, depth, report) {
         CllAnswer::Short => {
             report.place = due_behind(bytes, depth, false) as u64;
