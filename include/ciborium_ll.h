@@ -59,12 +59,12 @@ extern "C" {
 typedef struct { uint64_t value; uint8_t kind; uint8_t indefinite; } cll_header;
 
 /*
- * How far a call came: how many bytes it consumed, how many it wrote, and with CLL_SYNTAX, CLL_BREAK_DUE and
- * CLL_TOO_DEEP the offset in `data` that the answer names, else 0.
+ * How far a call came: how many bytes it consumed, how many it wrote, and with CLL_SYNTAX, CLL_BREAK_DUE,
+ * CLL_TOO_DEEP and the answers of cll_deterministic alone the offset in `data` that the answer names, otherwise 0.
  *
  * It is that of a title, and for cll_utf8 that of the byte behind the front. But for the body of a text that is no
  * UTF-8, in a string that no open begins, it is the end of the string's title less the length of the shortest one, so
- * it lies inside a title that is longer than that.
+ * it lies inside a title that is longer than that. Of cll_deterministic it is a title, or the first byte of a key.
  *
  * With CLL_SHORT `place` is no offset. Of cll_recode, cll_strict, cll_skip and the calls of a checker and of a copier
  * of an item it says how many bytes more are due: whatever follows the bytes so far so that they become what was asked
@@ -127,8 +127,19 @@ typedef enum cll_answer {
     CLL_TOO_LONG,  /* an offset would pass the greatest number, which only bytes that are fed make it do */
     CLL_BREAK_DUE, /* at `place` a break stands where an item is due */
     CLL_TOO_DEEP,  /* at `place` a tag, an array or a map stands deeper than was allowed */
-    CLL_ARGUMENT   /* an argument is out of its range, and nothing was done */
+    CLL_ARGUMENT,  /* an argument is out of its range, and nothing was done */
+    /* These come from cll_deterministic alone. */
+    CLL_NOT_SHORTEST, /* at `place` stands a longer title than need be, or a float that a smaller width has */
+    CLL_INDEFINITE,   /* at `place` stands the title of an indefinite form, or a break */
+    CLL_KEY_ORDER,    /* at `place` stands a key that comes before the key of the pair before it */
+    CLL_DUPLICATE_KEY /* at `place` stands the same key as that of the pair before it */
 } cll_answer;
+
+/* The order of the keys of a map, by their encodings. */
+typedef enum cll_order {
+    CLL_BYTEWISE,    /* by their bytes (RFC 8949, 4.2.1) */
+    CLL_LENGTH_FIRST /* the shorter one first, and keys of the same length by their bytes (RFC 8949, 4.2.3) */
+} cll_order;
 
 /* The version of the library: 65536 times its major number, 256 times its minor one, and its patch number. */
 uint32_t cll_version(void);
@@ -211,6 +222,27 @@ CLL_NODISCARD cll_answer cll_strict(const uint8_t *data, size_t len, uint64_t co
  * body or of `data`.
  */
 CLL_NODISCARD cll_answer cll_skip(const uint8_t *data, size_t len, uint32_t depth, cll_report *report);
+
+/*
+ * Whether `data` begins with an item in the deterministic encoding (RFC 8949, 4.2), whatever follows it. `order` is one
+ * of the numbers of cll_order. Nothing is written. `consumed` is the item's length. Values that are the same have one
+ * such item in each order.
+ *
+ * Each number and length stands in the fewest bytes, and each float in the smallest width that has it. No length is
+ * indefinite. The keys of each map ascend in the order, and no two of them are the same. A NaN keeps its sign and
+ * payload, and 0.0 and -0.0 differ. No tag is looked into. Levels are those of cll_skip, and `depth` is at most 256.
+ *
+ * CLL_OK; CLL_SHORT where `data` ends before the item does; CLL_SYNTAX for a first byte with which no title begins, for
+ * a simple value from 24 to 31, and for the title of a text that is not UTF-8; CLL_NOT_SHORTEST, also for a simple value
+ * below 24 in two bytes; CLL_INDEFINITE; CLL_KEY_ORDER; CLL_DUPLICATE_KEY; CLL_TOO_DEEP; and CLL_ARGUMENT for a depth
+ * above 256 and for another order.
+ *
+ * `place` and `consumed` are both the offset of the first title or key at which `data` can't go on as such an item. With
+ * CLL_SHORT `place` is 0, and `consumed` is the offset of the title that is cut, or `len` if a body is cut or a title is
+ * missing. A text whose body is cut is CLL_SHORT, whatever its bytes are.
+ */
+CLL_NODISCARD cll_answer cll_deterministic(const uint8_t *data, size_t len, uint32_t depth, uint32_t order,
+    cll_report *report);
 
 /*
  * Finds the longest front of `data` that is UTF-8 (RFC 3629). `consumed` is its length.
@@ -382,6 +414,14 @@ static inline const char *cll_strerror(uint32_t answer)
         return "nested too deep";
     case CLL_ARGUMENT:
         return "an argument is out of its range";
+    case CLL_NOT_SHORTEST:
+        return "a shorter form says the same";
+    case CLL_INDEFINITE:
+        return "an indefinite length or a break";
+    case CLL_KEY_ORDER:
+        return "a key comes before the key of the pair before it";
+    case CLL_DUPLICATE_KEY:
+        return "the same key twice";
     default:
         return "no answer of this library";
     }

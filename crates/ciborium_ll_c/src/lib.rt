@@ -10,9 +10,13 @@
 //! is the call of the same name of `ciborium_ll_calls`.
 #![tactic(auto)]
 
-ghost use Rattle.std.specs.Prelude.{◌≡◌, ◌↔◌, ◌≤◌, ◌<◌, List, ◌++◌, drop, length, Bool, true, false, ℕ};
+ghost use Rattle.std.specs.Prelude.{◌≡◌, ◌↔◌, ◌≤◌, ◌<◌, ◌⊎◌, List, ◌++◌, drop, length, Bool, true, false, ℕ};
 ghost use Rattle.cbor_copy.specs.Copying.{IsCopiedTo};
 ghost use Rattle.cbor_copy.specs.Spots.{Spot as CopySpot};
+ghost use Rattle.cbor_deterministic.specs.declared.Order.{Order as AnyOrder};
+ghost use Rattle.cbor_deterministic.specs.declared.Why.{Why as AnyWhy};
+ghost use Rattle.cbor_deterministic.specs.Deterministic.{HasDeterministic};
+ghost use Rattle.cbor_deterministic.specs.Refusals.{HasRefusal};
 ghost use Rattle.cbor_feed.specs.Spots.{Spot};
 ghost use Rattle.cbor_feed.specs.Steps.{IsFed};
 ghost use Rattle.ciborium_ll.specs.Faults.{RunInFront};
@@ -24,6 +28,7 @@ ghost use Rattle.ciborium_ll_calls.specs.Answers.{IsCode, Reports, code, version
 ghost use Rattle.ciborium_ll_calls.specs.Checking.{Checks};
 ghost use Rattle.ciborium_ll_calls.specs.Copying.{CopiesInto, CopiesAnyhow, HasRoom};
 ghost use Rattle.ciborium_ll_calls.specs.Counting.{CountsElements, CountsStrictly};
+ghost use Rattle.ciborium_ll_calls.specs.Determining.{Determines, IsNoOrder, named_place, order_code, why_answer};
 ghost use Rattle.ciborium_ll_calls.specs.Feeding.{EndsFed, Feeds, IsKept, IsNoChecker, IsSetUp, TakesWithin};
 ghost use Rattle.ciborium_ll_calls.specs.ItemPieces.{EndsItem, FeedsItem, IsItemCopiedTo, IsItemCopier, IsItemSetUp};
 ghost use Rattle.ciborium_ll_calls.specs.ItemPieces.{IsNoItemCopier};
@@ -181,6 +186,48 @@ pub extern "C" fn cll_skip(bytes: &[u8], depth: u32, report: &mut CllReport) -> 
     ensures argument { 256 < depth → (result ≡ code a.Argument) × Reports report.new 0 0 0 }
 {
     ciborium_ll_calls::cll_skip(bytes, depth, report)
+}
+
+/// Whether the bytes begin with an item in the deterministic encoding, with tags, arrays and maps nested at most `depth`
+/// levels deep. `order` is 0 for keys in the order of their bytes (RFC 8949, 4.2.1), and 1 for the shorter key first
+/// (4.2.3). What follows the item may be anything. Nothing is written.
+///
+/// Each number and length stands in the fewest bytes, and each float in the smallest width that has it. No length is
+/// indefinite. The keys of each map ascend, and no two of them are the same. A tag, an array and a map take a level,
+/// also an empty one; a string takes none.
+///
+/// The answer is `Ok` exactly if they do, and `consumed` is the item's length. Otherwise it says why not, exactly:
+///
+/// - `Short`: the bytes end too early, before a title, within it or within a body.
+/// - `Syntax`: a first byte with which no title begins, a simple value from 24 to 31, or a text that is not UTF-8.
+/// - `NotShortest`: a title that is longer than it need be, or a float that a smaller width has.
+/// - `Indefinite`: the title of an indefinite form, or a break.
+/// - `KeyOrder`: a key that comes before the key of the pair before it.
+/// - `DuplicateKey`: a key that is the same as that of the pair before it.
+/// - `TooDeep`: a tag, an array or a map for which no level is left.
+/// - `Argument`: a depth above 256 or another order. The report is of zeros.
+///
+/// `consumed` is then the offset of the first place at which the bytes can't go on as such an item: a title, of which
+/// that of a text stands for its body too, or with the answers on keys the later key. It is `place` too. But with
+/// `Short` `consumed` is the offset of the title that is cut, or the end of the bytes if a body is cut, and `place` is
+/// 0, which promises nothing on how many bytes are due.
+#[unsafe(no_mangle)]
+pub extern "C" fn cll_deterministic(
+    bytes: &[u8],
+    depth: u32,
+    order: u32,
+    report: &mut CllReport,
+) -> u32
+    ensures exactly { (keys : AnyOrder) (len : ℕ) → depth ≤ 256 → order ≡ order_code keys
+        → (HasDeterministic keys depth bytes.now len ↔ (result ≡ code a.Ok) × (report.new.consumed ≡ len)) }
+    ensures refused { (keys : AnyOrder) (why : AnyWhy) (offset : ℕ) → depth ≤ 256 → order ≡ order_code keys
+        → HasRefusal keys depth bytes.now why offset
+        → (result ≡ code (why_answer why)) × Reports report.new offset 0 (named_place why offset) }
+    ensures determined { (keys : AnyOrder) → depth ≤ 256 → order ≡ order_code keys
+        → (answer : CllAnswer) × (result ≡ code answer) × Determines keys depth bytes.now answer report.new }
+    ensures argument { (256 < depth) ⊎ IsNoOrder order → (result ≡ code a.Argument) × Reports report.new 0 0 0 }
+{
+    ciborium_ll_calls::cll_deterministic(bytes, depth, order, report)
 }
 
 /// Finds the longest front of the bytes that is UTF-8 (RFC 3629), of which it says that it was consumed.

@@ -1,6 +1,7 @@
 pub mod CopyLaws
 pub mod CountLaws
 pub mod CutTitles
+pub mod DeterministicLaws
 pub mod ElementDue
 pub mod ElementShapes
 pub mod ItemDue

@@ -36,6 +36,10 @@ code_ok a.TooLong result is = (λ same. absurd (omega (arith, is, same)), λ sam
 code_ok a.BreakDue result is = (λ same. absurd (omega (arith, is, same)), λ same. absurd cc)
 code_ok a.TooDeep result is = (λ same. absurd (omega (arith, is, same)), λ same. absurd cc)
 code_ok a.Argument result is = (λ same. absurd (omega (arith, is, same)), λ same. absurd cc)
+code_ok a.NotShortest result is = (λ same. absurd (omega (arith, is, same)), λ same. absurd cc)
+code_ok a.Indefinite result is = (λ same. absurd (omega (arith, is, same)), λ same. absurd cc)
+code_ok a.KeyOrder result is = (λ same. absurd (omega (arith, is, same)), λ same. absurd cc)
+code_ok a.DuplicateKey result is = (λ same. absurd (omega (arith, is, same)), λ same. absurd cc)
 
 -- where the answer is `Ok` exactly under a condition, the number is that of `Ok` exactly then
 pub code_exactly : {Holds : Type 0} (answer : CllAnswer) (result : ℕ) → result ≡ code answer → (answer ≡ a.Ok) ↔ Holds
@@ -53,6 +57,10 @@ is_short a.TooLong result is same = absurd (omega (arith, is, same))
 is_short a.BreakDue result is same = absurd (omega (arith, is, same))
 is_short a.TooDeep result is same = absurd (omega (arith, is, same))
 is_short a.Argument result is same = absurd (omega (arith, is, same))
+is_short a.NotShortest result is same = absurd (omega (arith, is, same))
+is_short a.Indefinite result is same = absurd (omega (arith, is, same))
+is_short a.KeyOrder result is same = absurd (omega (arith, is, same))
+is_short a.DuplicateKey result is same = absurd (omega (arith, is, same))
 
 -- what holds where the answer is `Short` holds where the number is that of `Short`
 pub code_short : {Holds : Type 0} (answer : CllAnswer) (result : ℕ) → result ≡ code answer
@@ -72,6 +80,10 @@ pulled_exactly bytes a.TooLong old new consumed result is pulled = absurd pulled
 pulled_exactly bytes a.BreakDue old new consumed result is pulled = absurd pulled
 pulled_exactly bytes a.TooDeep old new consumed result is pulled = absurd pulled
 pulled_exactly bytes a.Argument old new consumed result is pulled = absurd pulled
+pulled_exactly bytes a.NotShortest old new consumed result is pulled = absurd pulled
+pulled_exactly bytes a.Indefinite old new consumed result is pulled = absurd pulled
+pulled_exactly bytes a.KeyOrder old new consumed result is pulled = absurd pulled
+pulled_exactly bytes a.DuplicateKey old new consumed result is pulled = absurd pulled
 
 module _ {R E : Type 0} (source : Ghosts R E) (strict : Bool) (reader : R) (decoder : Decoder R)
     (fresh : IsFreshAs strict reader 0 decoder) where

@@ -124,6 +124,10 @@ found_pieces bytes a.TooLong report found = absurd found
 found_pieces bytes a.BreakDue report found = absurd found
 found_pieces bytes a.TooDeep report found = absurd found
 found_pieces bytes a.Argument report found = absurd found
+found_pieces bytes a.NotShortest report found = absurd found
+found_pieces bytes a.Indefinite report found = absurd found
+found_pieces bytes a.KeyOrder report found = absurd found
+found_pieces bytes a.DuplicateKey report found = absurd found
 
 -- `Ok` comes just of a text
 pub found_exactly : (bytes : List ℕ) (answer : CllAnswer) (report : CllReport) → FindsText bytes answer report
@@ -144,3 +148,7 @@ found_exactly bytes a.TooLong report found = absurd found
 found_exactly bytes a.BreakDue report found = absurd found
 found_exactly bytes a.TooDeep report found = absurd found
 found_exactly bytes a.Argument report found = absurd found
+found_exactly bytes a.NotShortest report found = absurd found
+found_exactly bytes a.Indefinite report found = absurd found
+found_exactly bytes a.KeyOrder report found = absurd found
+found_exactly bytes a.DuplicateKey report found = absurd found

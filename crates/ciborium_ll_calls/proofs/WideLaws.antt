@@ -338,3 +338,7 @@ puts_wide parts width title old new a.TooLong report of put = absurd put
 puts_wide parts width title old new a.BreakDue report of put = absurd put
 puts_wide parts width title old new a.TooDeep report of put = absurd put
 puts_wide parts width title old new a.Argument report of put = absurd put
+puts_wide parts width title old new a.NotShortest report of put = absurd put
+puts_wide parts width title old new a.Indefinite report of put = absurd put
+puts_wide parts width title old new a.KeyOrder report of put = absurd put
+puts_wide parts width title old new a.DuplicateKey report of put = absurd put

@@ -14,6 +14,10 @@ code a.TooLong = 4
 code a.BreakDue = 5
 code a.TooDeep = 6
 code a.Argument = 7
+code a.NotShortest = 8
+code a.Indefinite = 9
+code a.KeyOrder = 10
+code a.DuplicateKey = 11
 
 -- the number of some answer
 abbrev pub IsCode : ℕ → Type 0

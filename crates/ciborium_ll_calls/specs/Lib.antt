@@ -2,6 +2,7 @@ pub mod Answers
 pub mod Checking
 pub mod Copying
 pub mod Counting
+pub mod Determining
 pub mod Feeding
 pub mod Headers
 pub mod ItemPieces

@@ -24,6 +24,14 @@ pub enum CllAnswer {
     TooDeep,
     /// An argument is out of its range, and nothing was done.
     Argument,
+    /// At the place that is reported stands a longer title than need be, or a float that a smaller width has.
+    NotShortest,
+    /// At the place that is reported stands the title of an indefinite form, or a break.
+    Indefinite,
+    /// At the place that is reported stands a key that comes before the key of the pair before it.
+    KeyOrder,
+    /// At the place that is reported stands the same key as that of the pair before it.
+    DuplicateKey,
 }
 
 impl CllAnswer {
@@ -41,6 +49,10 @@ impl CllAnswer {
             CllAnswer::BreakDue => 5,
             CllAnswer::TooDeep => 6,
             CllAnswer::Argument => 7,
+            CllAnswer::NotShortest => 8,
+            CllAnswer::Indefinite => 9,
+            CllAnswer::KeyOrder => 10,
+            CllAnswer::DuplicateKey => 11,
         }
     }
 }
@@ -53,8 +65,8 @@ pub struct CllReport {
     pub consumed: u64,
     /// How many bytes it wrote.
     pub written: u64,
-    /// Of `Syntax`, `BreakDue` and `TooDeep` the offset in the bytes that the answer names. Of `Short`, where the call
-    /// is `cll_recode`, `cll_strict`, `cll_skip` or one of a checker or of a copier of an item, how many bytes more are
+    /// Of `Syntax`, `BreakDue`, `TooDeep`, `NotShortest`, `Indefinite`, `KeyOrder` and `DuplicateKey` the offset in the
+    /// bytes that the answer names. Of `Short`, if the call is `cll_recode`, `cll_strict`, `cll_skip` or one of a checker or of a copier of an item, how many bytes more are
     /// due at least, or 0 where nothing that may follow makes it good. Of `Ok`, where the call is `cll_checker_feed` or
     /// `cll_item_copier_feed`, the length of the item. Else 0.
     pub place: u64,

@@ -5,9 +5,13 @@
 //! The contracts speak of one [`CllAnswer`] by its number (`code`), and say what the call does by that answer.
 #![tactic(auto)]
 
-ghost use Rattle.std.specs.Prelude.{◌≡◌, ◌↔◌, ◌≤◌, ◌<◌, List, ◌++◌, drop, length, Bool, true, false, ℕ};
+ghost use Rattle.std.specs.Prelude.{◌≡◌, ◌↔◌, ◌≤◌, ◌<◌, ◌⊎◌, List, ◌++◌, drop, length, Bool, true, false, ℕ};
 ghost use Rattle.cbor_copy.specs.Copying.{IsCopiedTo};
 ghost use Rattle.cbor_copy.specs.Spots.{Spot as CopySpot};
+ghost use Rattle.cbor_deterministic.specs.declared.Order.{Order as AnyOrder};
+ghost use Rattle.cbor_deterministic.specs.declared.Why.{Why as AnyWhy};
+ghost use Rattle.cbor_deterministic.specs.Deterministic.{HasDeterministic};
+ghost use Rattle.cbor_deterministic.specs.Refusals.{HasRefusal};
 ghost use Rattle.cbor_feed.specs.Spots.{Spot};
 ghost use Rattle.cbor_feed.specs.Steps.{IsFed};
 ghost use Rattle.ciborium_ll.specs.Faults.{RunInFront};
@@ -23,6 +27,7 @@ ghost use Rattle.ciborium_ll_calls.specs.Answers.{IsCode, Reports, code, version
 ghost use Rattle.ciborium_ll_calls.specs.Checking.{Checks};
 ghost use Rattle.ciborium_ll_calls.specs.Copying.{CopiesInto, CopiesAnyhow, HasRoom, copy_answer, copy_place};
 ghost use Rattle.ciborium_ll_calls.specs.Counting.{CountsCopy, CountsElements, CountsStrictly};
+ghost use Rattle.ciborium_ll_calls.specs.Determining.{Determines, IsNoOrder, named_place, order_code, why_answer};
 ghost use Rattle.ciborium_ll_calls.specs.Feeding.{EndsFed, Feeds, IsKept, IsNoChecker, IsSetUp, TakesWithin};
 ghost use Rattle.ciborium_ll_calls.specs.ItemPieces.{EndsItem, FeedsItem, IsItemCopiedTo, IsItemCopier, IsItemSetUp};
 ghost use Rattle.ciborium_ll_calls.specs.ItemPieces.{IsNoItemCopier};
@@ -37,6 +42,7 @@ ghost use Rattle.ciborium_ll_calls.specs.Widths.{PushesWide};
 mod answer;
 mod checker;
 mod copier;
+mod deterministic;
 mod due;
 mod header;
 mod item_copier;
@@ -46,6 +52,7 @@ mod wide;
 pub use self::answer::{CllAnswer, CllReport};
 pub use self::checker::CllChecker;
 pub use self::copier::CllCopier;
+use self::deterministic::{check_item, order_of};
 use self::due::{due_behind, item_len};
 pub use self::header::CllHeader;
 pub use self::item_copier::CllItemCopier;
@@ -378,6 +385,25 @@ pub fn cll_skip(bytes: &[u8], depth: u32, report: &mut CllReport) -> u32
         return CllAnswer::Argument.code();
     }
     skip_or_due(bytes, depth as usize, report).code()
+}
+
+/// Whether the bytes begin with an item in the deterministic encoding (RFC 8949, 4.2.1 and 4.2.3), nested at most
+/// `depth` levels deep.
+pub fn cll_deterministic(bytes: &[u8], depth: u32, order: u32, report: &mut CllReport) -> u32
+    ensures exactly { (keys : AnyOrder) (len : ℕ) → depth ≤ 256 → order ≡ order_code keys
+        → (HasDeterministic keys depth bytes.now len ↔ (result ≡ code a.Ok) × (report.new.consumed ≡ len)) }
+    ensures refused { (keys : AnyOrder) (why : AnyWhy) (offset : ℕ) → depth ≤ 256 → order ≡ order_code keys
+        → HasRefusal keys depth bytes.now why offset
+        → (result ≡ code (why_answer why)) × Reports report.new offset 0 (named_place why offset) }
+    ensures determined { (keys : AnyOrder) → depth ≤ 256 → order ≡ order_code keys
+        → (answer : CllAnswer) × (result ≡ code answer) × Determines keys depth bytes.now answer report.new }
+    ensures argument { (256 < depth) ⊎ IsNoOrder order → (result ≡ code a.Argument) × Reports report.new 0 0 0 }
+{
+    if depth > 256 || order > 1 {
+        report.say(0, 0, 0);
+        return CllAnswer::Argument.code();
+    }
+    check_item(bytes, depth as usize, order_of(order), report).code()
 }
 
 /// Finds the longest front of the bytes that is text.

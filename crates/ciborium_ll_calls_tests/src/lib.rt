@@ -8,6 +8,8 @@ mod copiers;
 #[cfg(test)]
 mod counts;
 #[cfg(test)]
+mod deterministic;
+#[cfg(test)]
 mod item_copiers;
 #[cfg(test)]
 mod told;
