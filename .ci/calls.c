@@ -35,6 +35,7 @@ static int takes_null(void)
         && told(cll_strict(NULL, 0, 0, &report), CLL_OK, 0, 0, 0)
         && told(cll_strict(NULL, 0, 1, &report), CLL_SHORT, 0, 0, 1)
         && told(cll_skip(NULL, 0, 256, &report), CLL_SHORT, 0, 0, 1)
+        && told(cll_deterministic(NULL, 0, 256, CLL_BYTEWISE, &report), CLL_SHORT, 0, 0, 0)
         && told(cll_utf8(NULL, 0, &report), CLL_OK, 0, 0, 0);
 }
 
@@ -387,7 +388,7 @@ static int joins_pieces(void)
 /* Each answer has a text of its own, and so has what is none. */
 static int tells_answers(void)
 {
-    for (uint32_t one = CLL_OK; one <= CLL_ARGUMENT + 1u; one++) {
+    for (uint32_t one = CLL_OK; one <= CLL_DUPLICATE_KEY + 1u; one++) {
         if (cll_strerror(one)[0] == '\0')
             return 0;
         for (uint32_t other = CLL_OK; other < one; other++) {
@@ -395,7 +396,7 @@ static int tells_answers(void)
                 return 0;
         }
     }
-    return strcmp(cll_strerror(99), cll_strerror(CLL_ARGUMENT + 1u)) == 0;
+    return strcmp(cll_strerror(99), cll_strerror(CLL_DUPLICATE_KEY + 1u)) == 0;
 }
 
 /* Whether the memory of one call overlaps that of another, or its input its output. */
@@ -480,6 +481,44 @@ static int tells_what_is_due(void)
     return 1;
 }
 
+/* The deterministic encoding, in both orders of keys, and the places of what is none. */
+static int checks_deterministic(void)
+{
+    static const struct {
+        uint8_t data[8];
+        size_t len;
+        uint32_t bytewise, length_first;
+        uint64_t consumed, place;
+    } rows[] = {
+        {{0xa1, 0x61, 'a', 0x82, 0x01, 0x02, 0x1c}, 7, CLL_OK, CLL_OK, 6, 0},
+        {{0xa2, 0x01, 0x00, 0x18, 0x18, 0x00}, 6, CLL_OK, CLL_OK, 6, 0},
+        {{0xa2, 0x02, 0x00, 0x01, 0x00}, 5, CLL_KEY_ORDER, CLL_KEY_ORDER, 3, 3},
+        {{0xa2, 0x01, 0x00, 0x01, 0x00}, 5, CLL_DUPLICATE_KEY, CLL_DUPLICATE_KEY, 3, 3},
+        {{0x81, 0x18, 0x05}, 3, CLL_NOT_SHORTEST, CLL_NOT_SHORTEST, 1, 1},
+        {{0x81, 0xfa, 0x3f, 0xc0, 0x00, 0x00}, 6, CLL_NOT_SHORTEST, CLL_NOT_SHORTEST, 1, 1},
+        {{0x81, 0x9f, 0xff}, 3, CLL_INDEFINITE, CLL_INDEFINITE, 1, 1},
+        {{0x81, 0xf8, 0x18}, 3, CLL_SYNTAX, CLL_SYNTAX, 1, 1},
+        {{0x81, 0x62, 'a', 0xff}, 4, CLL_SYNTAX, CLL_SYNTAX, 1, 1},
+        {{0x81, 0x81, 0x80}, 3, CLL_TOO_DEEP, CLL_TOO_DEEP, 2, 2},
+        {{0x82, 0x00, 0x19, 0x03}, 4, CLL_SHORT, CLL_SHORT, 2, 0},
+        {{0x81, 0x42, 0x00}, 3, CLL_SHORT, CLL_SHORT, 3, 0},
+    };
+    static const uint8_t apart[] = {0xa2, 0x18, 0x64, 0x00, 0x20, 0x00};
+    for (size_t i = 0; i < sizeof rows / sizeof *rows; i++) {
+        const uint64_t consumed = rows[i].consumed, place = rows[i].place;
+        const uint8_t *data = rows[i].data;
+        if (!told(cll_deterministic(data, rows[i].len, 2, CLL_BYTEWISE, &report), rows[i].bytewise, consumed, 0, place)
+            || !told(cll_deterministic(data, rows[i].len, 2, CLL_LENGTH_FIRST, &report), rows[i].length_first, consumed,
+                0, place))
+            return 0;
+    }
+    return told(cll_deterministic(apart, sizeof apart, 1, CLL_BYTEWISE, &report), CLL_OK, 6, 0, 0)
+        && told(cll_deterministic(apart, sizeof apart, 1, CLL_LENGTH_FIRST, &report), CLL_KEY_ORDER, 4, 0, 4)
+        && told(cll_deterministic(apart, sizeof apart, 257, CLL_BYTEWISE, &report), CLL_ARGUMENT, 0, 0, 0)
+        && told(cll_deterministic(apart, sizeof apart, 1, 2, &report), CLL_ARGUMENT, 0, 0, 0)
+        && CLL_NOT_SHORTEST == 8 && CLL_INDEFINITE == 9 && CLL_KEY_ORDER == 10 && CLL_DUPLICATE_KEY == 11;
+}
+
 static int is_this_version(void)
 {
     return cll_version() == 65536u * CLL_VERSION_MAJOR + 256u * CLL_VERSION_MINOR + CLL_VERSION_PATCH;
@@ -495,7 +534,7 @@ int main(void)
         {"memory", refuses_memory},     {"overwritten", survives_damage}, {"elements", counts_elements},
         {"no bytes to copy", copies_null}, {"no copier", refuses_copiers}, {"a copier", survives_damaged_copiers},
         {"no bytes of an item to copy", copies_item_null}, {"a copier of an item", survives_damaged_item_copiers},
-        {"due", tells_what_is_due},
+        {"due", tells_what_is_due},     {"deterministic", checks_deterministic},
     };
     for (size_t i = 0; i < sizeof rows / sizeof *rows; i++) {
         if (!rows[i].holds()) {

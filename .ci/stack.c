@@ -1,7 +1,8 @@
 /*
  * Prints how many bytes of the stack each call uses, one line NAME BYTES for each: of cll_skip for some depths, each
- * filled with nests of two kinds down to a text and to a byte string of indefinite length. A line NAME/short is of bytes
- * that end too early, in one of the ways in which they can.
+ * filled with nests of two kinds down to a text and to a byte string of indefinite length; and of cll_deterministic for
+ * the same depths, filled with tags, arrays or maps down to texts, a byte string and a float. A line NAME/short is of
+ * bytes that end too early, in one of the ways in which they can.
  *
  * A call runs on a stack of its own, which was filled before with one value. What it changed is what it used. What a
  * call of nothing uses is taken off.
@@ -34,6 +35,8 @@ static void push_wide(void) { answer = cll_push_wide(&header, 8, out, sizeof out
 static void recode(void) { answer = cll_recode(data, len, 1, out, sizeof out, &report); }
 static void strict(void) { answer = cll_strict(data, len, 1, &report); }
 static void skip(void) { answer = cll_skip(data, len, depth, &report); }
+static void deterministic(void) { answer = cll_deterministic(data, len, depth, CLL_BYTEWISE, &report); }
+static void length_first(void) { answer = cll_deterministic(data, len, depth, CLL_LENGTH_FIRST, &report); }
 static void utf8(void) { answer = cll_utf8(data + TITLE, len - TITLE, &report); }
 
 static void checker_init(void) { answer = cll_checker_init(&checker, DEEPEST); }
@@ -60,6 +63,10 @@ static void no_utf8(void) { answer = cll_utf8(data, len, &report) == CLL_SYNTAX 
 static uint32_t cut(uint32_t got) { return got == CLL_SHORT ? CLL_OK : CLL_ARGUMENT; }
 static void recode_cut(void) { answer = cut(cll_recode(data, len - 1, 1, out, sizeof out, &report)); }
 static void strict_cut(void) { answer = cut(cll_strict(data, len - 1, 1, &report)); }
+static void deterministic_cut(void)
+{
+    answer = cut(cll_deterministic(data, len - 1, depth, CLL_BYTEWISE, &report));
+}
 static void skip_cut(void) { answer = cut(cll_skip(data, len - 1, depth, &report)); }
 
 /* Of bytes that end too early as they are. */
@@ -119,6 +126,33 @@ static void make_nests(int is_open, unsigned levels)
     memcpy(data + around, inner, sizeof inner);
     memset(data + around + sizeof inner, is_open ? 0xff : 0x00, around);
     len = 2 * around + sizeof inner;
+    depth = levels;
+}
+
+/*
+ * So many nests within one another: tags, arrays, maps with the next one as a key, or maps with it as a value.
+ * In the innermost one are a short text, a byte string, a float and a text of 99 bytes.
+ */
+static void make_definite_nests(int kind, unsigned levels)
+{
+    static const uint8_t inner[] = {0x84, 0x63, 0xe6, 0xb0, 0xb4, 0x42, 1, 2, 0xfb, 0x3f, 0xf1, 0x99, 0x99, 0x99, 0x99,
+        0x99, 0x9a, 0x78, 99};
+    static const uint8_t titles[] = {0xc1, 0x82, 0xa1, 0xa1};
+    const size_t around = levels - 1;
+    len = 0;
+    for (size_t i = 0; i < around; i++) {
+        data[len++] = titles[kind];
+        if (kind == 3)
+            data[len++] = 0x00;
+    }
+    memcpy(data + len, inner, sizeof inner);
+    len += sizeof inner;
+    for (int i = 0; i < 33; i++, len += 3)
+        memcpy(data + len, inner + 2, 3);
+    if (kind == 1 || kind == 2) {
+        memset(data + len, 0x00, around);
+        len += around;
+    }
     depth = levels;
 }
 
@@ -184,6 +218,12 @@ int main(void)
             make_nests(is_open, depths[i]);
             printf("cll_skip/%u %zu\n", depths[i], used(skip) - plain);
             printf("cll_skip/short/%u %zu\n", depths[i], used(skip_cut) - plain);
+        }
+        for (int kind = 0; kind < 4; kind++) {
+            make_definite_nests(kind, depths[i]);
+            printf("cll_deterministic/%u %zu\n", depths[i], used(deterministic) - plain);
+            printf("cll_deterministic/length_first/%u %zu\n", depths[i], used(length_first) - plain);
+            printf("cll_deterministic/short/%u %zu\n", depths[i], used(deterministic_cut) - plain);
         }
     }
     return 0;

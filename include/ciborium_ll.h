@@ -19,7 +19,8 @@
  * cll_item_copier_init and cll_item_copier_init_strict less than 3 KiB, and cll_item_copier_feed less than 4 KiB.
  * If the bytes end too early, cll_recode and cll_strict take less than 4.5 KiB. cll_skip takes less than 4 KiB. If the
  * bytes begin with no item, it takes less than 2 KiB and 328 bytes for each level that it goes down, if that is more: 8
- * KiB at 16 levels, 23 KiB at 64, and 84 KiB at 256.
+ * KiB at 16 levels, 23 KiB at 64, and 84 KiB at 256. cll_deterministic takes less than 512 bytes and 144 bytes for each
+ * level that it goes down: 3 KiB at 16 levels, 10 KiB at 64, and 37 KiB at 256.
  */
 #ifndef CIBORIUM_LL_H
 #define CIBORIUM_LL_H
@@ -64,7 +65,7 @@ typedef struct { uint64_t value; uint8_t kind; uint8_t indefinite; } cll_header;
  *
  * It is that of a title, and for cll_utf8 that of the byte behind the front. But for the body of a text that is no
  * UTF-8, in a string that no open begins, it is the end of the string's title less the length of the shortest one, so
- * it lies inside a title that is longer than that. Of cll_deterministic it is a title, or the first byte of a key.
+ * it lies inside a title that is longer than that.
  *
  * With CLL_SHORT `place` is no offset. Of cll_recode, cll_strict, cll_skip and the calls of a checker and of a copier
  * of an item it says how many bytes more are due: whatever follows the bytes so far so that they become what was asked
@@ -224,22 +225,23 @@ CLL_NODISCARD cll_answer cll_strict(const uint8_t *data, size_t len, uint64_t co
 CLL_NODISCARD cll_answer cll_skip(const uint8_t *data, size_t len, uint32_t depth, cll_report *report);
 
 /*
- * Whether `data` begins with an item in the deterministic encoding (RFC 8949, 4.2), whatever follows it. `order` is one
- * of the numbers of cll_order. Nothing is written. `consumed` is the item's length. Values that are the same have one
- * such item in each order.
+ * Checks that `data` begins with an item in the deterministic encoding, whatever follows it (RFC 8949, 4.2). `order` is
+ * one of the numbers of cll_order. Nothing is written. `consumed` is the item's length. Values that are the same have
+ * one such item in each order.
  *
  * Each number and length stands in the fewest bytes, and each float in the smallest width that has it. No length is
  * indefinite. The keys of each map ascend in the order, and no two of them are the same. A NaN keeps its sign and
  * payload, and 0.0 and -0.0 differ. No tag is looked into. Levels are those of cll_skip, and `depth` is at most 256.
  *
- * CLL_OK; CLL_SHORT where `data` ends before the item does; CLL_SYNTAX for a first byte with which no title begins, for
- * a simple value from 24 to 31, and for the title of a text that is not UTF-8; CLL_NOT_SHORTEST, also for a simple value
- * below 24 in two bytes; CLL_INDEFINITE; CLL_KEY_ORDER; CLL_DUPLICATE_KEY; CLL_TOO_DEEP; and CLL_ARGUMENT for a depth
- * above 256 and for another order.
+ * CLL_OK; CLL_SHORT if `data` ends before the item does; CLL_SYNTAX for a first byte with which no title begins, for a
+ * simple value from 24 to 31, and for a text that is not UTF-8; CLL_NOT_SHORTEST, also for a simple value below 24 in
+ * two bytes; CLL_INDEFINITE; CLL_KEY_ORDER; CLL_DUPLICATE_KEY; CLL_TOO_DEEP; and CLL_ARGUMENT for a depth above 256 and
+ * for another order.
  *
- * `place` and `consumed` are both the offset of the first title or key at which `data` can't go on as such an item. With
- * CLL_SHORT `place` is 0, and `consumed` is the offset of the title that is cut, or `len` if a body is cut or a title is
- * missing. A text whose body is cut is CLL_SHORT, whatever its bytes are.
+ * `place` and `consumed` are both the offset of the first title or key at which `data` can't go on as such an item. For
+ * a text that is not UTF-8 it is that of its title. With CLL_SHORT `place` is 0, and `consumed` is the offset of the
+ * title that is cut, or `len` if a body is cut or a title is missing. A text whose body is cut is CLL_SHORT, whatever
+ * its bytes are.
  */
 CLL_NODISCARD cll_answer cll_deterministic(const uint8_t *data, size_t len, uint32_t depth, uint32_t order,
     cll_report *report);

@@ -110,7 +110,17 @@ enum class answer : std::uint32_t {
     too_long = CLL_TOO_LONG,
     break_due = CLL_BREAK_DUE,
     too_deep = CLL_TOO_DEEP,
-    argument = CLL_ARGUMENT
+    argument = CLL_ARGUMENT,
+    not_shortest = CLL_NOT_SHORTEST,
+    indefinite = CLL_INDEFINITE,
+    key_order = CLL_KEY_ORDER,
+    duplicate_key = CLL_DUPLICATE_KEY
+};
+
+/* The order of the keys of a map: by their bytes, or the shorter one first (RFC 8949, 4.2.1 and 4.2.3). */
+enum class order : std::uint32_t {
+    bytewise = CLL_BYTEWISE,
+    length_first = CLL_LENGTH_FIRST
 };
 
 /* The name of an answer. */
@@ -125,6 +135,10 @@ constexpr const char *name_of(answer code) noexcept
     case answer::break_due: return "break_due";
     case answer::too_deep: return "too_deep";
     case answer::argument: return "argument";
+    case answer::not_shortest: return "not_shortest";
+    case answer::indefinite: return "indefinite";
+    case answer::key_order: return "key_order";
+    case answer::duplicate_key: return "duplicate_key";
     }
     return "unknown";
 }
@@ -309,6 +323,20 @@ inline result<std::size_t> skip(input bytes, std::uint32_t depth = 256) noexcept
 {
     cll_report report;
     const std::uint32_t code = cll_skip(bytes.data(), bytes.size(), depth, &report);
+    if (code != CLL_OK)
+        return detail::fault_of(code, report);
+    return static_cast<std::size_t>(report.consumed);
+}
+
+/*
+ * The length of the one item that comes first, which is in the deterministic encoding (RFC 8949, 4.2), with the keys of
+ * its maps in this order. It contains at most so many levels, and no more than 256.
+ */
+inline result<std::size_t> deterministic(input bytes, std::uint32_t depth = 64, order keys = order::bytewise) noexcept
+{
+    cll_report report;
+    const auto number = static_cast<std::uint32_t>(keys);
+    const std::uint32_t code = cll_deterministic(bytes.data(), bytes.size(), depth, number, &report);
     if (code != CLL_OK)
         return detail::fault_of(code, report);
     return static_cast<std::size_t>(report.consumed);

@@ -135,6 +135,10 @@ static int holds(const struct row *row)
     } else if (strcmp(row->call, "skip") == 0) {
         answer = cll_skip(data, row->len, (uint32_t)row->number, &report);
         made = with_due(text, made, 1, answer, &report);
+    } else if (strcmp(row->call, "deterministic") == 0 || strcmp(row->call, "length_first") == 0) {
+        const cll_order order = strcmp(row->call, "deterministic") == 0 ? CLL_BYTEWISE : CLL_LENGTH_FIRST;
+        answer = cll_deterministic(data, row->len, (uint32_t)row->number, order, &report);
+        made = with_due(text, made, 1, answer, &report);
     } else if (strcmp(row->call, "utf8") == 0) {
         answer = cll_utf8(data, row->len, &report);
     } else if (strcmp(row->call, "feed") == 0 || strcmp(row->call, "feed_strict") == 0) {

@@ -128,7 +128,10 @@ int holds(const row *row)
         return copies(*row, data);
     const auto depth = static_cast<std::uint32_t>(row->number);
     const auto got = call == "strict" ? cll::strict(data, row->number)
-        : call == "skip" ? cll::skip(data, depth) : cll::utf8(data);
+        : call == "skip" ? cll::skip(data, depth)
+        : call == "deterministic" ? cll::deterministic(data, depth)
+        : call == "length_first" ? cll::deterministic(data, depth, cll::order::length_first)
+        : cll::utf8(data);
     const auto lacks = call == "utf8" ? std::string() : due(got);
     return fits(*row, got, got ? *got : 0, lacks.empty() ? "-" : lacks);
 }

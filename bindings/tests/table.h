@@ -9,7 +9,7 @@ enum { ROOM = 64 };
 static const char *const kind_names[] = {"positive", "negative", "bytes", "text", "array", "map", "tag", "simple",
     "half", "single", "double", "break"};
 static const char *const answer_names[] = {"ok", "short", "syntax", "room", "too_long", "break_due", "too_deep",
-    "argument"};
+    "argument", "not_shortest", "indefinite", "key_order", "duplicate_key"};
 
 /* A row. What was given stands in `bytes`, or of a push in `header`. */
 struct row {

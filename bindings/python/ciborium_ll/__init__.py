@@ -16,8 +16,9 @@ import os
 from typing import Any, ClassVar, Dict, Iterator, NamedTuple, Optional, Tuple, Type, Union
 
 __all__ = ["Kind", "Header", "Title", "Recoded", "Error", "ShortError", "CborSyntaxError", "RoomError", "BreakDueError",
-           "TooDeepError", "ArgumentError", "Short", "Syntax", "Room", "BreakDue", "TooDeep", "Argument", "Progress",
-           "Checker", "Copied", "Copier", "ItemCopier", "pull", "push", "recode", "strict", "skip", "utf8", "headers"]
+           "TooDeepError", "ArgumentError", "NotShortestError", "IndefiniteError", "KeyOrderError", "DuplicateKeyError",
+           "Short", "Syntax", "Room", "BreakDue", "TooDeep", "Argument", "Order", "Progress", "Checker", "Copied",
+           "Copier", "ItemCopier", "pull", "push", "recode", "strict", "skip", "deterministic", "utf8", "headers"]
 
 # What has the buffer protocol. Python has a name for it from 3.12 on.
 _Bytes = getattr(collections.abc, "Buffer", Union[bytes, bytearray, memoryview, mmap.mmap, array.array])
@@ -41,6 +42,16 @@ class Kind(enum.IntEnum):
     SINGLE = 9
     DOUBLE = 10
     BREAK = 11
+
+
+class Order(enum.IntEnum):
+    """The order of the keys of a map, by their encodings.
+
+    By their bytes (RFC 8949, 4.2.1), or the shorter one first, and keys of the same length by their bytes (4.2.3).
+    """
+
+    BYTEWISE = 0
+    LENGTH_FIRST = 1
 
 
 class Header(NamedTuple):
@@ -163,6 +174,30 @@ class ArgumentError(Error):
     name = "argument"
 
 
+class NotShortestError(Error):
+    """At the place stands a longer title than need be, or a float that a smaller width has."""
+
+    name = "not_shortest"
+
+
+class IndefiniteError(Error):
+    """At the place stands the title of an indefinite form, or a break."""
+
+    name = "indefinite"
+
+
+class KeyOrderError(Error):
+    """At the place stands a key that comes before the key of the pair before it."""
+
+    name = "key_order"
+
+
+class DuplicateKeyError(Error):
+    """At the place stands the same key as that of the pair before it."""
+
+    name = "duplicate_key"
+
+
 # Shorter names of the same.
 Short, Syntax, Room, BreakDue, TooDeep, Argument = (
     ShortError, CborSyntaxError, RoomError, BreakDueError, TooDeepError, ArgumentError)
@@ -171,7 +206,8 @@ _STRINGS = (Kind.BYTES, Kind.TEXT)
 
 # By the answers' numbers. Number 4 is never answered of bytes in memory.
 _ERRORS: Dict[int, Type[Error]] = {1: ShortError, 2: CborSyntaxError, 3: RoomError, 5: BreakDueError, 6: TooDeepError,
-                                   7: ArgumentError}
+                                   7: ArgumentError, 8: NotShortestError, 9: IndefiniteError, 10: KeyOrderError,
+                                   11: DuplicateKeyError}
 
 
 class _Header(ctypes.Structure):
@@ -254,6 +290,7 @@ def _library() -> ctypes.CDLL:
     calls.cll_recode.argtypes = [data, size, number, data, size, report]
     calls.cll_strict.argtypes = [data, size, number, report]
     calls.cll_skip.argtypes = [data, size, ctypes.c_uint32, report]
+    calls.cll_deterministic.argtypes = [data, size, ctypes.c_uint32, ctypes.c_uint32, report]
     calls.cll_utf8.argtypes = [data, size, report]
     calls.cll_checker_init.argtypes = [checker, ctypes.c_uint32]
     calls.cll_checker_init_strict.argtypes = [checker, ctypes.c_uint32]
@@ -267,8 +304,8 @@ def _library() -> ctypes.CDLL:
     calls.cll_item_copier_feed.argtypes = [item, data, size, data, size, report]
     calls.cll_item_copier_end.argtypes = [item, report]
     calls.cll_version.argtypes = []
-    for call in ("version pull push push_wide recode strict skip utf8 checker_init checker_init_strict "
-                 "checker_feed checker_end copier_init copier_feed copier_end item_copier_init "
+    for call in ("version pull push push_wide recode strict skip deterministic utf8 checker_init "
+                 "checker_init_strict checker_feed checker_end copier_init copier_feed copier_end item_copier_init "
                  "item_copier_init_strict item_copier_feed item_copier_end").split():
         getattr(calls, f"cll_{call}").restype = ctypes.c_uint32
     return calls
@@ -382,6 +419,18 @@ def skip(data: _Bytes, depth: int = 256, offset: int = 0) -> int:
     """The length of the item at the offset, which contains at most so many levels, and no more than 256."""
     with _Memory(data, offset) as (at, length):
         return _skipped(at, length, _held(depth, 32, "the depth"), offset)
+
+
+def deterministic(data: _Bytes, depth: int = 64, order: Order = Order.BYTEWISE, offset: int = 0) -> int:
+    """The length of the item at the offset, which is in the deterministic encoding (RFC 8949, 4.2).
+
+    The keys of its maps ascend in this order. It contains at most so many levels, and no more than 256.
+    """
+    report = _Report()
+    with _Memory(data, offset) as (at, length):
+        _check(_CALLS.cll_deterministic(at, length, _held(depth, 32, "the depth"), _held(order, 32, "the order"),
+                                        report), report, offset)
+    return report.consumed
 
 
 def utf8(data: _Bytes, offset: int = 0) -> int:

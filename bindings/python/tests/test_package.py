@@ -54,7 +54,8 @@ class Bytes(unittest.TestCase):
 
     def test_memory_is_given_back(self):
         data = bytearray(b"\x9c")
-        for call in (ciborium_ll.pull, ciborium_ll.recode, ciborium_ll.strict, ciborium_ll.skip, ciborium_ll.utf8):
+        for call in (ciborium_ll.pull, ciborium_ll.recode, ciborium_ll.strict, ciborium_ll.skip, ciborium_ll.utf8,
+                     ciborium_ll.deterministic):
             self.assertRaises(Error, call, data)
             self.assertRaises(IndexError, call, data, offset=2)
         # A loan that is left would refuse this.
@@ -136,6 +137,9 @@ class Numbers(unittest.TestCase):
             self.assertRaises(OverflowError, ciborium_ll.recode, MAP, number)
             self.assertRaises(OverflowError, ciborium_ll.push, Header(Kind.TAG, number))
         self.assertRaises(OverflowError, ciborium_ll.skip, MAP, 1 << 32)
+        self.assertRaises(OverflowError, ciborium_ll.deterministic, MAP, 1 << 32)
+        self.assertRaises(OverflowError, ciborium_ll.deterministic, MAP, 64, 1 << 32)
+        self.assertRaises(ciborium_ll.Argument, ciborium_ll.deterministic, MAP, 64, 2)
         self.assertRaises(OverflowError, ciborium_ll.push, Header(256, 0))
         self.assertRaises(OverflowError, ciborium_ll.push, Header(Kind.MAP, 0), (1 << 32) + 1)
         self.assertRaises(ciborium_ll.Argument, ciborium_ll.push, Header(12, 0))
@@ -151,6 +155,20 @@ class Errors(unittest.TestCase):
         with self.assertRaises(ciborium_ll.Short) as caught:
             ciborium_ll.pull(b"\x00\x19", 1)
         self.assertEqual(caught.exception.place, 2)
+
+    def test_the_deterministic_encoding_is_checked(self):
+        self.assertEqual(ciborium_ll.deterministic(b"-" + MAP, offset=1), 6)
+        keys = bytes.fromhex("a2186400f400")
+        self.assertEqual(ciborium_ll.deterministic(keys, 1), 6)
+        with self.assertRaises(ciborium_ll.KeyOrderError) as caught:
+            ciborium_ll.deterministic(b"-" + keys, 1, ciborium_ll.Order.LENGTH_FIRST, offset=1)
+        self.assertEqual((caught.exception.name, caught.exception.place), ("key_order", 5))
+        self.assertRaises(ciborium_ll.NotShortestError, ciborium_ll.deterministic, b"\x18\x05")
+        self.assertRaises(ciborium_ll.IndefiniteError, ciborium_ll.deterministic, b"\x9f\xff")
+        self.assertRaises(ciborium_ll.DuplicateKeyError, ciborium_ll.deterministic, bytes.fromhex("a201000100"))
+        with self.assertRaises(ciborium_ll.ShortError) as caught:
+            ciborium_ll.deterministic(bytes.fromhex("008201"), offset=1)
+        self.assertEqual((caught.exception.place, caught.exception.due), (3, 0))
 
     def test_an_error_can_be_sent(self):
         with self.assertRaises(Error) as caught:

@@ -3,7 +3,7 @@ import unittest
 from pathlib import Path
 
 import ciborium_ll
-from ciborium_ll import Header, Kind
+from ciborium_ll import Header, Kind, Order
 
 # The table stands beside the package in the repository, and beside this file in a source archive.
 HERE = Path(__file__).resolve()
@@ -35,6 +35,9 @@ def made(call, number, given):
         return consumed, out.hex() or "-"
     if call == "utf8":
         return ciborium_ll.utf8(data), "-"
+    if call in ("deterministic", "length_first"):
+        order = Order.BYTEWISE if call == "deterministic" else Order.LENGTH_FIRST
+        return ciborium_ll.deterministic(data, number, order), "-"
     return {"strict": ciborium_ll.strict, "skip": ciborium_ll.skip}[call](data, number), "-"
 
 

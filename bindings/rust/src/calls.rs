@@ -136,6 +136,36 @@ pub(crate) fn skip(bytes: &[u8], depth: u32, offset: usize) -> Result<usize, Err
     }
 }
 
+/// The order of the keys of a map, by their encodings.
+#[derive(Clone, Copy, Debug, Default, PartialEq, Eq, Hash)]
+pub enum Order {
+    /// By their bytes (RFC 8949, 4.2.1).
+    #[default]
+    Bytewise,
+    /// The shorter one first, and keys of the same length by their bytes (RFC 8949, 4.2.3).
+    LengthFirst,
+}
+
+/// The length of the one item that comes first, which is in the deterministic encoding (RFC 8949, 4.2), with the keys of
+/// its maps in this order. It contains at most so many levels, and no more than 256.
+///
+/// ```
+/// use ciborium_ll_proved::{deterministic, Error, Order};
+///
+/// assert_eq!(deterministic(b"\xa2\x18\x64\0\xf4\0", 16, Order::Bytewise), Ok(6));
+/// let other = deterministic(b"\xa2\x18\x64\0\xf4\0", 16, Order::LengthFirst);
+/// assert_eq!(other, Err(Error::KeyOrder(4)));
+/// ```
+pub fn deterministic(bytes: &[u8], depth: u32, order: Order) -> Result<usize, Error> {
+    let mut report = cll_report::default();
+    let (data, order) = (bytes.as_ptr(), order as u32);
+    // SAFETY: as this file says.
+    match unsafe { sys::cll_deterministic(data, bytes.len(), depth, order, &mut report) } {
+        0 => Ok(report.consumed as usize),
+        answer => Err(Error::of(answer, &report, 0)),
+    }
+}
+
 /// The bytes as text, where all of them are UTF-8. Else the place of the error is the length of their longest front that
 /// is: `Short` where a character is cut off behind it, which more bytes may complete, and `Syntax` where no UTF-8 goes
 /// on.

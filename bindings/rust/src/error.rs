@@ -24,6 +24,14 @@ pub enum Error {
     TooDeep(usize),
     /// An argument is out of its range, and nothing was done.
     Argument,
+    /// There stands a longer title than need be, or a float that a smaller width has.
+    NotShortest(usize),
+    /// There stands the title of an indefinite form, or a break.
+    Indefinite(usize),
+    /// There stands a key that comes before the key of the pair before it.
+    KeyOrder(usize),
+    /// There stands the same key as that of the pair before it.
+    DuplicateKey(usize),
 }
 
 impl Error {
@@ -39,6 +47,10 @@ impl Error {
             3 => Error::Room,
             5 => Error::BreakDue(place),
             6 => Error::TooDeep(place),
+            8 => Error::NotShortest(place),
+            9 => Error::Indefinite(place),
+            10 => Error::KeyOrder(place),
+            11 => Error::DuplicateKey(place),
             // Number 4 is never answered of bytes in memory.
             _ => Error::Argument,
         }
@@ -54,6 +66,10 @@ impl Error {
             Error::BreakDue(_) => "break_due",
             Error::TooDeep(_) => "too_deep",
             Error::Argument => "argument",
+            Error::NotShortest(_) => "not_shortest",
+            Error::Indefinite(_) => "indefinite",
+            Error::KeyOrder(_) => "key_order",
+            Error::DuplicateKey(_) => "duplicate_key",
         }
     }
 
@@ -64,7 +80,11 @@ impl Error {
             Error::Short { place, .. }
             | Error::Syntax(place)
             | Error::BreakDue(place)
-            | Error::TooDeep(place) => Some(place),
+            | Error::TooDeep(place)
+            | Error::NotShortest(place)
+            | Error::Indefinite(place)
+            | Error::KeyOrder(place)
+            | Error::DuplicateKey(place) => Some(place),
             Error::Room | Error::Argument => None,
         }
     }

@@ -37,7 +37,9 @@ mod headers;
 pub mod stream;
 pub mod sys;
 
-pub use calls::{recode, skip_item, strict, strict_len, utf8, Copied, Stopped};
+pub use calls::{
+    deterministic, recode, skip_item, strict, strict_len, utf8, Copied, Order, Stopped,
+};
 pub use checker::{Checker, Feed, Progress};
 pub use copier::{Copier, Copying, Fed, ItemCopier};
 pub use decoder::{Decoder, Segments};

@@ -88,6 +88,13 @@ extern "C" {
     ) -> u32;
     pub fn cll_strict(data: *const u8, len: usize, count: u64, report: *mut cll_report) -> u32;
     pub fn cll_skip(data: *const u8, len: usize, depth: u32, report: *mut cll_report) -> u32;
+    pub fn cll_deterministic(
+        data: *const u8,
+        len: usize,
+        depth: u32,
+        order: u32,
+        report: *mut cll_report,
+    ) -> u32;
     pub fn cll_utf8(data: *const u8, len: usize, report: *mut cll_report) -> u32;
     pub fn cll_checker_init(checker: *mut cll_checker, depth: u32) -> u32;
     pub fn cll_checker_init_strict(checker: *mut cll_checker, depth: u32) -> u32;

@@ -1,8 +1,8 @@
 //! Holds the crate to the table of rows that every binding is held to.
 
 use ciborium_ll_proved::{
-    recode, skip_item, strict_len, utf8, Checker, Copier, Copying, Decoder, Encoder, Error, Float,
-    Header, Progress,
+    deterministic, recode, skip_item, strict_len, utf8, Checker, Copier, Copying, Decoder, Encoder,
+    Error, Float, Header, Order, Progress,
 };
 
 const TABLE: &str = include_str!("../../tests/rows");
@@ -109,6 +109,14 @@ fn made(call: &str, number: u64, given: &str) -> Result<(usize, String), Error> 
         }
         "strict" => Ok((strict_len(&data, number)?, "-".to_string())),
         "skip" => Ok((skip_item(&data, number as u32)?, "-".to_string())),
+        "deterministic" => {
+            let length = deterministic(&data, number as u32, Order::Bytewise)?;
+            Ok((length, "-".to_string()))
+        }
+        "length_first" => {
+            let length = deterministic(&data, number as u32, Order::LengthFirst)?;
+            Ok((length, "-".to_string()))
+        }
         "utf8" => Ok((utf8(&data)?.len(), "-".to_string())),
         _ => panic!("a row of no call: {call}"),
     }

@@ -1,7 +1,8 @@
 //! What the types say of themselves, whether an item has ended, and the iterator over titles.
 
 use ciborium_ll_proved::{
-    headers, recode, skip_item, Checker, Copier, Error, Header, ItemCopier, Progress,
+    deterministic, headers, recode, skip_item, Checker, Copier, Error, Header, ItemCopier, Order,
+    Progress,
 };
 use std::collections::HashSet;
 
@@ -17,6 +18,20 @@ fn errors_tell_what_they_are() {
     );
     assert_eq!(Error::from(stopped), Error::Short { place: 3, due: 1 });
     assert!(HashSet::from([error]).contains(&Error::Syntax(1)));
+}
+
+#[test]
+fn the_deterministic_encoding_is_checked() {
+    let check = |bytes| deterministic(bytes, 1, Order::default());
+    assert_eq!(check(b"\xa2\x18\x64\0\xf4\0\x1c"), Ok(6));
+    assert_eq!(check(b"\x81\x18\x05"), Err(Error::NotShortest(1)));
+    assert_eq!(check(b"\x9f\xff"), Err(Error::Indefinite(0)));
+    assert_eq!(check(b"\xa2\x02\0\x01\0"), Err(Error::KeyOrder(3)));
+    let error = check(b"\xa2\x01\0\x01\0").unwrap_err();
+    assert_eq!(error.to_string(), "duplicate_key at 3");
+    assert_eq!(check(b"\x82\x01"), Err(Error::Short { place: 2, due: 0 }));
+    let deep = deterministic(b"\x05", 257, Order::LengthFirst);
+    assert_eq!(deep, Err(Error::Argument));
 }
 
 #[cfg(feature = "std")]
