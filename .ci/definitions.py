@@ -4,7 +4,6 @@ which there are, what they say, on which others they rest, and under which path 
 A definition rests on another one if its text, without comments, names that or one of its cases.
 """
 import glob
-import os
 import re
 import sys
 
@@ -33,7 +32,8 @@ class Definition:
         """What it says, on one line, with the arguments of the modules around it."""
         said = " ".join(" ".join(re.sub(r"(^| )--.*", "", line) for line in self.first_lines()).split())
         start = START.match(said)
-        around = [" ".join(line.strip() for line in block if not line.strip().startswith("--")) for block in self.blocks]
+        lines = [[line.strip() for line in block if not line.strip().startswith("--")] for block in self.blocks]
+        around = map(" ".join, lines)
         given = [re.sub(r"^module \S+ ?| ?where$|^mutual$", "", header) for header in around]
         kind = re.sub(r"\b(pub|abbrev|unfoldable) ?", "", start[1])
         return kind + " ".join(filter(None, [self.name, *given, said[start.end():].strip()]))
@@ -129,9 +129,9 @@ def imports(pattern, text):
 
 
 def words_of(text):
-    """The words of a text of definitions or contracts, without its comments."""
+    """The words of a text of definitions or contracts, without its comments, each once and in their order."""
     text = re.sub(r"--.*", "", text)
-    return set(re.findall(r"[^\s(){}\[\],.;:|]+", text))
+    return list(dict.fromkeys(re.findall(r"[^\s(){}\[\],.;:|]+", text)))
 
 
 def read_files(kind="specs"):
