@@ -126,10 +126,10 @@ def take_parts(lines, kind):
     return parts
 
 
-def read_code(path, file, public=True):
-    """The module of a file, with those below it."""
+def read_code(path, file, public=True, text=None):
+    """The module of a file, with those below it. The text is that of the file if none is given."""
     module = Module(path, public)
-    text = read_text(file)
+    text = read_text(file) if text is None else text
     lines = text.split("\n")
     module.ghost_uses = imports(r"^ *ghost use Rattle\.([\w.]+)\.\{([^}]*)\};$", text)
     below = os.path.join(os.path.dirname(file), "" if file.endswith("lib.rt") else os.path.basename(file)[:-3])
@@ -142,6 +142,9 @@ def read_code(path, file, public=True):
             continue
         if line.startswith("///") or line.startswith("#["):
             (docs if line.startswith("///") else attributes).append(line)
+            at += 1
+            continue
+        if line.startswith("//"):
             at += 1
             continue
         found = re.match(r"(pub )?mod (\w+);", line)
