@@ -1,4 +1,5 @@
 #!/usr/bin/env python3
+# SPDX-License-Identifier: Apache-2.0
 """Says of CBOR in hexadecimal what its first title is, how far its first item reaches, and its shortest spelling.
 
 usage: check.py LIBRARY HEX

@@ -1,3 +1,4 @@
+/* SPDX-License-Identifier: Apache-2.0 */
 /* The argument COUNT of the examples. */
 #ifndef COUNT_H
 #define COUNT_H

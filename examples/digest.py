@@ -1,4 +1,5 @@
 #!/usr/bin/env python3
+# SPDX-License-Identifier: Apache-2.0
 """Prints the SHA-256 of an item of CBOR, exactly if it is the one encoding of its value.
 
 A program that signs items, or finds them by their hash, needs that no other bytes stand for the same value.

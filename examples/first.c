@@ -1,3 +1,4 @@
+/* SPDX-License-Identifier: Apache-2.0 */
 /* Prints the number that a title says. */
 #include <ciborium_ll.h>
 #include <stdio.h>

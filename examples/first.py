@@ -1,3 +1,4 @@
+# SPDX-License-Identifier: Apache-2.0
 """Prints the titles of an item, and where one is not in its shortest spelling."""
 import ciborium_ll
 

@@ -1,3 +1,4 @@
+/* SPDX-License-Identifier: Apache-2.0 */
 /*
  * Copies COUNT elements of CBOR from one file to another, each in its shortest spelling.
  *

@@ -1,3 +1,4 @@
+/* SPDX-License-Identifier: Apache-2.0 */
 /*
  * Tells whether standard input is one whole item of CBOR and nothing more, as a program has to know before it signs or
  * stores an item.

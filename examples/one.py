@@ -1,4 +1,5 @@
 #!/usr/bin/env python3
+# SPDX-License-Identifier: Apache-2.0
 """Tells whether standard input is one whole item of CBOR and nothing more.
 
 A program has to know that before it signs or stores an item.

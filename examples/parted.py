@@ -1,4 +1,5 @@
 #!/usr/bin/env python3
+# SPDX-License-Identifier: Apache-2.0
 """Checks files of CBOR, or copies them to their shortest spelling, by as many workers as there are, over Dask.
 
 usage: parted.py WORKERS check PATH

@@ -1,3 +1,4 @@
+/* SPDX-License-Identifier: Apache-2.0 */
 /*
  * Checks items of CBOR as they come through a pipe, and says of each that it has ended as soon as its last byte came.
  *

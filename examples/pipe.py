@@ -1,4 +1,5 @@
 #!/usr/bin/env python3
+# SPDX-License-Identifier: Apache-2.0
 """Checks items of CBOR as they come through a pipe, in an event loop of asyncio, which can serve others meanwhile.
 
 usage: producer | pipe.py

@@ -1,3 +1,4 @@
+/* SPDX-License-Identifier: Apache-2.0 */
 /*
  * Tells whether hexadecimal bytes begin with COUNT elements of CBOR in their one shortest spelling, as whoever checks a
  * message that was signed as bytes has to know.

@@ -1,3 +1,4 @@
+/* SPDX-License-Identifier: Apache-2.0 */
 /*
  * CBOR (RFC 7049, 2.1 to 2.4) out of memory and into memory. C99, and C++.
  *

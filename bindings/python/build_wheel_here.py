@@ -1,3 +1,4 @@
+# SPDX-License-Identifier: Apache-2.0
 """Makes the wheel and the source archive, with Python's own library alone.
 
 A wheel has the package's files, the shared library and what names them; `library` says which library that is. The source

@@ -1,3 +1,4 @@
+// SPDX-License-Identifier: Apache-2.0
 //! Finds the static library: in the folder that CIBORIUM_LL_LIB_DIR names, where `make` in the folder above puts it, in
 //! the release archive, or where pkg-config says.
 

@@ -1,3 +1,4 @@
+# SPDX-License-Identifier: Apache-2.0
 """CBOR (RFC 7049, 2.1 to 2.4) in memory, one header at a time, by a library whose every answer is proved.
 
 Bytes are read where they lie, out of any object with the buffer protocol: ``bytes``, ``bytearray``, ``memoryview``,

@@ -1,3 +1,4 @@
+# SPDX-License-Identifier: Apache-2.0
 """What the table of rows can't say: which bytes are taken, where errors are, and what the iterator gives."""
 import array
 import ast

@@ -1,3 +1,4 @@
+# SPDX-License-Identifier: Apache-2.0
 """Holds the package to the table of rows that every binding is held to."""
 import unittest
 from pathlib import Path

@@ -1,3 +1,4 @@
+// SPDX-License-Identifier: Apache-2.0
 //! The calls over slices. This file alone calls what is not safe by its types: each pointer is that of a slice or of a
 //! value, and none that is written overlaps another one.
 

@@ -1,3 +1,4 @@
+// SPDX-License-Identifier: Apache-2.0
 use crate::calls;
 use crate::sys::cll_checker;
 use crate::Error;

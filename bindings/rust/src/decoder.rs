@@ -1,3 +1,4 @@
+// SPDX-License-Identifier: Apache-2.0
 use crate::calls::{pull, skip, utf8};
 use crate::{Error, Header};
 use core::str;

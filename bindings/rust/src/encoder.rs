@@ -1,3 +1,4 @@
+// SPDX-License-Identifier: Apache-2.0
 use crate::calls::{push, push_wide};
 use crate::{Error, Header};
 

@@ -1,3 +1,4 @@
+// SPDX-License-Identifier: Apache-2.0
 use crate::calls::Stopped;
 use crate::sys::cll_report;
 use core::fmt;

@@ -1,3 +1,4 @@
+// SPDX-License-Identifier: Apache-2.0
 use crate::sys::cll_header;
 
 /// A float, in its raw bits and its own width.

@@ -1,3 +1,4 @@
+// SPDX-License-Identifier: Apache-2.0
 //! The calls for C, as `ciborium_ll.h` has them. A pointer to bytes may be null where their length is 0, and no other
 //! one. What a call writes must not overlap anything else that it is given.
 #![allow(non_camel_case_types)]

@@ -1,3 +1,4 @@
+// SPDX-License-Identifier: Apache-2.0
 //! Holds the crate to the table of rows that every binding is held to.
 
 use ciborium_ll_proved::{

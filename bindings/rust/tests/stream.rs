@@ -1,3 +1,4 @@
+// SPDX-License-Identifier: Apache-2.0
 //! The names of `ciborium-ll` over readers and writers.
 #![cfg(feature = "std")]
 

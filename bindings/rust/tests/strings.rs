@@ -1,3 +1,4 @@
+// SPDX-License-Identifier: Apache-2.0
 //! Strings out of a decoder and into an encoder, and headers that are given back.
 
 use ciborium_ll_proved::{utf8, Decoder, Encoder, Error, Header};

@@ -1,3 +1,4 @@
+// SPDX-License-Identifier: Apache-2.0
 //! What the types say of themselves, whether an item has ended, and the iterator over titles.
 
 use ciborium_ll_proved::{

@@ -11,8 +11,7 @@ use Rattle.cbor_deterministic.specs.Preferred.{IsPreferredTitle}
 
 mutual
   -- `Completes order depth header rest`: after a title of the header, the rest completes an item: nothing, a body of
-  -- the
-  -- length that the header tells, one item after a tag, so many items, or so many pairs (RFC 8949, 3.1 and 4.2.1)
+  -- the length that the header tells, one item after a tag, so many items, or so many pairs (RFC 8949, 3.1 and 4.2.1)
   pub data Completes (order : Order) : ℕ → Header → List ℕ → Type 0 where
     positive : {depth number : ℕ} → Completes order depth (h.Positive number) []
     negative : {depth number : ℕ} → Completes order depth (h.Negative number) []

@@ -2,6 +2,7 @@ pub mod Deterministic
 pub mod Fitting
 pub mod Floats
 pub mod Fronts
+pub mod Held
 pub mod Laws
 pub mod Orders
 pub mod Preferred

@@ -88,6 +88,10 @@ fn map_count(header: Header) -> Option<usize>
 }
 
 impl<'a> Item<'a> {
+    ghost use Rattle.cbor_deterministic.specs.Held.{elements_bytes, elements_depth, elements_due, elements_order};
+    ghost use Rattle.cbor_deterministic.specs.Held.{entries_bytes, entries_depth, entries_due, entries_order};
+    ghost use Rattle.cbor_deterministic.specs.Held.{item_bytes, item_depth, item_order};
+
     /// The item in front of the bytes, and the bytes that follow it. The item is in the deterministic encoding with
     /// this order of keys, and its tags, arrays and maps are nested at most `depth` levels deep. `depth` is at most
     /// [`MAX_DEPTH`].
@@ -105,10 +109,10 @@ impl<'a> Item<'a> {
         order: Order,
     ) -> Result<(Item<'a>, &'a [u8]), Refusal>
         requires shallow { depth ≤ MAX_DEPTH }
-        ensures whole { IfOk result (λ found. bytes.now ≡ found.0.bytes.now ++ found.1.now) }
-        ensures item { IfOk result (λ found. IsDeterministic order depth found.0.bytes.now) }
-        ensures depth { IfOk result (λ found. found.0.depth ≡ depth) }
-        ensures order { IfOk result (λ found. found.0.order ≡ order) }
+        ensures whole { IfOk result (λ found. bytes.now ≡ item_bytes found.0 ++ found.1.now) }
+        ensures item { IfOk result (λ found. IsDeterministic order depth (item_bytes found.0)) }
+        ensures depth { IfOk result (λ found. item_depth found.0 ≡ depth) }
+        ensures order { IfOk result (λ found. item_order found.0 ≡ order) }
         ensures refused { IfErr result (λ refusal. HasRefusal order depth bytes.now refusal.why refusal.place) }
     {
         match next_item(bytes, depth, order) {
@@ -119,14 +123,14 @@ impl<'a> Item<'a> {
 
     /// Its bytes.
     pub fn bytes(&self) -> &'a [u8]
-        ensures { result.now ≡ self.now.bytes.now }
+        ensures { result.now ≡ item_bytes self.now }
     {
         self.bytes
     }
 
     /// The header of its title, and its contents: the bytes that follow the title.
     pub fn open(&self) -> (Header, &'a [u8])
-        ensures { Opens self.now.order self.now.depth self.now.bytes.now result.0 result.1.now }
+        ensures { Opens (item_order self.now) (item_depth self.now) (item_bytes self.now) result.0 result.1.now }
     {
         match next_title(self.bytes) {
             Ok(found) => found,
@@ -136,15 +140,16 @@ impl<'a> Item<'a> {
 
     /// The header of its title. It is never [`Header::Break`], and never of the indefinite form.
     pub fn header(&self) -> Header
-        ensures { IsOpenedBy self.now.bytes.now result }
+        ensures { IsOpenedBy (item_bytes self.now) result }
     {
         self.open().0
     }
 
     /// The number of an unsigned integer, or `None` for any other item.
     pub fn positive(&self) -> Option<u64>
-        ensures { MatchOption result ((number : ℕ) → IsPreferredTitle self.now.bytes.now (Header.Positive number) → ⊥)
-            (λ number. IsPreferredTitle self.now.bytes.now (Header.Positive number)) }
+        ensures { MatchOption result
+            ((number : ℕ) → IsPreferredTitle (item_bytes self.now) (Header.Positive number) → ⊥)
+            (λ number. IsPreferredTitle (item_bytes self.now) (Header.Positive number)) }
     {
         let (header, _contents) = self.open();
         match header {
@@ -155,8 +160,9 @@ impl<'a> Item<'a> {
 
     /// The `n` of the negative integer -1 - n, or `None` for any other item.
     pub fn negative(&self) -> Option<u64>
-        ensures { MatchOption result ((number : ℕ) → IsPreferredTitle self.now.bytes.now (Header.Negative number) → ⊥)
-            (λ number. IsPreferredTitle self.now.bytes.now (Header.Negative number)) }
+        ensures { MatchOption result
+            ((number : ℕ) → IsPreferredTitle (item_bytes self.now) (Header.Negative number) → ⊥)
+            (λ number. IsPreferredTitle (item_bytes self.now) (Header.Negative number)) }
     {
         let (header, _contents) = self.open();
         match header {
@@ -167,8 +173,8 @@ impl<'a> Item<'a> {
 
     /// The number of a simple value, or `None` for any other item.
     pub fn simple(&self) -> Option<u8>
-        ensures { MatchOption result ((number : ℕ) → IsPreferredTitle self.now.bytes.now (Header.Simple number) → ⊥)
-            (λ number. IsPreferredTitle self.now.bytes.now (Header.Simple number)) }
+        ensures { MatchOption result ((number : ℕ) → IsPreferredTitle (item_bytes self.now) (Header.Simple number) → ⊥)
+            (λ number. IsPreferredTitle (item_bytes self.now) (Header.Simple number)) }
     {
         let (header, _contents) = self.open();
         match header {
@@ -179,8 +185,9 @@ impl<'a> Item<'a> {
 
     /// The bits of a float, with their width, or `None` for any other item. No smaller width has the float.
     pub fn float(&self) -> Option<Float>
-        ensures { MatchOption result ((float : AnyFloat) → IsPreferredTitle self.now.bytes.now (Header.Float float) → ⊥)
-            (λ float. IsPreferredTitle self.now.bytes.now (Header.Float float)) }
+        ensures { MatchOption result
+            ((float : AnyFloat) → IsPreferredTitle (item_bytes self.now) (Header.Float float) → ⊥)
+            (λ float. IsPreferredTitle (item_bytes self.now) (Header.Float float)) }
     {
         let (header, _contents) = self.open();
         match header {
@@ -191,8 +198,8 @@ impl<'a> Item<'a> {
 
     /// The body of a byte string, or `None` for any other item.
     pub fn byte_string(&self) -> Option<&'a [u8]>
-        ensures { MatchOption result ((body : List ℕ) → IsBytesOf self.now.bytes.now body → ⊥)
-            (λ body. IsBytesOf self.now.bytes.now body.now) }
+        ensures { MatchOption result ((body : List ℕ) → IsBytesOf (item_bytes self.now) body → ⊥)
+            (λ body. IsBytesOf (item_bytes self.now) body.now) }
     {
         let (header, contents) = self.open();
         match header {
@@ -203,8 +210,8 @@ impl<'a> Item<'a> {
 
     /// The body of a text string, or `None` for any other item.
     pub fn text(&self) -> Option<&'a str>
-        ensures { MatchOption result ((body : List ℕ) → IsTextOf self.now.bytes.now body → ⊥)
-            (λ body. IsTextOf self.now.bytes.now body.now) }
+        ensures { MatchOption result ((body : List ℕ) → IsTextOf (item_bytes self.now) body → ⊥)
+            (λ body. IsTextOf (item_bytes self.now) body.now) }
     {
         let (header, contents) = self.open();
         match header {
@@ -215,9 +222,10 @@ impl<'a> Item<'a> {
 
     /// The number of a tag and the item that it tags, or `None` for any other item.
     pub fn tag(&self) -> Option<(u64, Item<'a>)>
-        ensures { MatchOption result ((number : ℕ) → IsOpenedBy self.now.bytes.now (Header.Tag number) → ⊥)
-            (λ found. Opens self.now.order self.now.depth self.now.bytes.now (Header.Tag found.0) found.1.bytes.now
-            × (self.now.depth ≡ found.1.depth + 1) × (found.1.order ≡ self.now.order)) }
+        ensures { MatchOption result ((number : ℕ) → IsOpenedBy (item_bytes self.now) (Header.Tag number) → ⊥)
+            (λ found. Opens (item_order self.now) (item_depth self.now) (item_bytes self.now) (Header.Tag found.0)
+            (item_bytes found.1) × (item_depth self.now ≡ item_depth found.1 + 1)
+            × (item_order found.1 ≡ item_order self.now)) }
     {
         let (header, contents) = self.open();
         match header {
@@ -235,9 +243,11 @@ impl<'a> Item<'a> {
 
     /// The items of an array, or `None` for any other item.
     pub fn elements(&self) -> Option<Elements<'a>>
-        ensures { MatchOption result ((count : ℕ) → IsOpenedBy self.now.bytes.now (Header.Array (Some count)) → ⊥)
-            (λ elements. Opens self.now.order self.now.depth self.now.bytes.now (Header.Array (Some elements.due))
-            elements.rest.now × (self.now.depth ≡ elements.depth + 1) × (elements.order ≡ self.now.order)) }
+        ensures { MatchOption result ((count : ℕ) → IsOpenedBy (item_bytes self.now) (Header.Array (Some count)) → ⊥)
+            (λ elements. Opens (item_order self.now) (item_depth self.now) (item_bytes self.now)
+            (Header.Array (Some (elements_due elements))) (elements_bytes elements)
+            × (item_depth self.now ≡ elements_depth elements + 1)
+            × (elements_order elements ≡ item_order self.now)) }
     {
         let (header, contents) = self.open();
         match array_count(header) {
@@ -253,9 +263,11 @@ impl<'a> Item<'a> {
 
     /// The pairs of a map, in the order of their keys, or `None` for any other item.
     pub fn entries(&self) -> Option<Entries<'a>>
-        ensures { MatchOption result ((count : ℕ) → IsOpenedBy self.now.bytes.now (Header.Map (Some count)) → ⊥)
-            (λ entries. Opens self.now.order self.now.depth self.now.bytes.now (Header.Map (Some entries.due))
-            entries.rest.now × (self.now.depth ≡ entries.depth + 1) × (entries.order ≡ self.now.order)) }
+        ensures { MatchOption result ((count : ℕ) → IsOpenedBy (item_bytes self.now) (Header.Map (Some count)) → ⊥)
+            (λ entries. Opens (item_order self.now) (item_depth self.now) (item_bytes self.now)
+            (Header.Map (Some (entries_due entries))) (entries_bytes entries)
+            × (item_depth self.now ≡ entries_depth entries + 1)
+            × (entries_order entries ≡ item_order self.now)) }
     {
         let (header, contents) = self.open();
         match map_count(header) {
@@ -271,11 +283,15 @@ impl<'a> Item<'a> {
 }
 
 impl<'a> Item<'a> {
+    ghost use Rattle.cbor_deterministic.specs.Held.{item_bytes, item_depth, item_order};
+
     /// The value of the key with these bytes, or `None` if the map has no such key and if the item is no map. The bytes
     /// are the key in its deterministic encoding. The search stops at the first greater key.
     pub fn get(&self, key: &[u8]) -> Option<Item<'a>>
-        ensures { MatchOption result (HasNoKey self.now.order self.now.depth self.now.bytes.now key.now)
-            (λ item. HasKey self.now.order self.now.depth self.now.bytes.now key.now item.bytes.now) }
+        ensures { MatchOption result
+            (HasNoKey (item_order self.now) (item_depth self.now) (item_bytes self.now) key.now)
+            (λ item. HasKey (item_order self.now) (item_depth self.now) (item_bytes self.now) key.now
+            (item_bytes item)) }
     {
         let (header, contents) = self.open();
         match map_count(header) {
@@ -287,10 +303,10 @@ impl<'a> Item<'a> {
     /// The value of the key that is this text, or `None` if the map has no such key and if the item is no map. The
     /// search passes all pairs up to the key.
     pub fn get_text(&self, key: &str) -> Option<Item<'a>>
-        ensures { MatchOption result (HasNoKey self.now.order self.now.depth self.now.bytes.now
+        ensures { MatchOption result (HasNoKey (item_order self.now) (item_depth self.now) (item_bytes self.now)
             (shortest_title (Header.Text (Some (length key.now))) ++ key.now))
-            (λ item. HasKey self.now.order self.now.depth self.now.bytes.now
-            (shortest_title (Header.Text (Some (length key.now))) ++ key.now) item.bytes.now) }
+            (λ item. HasKey (item_order self.now) (item_depth self.now) (item_bytes self.now)
+            (shortest_title (Header.Text (Some (length key.now))) ++ key.now) (item_bytes item)) }
     {
         self.get_titled(Header::Text(Some(key.len())), key.as_bytes())
     }
@@ -298,10 +314,10 @@ impl<'a> Item<'a> {
     /// The value of the key that is this unsigned integer, or `None` if the map has no such key and if the item is no
     /// map. The search passes all pairs up to the key.
     pub fn get_positive(&self, key: u64) -> Option<Item<'a>>
-        ensures { MatchOption result (HasNoKey self.now.order self.now.depth self.now.bytes.now
+        ensures { MatchOption result (HasNoKey (item_order self.now) (item_depth self.now) (item_bytes self.now)
             (shortest_title (Header.Positive key)))
-            (λ item. HasKey self.now.order self.now.depth self.now.bytes.now (shortest_title (Header.Positive key))
-            item.bytes.now) }
+            (λ item. HasKey (item_order self.now) (item_depth self.now) (item_bytes self.now)
+            (shortest_title (Header.Positive key)) (item_bytes item)) }
     {
         self.get_titled(Header::Positive(key), &[])
     }
@@ -309,10 +325,10 @@ impl<'a> Item<'a> {
     /// The value of the key that is the negative integer -1 - n, or `None` if the map has no such key and if the item
     /// is no map. The search passes all pairs up to the key.
     pub fn get_negative(&self, n: u64) -> Option<Item<'a>>
-        ensures { MatchOption result (HasNoKey self.now.order self.now.depth self.now.bytes.now
+        ensures { MatchOption result (HasNoKey (item_order self.now) (item_depth self.now) (item_bytes self.now)
             (shortest_title (Header.Negative n)))
-            (λ item. HasKey self.now.order self.now.depth self.now.bytes.now (shortest_title (Header.Negative n))
-            item.bytes.now) }
+            (λ item. HasKey (item_order self.now) (item_depth self.now) (item_bytes self.now)
+            (shortest_title (Header.Negative n)) (item_bytes item)) }
     {
         self.get_titled(Header::Negative(n), &[])
     }
@@ -320,10 +336,10 @@ impl<'a> Item<'a> {
     /// The value of the key that is the shortest title of this header and these contents.
     fn get_titled(&self, title: Header, body: &[u8]) -> Option<Item<'a>>
         requires { IsInRange title }
-        ensures { MatchOption result (HasNoKey self.now.order self.now.depth self.now.bytes.now
+        ensures { MatchOption result (HasNoKey (item_order self.now) (item_depth self.now) (item_bytes self.now)
             (shortest_title title ++ body.now))
-            (λ item. HasKey self.now.order self.now.depth self.now.bytes.now (shortest_title title ++ body.now)
-            item.bytes.now) }
+            (λ item. HasKey (item_order self.now) (item_depth self.now) (item_bytes self.now)
+            (shortest_title title ++ body.now) (item_bytes item)) }
     {
         let (header, contents) = self.open();
         match map_count(header) {
@@ -335,7 +351,7 @@ impl<'a> Item<'a> {
     /// Whether it is the shortest title of this header and these contents.
     fn is_titled(&self, title: Header, body: &[u8]) -> bool
         requires { IsInRange title }
-        ensures { IsTrue result ↔ (self.now.bytes.now ≡ shortest_title title ++ body.now) }
+        ensures { IsTrue result ↔ (item_bytes self.now ≡ shortest_title title ++ body.now) }
     {
         let (header, contents) = self.open();
         is_same_header(header, title) && is_same(contents, body)
@@ -423,21 +439,25 @@ fn find_titled<'a>(
 }
 
 impl<'a> Elements<'a> {
+    ghost use Rattle.cbor_deterministic.specs.Held.{elements_bytes, elements_depth, elements_due, elements_order};
+    ghost use Rattle.cbor_deterministic.specs.Held.{item_bytes, item_depth, item_order};
+
     /// How many items are left.
     pub fn left(&self) -> usize
-        ensures { result ≡ self.now.due }
+        ensures { result ≡ elements_due self.now }
     {
         self.due
     }
 
     /// The next item, or `None` after the last one.
     pub fn next(&mut self) -> Option<Item<'a>>
-        ensures next { MatchOption result ((self.old.due ≡ 0) × (self.new.due ≡ 0)
-            × (self.new.rest.now ≡ self.old.rest.now))
-            (λ item. (self.old.rest.now ≡ item.bytes.now ++ self.new.rest.now)
-            × (self.old.due ≡ self.new.due + 1) × (item.depth ≡ self.old.depth) × (item.order ≡ self.old.order)) }
-        ensures depth { self.new.depth ≡ self.old.depth }
-        ensures order { self.new.order ≡ self.old.order }
+        ensures next { MatchOption result ((elements_due self.old ≡ 0) × (elements_due self.new ≡ 0)
+            × (elements_bytes self.new ≡ elements_bytes self.old))
+            (λ item. (elements_bytes self.old ≡ item_bytes item ++ elements_bytes self.new)
+            × (elements_due self.old ≡ elements_due self.new + 1) × (item_depth item ≡ elements_depth self.old)
+            × (item_order item ≡ elements_order self.old)) }
+        ensures depth { elements_depth self.new ≡ elements_depth self.old }
+        ensures order { elements_order self.new ≡ elements_order self.old }
     {
         if self.due == 0 {
             return None;
@@ -452,23 +472,28 @@ impl<'a> Elements<'a> {
 }
 
 impl<'a> Entries<'a> {
+    ghost use Rattle.cbor_deterministic.specs.Held.{entries_bytes, entries_depth, entries_due, entries_order};
+    ghost use Rattle.cbor_deterministic.specs.Held.{item_bytes, item_depth, item_order};
+
     /// How many pairs are left.
     pub fn left(&self) -> usize
-        ensures { result ≡ self.now.due }
+        ensures { result ≡ entries_due self.now }
     {
         self.due
     }
 
     /// The next key and its value, or `None` after the last one.
     pub fn next(&mut self) -> Option<(Item<'a>, Item<'a>)>
-        ensures next { MatchOption result ((self.old.due ≡ 0) × (self.new.due ≡ 0)
-            × (self.new.rest.now ≡ self.old.rest.now))
-            (λ pair. (self.old.rest.now ≡ pair.0.bytes.now ++ (pair.1.bytes.now ++ self.new.rest.now))
-            × (self.old.due ≡ self.new.due + 1)) }
-        ensures key { IfSome result (λ pair. (pair.0.depth ≡ self.old.depth) × (pair.0.order ≡ self.old.order)) }
-        ensures value { IfSome result (λ pair. (pair.1.depth ≡ self.old.depth) × (pair.1.order ≡ self.old.order)) }
-        ensures depth { self.new.depth ≡ self.old.depth }
-        ensures order { self.new.order ≡ self.old.order }
+        ensures next { MatchOption result ((entries_due self.old ≡ 0) × (entries_due self.new ≡ 0)
+            × (entries_bytes self.new ≡ entries_bytes self.old))
+            (λ pair. (entries_bytes self.old ≡ item_bytes pair.0 ++ (item_bytes pair.1 ++ entries_bytes self.new))
+            × (entries_due self.old ≡ entries_due self.new + 1)) }
+        ensures key { IfSome result (λ pair. (item_depth pair.0 ≡ entries_depth self.old)
+            × (item_order pair.0 ≡ entries_order self.old)) }
+        ensures value { IfSome result (λ pair. (item_depth pair.1 ≡ entries_depth self.old)
+            × (item_order pair.1 ≡ entries_order self.old)) }
+        ensures depth { entries_depth self.new ≡ entries_depth self.old }
+        ensures order { entries_order self.new ≡ entries_order self.old }
     {
         if self.due == 0 {
             return None;

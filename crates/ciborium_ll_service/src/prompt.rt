@@ -1,27 +1,35 @@
 //! A copy that writes what it has before it waits for more of its input.
 
+ghost use Rattle.std.specs.Prelude.{◌≡◌, [], ℕ, List, Some};
+ghost use Rattle.ciborium_ll_service.specs.Raw.{CopiesRaw, IsAnything, TellsBehind};
+
+use crate::ahead::ReadAhead;
 use crate::copy::BUFFER_SIZE;
 use crate::raw::{BufferedCopy, ROOM, restored_copy, restored_flush};
 use ciborium_ll_decoder::dec::Decoder;
 use ciborium_ll_encoder::enc::Encoder;
-use ciborium_ll_io::io::{Failures, Write};
+use ciborium_ll_io::io::{Discard, Failures, Write};
 use ciborium_ll_recode::recode::recode;
-use ciborium_ll_streams::{BufferedReader, BufferedWriter, FaultKept};
+use ciborium_ll_streams::{BufferedWriter, FaultKept};
 use std::cell::RefCell;
 use std::io;
 
-/// Writes to a buffered writer in a cell.
+/// Writes to a buffered writer in a cell. It tells the bytes that it handed on, since no clause can speak of a cell.
 #[derive(Drop)]
 struct Shared<'o, 'a, W> {
     output: &'o RefCell<BufferedWriter<'a, W>>,
+    handed_on: Discard,
     failures: Failures,
 }
 
 impl<'o, 'a, W: io::Write> Shared<'o, 'a, W> {
     /// A writer to what the cell has.
-    fn new(output: &'o RefCell<BufferedWriter<'a, W>>) -> Shared<'o, 'a, W> {
+    fn new(output: &'o RefCell<BufferedWriter<'a, W>>) -> Shared<'o, 'a, W>
+        ensures { ⟦<Discard as Write>⟧.written result.handed_on ≡ Some [] }
+    {
         Shared {
             output,
+            handed_on: Discard::new(usize::MAX),
             failures: Failures::new(),
         }
     }
@@ -32,7 +40,7 @@ impl<'o, 'a, W: io::Write> Write for Shared<'o, 'a, W> {
 
     type Error = FaultKept;
 
-    ghost written = { λ _. None };
+    ghost written = { λ w. ⟦<Discard as Write>⟧.written w.handed_on };
 
     ghost room = { λ _. None };
 
@@ -47,6 +55,7 @@ impl<'o, 'a, W: io::Write> Write for Shared<'o, 'a, W> {
     fn write_all(&mut self, data: &[u8]) -> Result<(), FaultKept> {
         if let Ok(mut output) = self.output.try_borrow_mut()
             && output.write_all(data).is_ok()
+            && self.handed_on.write_all(data).is_ok()
         {
             return Ok(());
         }
@@ -75,17 +84,23 @@ struct Prompt<'o, 'a, R, W> {
 
 impl<'o, 'a, R: io::Read, W: io::Write> Prompt<'o, 'a, R, W> {
     /// A reader of what is left within.
-    fn new(source: R, output: &'o RefCell<BufferedWriter<'a, W>>) -> Prompt<'o, 'a, R, W> {
+    fn new(source: R, output: &'o RefCell<BufferedWriter<'a, W>>) -> Prompt<'o, 'a, R, W>
+        ensures { result.source ≡ source }
+    {
         Prompt { source, output }
     }
 
     /// The reader within.
-    fn into_inner(self) -> R {
+    fn into_inner(self) -> R
+        ensures { result ≡ self.entry.source }
+    {
         self.source
     }
 }
 
 impl<'o, 'a, R: io::Read, W: io::Write> io::Read for Prompt<'o, 'a, R, W> {
+    ghost remaining = { λ p. R.remaining p.source };
+
     fn read(&mut self, buf: &mut [u8]) -> io::Result<usize> {
         if let Ok(mut output) = self.output.try_borrow_mut() {
             // What can't be written is kept back still, and is written or told later.
@@ -100,22 +115,26 @@ impl<'o, 'a, R: io::Read, W: io::Write> io::Read for Prompt<'o, 'a, R, W> {
 ///
 /// If such a flush fails, the bytes are kept back, and a later write or the last flush tells the fault.
 ///
-/// It is safe and returns. The reader shares the writer in a cell, of which no clause can speak. So what is written
-/// no clause says.
+/// If the reader tells its bytes, each answer means what it does of [`crate::raw::raw_buffered`] for what was read. The
+/// reader shares the writer in a cell, of which no clause can speak. So no clause says what the writer got.
 pub fn raw_prompt<R: io::Read, W: io::Write>(
     reader: R,
     writer: W,
     count: usize,
-) -> BufferedCopy<R, W> {
+) -> BufferedCopy<R, W>
+    ensures { (due : List ℕ) → R.remaining reader ≡ Some due
+        → CopiesRaw (TellsBehind R.remaining ROOM) IsAnything count due [] result.copied result.reader result.writer }
+{
     let mut read_ahead = [0; ROOM];
     let mut kept_back = [0; ROOM];
     let mut buffer = [0; BUFFER_SIZE];
     let output = RefCell::new(BufferedWriter::new(writer, &mut kept_back));
     let source = Prompt::new(reader, &output);
-    let mut decoder = Decoder::from(BufferedReader::new(source, &mut read_ahead));
+    let mut decoder = Decoder::from(ReadAhead::new(source, &mut read_ahead));
     let mut encoder = Encoder::from(Shared::new(&output));
     let copied = recode(&mut decoder, &mut encoder, count, &mut buffer);
-    let (source, _, read_fault) = decoder.into_inner().into_parts();
+    let ReadAhead { reader } = decoder.into_inner();
+    let (source, _, read_fault) = reader.into_parts();
     let reader = source.into_inner();
     let _ = encoder.into_inner();
     let mut sink = output.into_inner();

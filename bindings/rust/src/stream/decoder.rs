@@ -1,3 +1,4 @@
+// SPDX-License-Identifier: Apache-2.0
 use super::header::length_of;
 use super::{Bytes, Error, Header, Segments, Text};
 use crate::calls;

@@ -1,3 +1,4 @@
+// SPDX-License-Identifier: Apache-2.0
 use super::header::title_of;
 use super::Header;
 use std::io::{self, Write};

@@ -1,3 +1,4 @@
+// SPDX-License-Identifier: Apache-2.0
 //! Floats of three widths as numbers, and back into the least width that keeps them.
 
 use crate::Float;

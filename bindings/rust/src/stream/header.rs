@@ -1,3 +1,4 @@
+// SPDX-License-Identifier: Apache-2.0
 use super::float::{float_of, number_of};
 
 /// What a title means. A length or a count of `None` is the indefinite form.

@@ -1,3 +1,4 @@
+// SPDX-License-Identifier: Apache-2.0
 //! The names of the crate `ciborium-ll`, over any [`Read`] and [`Write`] of `std`.
 //!
 //! What a program calls there is here under the same name, so another `use` is the one change. Floats are numbers, and

@@ -1,3 +1,4 @@
+// SPDX-License-Identifier: Apache-2.0
 use super::{Decoder, Error, Header};
 use crate::calls::utf8_in_front;
 use std::io::{self, Read};
