@@ -2,8 +2,9 @@
 /*
  * CBOR (RFC 7049, 2.1 to 2.4) out of memory and into memory, for C++17, over the calls of ciborium_ll.h.
  *
- * A call that may fail gives a `result`, which has its value or a `fault` with a name and a place. `value()` throws the
- * fault, as an `error`, where there is no value; nothing else throws. No call takes memory.
+ * A call that may fail returns a `result`: a value, or a `fault` with a name and a place. If there is no value,
+ * `value()` throws the fault as an `error`, and no other function throws. No call takes memory. The numbers of a fault
+ * are those of a report in ciborium_ll.h, as `fault` says.
  */
 #ifndef CIBORIUM_LL_HPP
 #define CIBORIUM_LL_HPP
@@ -29,12 +30,12 @@
 
 namespace ciborium_ll {
 
-/* What stands for a byte: `unsigned char`, `char` or `std::byte`. */
+/* The types of a byte: `unsigned char`, `char` or `std::byte`. */
 template <typename T>
 inline constexpr bool is_byte = std::is_same_v<std::remove_cv_t<T>, unsigned char>
     || std::is_same_v<std::remove_cv_t<T>, char> || std::is_same_v<std::remove_cv_t<T>, std::byte>;
 
-/* Bytes that somebody else owns: where they are, and how many. A `T` that is const only reads them. */
+/* Bytes that another object owns: where they are, and how many. If `T` is const, the span only reads them. */
 template <typename T>
 class span {
 public:
@@ -42,8 +43,8 @@ public:
     constexpr span(T *data, std::size_t size) noexcept : data_(data), size_(size) {}
 
     /*
-     * All bytes of an array, a vector, a string, a view or a span. One that is about to end is taken to be read alone.
-     * An array of `char` is none of these, since a literal has a zero at its end.
+     * Makes a span of all bytes of an array, a vector, a string, a view or a span. Of an object that is about to end it
+     * makes a span that only reads. It takes no array of `char`, since a literal has a zero at its end.
      */
     template <typename Bytes, typename Byte = std::remove_pointer_t<decltype(std::data(std::declval<Bytes &>()))>,
         typename Plain = std::remove_cv_t<std::remove_reference_t<Bytes>>,
@@ -61,7 +62,7 @@ public:
     constexpr T *end() const noexcept { return data_ + size_; }
     constexpr T &operator[](std::size_t at) const noexcept { return data_[at]; }
 
-    /* What stands behind the first bytes, and so many of them. Neither asks whether so many are there. */
+    /* The bytes after the first `count` bytes, and these bytes. Neither function checks that there are that many. */
     constexpr span behind(std::size_t count) const noexcept { return {data_ + count, size_ - count}; }
     constexpr span first(std::size_t count) const noexcept { return {data_, count}; }
 
@@ -90,7 +91,7 @@ enum class kind : std::uint8_t {
 
 /*
  * What a title means. `value` is the number, the length, the count or the raw bits, as in `cll_header`. An indefinite
- * form has none, and that of a break is 0.
+ * form has no value, and a break has the value 0.
  */
 struct header {
     ciborium_ll::kind kind;
@@ -124,7 +125,7 @@ enum class order : std::uint32_t {
     length_first = CLL_LENGTH_FIRST
 };
 
-/* The name of an answer. */
+/* Returns the name of an answer. */
 constexpr const char *name_of(answer code) noexcept
 {
     switch (code) {
@@ -145,11 +146,14 @@ constexpr const char *name_of(answer code) noexcept
 }
 
 /*
- * Why a call has no value, and how far it came. `place` is the offset that the fault names: where `too_short` stopped,
- * and 0 for `room` and `argument`. `elements` is how many elements `recode` and `strict` did whole, and `whole` how many
- * bytes these have. `spelled` is how many of the bytes that `recode` wrote are their spelling. With `too_short` `due` is
- * of `recode`, `strict`, `skip`, a checker and a copier of an item how many bytes more are due at least, or 0 where
- * nothing that may follow makes it good; else it is 0.
+ * Why a call has no value, and how far it came.
+ *
+ * `place` is the offset of the fault. For `too_short` it is where the read stopped, and for `room` and `argument` it is
+ * 0. `elements` is how many elements `recode` and `strict` did whole, and `whole` is how many bytes these have.
+ * `spelled` is how many of the bytes that `recode` wrote are their spelling.
+ *
+ * `due` is the least number of bytes that must still come, for `too_short` of `recode`, `strict`, `skip`, a checker and
+ * a copier of an item. It is 0 if no bytes can complete the input, and of every other fault and call.
  */
 struct fault {
     answer code;
@@ -181,7 +185,7 @@ private:
     char text_[48];
 };
 
-/* A value, or a fault. The names are those of std::expected, and `fault()` is a second name of `error()`. */
+/* A value, or a fault. It has the names of std::expected, and `fault()` is a second name of `error()`. */
 template <typename T>
 class [[nodiscard]] result {
 public:
@@ -193,16 +197,18 @@ public:
 
     constexpr explicit operator bool() const noexcept { return value_.has_value(); }
     constexpr bool has_value() const noexcept { return value_.has_value(); }
-    /* These two ask nothing, as those of std::optional do. */
+    /* These two check nothing, as those of std::optional do. */
     constexpr const T &operator*() const noexcept { return *value_; }
     constexpr const T *operator->() const noexcept { return &*value_; }
-    /* The value, or the other one if there is none. */
+    /* Returns the value, or `other` if there is no value. */
     constexpr T value_or(T other) const noexcept { return value_ ? *value_ : other; }
-    /* The fault, if there is no value. */
+    /* Return the fault, if there is no value. */
     constexpr const ciborium_ll::fault &error() const noexcept { return fault_; }
     constexpr const ciborium_ll::fault &fault() const noexcept { return fault_; }
 #if defined(__cpp_exceptions)
-    /* Of a result that is about to end it gives the value itself, so no reference outlives it. */
+    /*
+     * Return the value, or throw the fault. A result that is about to end returns no reference, which might outlive it.
+     */
     const T &value() const &
     {
         if (!value_)
@@ -228,7 +234,7 @@ struct title {
     std::size_t length;
 };
 
-/* How many bytes were consumed, and how many written. */
+/* How many bytes a copy consumed, and how many it wrote. */
 struct copied {
     std::size_t consumed;
     std::size_t written;
@@ -249,7 +255,7 @@ inline fault fault_of(std::uint32_t code, const cll_report &report) noexcept
         report.elements, report.whole, cut ? report.place : 0, report.spelled};
 }
 
-/* Why no end may stand behind so many bytes, by the answer of a call that is fed and its report. */
+/* Returns why no end may follow `taken` bytes, by the answer of an end and its report, or nothing if an end may. */
 inline std::optional<fault> end_of(std::uint32_t code, const cll_report &report, std::uint64_t taken) noexcept
 {
     if (code == CLL_OK)
@@ -260,7 +266,7 @@ inline std::optional<fault> end_of(std::uint32_t code, const cll_report &report,
 
 } /* namespace detail */
 
-/* Reads the one title in front. The body of a string stands behind it, and is not read. */
+/* Reads the title that comes first. The body of a string follows its title, and is not read. */
 inline result<title> pull(input bytes) noexcept
 {
     cll_header got = {0, 0, 0};
@@ -274,7 +280,7 @@ inline result<title> pull(input bytes) noexcept
     return title{{static_cast<kind>(got.kind), value}, consumed};
 }
 
-/* Writes the shortest title of a header, whole or not at all. Its length is at most 9. */
+/* Writes the shortest title of a header, whole or not at all, and returns its length, at most 9. */
 inline result<std::size_t> push(const header &header, output out) noexcept
 {
     const cll_header given = detail::parts_of(header);
@@ -285,7 +291,7 @@ inline result<std::size_t> push(const header &header, output out) noexcept
     return static_cast<std::size_t>(report.written);
 }
 
-/* Writes the title of a header that has so many bytes behind its first one: 0, 1, 2, 4 or 8, as its kind has them. */
+/* Writes the title of a header that has `width` bytes after its first one: 0, 1, 2, 4 or 8, as its kind may have. */
 inline result<std::size_t> push_wide(const header &header, std::uint32_t width, output out) noexcept
 {
     const cll_header given = detail::parts_of(header);
@@ -297,8 +303,8 @@ inline result<std::size_t> push_wide(const header &header, std::uint32_t width, 
 }
 
 /*
- * Copies so many elements, each in its shortest spelling. As many bytes as are read are always room enough. What was
- * written before a fault stands in `out`, which must not overlap what is read.
+ * Copies `count` elements, each in its shortest spelling, and returns both lengths. As many bytes as `bytes` has are
+ * always room enough. What the call wrote before a fault stands in `out`, which must not overlap `bytes`.
  */
 inline result<copied> recode(input bytes, std::uint64_t count, output out) noexcept
 {
@@ -309,7 +315,7 @@ inline result<copied> recode(input bytes, std::uint64_t count, output out) noexc
     return copied{static_cast<std::size_t>(report.consumed), static_cast<std::size_t>(report.written)};
 }
 
-/* The length of so many elements in their one shortest spelling. */
+/* Returns the length of `count` elements in their one shortest spelling. */
 inline result<std::size_t> strict(input bytes, std::uint64_t count) noexcept
 {
     cll_report report;
@@ -319,7 +325,7 @@ inline result<std::size_t> strict(input bytes, std::uint64_t count) noexcept
     return static_cast<std::size_t>(report.consumed);
 }
 
-/* The length of the one item in front, which contains at most so many levels, and no more than 256. */
+/* Returns the length of the item that comes first. It contains at most `depth` levels, which is at most 256. */
 inline result<std::size_t> skip(input bytes, std::uint32_t depth = 256) noexcept
 {
     cll_report report;
@@ -330,8 +336,8 @@ inline result<std::size_t> skip(input bytes, std::uint32_t depth = 256) noexcept
 }
 
 /*
- * The length of the one item that comes first, which is in the deterministic encoding (RFC 8949, 4.2), with the keys of
- * its maps in this order. It contains at most so many levels, and no more than 256.
+ * Returns the length of the item that comes first, in the deterministic encoding (RFC 8949, 4.2), with the keys of its
+ * maps in this order. It contains at most `depth` levels, which is at most 256.
  */
 inline result<std::size_t> deterministic(input bytes, std::uint32_t depth = 64, order keys = order::bytewise) noexcept
 {
@@ -344,9 +350,9 @@ inline result<std::size_t> deterministic(input bytes, std::uint32_t depth = 64, 
 }
 
 /*
- * The length of the bytes, where all of them are UTF-8. Else the place of the fault is the length of their longest front
- * that is: `too_short` where a character is cut off behind it, which more bytes may complete, and `syntax` where no
- * UTF-8 goes on.
+ * Returns the length of the bytes, if all of them are UTF-8. Otherwise the place of the fault is the length of their
+ * longest front that is UTF-8. `too_short` says that a character is cut off after the front, and more bytes may
+ * complete it. `syntax` says that no UTF-8 goes on there.
  */
 inline result<std::size_t> utf8(input bytes) noexcept
 {
@@ -358,8 +364,8 @@ inline result<std::size_t> utf8(input bytes) noexcept
 }
 
 /*
- * How far an item has come of which a checker got a piece: how many bytes it took of that, whether the item has ended,
- * and how many bytes it has, or at least how many more are due.
+ * What a checker says after a piece: how many bytes of the piece it took, and whether the item has ended. `length` is
+ * how many bytes the item has, if it has ended. Otherwise `due` is the least number of bytes that must still come.
  */
 struct progress {
     std::size_t consumed;
@@ -369,9 +375,9 @@ struct progress {
 };
 
 /*
- * Checks one item whose bytes come in pieces, as out of a socket, however they are cut. It takes no memory but its own,
- * and may be copied. The item contains at most so many levels, and no more than 256: with more each call is a fault.
- * Where `shortest` is true it takes an item in its shortest spelling alone.
+ * Checks one item whose bytes come in pieces, as from a socket, however they are cut. A checker takes no memory but its
+ * own, and may be copied. The item contains at most `depth` levels. If `depth` is above 256, each call is a fault. If
+ * `shortest` is true, the checker takes only an item in its shortest spelling.
  */
 class checker {
 public:
@@ -381,8 +387,9 @@ public:
     }
 
     /*
-     * Takes the next bytes: all, but none behind the end of the item. A fault comes with the first byte behind which no
-     * item goes on, and names an offset in the item. Behind both a further call takes nothing, and gives the same.
+     * Takes the next bytes: all of them, or those up to the end of the item. A fault comes with the first byte after
+     * which no item goes on, and names an offset in the item. After the end and after a fault a further call takes
+     * nothing, and returns the same.
      */
     result<progress> feed(input bytes) noexcept
     {
@@ -396,12 +403,12 @@ public:
             ended ? 0 : report.place};
     }
 
-    /* Whether the item has ended. Before its first byte, and after a fault, it has not. */
+    /* Tells whether the item has ended. Before its first byte, and after a fault, it has not. */
     bool ended() const noexcept { return taken_ != 0 && !end(); }
 
     /*
-     * Why no end may stand here, or nothing if no byte came or the item has ended: `ended()` tells which.
-     * `too_short` names how many bytes came, and how many more were due at least.
+     * Returns why no end may come here, or nothing if no byte came or the item has ended: `ended()` tells which. The
+     * place of `too_short` is how many bytes came, and `due` is the least number of bytes that must still come.
      */
     std::optional<fault> end() const noexcept
     {
@@ -410,7 +417,7 @@ public:
         return detail::end_of(code, report, taken_);
     }
 
-    /* How many bytes were taken of all pieces. */
+    /* Returns how many bytes of all pieces were taken. */
     std::uint64_t taken() const noexcept { return taken_; }
 
 private:
@@ -419,8 +426,8 @@ private:
 };
 
 /*
- * How far elements have come of which a copier got a piece: how many bytes it took of that and how many it wrote,
- * whether all elements have come and are written, and whether there is more to write, for which there was no room.
+ * What a copier says after a piece: how many bytes of the piece it took, and how many it wrote. `ended` says that all
+ * has come and is written. `full` says that there is more to write, and no room for it.
  */
 struct copying {
     std::size_t consumed;
@@ -431,7 +438,7 @@ struct copying {
 
 namespace detail {
 
-/* How far it has come, by the answer of a copier to a piece and its report. */
+/* Returns how far a copy has come, by the answer of a copier to a piece and its report. */
 inline result<copying> copying_of(std::uint32_t code, const cll_report &report) noexcept
 {
     if (code != CLL_OK && code != CLL_SHORT && code != CLL_ROOM)
@@ -443,18 +450,17 @@ inline result<copying> copying_of(std::uint32_t code, const cll_report &report) 
 } /* namespace detail */
 
 /*
- * Copies so many elements whose bytes come in pieces to their shortest spelling, however they are cut and how long the
- * outputs are. It takes no memory but its own, and may be copied.
+ * Copies `count` elements whose bytes come in pieces to their shortest spelling, however the bytes are cut, and however
+ * long the outputs are. A copier takes no memory but its own, and may be copied.
  */
 class copier {
 public:
     explicit copier(std::uint64_t count) noexcept { (void)cll_copier_init(&kept_, count); }
 
     /*
-     * Takes the next bytes, and writes as much as can be written of all so far. Where `full` is true, what was not
-     * taken has to be given again. A fault comes with the first byte behind which no such elements go on, and names an
-     * offset in all of them. Behind the end and behind a fault a further call takes and writes nothing, and gives the
-     * same.
+     * Takes the next bytes, and writes as much as it can of all bytes so far. If `full` is true, give again what was
+     * not taken. A fault comes with the first byte after which the elements cannot go on, and names an offset in all of
+     * them. After the end and after a fault a further call takes and writes nothing, and returns the same.
      */
     result<copying> feed(input bytes, output out) noexcept
     {
@@ -464,12 +470,12 @@ public:
         return detail::copying_of(code, report);
     }
 
-    /* Whether all elements have come and are written. Of no elements that is so before the first byte. */
+    /* Tells whether all elements have come and are written. No elements have ended before the first byte. */
     bool ended() const noexcept { return !end(); }
 
     /*
-     * Why no end may stand here, or nothing where all elements have come and are written. `too_short` names how many
-     * bytes came.
+     * Returns why no end may come here, or nothing if all elements have come and are written. The place of `too_short`
+     * is how many bytes came.
      */
     std::optional<fault> end() const noexcept
     {
@@ -478,7 +484,7 @@ public:
         return detail::end_of(code, report, taken_);
     }
 
-    /* How many bytes were taken of all pieces. */
+    /* Returns how many bytes of all pieces were taken. */
     std::uint64_t taken() const noexcept { return taken_; }
 
 private:
@@ -487,9 +493,9 @@ private:
 };
 
 /*
- * Copies one item whose bytes come in pieces to its shortest spelling, as a `copier` does elements, and ends where the
- * item ends. The item contains at most so many levels, and no more than 256: with more each call is a fault. Where
- * `shortest` is true it takes an item in its shortest spelling alone.
+ * Copies one item whose bytes come in pieces to its shortest spelling, as a `copier` copies elements. It ends where the
+ * item ends. The item contains at most `depth` levels. If `depth` is above 256, each call is a fault. If `shortest` is
+ * true, the copier takes only an item in its shortest spelling.
  */
 class item_copier {
 public:
@@ -499,10 +505,10 @@ public:
     }
 
     /*
-     * Takes the next bytes, none behind the end of the item, and writes as much as can be written of all so far. Where
-     * `full` is true, what was not taken has to be given again. A fault comes with the first byte behind which no item
-     * goes on, of which nothing is written, and names an offset in the item. Behind the end and behind a fault a further
-     * call takes and writes nothing, and gives the same.
+     * Takes the next bytes, at most up to the end of the item, and writes as much as it can of all bytes so far. If
+     * `full` is true, give again what was not taken. A fault comes with the first byte after which no item goes on, and
+     * names an offset in the item. Nothing of that byte is written. After the end and after a fault a further call
+     * takes and writes nothing, and returns the same.
      */
     result<copying> feed(input bytes, output out) noexcept
     {
@@ -513,12 +519,13 @@ public:
         return detail::copying_of(code, report);
     }
 
-    /* Whether the item has ended and is written. Before its first byte, and after a fault, it has not. */
+    /* Tells whether the item has ended and is written. Before its first byte, and after a fault, it has not. */
     bool ended() const noexcept { return taken_ != 0 && !end(); }
 
     /*
-     * Why no end may stand here, or nothing if no byte came, or the item has ended and is written: `ended()` tells
-     * which. `too_short` names how many bytes came, and how many more were due at least.
+     * Returns why no end may come here, or nothing if no byte came, or the item has ended and is written: `ended()`
+     * tells which. The place of `too_short` is how many bytes came, and `due` is the least number of bytes that must
+     * still come.
      */
     std::optional<fault> end() const noexcept
     {
@@ -527,7 +534,7 @@ public:
         return detail::end_of(code, report, taken_);
     }
 
-    /* How many bytes were taken of all pieces. */
+    /* Returns how many bytes of all pieces were taken. */
     std::uint64_t taken() const noexcept { return taken_; }
 
 private:
@@ -544,7 +551,7 @@ public:
     input rest() const noexcept { return bytes_.behind(offset_); }
     bool at_end() const noexcept { return offset_ == bytes_.size(); }
 
-    /* The header of the next title. */
+    /* Reads the next title, and returns its header. */
     result<header> pull() noexcept
     {
         const result<title> got = ciborium_ll::pull(rest());
@@ -554,7 +561,7 @@ public:
         return got->header;
     }
 
-    /* The next bytes, as the body of a string behind its header, or nothing where there are not so many. */
+    /* Takes the next `count` bytes, as the body of a string after its header. Returns nothing if there are fewer. */
     std::optional<input> take(std::uint64_t count) noexcept
     {
         if (count > rest().size())
@@ -564,7 +571,7 @@ public:
         return taken;
     }
 
-    /* The bytes of the next item, whatever it contains. */
+    /* Skips the next item, whatever it contains, and returns its bytes. */
     result<input> skip(std::uint32_t depth = 256) noexcept
     {
         const result<std::size_t> length = ciborium_ll::skip(rest(), depth);
@@ -586,8 +593,8 @@ private:
 };
 
 /*
- * A header, and where its title starts and ends. Of a string of a definite length `body` is what stands behind the
- * title, which of a text is UTF-8.
+ * A header, and where its title starts and ends. For a string of a definite length `body` is the bytes that follow the
+ * title. The body of a text is UTF-8.
  */
 struct located {
     ciborium_ll::header header;
@@ -597,8 +604,8 @@ struct located {
 };
 
 /*
- * Goes over the titles of bytes, up to their end. Each is a `result`: a fault is the last one. A string of a definite
- * length is read whole, and its body is passed over. Nothing is said of how the titles nest.
+ * Goes over the titles of bytes, up to their end. Each title is a `result`, and a fault is the last one. A string of a
+ * definite length is read whole, and the next title is the one after its body. Nothing is said of how the titles nest.
  */
 class headers {
 public:
@@ -626,7 +633,7 @@ public:
             step();
             return old;
         }
-        /* Two are the same at the same offset of the same bytes, or if both are ends. */
+        /* Two iterators are equal at the same offset of the same bytes, or if both are ends. */
         friend bool operator==(const iterator &a, const iterator &b) noexcept
         {
             return a.now_.has_value() == b.now_.has_value() && (!a.now_ || a.next_ == b.next_);
@@ -695,7 +702,7 @@ private:
 
 } /* namespace ciborium_ll */
 
-/* A span is a view, and what it gives stays where it is after its end: in C++20 so for std::ranges too. */
+/* A span is a view, and its bytes stay where they are after its end. In C++20 std::ranges knows both. */
 #if defined(__cpp_lib_ranges)
 template <typename T>
 inline constexpr bool std::ranges::enable_borrowed_range<ciborium_ll::span<T>> = true;

@@ -1,5 +1,6 @@
 #!/usr/bin/env python3
-"""Tries examples/parted.py over a cluster of two processes: with a worker that dies, with faults and with an index.
+"""Tries bindings/python/examples/parted.py over a cluster of two processes: with a worker that dies, with faults and
+with an index.
 
 usage: try_parted.py FOLDER
 

@@ -1,4 +1,4 @@
--- The length of the item that begins bytes.
+-- The length of the item at the start of bytes.
 use Rattle.cbor_deterministic.specs.declared.Order.{Order}
 use Rattle.std.proofs.Common.{◌≡◌, ℕ, ◌-◌, ◌+◌, List, length, take, drop, sym, ◌∙◌, ap, subst, arith}
 use Rattle.std.proofs.Common.{length-append}

@@ -1,4 +1,4 @@
--- Which floats of 32 bits are those of 16 bits.
+-- The floats of 32 bits that 16 bits hold.
 use Rattle.std.proofs.Common.{◌≡◌, ℕ, ◌+◌, ◌-◌, ◌*◌, ◌/◌, ◌%◌, ◌<◌, ◌≤◌, ◌^◌, ◌⊎◌, inl, inr, refl, sym, ◌∙◌, ap, subst}
 use Rattle.std.proofs.Common.{arith, true, nat_eq}
 use Rattle.std.proofs.Common.{Bool, false, nat_lt}

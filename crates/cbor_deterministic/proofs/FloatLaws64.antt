@@ -1,4 +1,4 @@
--- Which floats of 64 bits are those of 32 bits.
+-- The floats of 64 bits that 32 bits hold.
 use Rattle.std.proofs.Common.{◌≡◌, ℕ, ◌+◌, ◌-◌, ◌*◌, ◌/◌, ◌%◌, ◌<◌, ◌≤◌, ◌^◌, ◌⊎◌, inl, inr, refl, sym, ◌∙◌, ap, subst}
 use Rattle.std.proofs.Common.{arith, true, nat_eq}
 use Rattle.std.proofs.Common.{Bool, false, nat_lt}

@@ -1,4 +1,4 @@
--- What stands at the beginning of bytes, and where they fail, by the rest of them.
+-- The beginning of bytes, and the place at which they fail, by the rest of them.
 use Rattle.std.proofs.Common.{◌≡◌, ℕ, List, ◌-◌, ◌∙◌, ap, arith, length, length-append, take}
 use Rattle.std.proofs.Common.{◌++◌, refl, sym}
 use Rattle.std.specs.List.{IsSplitAt}

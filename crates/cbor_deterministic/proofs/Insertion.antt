@@ -1,4 +1,4 @@
--- A pair put among ascending ones, where its key comes.
+-- A pair put among ascending pairs, at the place of its key.
 use Rattle.cbor_deterministic.specs.Orders.{Precedes}
 use Rattle.cbor_deterministic.specs.declared.Order.{Order}
 use Rattle.std.proofs.Common.{◌≡◌, ℕ, suc, List, [], ◌∷◌, ◌++◌}

@@ -1,4 +1,4 @@
--- An item in the deterministic encoding is one that a strict decoder takes, so none begins another one.
+-- A strict decoder takes each item in the deterministic encoding, so no item begins another item.
 use Rattle.std.proofs.Common.{◌≡◌, ℕ, zero, suc, ◌*◌, List, [], ◌++◌, refl, sym, ◌∙◌, ap, subst, append_assoc}
 use Rattle.std.proofs.Common.{append-nil, arith, true}
 use Rattle.ciborium_ll_grammar.specs.declared.hdr.Header.{Header}

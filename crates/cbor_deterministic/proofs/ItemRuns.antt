@@ -1,4 +1,4 @@
--- Items at the beginning of bytes, one after the other, and where the bytes fail.
+-- Items in a row at the beginning of bytes, and the place at which the bytes fail.
 use Rattle.cbor_deterministic.specs.Orders.{Precedes}
 use Rattle.ciborium_ll_grammar.specs.declared.hdr.Header.{Header}
 use Rattle.ciborium_ll_grammar.specs.declared.hdr.Header.TheVariants as h

@@ -1,4 +1,4 @@
--- Bytes that fail begin with no item, and the place is one of theirs.
+-- Bytes that fail begin with no item, and the place is within them or at their end.
 use Rattle.cbor_deterministic.specs.Orders.{Precedes}
 use Rattle.ciborium_ll_grammar.specs.declared.hdr.Header.{Header}
 use Rattle.cbor_deterministic.specs.declared.Order.{Order}

@@ -1,4 +1,4 @@
--- Bytes fail at one place alone, for one reason.
+-- Bytes fail at only one place, for one reason.
 use Rattle.cbor_deterministic.specs.Orders.{Precedes}
 use Rattle.ciborium_ll_grammar.specs.declared.hdr.Header.{Header}
 use Rattle.cbor_deterministic.specs.declared.Order.{Order}

@@ -1,4 +1,4 @@
--- Bytes are a spelling of one value alone, and no spelling begins another one.
+-- Bytes are a spelling of only one value, and no spelling begins another spelling.
 use Rattle.std.proofs.Common.{◌≡◌, ℕ, List, [], ◌∷◌, ◌++◌, refl, sym, ap, ◌∙◌, arith, append_assoc}
 use Rattle.ciborium_ll_text.specs.Text.{joined}
 use Rattle.ciborium_ll_text.proofs.Lists.{same_front}

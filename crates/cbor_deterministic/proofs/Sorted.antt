@@ -1,4 +1,4 @@
--- Entries in the order of their keys: two such lists with the same members are the same.
+-- Entries in the order of their keys: two lists with the same members are the same.
 use Rattle.cbor_deterministic.specs.Orders.{Precedes}
 use Rattle.cbor_deterministic.specs.declared.Order.{Order}
 use Rattle.std.proofs.Common.{◌≡◌, ℕ, ◌⊎◌, inl, inr, List, [], ◌∷◌, refl, sym, ap, subst}

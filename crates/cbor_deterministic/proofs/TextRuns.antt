@@ -1,4 +1,4 @@
--- Whether bytes are text, by their longest front that is.
+-- The longest beginning of bytes that is text decides whether the bytes are text.
 use Rattle.std.proofs.Common.{◌≡◌, ℕ, List, [], ◌++◌, length, sym, ◌∙◌, ap, subst, arith, append-nil, length-append}
 use Rattle.std.proofs.Common.{IsTrue, nat_eq}
 use Rattle.std.proofs.lemmas.Bool.Decides.{nat_tests}

@@ -1,9 +1,9 @@
--- Titles of the preferred serialization, and bytes that begin with none.
+-- Titles of the preferred serialization, and bytes that begin with no title of it.
 use Rattle.std.proofs.Common.{◌≡◌, ℕ, ◌%◌, ◌<◌, inl, inr, List, [], ◌∷◌, ◌++◌, length, refl, sym, ◌∙◌, subst, arith}
 use Rattle.std.proofs.Common.{◌+◌, Bool, true, false, IsTrue, slice_index}
 use Rattle.ciborium_ll_grammar.specs.declared.hdr.Minor.{Minor}
 use Rattle.ciborium_ll_grammar.specs.declared.hdr.Title.{Title}
-use Rattle.ciborium_ll_grammar.specs.Parts.{IsParts, longer_parts, minor_code, parts_bytes, title_bytes}
+use Rattle.ciborium_ll_grammar.specs.Parts.{IsParts, refused_when_strict, minor_code, parts_bytes, title_bytes}
 use Rattle.ciborium_ll_grammar.specs.Title.{IsNeverOpen}
 use Rattle.ciborium_ll_grammar.proofs.LongerLaws.{parts_taken, parts_refused}
 use Rattle.cbor_deterministic.specs.declared.Why.TheVariants.{NoTitle, NotShortest, Indefinite, NoSimple}
@@ -175,7 +175,7 @@ module _ (t : Title) (b rest : List ℕ) (q : IsParts t) (is : title_bytes t ≡
   pub small_fails : (x : Header) → IsTitle (title_bytes t) x → IsSmallSimple x → FailsTitle (b ++ rest) NoSimple
   small_fails x p s = small_simple rest (subst (λ (z : List ℕ). IsTitle z x) is p) s
 
-  pub loose_fails : (x : Header) → IsTitle (title_bytes t) x → longer_parts t.major t.minor ≡ true
+  pub loose_fails : (x : Header) → IsTitle (title_bytes t) x → refused_when_strict t.major t.minor ≡ true
       → (IsSmallSimple x → ⊥) → FailsTitle (b ++ rest) NotShortest
   loose_fails x p l n =
       subst (λ (z : List ℕ). FailsTitle (z ++ rest) NotShortest) is
@@ -188,7 +188,7 @@ module _ (t : Title) (b rest : List ℕ) (q : IsParts t) (is : title_bytes t ≡
   pub indefinite_fails : (x : Header) → IsTitle (title_bytes t) x → IsIndefinite x → FailsTitle (b ++ rest) Indefinite
   indefinite_fails x p d = indefinite rest (subst (λ (z : List ℕ). IsTitle z x) is p) d
 
-  pub preferred_parts : (x : Header) → IsTitle (title_bytes t) x → longer_parts t.major t.minor ≡ false
+  pub preferred_parts : (x : Header) → IsTitle (title_bytes t) x → refused_when_strict t.major t.minor ≡ false
       → (IsWide x → ⊥) → (IsIndefinite x → ⊥) → IsPreferredTitle b x
   preferred_parts x p l w d =
       subst (λ (z : List ℕ). IsPreferredTitle z x) is (record {

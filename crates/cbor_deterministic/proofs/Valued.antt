@@ -1,4 +1,4 @@
--- The deterministic encoding of a value, and that each item in it is the one of some value.
+-- The deterministic encoding of a value. Each item in this encoding is that of some value.
 use Rattle.std.proofs.Common.{◌≡◌, ℕ, zero, suc, List, [], ◌++◌, length, Some}
 use Rattle.ciborium_ll_text.specs.Text.{IsCharacters}
 use Rattle.ciborium_ll_grammar.specs.declared.hdr.Header.{Header}

@@ -1,4 +1,4 @@
--- The parts of an item that was checked.
+-- The parts of a checked item.
 use Rattle.cbor_deterministic.specs.Orders.{Precedes}
 use Rattle.ciborium_ll_grammar.specs.declared.hdr.Header.{Header}
 use Rattle.ciborium_ll_grammar.specs.declared.hdr.Header.TheVariants as h

@@ -1,5 +1,5 @@
--- Items in the deterministic encoding (RFC 8949, 4.2.1): each title is a preferred one, and the keys of each map ascend
--- by their encodings, in one of two orders, and no two of them are the same.
+-- Items in the deterministic encoding (RFC 8949, 4.2.1). Each title is a preferred title, and the keys of each map
+-- ascend by their encodings, in one of two orders. No two keys are the same.
 use Rattle.std.specs.Prelude.{◌≡◌, ℕ, zero, suc, ◌≤◌, List, [], ◌++◌, length, take, Some}
 use Rattle.ciborium_ll_text.specs.Text.{IsCharacters}
 use Rattle.ciborium_ll_grammar.specs.declared.hdr.Header.{Header}
@@ -10,8 +10,8 @@ use Rattle.cbor_deterministic.specs.Orders.{Precedes}
 use Rattle.cbor_deterministic.specs.Preferred.{IsPreferredTitle}
 
 mutual
-  -- `Completes order depth header rest`: after a title of the header, the rest completes an item: nothing, a body of
-  -- the length that the header tells, one item after a tag, so many items, or so many pairs (RFC 8949, 3.1 and 4.2.1)
+  -- `Completes order depth header rest`: after a title of the header, the rest completes an item (RFC 8949, 3.1 and
+  -- 4.2.1). It is empty, a body of the length in the header, one item after a tag, or that many items or pairs.
   pub data Completes (order : Order) : ℕ → Header → List ℕ → Type 0 where
     positive : {depth number : ℕ} → Completes order depth (h.Positive number) []
     negative : {depth number : ℕ} → Completes order depth (h.Negative number) []
@@ -27,20 +27,20 @@ mutual
     pairs : {depth count : ℕ} {bytes : List ℕ} → AreSortedPairs order depth count [] bytes
         → Completes order (suc depth) (h.Map (Some count)) bytes
 
-  -- `IsDeterministic order depth bytes`: the bytes are one item in its deterministic encoding, with tags, arrays and
-  -- maps nested at most so deep (RFC 8949, 4.2.1, and 4.2.3 for the length-first order). Strings take no depth
+  -- `IsDeterministic order depth bytes`: the bytes are one item in its deterministic encoding (RFC 8949, 4.2.1, and
+  -- 4.2.3 for the length-first order). Tags, arrays and maps are nested to the depth at most; strings take no depth.
   pub data IsDeterministic (order : Order) : ℕ → List ℕ → Type 0 where
     item : {depth : ℕ} {title rest : List ℕ} {header : Header} → IsPreferredTitle title header
         → Completes order depth header rest → IsDeterministic order depth (title ++ rest)
 
-  -- the bytes are so many such items, joined
+  -- The bytes are this many items in the encoding, joined.
   pub data AreDeterministic (order : Order) : ℕ → ℕ → List ℕ → Type 0 where
     no_items : {depth : ℕ} → AreDeterministic order depth zero []
     more_items : {depth count : ℕ} {first others : List ℕ} → IsDeterministic order depth first
         → AreDeterministic order depth count others → AreDeterministic order depth (suc count) (first ++ others)
 
-  -- `AreSortedPairs order depth count above bytes`: the bytes are so many pairs of a key and a value. The keys ascend,
-  -- and each comes after the key `above`. No key is empty, so each one comes after the empty list (RFC 8949, 4.2.1)
+  -- `AreSortedPairs order depth count above bytes`: the bytes are `count` pairs of a key and a value (RFC 8949, 4.2.1).
+  -- The keys ascend, and each comes after the key `above`. No key is empty, so each comes after the empty list.
   pub data AreSortedPairs (order : Order) : ℕ → ℕ → List ℕ → List ℕ → Type 0 where
     no_pairs : {depth : ℕ} {above : List ℕ} → AreSortedPairs order depth zero above []
     more_pairs : {depth count : ℕ} {above key value others : List ℕ} → IsDeterministic order depth key
@@ -48,7 +48,7 @@ mutual
         → AreSortedPairs order depth count key others
         → AreSortedPairs order depth (suc count) above (key ++ (value ++ others))
 
--- there are so many bytes, and the first so many are one item in its deterministic encoding
+-- There are at least `len` bytes, and the first `len` are one item in its deterministic encoding.
 pub record HasDeterministic (order : Order) (depth : ℕ) (bytes : List ℕ) (len : ℕ) : Type 0 where
   pub enough : len ≤ length bytes
   pub is_item : IsDeterministic order depth (take len bytes)

@@ -9,14 +9,14 @@ use Rattle.cbor_deterministic.specs.Values.{End, Item, None, Pair, item_count, p
 use Rattle.cbor_deterministic.specs.Spellings.{Encodes}
 use Rattle.cbor_deterministic.specs.Deterministic.{IsDeterministic}
 
--- no key of the pairs is the same as this one: no value is the same as both (RFC 8949, 5.6)
+-- No key of the pairs is the same as this key: no value is the same as both (RFC 8949, 5.6).
 abbrev pub IsNewKey : Value → Pairs → Type 0
 IsNewKey key None = Unit {0}
 IsNewKey key (Pair other value pairs) = ((v : Value) → Same key v → Same v other → ⊥) × IsNewKey key pairs
 
 mutual
-  -- each number of the value is in its range, each text is UTF-8, and no two keys of a map are the same (RFC 8949, 3.1,
-  -- 3.3 and 5.6)
+  -- Each number of the value is in its range, each text is UTF-8, and no two keys of a map are the same (RFC 8949, 3.1,
+  -- 3.3 and 5.6).
   pub data Fits : Value → Type 0 where
     fits_unsigned : {n : ℕ} → n < 2 ^ 64 → Fits (Unsigned n)
     fits_negative : {n : ℕ} → n < 2 ^ 64 → Fits (Negative n)
@@ -28,18 +28,18 @@ mutual
     fits_simple : {n : ℕ} → (n < 24) ⊎ ((32 ≤ n) × (n < 2 ^ 8)) → Fits (Simple n)
     fits_float : {bits : ℕ} → bits < 2 ^ 64 → Fits (Float bits)
 
-  -- the values of an array fit
+  -- The values of an array fit.
   pub data AllFit : Values → Type 0 where
     fits_end : AllFit End
     fits_item : {value : Value} {values : Values} → Fits value → AllFit values → AllFit (Item value values)
 
-  -- the keys and values of a map fit, and no two keys are the same
+  -- The keys and values of a map fit, and no two keys are the same.
   pub data PairsFit : Pairs → Type 0 where
     fits_none : PairsFit None
     fits_pair : {key value : Value} {pairs : Pairs} → Fits key → Fits value → IsNewKey key pairs → PairsFit pairs
         → PairsFit (Pair key value pairs)
 
--- some bytes are the deterministic encoding of a value that is the same as this one
+-- Some bytes are the deterministic encoding of a value that is the same as this value.
 pub record HasEncoding (order : Order) (value : Value) : Type 0 where
   pub depth : ℕ
   pub bytes : List ℕ

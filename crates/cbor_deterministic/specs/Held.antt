@@ -1,50 +1,50 @@
--- What an item, and what is left of an array or a map, hold: their bytes, the levels for them, and the order of keys.
+-- The parts of an item, and of the rest of an array or a map: the bytes, the levels for them, and the order of keys.
 use Rattle.std.specs.Prelude.{ℕ, List}
 use Rattle.cbor_deterministic.specs.declared.Order.{Order}
 use Rattle.cbor_deterministic.specs.declared.view.Item.{Item}
 use Rattle.cbor_deterministic.specs.declared.view.Elements.{Elements}
 use Rattle.cbor_deterministic.specs.declared.view.Entries.{Entries}
 
--- the bytes of an item
+-- The bytes of an item.
 abbrev pub item_bytes : Item → List ℕ
 item_bytes item = item.bytes.now
 
--- how many levels its tags, arrays and maps may take
+-- How many levels its tags, arrays and maps may take.
 abbrev pub item_depth : Item → ℕ
 item_depth item = item.depth
 
--- the order of its keys
+-- The order of its keys.
 abbrev pub item_order : Item → Order
 item_order item = item.order
 
--- the bytes of the items of an array that are left
+-- The bytes of the items of an array that are left.
 abbrev pub elements_bytes : Elements → List ℕ
 elements_bytes elements = elements.rest.now
 
--- how many items are left
+-- How many items are left.
 abbrev pub elements_due : Elements → ℕ
 elements_due elements = elements.due
 
--- how many levels each of them may take
+-- How many levels each of them may take.
 abbrev pub elements_depth : Elements → ℕ
 elements_depth elements = elements.depth
 
--- the order of keys in them
+-- The order of keys in them.
 abbrev pub elements_order : Elements → Order
 elements_order elements = elements.order
 
--- the bytes of the pairs of a map that are left
+-- The bytes of the pairs of a map that are left.
 abbrev pub entries_bytes : Entries → List ℕ
 entries_bytes entries = entries.rest.now
 
--- how many pairs are left
+-- How many pairs are left.
 abbrev pub entries_due : Entries → ℕ
 entries_due entries = entries.due
 
--- how many levels each key and each value may take
+-- How many levels each key and each value may take.
 abbrev pub entries_depth : Entries → ℕ
 entries_depth entries = entries.depth
 
--- the order of keys in them
+-- The order of keys in them.
 abbrev pub entries_order : Entries → Order
 entries_order entries = entries.order

@@ -4,13 +4,13 @@ use Rattle.ciborium_ll_grammar.specs.Elements.{Mark, IsStrictRun}
 use Rattle.cbor_deterministic.specs.Values.{Value}
 use Rattle.cbor_deterministic.specs.Spellings.{Encodes}
 
--- the bytes are a spelling of some value (RFC 8949, 3)
+-- The bytes are a spelling of some value (RFC 8949, 3).
 pub record IsSpelling (bytes : List ℕ) : Type 0 where
   pub value : Value
   pub encodes : Encodes value bytes
 
--- the bytes are some number of elements in their shortest spelling, as `strict_len` takes them. A copy of elements
--- writes `spelling marks`, which are the same bytes
+-- The bytes are some number of elements in their shortest spelling, as `strict_len` takes them. A copy of the elements
+-- writes `spelling marks`, which are the same bytes.
 pub record HasStrictRun (bytes : List ℕ) : Type 0 where
   pub count : ℕ
   pub marks : List Mark

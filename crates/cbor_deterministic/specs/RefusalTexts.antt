@@ -1,11 +1,11 @@
--- What a refusal says to a person.
+-- The messages of refusals.
 use Rattle.std.specs.Prelude.{ℕ, List, ◌++◌, codes, decimal}
 use Rattle.cbor_deterministic.specs.declared.Why.{Why}
 use Rattle.cbor_deterministic.specs.declared.Why.TheVariants.{Cut, NoTitle, NotShortest, Indefinite, NoSimple, NoText}
 use Rattle.cbor_deterministic.specs.declared.Why.TheVariants.{KeyOrder, DuplicateKey, Deep}
 use Rattle.cbor_deterministic.specs.declared.Refusal.{Refusal}
 
--- what `{}` writes of a reason
+-- The text that `{}` writes for a reason.
 abbrev pub why_text : Why → List ℕ
 why_text Cut = codes "the bytes end too early"
 why_text NoTitle = codes "no title begins with this byte"
@@ -17,6 +17,6 @@ why_text KeyOrder = codes "a key that comes before the one in front of it"
 why_text DuplicateKey = codes "the same key twice"
 why_text Deep = codes "too deep a nesting"
 
--- what `{}` writes of a refusal: the reason and the offset
+-- The text that `{}` writes for a refusal: the reason and the offset.
 abbrev pub refusal_text : Refusal → List ℕ
 refusal_text refusal = why_text refusal.why ++ codes " at offset " ++ decimal refusal.place

@@ -1,5 +1,5 @@
--- Why no item in the deterministic encoding stands at the beginning of some bytes, and where: at the first place at
--- which they can't go on as one.
+-- Why no item in the deterministic encoding stands at the start of some bytes. The place is the first at which they
+-- can't go on as an item.
 use Rattle.std.specs.Prelude.{◌≡◌, ℕ, zero, suc, ◌+◌, ◌<◌, ◌≤◌, ◌⊎◌, List, [], ◌++◌, length, take, Some}
 use Rattle.ciborium_ll_text.specs.Text.{IsCharacters}
 use Rattle.ciborium_ll_grammar.specs.declared.hdr.Header.{Header}
@@ -13,14 +13,13 @@ use Rattle.cbor_deterministic.specs.Orders.{Precedes}
 use Rattle.cbor_deterministic.specs.Preferred.{IsWide, IsIndefinite, IsPreferredTitle}
 use Rattle.cbor_deterministic.specs.Deterministic.{IsDeterministic}
 
--- a title that is not the shortest one of its header, or of a float which a smaller width has (RFC 8949, 4.1)
+-- The title is not the shortest title of its header, or it has a float that fits a smaller width (RFC 8949, 4.1).
 abbrev pub IsLonger : List ℕ → Header → Type 0
 IsLonger title header = ¬ (title ≡ shortest_title header) ⊎ IsWide header
 
--- why the bytes begin with no title of the preferred serialization: they end before it or within it; their first byte
--- begins no title; a longer title stands there; a title of the indefinite form or a break does; or the title of a
--- simple
--- value from 24 to 31 (RFC 8949, 3, 3.2, 3.3 and 4.1)
+-- Why the bytes begin with no title of the preferred serialization (RFC 8949, 3, 3.2, 3.3 and 4.1). They end before it
+-- or within it, or their first byte begins no title. Otherwise the title is longer, has an indefinite form, or is a
+-- break or a simple value from 24 to 31.
 pub data FailsTitle : List ℕ → Why → Type 0 where
   cut_title : {bytes : List ℕ} → IsCutTitle bytes → FailsTitle bytes Cut
   no_title : {bytes : List ℕ} → BeginsRefused bytes → FailsTitle bytes NoTitle
@@ -31,21 +30,21 @@ pub data FailsTitle : List ℕ → Why → Type 0 where
   small_simple : {title : List ℕ} {header : Header} (rest : List ℕ) → IsTitle title header → IsSmallSimple header
       → FailsTitle (title ++ rest) NoSimple
 
--- a header that items follow (RFC 8949, 3.1)
+-- The header is followed by items (RFC 8949, 3.1).
 abbrev pub IsNest : Header → Type 0
 IsNest (h.Tag number) = Unit {0}
 IsNest (h.Array count) = Unit {0}
 IsNest (h.Map count) = Unit {0}
 IsNest header = ⊥
 
--- why a key may not follow the key `above`: it is the same, or it comes before it (RFC 8949, 4.2.1 and 5.6)
+-- Why a key may not follow the key `above`: it is the same key, or it comes before `above` (RFC 8949, 4.2.1 and 5.6).
 pub data FailsOrder (order : Order) : List ℕ → List ℕ → Why → Type 0 where
   duplicate : {key : List ℕ} → FailsOrder order key key DuplicateKey
   out_of_order : {above key : List ℕ} → Precedes order key above → FailsOrder order above key KeyOrder
 
 mutual
-  -- `FailsItem order depth bytes why left`: an item to the depth is due at the beginning of the bytes, and the first
-  -- place at which they can't go on as one is that from which so many of them are left
+  -- `FailsItem order depth bytes why left`: an item to the depth is due at the start of the bytes. From the first place
+  -- at which they can't go on as an item, `left` bytes are left.
   pub data FailsItem (order : Order) : ℕ → List ℕ → Why → ℕ → Type 0 where
     at_title : {depth : ℕ} {bytes : List ℕ} {why : Why} → FailsTitle bytes why
         → FailsItem order depth bytes why (length bytes)
@@ -54,9 +53,8 @@ mutual
         → FailsItem order depth (title ++ rest) why left
 
   -- `FailsWithin order depth header at bytes why left`: the bytes follow a title of the header, from which `at` bytes
-  -- are left. A body is cut, at the end of the bytes; it is no text, or no level is left, at the title; or what the
-  -- nest
-  -- contains is at fault
+  -- are left. A body is cut, and the place is the end of the bytes. Or the body is not UTF-8 or no level is left, and
+  -- the place is the title. Otherwise the contents of the nest have a fault.
   pub data FailsWithin (order : Order) : ℕ → Header → ℕ → List ℕ → Why → ℕ → Type 0 where
     cut_bytes : {depth len at : ℕ} {bytes : List ℕ} → length bytes < len
         → FailsWithin order depth (h.Bytes (Some len)) at bytes Cut 0
@@ -73,7 +71,7 @@ mutual
     in_map : {depth count at left : ℕ} {bytes : List ℕ} {why : Why} → FailsPairs order depth count [] bytes why left
         → FailsWithin order (suc depth) (h.Map (Some count)) at bytes why left
 
-  -- so many items are due: the first one is at fault, or one after it
+  -- This many items are due, and the first item or a later item has a fault.
   pub data FailsItems (order : Order) : ℕ → ℕ → List ℕ → Why → ℕ → Type 0 where
     in_first : {depth count left : ℕ} {bytes : List ℕ} {why : Why} → FailsItem order depth bytes why left
         → FailsItems order depth (suc count) bytes why left
@@ -81,8 +79,8 @@ mutual
         → FailsItems order depth count bytes why left
         → FailsItems order depth (suc count) (first ++ bytes) why left
 
-  -- so many pairs are due, with keys that come after `above`: the first key is at fault, or may not stand there; its
-  -- value is at fault, or a pair after it
+  -- This many pairs are due, with keys after `above`. The first key has a fault or may not stand there, its value has a
+  -- fault, or a later pair has a fault.
   pub data FailsPairs (order : Order) : ℕ → ℕ → List ℕ → List ℕ → Why → ℕ → Type 0 where
     in_key : {depth count left : ℕ} {above bytes : List ℕ} {why : Why} → FailsItem order depth bytes why left
         → FailsPairs order depth (suc count) above bytes why left
@@ -96,8 +94,8 @@ mutual
         → Precedes order above key → IsDeterministic order depth value → FailsPairs order depth count key bytes why left
         → FailsPairs order depth (suc count) above (key ++ (value ++ bytes)) why left
 
--- `HasRefusal order depth bytes why place`: no item in the deterministic encoding stands at the beginning of the bytes,
--- for this reason, and the first place at which they can't go on as one is this offset
+-- `HasRefusal order depth bytes why place`: no item in the deterministic encoding stands at the start of the bytes, for
+-- this reason. The place is the first offset at which they can't go on as an item.
 pub record HasRefusal (order : Order) (depth : ℕ) (bytes : List ℕ) (why : Why) (place : ℕ) : Type 0 where
   pub left : ℕ
   pub sum : place + left ≡ length bytes

@@ -1,5 +1,5 @@
--- The spellings of a value (RFC 8949, 3): titles of any size, floats of any width, strings, arrays and maps of the
--- indefinite form too, and the pairs of a map in any order.
+-- The spellings of a value (RFC 8949, 3): titles of any size, floats of any width, indefinite forms of strings, arrays
+-- and maps, and the pairs of a map in any order.
 use Rattle.std.specs.Prelude.{◌≡◌, ℕ, List, [], ◌∷◌, ◌++◌, length, Some, None}
 use Rattle.ciborium_ll_text.specs.Text.{IsCharacters, joined}
 use Rattle.ciborium_ll_grammar.specs.declared.hdr.Header.{Header}
@@ -17,7 +17,8 @@ use Rattle.cbor_deterministic.specs.Values.{Float as FloatValue}
 
 mutual
   -- `Follows header value bytes`: after a title of the header the bytes complete a spelling of the value (RFC 8949, 3.1
-  -- to 3.3). A string of indefinite form may have further ones inside. A simple value from 24 to 31 is none
+  -- to 3.3). A string of indefinite form may have more of that form inside. A simple value from 24 to 31 has no
+  -- spelling.
   pub data Follows : Header → Value → List ℕ → Type 0 where
     follows_positive : {n : ℕ} → Follows (h.Positive n) (Unsigned n) []
     follows_negative : {n : ℕ} → Follows (h.Negative n) (Negative n) []
@@ -41,18 +42,18 @@ mutual
     follows_open_map : {pairs : Pairs} {bytes : List ℕ} → EncodePairs pairs bytes
         → Follows (h.Map None) (Map pairs) (bytes ++ 0xff ∷ [])
 
-  -- the bytes are a spelling of the value (RFC 8949, 3)
+  -- The bytes are a spelling of the value (RFC 8949, 3).
   pub data Encodes : Value → List ℕ → Type 0 where
     encodes : {title rest : List ℕ} {header : Header} {value : Value} → IsTitle title header
         → Follows header value rest → Encodes value (title ++ rest)
 
-  -- the bytes are spellings of the values, joined
+  -- The bytes are spellings of the values, joined.
   pub data EncodeAll : Values → List ℕ → Type 0 where
     encode_end : EncodeAll End []
     encode_item : {value : Value} {values : Values} {bytes others : List ℕ} → Encodes value bytes
         → EncodeAll values others → EncodeAll (Item value values) (bytes ++ others)
 
-  -- the bytes are spellings of the keys and values of the pairs, joined
+  -- The bytes are spellings of the keys and values of the pairs, joined.
   pub data EncodePairs : Pairs → List ℕ → Type 0 where
     encode_none : EncodePairs NoPair []
     encode_pair : {key value : Value} {pairs : Pairs} {key_bytes value_bytes others : List ℕ} → Encodes key key_bytes

@@ -1,10 +1,10 @@
--- The values that items stand for (RFC 8949, 2), and which of them are the same. The pairs of a map have no order. Tags
--- are not looked into, and an integer and a float are never the same.
+-- The values that items stand for (RFC 8949, 2), and which values are the same. The pairs of a map have no order. Tags
+-- are not interpreted, and an integer and a float are never the same.
 use Rattle.std.specs.Prelude.{ℕ, zero, suc, List}
 
 mutual
-  -- a value (RFC 8949, 2): an unsigned integer, the negative integer -1 - n, bytes, a text, an array, a map, a tagged
-  -- value, a simple value, or a float by its 64 bits
+  -- A value (RFC 8949, 2): an unsigned integer, the negative integer -1 - n, bytes, a text, an array, a map, a tagged
+  -- value, a simple value, or a float by its 64 bits.
   pub data Value : Type 0 where
     Unsigned : ℕ → Value
     Negative : ℕ → Value
@@ -16,29 +16,29 @@ mutual
     Simple : ℕ → Value
     Float : ℕ → Value
 
-  -- the items of an array, in order (RFC 8949, 3.1)
+  -- The items of an array, in order (RFC 8949, 3.1).
   pub data Values : Type 0 where
     End : Values
     Item : Value → Values → Values
 
-  -- the pairs of a map, in the order in which they are written (RFC 8949, 3.1)
+  -- The pairs of a map, in their order in the bytes (RFC 8949, 3.1).
   pub data Pairs : Type 0 where
     None : Pairs
     Pair : Value → Value → Pairs → Pairs
 
--- how many items they are
+-- How many items there are.
 abbrev pub item_count : Values → ℕ
 item_count End = zero
 item_count (Item v vs) = suc (item_count vs)
 
--- how many pairs they are
+-- How many pairs there are.
 abbrev pub pair_count : Pairs → ℕ
 pair_count None = zero
 pair_count (Pair k v ps) = suc (pair_count ps)
 
 mutual
-  -- the two values are the same: maps if each pair of the one is a pair of the other (RFC 8949, 5.6), floats if their
-  -- bits are, so 0.0 and -0.0 differ, and so do NaNs of different payloads
+  -- The two values are the same. For maps, each pair of either is a pair of the other (RFC 8949, 5.6). For floats, the
+  -- bits are the same, so 0.0 and -0.0 differ, and so do NaNs of different payloads.
   pub data Same : Value → Value → Type 0 where
     same_unsigned : {n : ℕ} → Same (Unsigned n) (Unsigned n)
     same_negative : {n : ℕ} → Same (Negative n) (Negative n)
@@ -50,17 +50,17 @@ mutual
     same_simple : {n : ℕ} → Same (Simple n) (Simple n)
     same_float : {bits : ℕ} → Same (Float bits) (Float bits)
 
-  -- they are as many values, and each is the same as its partner
+  -- There are as many values in both lists, and each is the same as its partner.
   pub data SameAll : Values → Values → Type 0 where
     same_end : SameAll End End
     same_item : {v w : Value} {vs ws : Values} → Same v w → SameAll vs ws → SameAll (Item v vs) (Item w ws)
 
-  -- each pair of the first list is one of the second
+  -- Each pair of the first list is in the second.
   pub data EachIn : Pairs → Pairs → Type 0 where
     each_none : {qs : Pairs} → EachIn None qs
     each_pair : {k v : Value} {ps qs : Pairs} → IsIn k v qs → EachIn ps qs → EachIn (Pair k v ps) qs
 
-  -- one of the pairs has the same key and the same value
+  -- Some pair has the same key and the same value.
   pub data IsIn : Value → Value → Pairs → Type 0 where
     here : {k v l w : Value} {qs : Pairs} → Same k l → Same v w → IsIn k v (Pair l w qs)
     there : {k v l w : Value} {qs : Pairs} → IsIn k v qs → IsIn k v (Pair l w qs)

@@ -6,38 +6,38 @@ use Rattle.cbor_deterministic.specs.declared.Order.{Order}
 use Rattle.cbor_deterministic.specs.Preferred.{IsPreferredTitle}
 use Rattle.cbor_deterministic.specs.Deterministic.{Completes, IsDeterministic, AreSortedPairs}
 
--- the bytes are a title of this header, and then these contents, which complete the item
+-- The bytes are a title of this header, and then these contents, which complete the item.
 pub record Opens (order : Order) (depth : ℕ) (bytes : List ℕ) (header : Header) (contents : List ℕ) : Type 0 where
   pub title : List ℕ
   pub is_title : IsPreferredTitle title header
   pub whole : bytes ≡ title ++ contents
   pub completes : ∥ Completes order depth header contents ∥₁
 
--- the bytes begin with the preferred title of this header
+-- The bytes begin with the preferred title of this header.
 pub record IsOpenedBy (bytes : List ℕ) (header : Header) : Type 0 where
   pub title : List ℕ
   pub contents : List ℕ
   pub is_title : IsPreferredTitle title header
   pub whole : bytes ≡ title ++ contents
 
--- the bytes are a byte string with this body (RFC 8949, 3.1)
+-- The bytes are a byte string with this body (RFC 8949, 3.1).
 pub record IsBytesOf (bytes body : List ℕ) : Type 0 where
   pub title : List ℕ
   pub is_title : IsPreferredTitle title (h.Bytes (Some (length body)))
   pub whole : bytes ≡ title ++ body
 
--- the bytes are a text string with this body (RFC 8949, 3.1)
+-- The bytes are a text string with this body (RFC 8949, 3.1).
 pub record IsTextOf (bytes body : List ℕ) : Type 0 where
   pub title : List ℕ
   pub is_title : IsPreferredTitle title (h.Text (Some (length body)))
   pub whole : bytes ≡ title ++ body
 
--- the bytes are so many pairs, whose keys ascend from some key on
+-- The bytes are this many pairs, whose keys ascend from some key on.
 pub record HasPairs (order : Order) (depth count : ℕ) (bytes : List ℕ) : Type 0 where
   pub above : List ℕ
   pub are : AreSortedPairs order depth count above bytes
 
--- `IsPairOf order depth pairs key value`: one of these pairs, joined, has this key and this value
+-- `IsPairOf order depth pairs key value`: some pair of the joined pairs has this key and this value.
 pub data IsPairOf (order : Order) (depth : ℕ) : List ℕ → List ℕ → List ℕ → Type 0 where
   first_pair : {key value : List ℕ} (others : List ℕ) → IsDeterministic order depth key
       → IsDeterministic order depth value → IsPairOf order depth (key ++ (value ++ others)) key value
@@ -45,13 +45,13 @@ pub data IsPairOf (order : Order) (depth : ℕ) : List ℕ → List ℕ → List
       → IsDeterministic order depth another → IsPairOf order depth others key value
       → IsPairOf order depth (other ++ (another ++ others)) key value
 
--- the bytes are a map, and it has this key with this value
+-- The bytes are a map, and it has this key with this value.
 pub record HasKey (order : Order) (depth : ℕ) (bytes key value : List ℕ) : Type 0 where
   pub count : ℕ
   pub pairs : List ℕ
   pub opens : Opens order depth bytes (h.Map (Some count)) pairs
   pub has : IsPairOf order (depth - 1) pairs key value
 
--- the bytes are no map that has this key
+-- The bytes are no map that has this key.
 abbrev pub HasNoKey : Order → ℕ → List ℕ → List ℕ → Type 0
 HasNoKey order depth bytes key = (value : List ℕ) → HasKey order depth bytes key value → ⊥

@@ -1,4 +1,4 @@
-//! Floats that a smaller width has.
+//! Floats that fit a smaller width.
 
 ghost use Rattle.std.specs.Prelude.{◌↔◌, IsTrue};
 ghost use Rattle.cbor_deterministic.specs.Floats.{half, single, double, parts, HasNarrower};
@@ -6,7 +6,7 @@ ghost use Rattle.cbor_deterministic.specs.Preferred.{IsWideFloat};
 
 use ciborium_ll_grammar::hdr::Float;
 
-/// Whether a smaller width has the float: by its value, and a NaN by its sign and payload.
+/// Returns whether a smaller width holds the float: by its value, or for a NaN by its sign and payload.
 pub(crate) fn is_wide_float(float: Float) -> bool
     ensures { IsTrue result ↔ IsWideFloat float }
 {
@@ -17,8 +17,8 @@ pub(crate) fn is_wide_float(float: Float) -> bool
     }
 }
 
-/// Whether a float of 32 bits is one of 16 bits too.
-fn is_half(bits: u32) -> bool
+/// Returns whether 16 bits hold a float of 32 bits, by its value, and a NaN by its sign and payload.
+pub fn is_half(bits: u32) -> bool
     ensures { IsTrue result ↔ HasNarrower half single (parts single bits) }
 {
     let exponent = bits / 0x80_0000 % 0x100;
@@ -35,12 +35,12 @@ fn is_half(bits: u32) -> bool
     if exponent > 112 {
         return mantissa % 0x2000 == 0;
     }
-    // It is a subnormal one of 16 bits, which has fewer bits of the mantissa.
+    // The float of 16 bits is subnormal, and has fewer bits of the mantissa.
     mantissa % (1 << (126 - exponent)) == 0
 }
 
-/// Whether a float of 64 bits is one of 32 bits too.
-fn is_single(bits: u64) -> bool
+/// Returns whether 32 bits hold a float of 64 bits, by its value, and a NaN by its sign and payload.
+pub fn is_single(bits: u64) -> bool
     ensures { IsTrue result ↔ HasNarrower single double (parts double bits) }
 {
     let exponent = bits / 0x10_0000_0000_0000 % 0x800;
@@ -57,6 +57,6 @@ fn is_single(bits: u64) -> bool
     if exponent > 896 {
         return mantissa % 0x2000_0000 == 0;
     }
-    // It is a subnormal one of 32 bits, which has fewer bits of the mantissa.
+    // The float of 32 bits is subnormal, and has fewer bits of the mantissa.
     mantissa % (1 << (926 - exponent)) == 0
 }

@@ -16,7 +16,7 @@ use ciborium_ll_grammar::hdr::Header;
 use ciborium_ll_text::state::{State, text_front};
 use std::cmp::Ordering;
 
-/// The rest after a body of so many bytes.
+/// Returns the rest after a body of `len` bytes.
 fn skip_body(bytes: &[u8], len: usize) -> Result<&[u8], Stop>
     ensures { MatchResult result (λ rest. InFront (IsOfLength len) bytes.now rest.now)
         (λ stop. (order : AnyOrder) (depth at : ℕ)
@@ -31,14 +31,14 @@ fn skip_body(bytes: &[u8], len: usize) -> Result<&[u8], Stop>
     }
 }
 
-/// Whether the bytes are text.
+/// Returns whether the bytes are UTF-8.
 fn is_text(bytes: &[u8]) -> bool
     ensures { IsTrue result ↔ IsCharacters bytes.now }
 {
     text_front(bytes, 0, State::Between).0.len() == bytes.len()
 }
 
-/// The rest after a text of so many bytes. From its title on so many bytes were left.
+/// Returns the rest after a text of `len` bytes. From its title on, `left` bytes were left.
 fn skip_text(bytes: &[u8], len: usize, left: usize) -> Result<&[u8], Stop>
     ensures { MatchResult result (λ rest. InFront (IsTextOfLength len) bytes.now rest.now)
         (λ stop. (order : AnyOrder) (depth : ℕ)
@@ -62,8 +62,8 @@ fn skip_text(bytes: &[u8], len: usize, left: usize) -> Result<&[u8], Stop>
     }
 }
 
-/// How two keys stand to each other in this order.
-pub(crate) fn compare_keys(order: Order, key: &[u8], other: &[u8]) -> Ordering
+/// Returns how the encoding of the first key stands to that of the other key in this order.
+pub fn compare_keys(order: Order, key: &[u8], other: &[u8]) -> Ordering
     ensures { MatchOrdering result (Precedes order key.now other.now) (key.now ≡ other.now)
         (Precedes order other.now key.now) }
 {
@@ -81,7 +81,7 @@ pub(crate) fn compare_keys(order: Order, key: &[u8], other: &[u8]) -> Ordering
     }
 }
 
-/// Why a key may not follow the key `above`, if it may not.
+/// Returns why a key may not follow the key `above`, if it may not.
 fn check_order(order: Order, above: &[u8], key: &[u8]) -> Option<Why>
     ensures { MatchOption result (Precedes order above.now key.now) (λ why. FailsOrder order above.now key.now why) }
 {
@@ -92,7 +92,7 @@ fn check_order(order: Order, above: &[u8], key: &[u8]) -> Option<Why>
     }
 }
 
-/// The rest after one item, with tags, arrays and maps nested at most so deep.
+/// Returns the rest after one item, with tags, arrays and maps nested at most `depth` levels deep.
 #[cycle(nests)]
 pub(crate) fn skip_item(bytes: &[u8], depth: usize, order: Order) -> Result<&[u8], Stop>
     ensures { MatchResult result (λ rest. InFront (IsDeterministic order depth) bytes.now rest.now)
@@ -107,7 +107,7 @@ pub(crate) fn skip_item(bytes: &[u8], depth: usize, order: Order) -> Result<&[u8
     }
 }
 
-/// The rest after what completes an item of this header. From its title on so many bytes were left.
+/// Returns the rest after the contents of an item with this header. From its title on, `left` bytes were left.
 #[cycle(nests)]
 fn skip_rest(
     header: Header,
@@ -141,7 +141,7 @@ fn skip_rest(
     }
 }
 
-/// The rest after so many items.
+/// Returns the rest after `count` items.
 #[cycle(nests)]
 fn skip_items(bytes: &[u8], count: usize, depth: usize, order: Order) -> Result<&[u8], Stop>
     ensures { MatchResult result (λ rest. InFront (AreDeterministic order depth count) bytes.now rest.now)
@@ -156,7 +156,7 @@ fn skip_items(bytes: &[u8], count: usize, depth: usize, order: Order) -> Result<
     Ok(rest)
 }
 
-/// The rest after so many pairs, whose keys ascend.
+/// Returns the rest after `count` pairs, whose keys ascend.
 #[cycle(nests)]
 fn skip_pairs(bytes: &[u8], count: usize, depth: usize, order: Order) -> Result<&[u8], Stop>
     ensures { MatchResult result (λ rest. InFront (AreSortedPairs order depth count []) bytes.now rest.now)

@@ -11,8 +11,8 @@ ghost use Rattle.cbor_deterministic.specs.Spellings.{Encodes};
 ghost use Rattle.cbor_deterministic.specs.Laws.{HasStrictRun, IsSpelling};
 ghost use Rattle.cbor_deterministic.specs.Fitting.{Fits, HasEncoding};
 
-/// Values that are the same have one deterministic encoding: two items in it that are spellings of such values are the
-/// same bytes, whatever the order in which the pairs of maps are listed.
+/// Equal values have one deterministic encoding. Two items in this encoding that are spellings of equal values are the
+/// same bytes, whatever the order of the pairs in maps.
 #[tactic(auto, using(crate::proofs::Law::one_deterministic))]
 pub fn one_encoding()
     ensures { (order : AnyOrder) (depth other : ℕ) (value same : Value) (bytes others : List ℕ)
@@ -26,38 +26,38 @@ pub fn stands_for_a_value()
     ensures { (order : AnyOrder) (depth : ℕ) (bytes : List ℕ) → IsDeterministic order depth bytes → IsSpelling bytes }
 {}
 
-/// Bytes are a spelling of one value alone, and no spelling begins another one.
+/// Bytes are a spelling of only one value, and no spelling begins another spelling.
 #[tactic(auto, using(crate::proofs::OneValue::one_value))]
 pub fn one_value()
     ensures { (value other : Value) (bytes others rest more : List ℕ) → Encodes value bytes → Encodes other others
         → bytes ++ rest ≡ others ++ more → (value ≡ other) × (bytes ≡ others) × (rest ≡ more) }
 {}
 
-/// An item in the deterministic encoding is an item in its shortest spelling, as a strict decoder takes it, nested as
-/// deep.
+/// An item in the deterministic encoding is an item in its shortest spelling, to the same depth, as a strict decoder
+/// takes it.
 #[tactic(auto, using(crate::proofs::ItemLaws::well_formed))]
 pub fn is_well_formed()
     ensures { (order : AnyOrder) (depth : ℕ) (bytes : List ℕ) → IsDeterministic order depth bytes
         → IsItem true depth bytes }
 {}
 
-/// An item in the deterministic encoding is a run of elements in their shortest spelling. So `strict_len` takes it
-/// whole, for the number of its elements, and `recode` writes it as it is.
+/// An item in the deterministic encoding is a run of elements in their shortest spelling. So `strict_len` takes all of
+/// it, for the number of its elements, and `recode` writes it as it is.
 #[tactic(auto, using(crate::proofs::StrictRuns::strict_run))]
 pub fn is_strict_run()
     ensures { (order : AnyOrder) (depth : ℕ) (bytes : List ℕ) → IsDeterministic order depth bytes
         → HasStrictRun bytes }
 {}
 
-/// Bytes are refused at one place alone, for one reason.
+/// Bytes are refused at only one place, for one reason.
 pub fn one_refusal()
     ensures { (order : AnyOrder) (depth place another : ℕ) (bytes : List ℕ) (why other : AnyWhy)
         → HasRefusal order depth bytes why place → HasRefusal order depth bytes other another
         → (why ≡ other) × (place ≡ another) }
 {}
 
-/// Each value whose numbers are in their ranges, whose texts are UTF-8 and whose maps have no key twice has a
-/// deterministic encoding.
+/// A value has a deterministic encoding if its numbers are in their ranges, its texts are UTF-8 and its maps have no
+/// key twice.
 #[tactic(auto, using(crate::proofs::Exists::has_encoding))]
 pub fn has_encoding()
     ensures { (order : AnyOrder) (value : Value) → Fits value → HasEncoding order value }

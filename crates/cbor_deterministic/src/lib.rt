@@ -1,8 +1,9 @@
-//! One encoding of each value: items in the deterministic encoding of RFC 8949, 4.2.1, or, with the shorter keys first,
-//! of 4.2.3. No call takes memory.
+// SPDX-License-Identifier: Apache-2.0
+//! One encoding of each value: items in the deterministic encoding of RFC 8949, 4.2.1, or of 4.2.3 with the shorter
+//! keys first. No call takes memory.
 //!
-//! [`deterministic_len`] says whether bytes begin with such an item. [`view::Item`] looks into one. [`laws`] says that
-//! values which are the same have one such item.
+//! [`deterministic_len`] says whether bytes begin with an item in this encoding, and [`view::Item`] looks into it.
+//! [`laws`] say that equal values have one item in this encoding.
 #![tactic(auto)]
 
 ghost use Rattle.std.specs.Prelude.{◌≡◌, ◌↔◌, ◌+◌, ◌≤◌, ℕ, Ok, Err};
@@ -10,32 +11,34 @@ ghost use Rattle.cbor_deterministic.specs.Deterministic.{HasDeterministic};
 ghost use Rattle.cbor_deterministic.specs.Refusals.{HasRefusal};
 ghost use Rattle.cbor_deterministic.specs.declared.Why.{Why as AnyWhy};
 
-mod floats;
+pub mod floats;
 mod items;
 pub mod laws;
 mod messages;
 mod title;
 pub mod view;
 
+pub use crate::items::compare_keys;
 use crate::items::skip_item;
+use ciborium_ll_grammar::limits::MOST_LEVELS;
 
-/// How deep tags, arrays and maps may be nested at most, in levels.
-pub const MAX_DEPTH: usize = 256;
+/// The greatest depth of tags, arrays and maps, in levels.
+pub const MAX_DEPTH: usize = MOST_LEVELS;
 
 /// The order of the keys of a map, by their encodings.
 #[derive(Clone, Copy, Debug, PartialEq, Eq)]
 pub enum Order {
     /// By their bytes (RFC 8949, 4.2.1). Integers and strings are then in the order of CTAP2 too.
     Bytewise,
-    /// The shorter key first, and keys of the same length by their bytes (RFC 7049, 3.9, and RFC 8949, 4.2.3). Of
-    /// texts, which the keys of DAG-CBOR are, this is the same order as the bytewise one.
+    /// The shorter key first, and keys of the same length by their bytes (RFC 7049, 3.9, and RFC 8949, 4.2.3). For
+    /// texts, which the keys of DAG-CBOR are, this is the bytewise order too.
     LengthFirst,
 }
 
 /// Why bytes are refused.
 #[derive(Clone, Copy, Debug, PartialEq, Eq)]
 pub enum Why {
-    /// They end too early.
+    /// The bytes end too early.
     Cut,
     /// No title begins with this byte.
     NoTitle,
@@ -47,20 +50,20 @@ pub enum Why {
     NoSimple,
     /// The body of a text is not UTF-8.
     NoText,
-    /// A key that comes before the one in front of it.
+    /// A key that the order puts before the previous key.
     KeyOrder,
-    /// A key that is the same as the one in front of it.
+    /// A key that equals the previous key.
     DuplicateKey,
     /// A tag, an array or a map for which no level is left.
     Deep,
 }
 
-/// Why and where no item in the deterministic encoding begins some bytes.
+/// Why no item in the deterministic encoding begins some bytes, and at which offset.
 #[derive(Clone, Copy, Debug, PartialEq, Eq, Drop)]
 pub struct Refusal {
     /// Why the bytes are refused.
     pub why: Why,
-    /// The offset of the place, in bytes.
+    /// The offset of the first fault, in bytes.
     pub place: usize,
 }
 
@@ -71,31 +74,32 @@ pub(crate) struct Stop {
     pub(crate) left: usize,
 }
 
-/// How many bytes in front are one item in the deterministic encoding (RFC 8949, 4.2.1, or 4.2.3 for
-/// [`Order::LengthFirst`]), with tags, arrays and maps nested at most `depth` levels deep. `depth` is at most
-/// [`MAX_DEPTH`]. What follows the item may be anything.
+/// Returns how many bytes at the start are one item in the deterministic encoding (RFC 8949, 4.2.1, or 4.2.3 for
+/// [`Order::LengthFirst`]). Any bytes may follow the item.
 ///
-/// Each number and length stands in the fewest bytes, and each float in the smallest width that has it. No length is
-/// indefinite. The keys of each map ascend in this order, and no two of them are the same. A tag, an array and a map
-/// take a level, also an empty one; a string takes none.
+/// Tags, arrays and maps are nested at most `depth` levels deep, and `depth` is at most [`MAX_DEPTH`]. Each takes a
+/// level, even if it is empty; a string takes none.
+///
+/// Each number and length stands in the fewest bytes, and each float in the smallest width that holds it. No length is
+/// indefinite. The keys of each map ascend in this order, and no two keys are the same.
 ///
 /// A NaN keeps its sign and payload, and has a smaller width only if the bits that this cuts off are zero. `0.0` and
-/// `-0.0` differ. No integer is taken for a float, and no tag is looked into.
+/// `-0.0` differ. An integer is never a float, and the call does not interpret tags.
 ///
 /// # Errors
 ///
-/// The refusal names the first place at which the bytes can't go on as such an item:
+/// The refusal names the first place at which the bytes can't go on as an item of this kind:
 ///
 /// - [`Why::Cut`]: the title that is cut, or the end of the bytes if a body is cut.
 /// - [`Why::NoTitle`], [`Why::NotShortest`], [`Why::Indefinite`], [`Why::NoSimple`], [`Why::Deep`]: the title.
 /// - [`Why::NoText`]: the title of the text.
-/// - [`Why::KeyOrder`], [`Why::DuplicateKey`]: the later one of the two keys.
+/// - [`Why::KeyOrder`], [`Why::DuplicateKey`]: the later of the two keys.
 ///
 /// # Time and memory
 ///
-/// The bytes are read once, and each key is compared with the one in front of it. A byte of a key within keys is
-/// compared once for each of these keys, so `n` bytes take at most `n * depth` comparisons of bytes. No memory is taken
-/// but for the stack, of which each level takes the frames of three calls.
+/// The call reads the bytes once, and compares each key with the previous key. It compares a byte of a key within keys
+/// once for each of these keys, so `n` bytes take at most `n * depth` comparisons of bytes. It takes no memory but the
+/// stack, on which each level takes the frames of three calls.
 ///
 /// ```rust
 /// let len = deterministic_len(bytes, 16, Order::Bytewise)?;
@@ -113,7 +117,7 @@ pub fn deterministic_len(bytes: &[u8], depth: usize, order: Order) -> Result<usi
 }
 
 impl Stop {
-    /// The refusal by its offset in so many bytes.
+    /// Returns the refusal by its offset in `len` bytes.
     pub(crate) fn refusal(self, len: usize) -> Refusal
         requires { self.left ≤ len }
         ensures why { result.why ≡ self.why }

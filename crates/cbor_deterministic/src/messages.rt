@@ -1,4 +1,4 @@
-//! What a refusal says to a person.
+//! The messages of refusals.
 
 ghost use Rattle.std.specs.Prelude.{Some};
 ghost use Rattle.cbor_deterministic.specs.RefusalTexts.{refusal_text, why_text};

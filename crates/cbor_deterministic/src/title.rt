@@ -10,9 +10,9 @@ use crate::Why;
 use crate::floats::is_wide_float;
 use ciborium_ll_grammar::hdr::Header;
 use ciborium_ll_grammar::hdr::table::row_of;
-use ciborium_ll_titles::title_of;
+use ciborium_ll_grammar::titles::title_of;
 
-/// The title in front, and the rest.
+/// Returns the header of the title at the start, and the rest.
 #[inline(always)]
 pub(crate) fn next_title(bytes: &[u8]) -> Result<(Header, &[u8]), Why>
     ensures { MatchResult result (λ found. InFront (λ title. IsPreferredTitle title found.0) bytes.now found.1.now)
@@ -31,7 +31,7 @@ pub(crate) fn next_title(bytes: &[u8]) -> Result<(Header, &[u8]), Why>
     }
 }
 
-/// The header of a title, if it is a preferred one. All bytes that the first one announces are there.
+/// Returns the header of a preferred title. All bytes that the first byte announces are there.
 #[inline(always)]
 fn header_of(bytes: &[u8]) -> Result<Header, Why>
     requires { length bytes.now ≡ 1 + affix_len (slice_index bytes.now 0 % 32) }
@@ -44,7 +44,7 @@ fn header_of(bytes: &[u8]) -> Result<Header, Why>
     let Some(header) = title.header(kind) else {
         return Err(Why::NoTitle);
     };
-    if title.minor.is_longer(title.major) {
+    if title.minor.is_refused_when_strict(title.major) {
         return Err(if is_small_simple(header) {
             Why::NoSimple
         } else {
@@ -60,7 +60,7 @@ fn header_of(bytes: &[u8]) -> Result<Header, Why>
     Ok(header)
 }
 
-/// Whether it is a simple value from 24 to 31.
+/// Returns whether this is a simple value from 24 to 31.
 fn is_small_simple(header: Header) -> bool
     ensures { IsTrue result ↔ IsSmallSimple header }
 {
@@ -70,7 +70,7 @@ fn is_small_simple(header: Header) -> bool
     }
 }
 
-/// Whether it is a float that a smaller width has.
+/// Returns whether this is a float that fits a smaller width.
 #[inline(always)]
 fn is_wide(header: Header) -> bool
     ensures { IsTrue result ↔ IsWide header }
@@ -81,7 +81,7 @@ fn is_wide(header: Header) -> bool
     }
 }
 
-/// Whether it is of the indefinite form, or a break.
+/// Returns whether this has an indefinite form or is a break.
 #[inline(always)]
 fn is_indefinite(header: Header) -> bool
     ensures { IsTrue result ↔ IsIndefinite header }

@@ -19,7 +19,7 @@ use ciborium_ll_grammar::hdr::{Float, Header};
 use ciborium_ll_text::state::text_of;
 use std::cmp::Ordering;
 
-/// An item in the deterministic encoding, which was checked. A copy of it takes no memory.
+/// A checked item in the deterministic encoding. A copy takes no memory.
 #[derive(Clone, Copy)]
 pub struct Item<'a> {
     bytes: &'a [u8],
@@ -48,7 +48,7 @@ pub struct Entries<'a> {
     ghost are: { ∥ HasPairs order depth due rest.now ∥₁ },
 }
 
-/// The item in front, and the rest.
+/// Returns the item at the start, and the rest.
 fn next_item(bytes: &[u8], depth: usize, order: Order) -> Result<(Item, &[u8]), Stop>
     ensures whole { IfOk result (λ found. bytes.now ≡ found.0.bytes.now ++ found.1.now) }
     ensures item { IfOk result (λ found. IsDeterministic order depth found.0.bytes.now) }
@@ -65,7 +65,7 @@ fn next_item(bytes: &[u8], depth: usize, order: Order) -> Result<(Item, &[u8]), 
     Ok((item, rest))
 }
 
-/// How many items an array has, if the header is that of one.
+/// Returns how many items an array has, if the header is that of an array.
 fn array_count(header: Header) -> Option<usize>
     ensures { MatchOption result ((count : ℕ) → header ≡ Header.Array (Some count) → ⊥)
         (λ count. header ≡ Header.Array (Some count)) }
@@ -76,7 +76,7 @@ fn array_count(header: Header) -> Option<usize>
     }
 }
 
-/// How many pairs a map has, if the header is that of one.
+/// Returns how many pairs a map has, if the header is that of a map.
 fn map_count(header: Header) -> Option<usize>
     ensures { MatchOption result ((count : ℕ) → header ≡ Header.Map (Some count) → ⊥)
         (λ count. header ≡ Header.Map (Some count)) }
@@ -92,9 +92,10 @@ impl<'a> Item<'a> {
     ghost use Rattle.cbor_deterministic.specs.Held.{entries_bytes, entries_depth, entries_due, entries_order};
     ghost use Rattle.cbor_deterministic.specs.Held.{item_bytes, item_depth, item_order};
 
-    /// The item in front of the bytes, and the bytes that follow it. The item is in the deterministic encoding with
-    /// this order of keys, and its tags, arrays and maps are nested at most `depth` levels deep. `depth` is at most
-    /// [`MAX_DEPTH`].
+    /// Returns the item at the start of the bytes, and the bytes after it.
+    ///
+    /// The item is in the deterministic encoding with this order of keys. Its tags, arrays and maps are nested at most
+    /// `depth` levels deep, and `depth` is at most [`MAX_DEPTH`].
     ///
     /// # Errors
     ///
@@ -121,14 +122,14 @@ impl<'a> Item<'a> {
         }
     }
 
-    /// Its bytes.
+    /// Returns the bytes of the item.
     pub fn bytes(&self) -> &'a [u8]
         ensures { result.now ≡ item_bytes self.now }
     {
         self.bytes
     }
 
-    /// The header of its title, and its contents: the bytes that follow the title.
+    /// Returns the header of the item's title, and its contents: the bytes after the title.
     pub fn open(&self) -> (Header, &'a [u8])
         ensures { Opens (item_order self.now) (item_depth self.now) (item_bytes self.now) result.0 result.1.now }
     {
@@ -138,14 +139,14 @@ impl<'a> Item<'a> {
         }
     }
 
-    /// The header of its title. It is never [`Header::Break`], and never of the indefinite form.
+    /// Returns the header of the item's title. It is never [`Header::Break`], and never of an indefinite form.
     pub fn header(&self) -> Header
         ensures { IsOpenedBy (item_bytes self.now) result }
     {
         self.open().0
     }
 
-    /// The number of an unsigned integer, or `None` for any other item.
+    /// Returns the number of an unsigned integer, or `None` for any other item.
     pub fn positive(&self) -> Option<u64>
         ensures { MatchOption result
             ((number : ℕ) → IsPreferredTitle (item_bytes self.now) (Header.Positive number) → ⊥)
@@ -158,7 +159,7 @@ impl<'a> Item<'a> {
         }
     }
 
-    /// The `n` of the negative integer -1 - n, or `None` for any other item.
+    /// Returns the `n` of the negative integer -1 - n, or `None` for any other item.
     pub fn negative(&self) -> Option<u64>
         ensures { MatchOption result
             ((number : ℕ) → IsPreferredTitle (item_bytes self.now) (Header.Negative number) → ⊥)
@@ -171,7 +172,7 @@ impl<'a> Item<'a> {
         }
     }
 
-    /// The number of a simple value, or `None` for any other item.
+    /// Returns the number of a simple value, or `None` for any other item.
     pub fn simple(&self) -> Option<u8>
         ensures { MatchOption result ((number : ℕ) → IsPreferredTitle (item_bytes self.now) (Header.Simple number) → ⊥)
             (λ number. IsPreferredTitle (item_bytes self.now) (Header.Simple number)) }
@@ -183,7 +184,7 @@ impl<'a> Item<'a> {
         }
     }
 
-    /// The bits of a float, with their width, or `None` for any other item. No smaller width has the float.
+    /// Returns the bits of a float with their width, or `None` for any other item. No smaller width holds the float.
     pub fn float(&self) -> Option<Float>
         ensures { MatchOption result
             ((float : AnyFloat) → IsPreferredTitle (item_bytes self.now) (Header.Float float) → ⊥)
@@ -196,7 +197,7 @@ impl<'a> Item<'a> {
         }
     }
 
-    /// The body of a byte string, or `None` for any other item.
+    /// Returns the body of a byte string, or `None` for any other item.
     pub fn byte_string(&self) -> Option<&'a [u8]>
         ensures { MatchOption result ((body : List ℕ) → IsBytesOf (item_bytes self.now) body → ⊥)
             (λ body. IsBytesOf (item_bytes self.now) body.now) }
@@ -208,7 +209,7 @@ impl<'a> Item<'a> {
         }
     }
 
-    /// The body of a text string, or `None` for any other item.
+    /// Returns the body of a text string, or `None` for any other item.
     pub fn text(&self) -> Option<&'a str>
         ensures { MatchOption result ((body : List ℕ) → IsTextOf (item_bytes self.now) body → ⊥)
             (λ body. IsTextOf (item_bytes self.now) body.now) }
@@ -220,7 +221,7 @@ impl<'a> Item<'a> {
         }
     }
 
-    /// The number of a tag and the item that it tags, or `None` for any other item.
+    /// Returns the number of a tag and the item that it tags, or `None` for any other item.
     pub fn tag(&self) -> Option<(u64, Item<'a>)>
         ensures { MatchOption result ((number : ℕ) → IsOpenedBy (item_bytes self.now) (Header.Tag number) → ⊥)
             (λ found. Opens (item_order self.now) (item_depth self.now) (item_bytes self.now) (Header.Tag found.0)
@@ -241,7 +242,7 @@ impl<'a> Item<'a> {
         }
     }
 
-    /// The items of an array, or `None` for any other item.
+    /// Returns the items of an array, or `None` for any other item.
     pub fn elements(&self) -> Option<Elements<'a>>
         ensures { MatchOption result ((count : ℕ) → IsOpenedBy (item_bytes self.now) (Header.Array (Some count)) → ⊥)
             (λ elements. Opens (item_order self.now) (item_depth self.now) (item_bytes self.now)
@@ -261,7 +262,7 @@ impl<'a> Item<'a> {
         }
     }
 
-    /// The pairs of a map, in the order of their keys, or `None` for any other item.
+    /// Returns the pairs of a map, in the order of their keys, or `None` for any other item.
     pub fn entries(&self) -> Option<Entries<'a>>
         ensures { MatchOption result ((count : ℕ) → IsOpenedBy (item_bytes self.now) (Header.Map (Some count)) → ⊥)
             (λ entries. Opens (item_order self.now) (item_depth self.now) (item_bytes self.now)
@@ -285,8 +286,9 @@ impl<'a> Item<'a> {
 impl<'a> Item<'a> {
     ghost use Rattle.cbor_deterministic.specs.Held.{item_bytes, item_depth, item_order};
 
-    /// The value of the key with these bytes, or `None` if the map has no such key and if the item is no map. The bytes
-    /// are the key in its deterministic encoding. The search stops at the first greater key.
+    /// Returns the value of the key with these bytes, or `None` if the item is no map with this key.
+    ///
+    /// The bytes are the key in its deterministic encoding. The search stops at the first greater key.
     pub fn get(&self, key: &[u8]) -> Option<Item<'a>>
         ensures { MatchOption result
             (HasNoKey (item_order self.now) (item_depth self.now) (item_bytes self.now) key.now)
@@ -300,8 +302,8 @@ impl<'a> Item<'a> {
         }
     }
 
-    /// The value of the key that is this text, or `None` if the map has no such key and if the item is no map. The
-    /// search passes all pairs up to the key.
+    /// Returns the value of the key that is this text, or `None` if the item is no map with this key. The search passes
+    /// all pairs up to the key.
     pub fn get_text(&self, key: &str) -> Option<Item<'a>>
         ensures { MatchOption result (HasNoKey (item_order self.now) (item_depth self.now) (item_bytes self.now)
             (shortest_title (Header.Text (Some (length key.now))) ++ key.now))
@@ -311,8 +313,8 @@ impl<'a> Item<'a> {
         self.get_titled(Header::Text(Some(key.len())), key.as_bytes())
     }
 
-    /// The value of the key that is this unsigned integer, or `None` if the map has no such key and if the item is no
-    /// map. The search passes all pairs up to the key.
+    /// Returns the value of the key that is this unsigned integer, or `None` if the item is no map with this key. The
+    /// search passes all pairs up to the key.
     pub fn get_positive(&self, key: u64) -> Option<Item<'a>>
         ensures { MatchOption result (HasNoKey (item_order self.now) (item_depth self.now) (item_bytes self.now)
             (shortest_title (Header.Positive key)))
@@ -322,8 +324,8 @@ impl<'a> Item<'a> {
         self.get_titled(Header::Positive(key), &[])
     }
 
-    /// The value of the key that is the negative integer -1 - n, or `None` if the map has no such key and if the item
-    /// is no map. The search passes all pairs up to the key.
+    /// Returns the value of the key that is the negative integer -1 - n, or `None` if the item is no map with this key.
+    /// The search passes all pairs up to the key.
     pub fn get_negative(&self, n: u64) -> Option<Item<'a>>
         ensures { MatchOption result (HasNoKey (item_order self.now) (item_depth self.now) (item_bytes self.now)
             (shortest_title (Header.Negative n)))
@@ -333,7 +335,7 @@ impl<'a> Item<'a> {
         self.get_titled(Header::Negative(n), &[])
     }
 
-    /// The value of the key that is the shortest title of this header and these contents.
+    /// Returns the value of the key that is the shortest title of this header and these contents.
     fn get_titled(&self, title: Header, body: &[u8]) -> Option<Item<'a>>
         requires { IsInRange title }
         ensures { MatchOption result (HasNoKey (item_order self.now) (item_depth self.now) (item_bytes self.now)
@@ -348,7 +350,7 @@ impl<'a> Item<'a> {
         }
     }
 
-    /// Whether it is the shortest title of this header and these contents.
+    /// Returns whether the item is the shortest title of this header and these contents.
     fn is_titled(&self, title: Header, body: &[u8]) -> bool
         requires { IsInRange title }
         ensures { IsTrue result ↔ (item_bytes self.now ≡ shortest_title title ++ body.now) }
@@ -358,21 +360,21 @@ impl<'a> Item<'a> {
     }
 }
 
-/// Whether the two headers are the same.
+/// Returns whether the two headers are the same.
 fn is_same_header(header: Header, other: Header) -> bool
     ensures { IsTrue result ↔ (header ≡ other) }
 {
     header == other
 }
 
-/// Whether the two are the same bytes.
+/// Returns whether the bytes are the same.
 fn is_same(bytes: &[u8], others: &[u8]) -> bool
     ensures { IsTrue result ↔ (bytes.now ≡ others.now) }
 {
     bytes == others
 }
 
-/// The value of the key with these bytes among so many pairs, whose keys ascend.
+/// Returns the value of the key with these bytes among `count` pairs, whose keys ascend.
 fn find<'a>(
     pairs: &'a [u8],
     count: usize,
@@ -396,7 +398,7 @@ fn find<'a>(
         match compare_keys(order, other.bytes, key) {
             Ordering::Less => {}
             Ordering::Equal => return Some(value),
-            // No key after it is this one, since they ascend.
+            // The keys ascend, so no later key is this key.
             Ordering::Greater => return None,
         }
         rest = last;
@@ -405,7 +407,7 @@ fn find<'a>(
     None
 }
 
-/// The value of the key that is the shortest title of this header and these contents, among so many pairs.
+/// Returns the value of the key that is the shortest title of this header and these contents, among `count` pairs.
 fn find_titled<'a>(
     pairs: &'a [u8],
     count: usize,
@@ -442,14 +444,14 @@ impl<'a> Elements<'a> {
     ghost use Rattle.cbor_deterministic.specs.Held.{elements_bytes, elements_depth, elements_due, elements_order};
     ghost use Rattle.cbor_deterministic.specs.Held.{item_bytes, item_depth, item_order};
 
-    /// How many items are left.
+    /// Returns how many items are left.
     pub fn left(&self) -> usize
         ensures { result ≡ elements_due self.now }
     {
         self.due
     }
 
-    /// The next item, or `None` after the last one.
+    /// Returns the next item, or `None` after the last item.
     pub fn next(&mut self) -> Option<Item<'a>>
         ensures next { MatchOption result ((elements_due self.old ≡ 0) × (elements_due self.new ≡ 0)
             × (elements_bytes self.new ≡ elements_bytes self.old))
@@ -475,14 +477,14 @@ impl<'a> Entries<'a> {
     ghost use Rattle.cbor_deterministic.specs.Held.{entries_bytes, entries_depth, entries_due, entries_order};
     ghost use Rattle.cbor_deterministic.specs.Held.{item_bytes, item_depth, item_order};
 
-    /// How many pairs are left.
+    /// Returns how many pairs are left.
     pub fn left(&self) -> usize
         ensures { result ≡ entries_due self.now }
     {
         self.due
     }
 
-    /// The next key and its value, or `None` after the last one.
+    /// Returns the next key and its value, or `None` after the last pair.
     pub fn next(&mut self) -> Option<(Item<'a>, Item<'a>)>
         ensures next { MatchOption result ((entries_due self.old ≡ 0) × (entries_due self.new ≡ 0)
             × (entries_bytes self.new ≡ entries_bytes self.old))

@@ -15,7 +15,7 @@ use Rattle.ciborium_ll.specs.Recoding.{BodyUnwritten, CopiesBody}
 use Rattle.ciborium_ll.specs.Sides.{sides}
 use Rattle.cbor_diag.specs.declared.strings.quotes.Quotes.{Quotes}
 use Rattle.cbor_diag.specs.Notation.{body_text}
-use Rattle.ciborium_ll.proofs.DecodingLaws.{Passes-none}
+use Rattle.ciborium_ll.proofs.DecodingLaws.{ReadsPast-none}
 use Rattle.cbor_diag.proofs.QuoteLaws.{wrote_both, wrote_first}
 use Rattle.cbor_skip.specs.declared.SkipError.TheVariants as s
 use Rattle.cbor_diag.specs.declared.DiagError.{DiagError}
@@ -81,7 +81,7 @@ module _ {R E W F : Type 0} (source : Reader R E) (sink : Writer W F) (kind : Ki
   body_unopened (d.Write fault) w' said = record {
     bytes = [];
     kept = [];
-    passed = Passes-none source old;
+    passed = ReadsPast-none source old;
     within = omega arith;
     few = omega arith;
     stopped = front_longer sink w w' _ (closing quotes) (rw append-nil said);

@@ -1,4 +1,4 @@
--- The show of an item behind its header, which was pulled, as a read of the item.
+-- The show of an item after its header, which was pulled, as a read of the item.
 use Rattle.std.proofs.Common.{◌≡◌, ◌⊎◌, ℕ, suc, Bool, [], Option, Result, Err, IfErr, inr, arith}
 use Rattle.ciborium_ll.specs.Types.Read.{Ghosts}
 use Rattle.ciborium_ll.specs.Types.Header.{Header}

@@ -1,4 +1,4 @@
--- The texts of items, as they are written one behind the other.
+-- The texts of items, as they are written one after the other.
 use Rattle.std.proofs.lemmas.Bool.Decides.{nat_tests}
 use native.Mathlib.Nat.{zero-add, suc-add}
 use Rattle.std.proofs.Common.{◌≡◌, ◌∙◌, ℕ, zero, suc, ◌+◌, ◌-◌, ◌<◌, Bool, true, false, List, [], ◌∷◌, ◌++◌, codes}
@@ -10,9 +10,9 @@ use Rattle.ciborium_ll.specs.Types.Error.{Error}
 use Rattle.ciborium_ll.specs.Types.Header.{Header}
 use Rattle.ciborium_ll.specs.Types.Header.TheVariants as h
 use Rattle.ciborium_ll.specs.Strings.{Kind, kind_header}
-use Rattle.ciborium_ll.specs.Decoding.{IsSteady, Passes, PullsHeader, PullsTitle}
+use Rattle.ciborium_ll.specs.Decoding.{IsSteady, ReadsPast, DecoderPullAnswer, PullsTitle}
 use Rattle.ciborium_ll.specs.Sides.{Sides, sides}
-use Rattle.ciborium_ll_decoder.proofs.DecodingLaws.{Passes-none, Passes-pulled, Passes-then}
+use Rattle.ciborium_ll_decoder.proofs.DecodingLaws.{ReadsPast-none, ReadsPast-pulled, ReadsPast-then}
 use Rattle.ciborium_ll_decoder.proofs.NestLaws.{alone_bytes}
 use Rattle.cbor_skip.specs.declared.SkipError.{SkipError}
 use Rattle.cbor_skip.specs.declared.SkipError.TheVariants as s
@@ -79,7 +79,7 @@ module _ {R E W F : Type 0} (source : Reader R E) (sink : Writer W F) (layout : 
       (result : Result (Unit {0}) (DiagError E F)) → IsShown layout level header [] text → result ≡ said_of answer
       → WritesBytes sink old answer text new
       → OnOk result (RestShown source sink layout level header (sides decoder old) (sides decoder new))
-  plain_said header text decoder old new answer result shown same wrote = grind (arith, Passes-none)
+  plain_said header text decoder old new answer result shown same wrote = grind (arith, ReadsPast-none)
 
   -- a string
   pub string_shown : (kind : Kind) (len : Option ℕ) (room : ℕ) (old new : Sides R W)
@@ -123,7 +123,7 @@ module _ {R E W F : Type 0} (source : Reader R E) (sink : Writer W F) (layout : 
       items = [];
       text = [];
       shown = none;
-      passed = Passes-none source now.decoder;
+      passed = ReadsPast-none source now.decoder;
       written = writes_nothing sink now.writer;
     };
     counted = refl;
@@ -165,8 +165,8 @@ module _ {R E W F : Type 0} {source : Reader R E} {sink : Writer W F} {layout : 
           → RestShown source sink layout level next (sides titled led) new
           → ItemsFar source sink layout level header old after false new
       items_more {new} goes_on steady shown =
-          let first_part = Passes-pulled source now.decoder now.decoder titled [] next pulled
-          (Passes-none source now.decoder) steady in
+          let first_part = ReadsPast-pulled source now.decoder now.decoder titled [] next pulled
+          (ReadsPast-none source now.decoder) steady in
           record {
             count = suc far.count;
             is_remaining = goes_on far.count far.is_remaining;
@@ -174,9 +174,9 @@ module _ {R E W F : Type 0} {source : Reader R E} {sink : Writer W F} {layout : 
               items = far.begun.items ++ (pulled.title ++ shown.rest);
               text = _;
               shown = more far.begun.shown pulled.is_title shown.shown;
-              passed = Passes-then source old.decoder now.decoder new.decoder far.begun.items
+              passed = ReadsPast-then source old.decoder now.decoder new.decoder far.begun.items
                   (pulled.title ++ shown.rest) far.begun.passed
-                  (Passes-then source now.decoder titled new.decoder pulled.title shown.rest first_part shown.passed);
+                  (ReadsPast-then source now.decoder titled new.decoder pulled.title shown.rest first_part shown.passed);
               written = wrote_both far.begun.written (wrote_both (rw (lead_is is_value) at leads) shown.written);
             };
             counted = refl;
@@ -184,7 +184,7 @@ module _ {R E W F : Type 0} {source : Reader R E} {sink : Writer W F} {layout : 
 
   -- the items are all
   all_shown : (new : Decoder R) → IsAll header far.count
-      → Passes source old.decoder (far.begun.items ++ nest_end header) new
+      → ReadsPast source old.decoder (far.begun.items ++ nest_end header) new
       → WithinShown source sink layout level header old first (sides new now.writer)
   all_shown new all passed = record {
     count = far.count;
@@ -207,7 +207,7 @@ module _ {R E W F : Type 0} {source : Reader R E} {sink : Writer W F} {layout : 
       → WithinShown source sink layout level header old first (sides titled now.writer)
   items_closed titled may pulled steady =
       let all = all_closed header far.count remaining far.is_remaining may in
-      all_shown titled all.0 (rw (all.1, ← alone_bytes pulled.title h.Break pulled.is_title refl) (Passes-pulled source
+      all_shown titled all.0 (rw (all.1, ← alone_bytes pulled.title h.Break pulled.is_title refl) (ReadsPast-pulled source
       old.decoder now.decoder titled far.begun.items h.Break pulled far.begun.passed
       (λ first. steady (far.begun.passed.steady first))))
 
@@ -271,7 +271,7 @@ module _ {R E W F : Type 0} (source : Reader R E) (sink : Writer W F) where
       → ShowsItem source sink layout (sides before writer) result new
   item_shown layout writer new (Err error) pulled steady shown = behind pulled shown
   item_shown layout {header} {before} {titled} writer new (Ok done) pulled steady shown =
-      let first_part = Passes-pulled source before before titled [] header pulled (Passes-none source before) steady in
+      let first_part = ReadsPast-pulled source before before titled [] header pulled (ReadsPast-none source before) steady in
       record {
         title = pulled.title;
         header = header;
@@ -279,13 +279,13 @@ module _ {R E W F : Type 0} (source : Reader R E) (sink : Writer W F) where
         text = shown.text;
         is_title = pulled.is_title;
         shown = shown.shown;
-        passed = Passes-then source before titled new.decoder pulled.title shown.rest first_part shown.passed;
+        passed = ReadsPast-then source before titled new.decoder pulled.title shown.rest first_part shown.passed;
         written = shown.written;
       }
 
   -- where no title was pulled, nothing was written
   pub none_came : {layout : Layout} {before old new : Decoder R} {error : Error E} {writer : W} → before ≡ old
-      → PullsHeader source before (Err error) new
+      → DecoderPullAnswer source before (Err error) new
       → ItemStops source sink layout (sides old writer) (d.Read (s.Read error)) (sides new writer)
   none_came {new} {error} same fails = no_item {error = s.Read error}
-      (subst (λ (first : Decoder R). PullsHeader source first (Err error) new) same fails)
+      (subst (λ (first : Decoder R). DecoderPullAnswer source first (Err error) new) same fails)

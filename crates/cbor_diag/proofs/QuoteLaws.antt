@@ -1,4 +1,4 @@
--- Texts that are written one behind the other.
+-- Texts that are written one after the other.
 use Rattle.std.proofs.Common.{arith, ◌≡◌, ℕ, List, [], ◌++◌, Some, Result, Ok, Err, IsErr}
 use Rattle.ciborium_ll.specs.Types.Write.{Ghosts}
 use Rattle.ciborium_ll.specs.Encoding.{WritesAll, WritesBytes, WritesFront}

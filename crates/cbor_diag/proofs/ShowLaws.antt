@@ -1,4 +1,4 @@
--- What is said of a read, by the answer of a show.
+-- The answer of a read, by the answer of a show.
 use Rattle.std.proofs.Common.{◌≡◌, if◌then◌else◌, ℕ, Bool, true, false, List, Some, Result, Ok, Err}
 use Rattle.std.proofs.Common.{IfErr, arith}
 use Rattle.ciborium_ll.specs.Types.Read.{Ghosts}

@@ -11,11 +11,11 @@ use Rattle.ciborium_ll.specs.Types.Progress.{Progress}
 use Rattle.ciborium_ll.specs.Types.Progress.TheVariants as p
 use Rattle.ciborium_ll.specs.Title.{IsInRange, shortest_title}
 use Rattle.ciborium_ll.specs.Strings.{Kind, kind_header}
-use Rattle.ciborium_ll.specs.Decoding.{IsSteady, Passes, TakesBack}
+use Rattle.ciborium_ll.specs.Decoding.{IsSteady, ReadsPast, TakesBack}
 use Rattle.ciborium_ll.specs.Encoding.{WritesAll}
 use Rattle.ciborium_ll.specs.Segments.{AdvancesTo, EndsAdvance, IsRefusedAt}
 use Rattle.ciborium_ll.specs.Sides.{Sides, sides}
-use Rattle.ciborium_ll.proofs.DecodingLaws.{Passes-pulled}
+use Rattle.ciborium_ll.proofs.DecodingLaws.{ReadsPast-pulled}
 use Rattle.ciborium_ll.proofs.HaltLaws.{kind_not_misplaced}
 use Rattle.ciborium_ll.proofs.StringLaws.{not_break}
 use Rattle.ciborium_ll.proofs.StepLaws.{counted}
@@ -71,14 +71,14 @@ module _ {R E : Type 0} {source : Reader R E} (k : Kind) (strict : Bool) where
     titled : (len : Option ℕ) (body : Body)
         → ReadSoFar source k len (shortest_title (kind_header k len)) opened bodies progress now
         → AdvancesTo source k strict progress now (Ok (Some body)) progress' new
-        → (behind : List ℕ) × IsTitled k len behind bodies body.length × Passes source opened behind new
+        → (behind : List ℕ) × IsTitled k len behind bodies body.length × ReadsPast source opened behind new
     titled None body so_far advances =
         let all = advanced source k strict steady (Ok (Some body)) so_far advances in
         let strings = all.has.strings in
         let pulled = all.ends.pulled in (
           strings ++ pulled.title,
           (strings, pulled.title, refl, counted k all.left _ bodies all.has.within, pulled.is_title),
-          Passes-pulled source opened all.between new strings _ pulled all.has.passed all.steady,
+          ReadsPast-pulled source opened all.between new strings _ pulled all.has.passed all.steady,
         )
     titled (Some len) body so_far advances =
         let lone = lone_titled source k strict len body so_far advances in
@@ -89,7 +89,7 @@ module _ {R E : Type 0} {source : Reader R E} (k : Kind) (strict : Bool) where
         → ReadSoFar source k len (shortest_title (kind_header k len)) opened bodies progress now
         → AdvancesTo source k strict progress now (Err error) progress' new
         → (between : Decoder R) × (behind : List ℕ) × BeginsBodies k len behind bodies
-        × Passes source opened behind between × MeetsNoBody source k between error new
+        × ReadsPast source opened behind between × MeetsNoBody source k between error new
     untitled None error so_far advances =
         let all = advanced source k strict steady (Err error) so_far advances in (
           all.between,

@@ -11,25 +11,25 @@ use Rattle.cbor_diag.specs.declared.scalars.Width.{Width}
 
 -- ---- the value
 
--- two to the power of the exponent less 25, as a double
+-- Two to the power of the exponent less 25, as a double.
 abbrev pub power_of_two : ℕ → Float
 power_of_two exponent = from_bits binary64 ((exponent + 998) * 2 ^ 52)
 
--- what a half is worth without its sign (RFC 7049, appendix D): its fraction has ten bits, and its exponent five
+-- The value of a half without its sign (RFC 7049, appendix D). The fraction has ten bits, and the exponent five.
 abbrev pub half_size : ℕ → ℕ → Float
 half_size exponent fraction =
     if exponent == 31 then (if fraction == 0 then inf false else nan)
     else (if exponent == 0 then f.Ieee.mul binary64 (f.Ieee.of_int binary64 (pos fraction)) (power_of_two 1)
     else f.Ieee.mul binary64 (f.Ieee.of_int binary64 (pos (fraction + 1024))) (power_of_two exponent))
 
--- the value of a half by its bits (RFC 7049, 2.3 and appendix D): its fraction times a power of two, as doubles, where
--- no digit is lost
+-- The value of a half by its bits (RFC 7049, 2.3 and appendix D): its fraction times a power of two, as doubles. No
+-- digit is lost. The bits `3c00` are 1.0.
 abbrev pub half_value : ℕ → Float
 half_value bits =
     let size = half_size (bits / 1024 % 32) (bits % 1024) in
     if nat_lt bits 32768 then size else f.Ieee.neg size
 
--- the value of a float by its width and its bits (RFC 7049, 2.3)
+-- The value of a float by its width and its bits (RFC 7049, 2.3).
 abbrev pub float_value : Raw → Float
 float_value (raw.Half bits) = half_value bits
 float_value (raw.Single bits) = from_bits binary32 bits
@@ -37,7 +37,7 @@ float_value (raw.Double bits) = from_bits binary64 bits
 
 -- ---- its digits
 
--- with .0 in front of the exponent, where no point stands in front of that
+-- Digits with .0 before the exponent, unless a point precedes it: `1e+20` gives `1.0e+20`.
 abbrev pub with_point : List ℕ → List ℕ
 with_point [] = []
 with_point (byte ∷ bytes) =
@@ -45,8 +45,8 @@ with_point (byte ∷ bytes) =
     else (if byte == 101 then codes ".0" ++ byte ∷ bytes
     else byte ∷ with_point bytes)
 
--- the text of a value: digits that are read as just this value, laid out as the kit's `ryu` promises, with a point, and
--- a sign at an exponent; or its name: `NaN`, `Infinity`, `-Infinity` (RFC 8949, 8)
+-- The text of a value: digits that are read as exactly this value, laid out as the kit's `ryu` promises, with a point
+-- and a sign at an exponent. Or it is a name: `NaN`, `Infinity`, `-Infinity` (RFC 8949, 8).
 abbrev pub IsNumberText : Float → List ℕ → Type 0
 IsNumberText nan text = text ≡ codes "NaN"
 IsNumberText (inf false) text = text ≡ codes "Infinity"
@@ -57,9 +57,9 @@ IsNumberText (fin sign number exponent) text =
 
 -- ---- the mark of its width
 
--- whether a float of the width has the value of the double with these bits: infinities and NaN each has; else the
--- exponent is not too great, and the bits of the fraction that the width lacks are zeros, one more for each step below
--- its least exponent
+-- Whether a float of the width has the value of the double with this exponent and fraction. Each width has infinities
+-- and NaN. For other values the exponent is not too great, and the bits of the fraction that the width lacks are zeros:
+-- one more for each step below its least exponent.
 abbrev pub is_held : Width → ℕ → ℕ → Bool
 is_held width exponent fraction =
     if exponent == 2047 then true
@@ -67,26 +67,26 @@ is_held width exponent fraction =
     else (not (nat_lt width.most exponent) && (not (nat_lt (exponent + width.digits) width.least)
     && (fraction % 2 ^ ((52 - width.digits) + (width.least - exponent)) == 0))))
 
--- whether a float of the width has the value of this double
+-- Whether a float of the width has the value of this double.
 abbrev pub holds : Width → ℕ → Bool
 holds width double = is_held width (double / 2 ^ 52 % 2048) (double % 2 ^ 52)
 
--- halves: ten bits of fraction, and exponents from -14 to 15, as a double has them
+-- Halves: ten bits of fraction, and exponents from -14 to 15, as a double has them.
 abbrev pub half_width : Width
 half_width = record { digits = 10; least = 1009; most = 1038 }
 
--- singles: 23 bits of fraction, and exponents from -126 to 127
+-- Singles: 23 bits of fraction, and exponents from -126 to 127.
 abbrev pub single_width : Width
 single_width = record { digits = 23; least = 897; most = 1150 }
 
--- the mark of a width where a shorter one has the same value (RFC 8949, 8.1): `_2` of a single whose value a half has,
--- `_3` of a double whose value a single has, and of a half none
+-- The mark of a width if a shorter width has the same value (RFC 8949, 8.1). It is `_2` for a single whose value a half
+-- has, and `_3` for a double whose value a single has. A half has no mark.
 abbrev pub float_mark : Raw → List ℕ
 float_mark (raw.Half bits) = []
 float_mark (raw.Single bits) = if holds half_width (to_bits binary64 (from_bits binary32 bits)) then codes "_2" else []
 float_mark (raw.Double bits) = if holds single_width bits then codes "_3" else []
 
--- the text of a float: that of its value, and the mark (RFC 8949, 8)
+-- The text of a float: the text of its value, and the mark (RFC 8949, 8). `1.0_3` is a double.
 abbrev pub IsFloatText : Raw → List ℕ → Type 0
 IsFloatText float text =
     (number : List ℕ) × IsNumberText (float_value float) number × (text ≡ number ++ float_mark float)

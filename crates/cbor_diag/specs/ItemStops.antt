@@ -1,11 +1,11 @@
--- What was written of an item by the time at which its show ended with an error.
+-- What was written of an item before its show ended with an error.
 use Rattle.std.specs.Prelude.{ℕ, ◌++◌, Bool, List, Result, Ok, Err}
 use Rattle.ciborium_ll.specs.Types.Read.{Ghosts as Reader}
 use Rattle.ciborium_ll.specs.Types.Write.{Ghosts as Writer}
 use Rattle.ciborium_ll.specs.Types.Decoder.{Decoder}
 use Rattle.ciborium_ll.specs.Types.Header.{Header}
 use Rattle.ciborium_ll.specs.Types.Header.TheVariants as h
-use Rattle.ciborium_ll.specs.Decoding.{Passes, PullsHeader, PullsTitle}
+use Rattle.ciborium_ll.specs.Decoding.{ReadsPast, DecoderPullAnswer, PullsTitle}
 use Rattle.ciborium_ll.specs.Encoding.{WritesAll, WritesFront}
 use Rattle.ciborium_ll.specs.Sides.{Sides, sides}
 use Rattle.cbor_skip.specs.declared.SkipError.{SkipError}
@@ -17,60 +17,60 @@ use Rattle.cbor_diag.specs.ItemTexts.{nest_opening, nest_closing, nest_last, ite
 use Rattle.cbor_diag.specs.ItemTexts.{is_first_at, AreShown, RestShown, WithinShown, ItemShown}
 use Rattle.cbor_diag.specs.Showing.{ShowsHeader}
 
--- where an item is due no title came, or a break
+-- An item is due, and no title came, or a break.
 abbrev pub ComesNoItem : {R E : Type 0} → Reader R E → Decoder R → SkipError E → Decoder R → Type 0
-ComesNoItem source old (s.Read error) new = PullsHeader source old (Err error) new
+ComesNoItem source old (s.Read error) new = DecoderPullAnswer source old (Err error) new
 ComesNoItem source old (s.Break place) new = PullsTitle source old h.Break new
 ComesNoItem source old (s.Deep place) new = ⊥
 
 module _ {R E W F : Type 0} (source : Reader R E) (sink : Writer W F) (layout : Layout) where
-  -- behind the header so many items were read, and their text was written
+  -- After the header `count` items were read, and their text was written.
   pub record WithinBegun (level : ℕ) (header : Header) (count : ℕ) (old now : Sides R W) : Type 0 where
     pub items : List ℕ
     pub text : List ℕ
     pub shown : AreShown layout level header count items text
-    pub passed : Passes source old.decoder items now.decoder
+    pub passed : ReadsPast source old.decoder items now.decoder
     pub written : WritesAll sink old.writer text now.writer
 
   mutual
-    -- `RestStops level header old error new`: behind its header the show of an item of this level ended with the error
+    -- `RestStops level header old error new`: after its header the show of an item of this level ended with the error.
     pub data RestStops : ℕ → Header → Sides R W → DiagError E F → Sides R W → Type 0 where
-      -- in an item that contains no others
+      -- In an item that contains no others.
       plain : {level : ℕ} {header : Header} {old new : Sides R W} {error : DiagError E F}
           → ShowsHeader source sink header old (Err error) new → RestStops level header old error new
-      -- where no level is left: nothing was written
+      -- No level is left, and nothing was written.
       deep : {level place : ℕ} {header : Header} {now : Sides R W}
           → RestStops level header now (d.Read (s.Deep place)) now
-      -- where the writer failed in front of the items
+      -- The writer failed before the items.
       opening : {level : ℕ} {header : Header} {old : Sides R W} {fault : F} {new : W}
           → WritesFront sink old.writer (nest_opening header) new
           → RestStops level header old (d.Write fault) (sides old.decoder new)
-      -- where the show of the items ended
+      -- The show of the items ended.
       within : {level : ℕ} {header : Header} {old new : Sides R W} {error : DiagError E F} {opened : W}
           → WritesAll sink old.writer (nest_opening header) opened
           → WithinStops (level_within header level) header (sides old.decoder opened) error new
           → RestStops level header old error new
-      -- where the writer failed behind them
+      -- The writer failed after the items.
       closing : {level : ℕ} {header : Header} {old : Sides R W} {fault : F} {empty : Bool} {between : Sides R W}
           {opened new : W} → WritesAll sink old.writer (nest_opening header) opened
           → WithinShown source sink layout (level_within header level) header (sides old.decoder opened) empty between
           → WritesFront sink between.writer (nest_last header layout level empty ++ nest_closing header) new
           → RestStops level header old (d.Write fault) (sides between.decoder new)
 
-    -- `WithinStops level header old error new`: behind the header some items of this level were shown, and where one
-    -- more is due the show ended with the error
+    -- `WithinStops level header old error new`: after the header some items of this level were shown. The show ended
+    -- with the error at the next item that was due.
     pub data WithinStops : ℕ → Header → Sides R W → DiagError E F → Sides R W → Type 0 where
-      -- none came, and nothing more was written
+      -- No item came, and nothing more was written.
       title : {level count : ℕ} {header : Header} {old between : Sides R W} {error : SkipError E} {new : Decoder R}
           → WithinBegun level header count old between → ComesNoItem source between.decoder error new
           → WithinStops level header old (d.Read error) (sides new between.writer)
-      -- the writer failed in front of the item
+      -- The writer failed before the item.
       lead : {level count : ℕ} {header next : Header} {old between : Sides R W} {titled : Decoder R} {fault : F} {new : W}
           → WithinBegun level header count old between → PullsTitle source between.decoder next titled
           → WritesFront sink between.writer
           (item_lead header layout level (is_value_at header count) (is_first_at count)) new
           → WithinStops level header old (d.Write fault) (sides titled new)
-      -- the show of the item ended
+      -- The show of the item ended.
       item : {level count : ℕ} {header next : Header} {old between new : Sides R W} {titled : Decoder R} {led : W}
           {error : DiagError E F} → WithinBegun level header count old between
           → PullsTitle source between.decoder next titled
@@ -78,7 +78,8 @@ module _ {R E W F : Type 0} (source : Reader R E) (sink : Writer W F) (layout : 
           (item_lead header layout level (is_value_at header count) (is_first_at count)) led
           → RestStops level next (sides titled led) error new → WithinStops level header old error new
 
-  -- the show of an item ended with the error: no title came, or a break, and nothing was written; or behind its title
+  -- The show of an item ended with the error. No title came, or a break, and nothing was written; or it ended after its
+  -- title.
   pub data ItemStops (old : Sides R W) : DiagError E F → Sides R W → Type 0 where
     no_item : {error : SkipError E} {new : Decoder R} → ComesNoItem source old.decoder error new
         → ItemStops old (d.Read error) (sides new old.writer)
@@ -86,17 +87,17 @@ module _ {R E W F : Type 0} (source : Reader R E) (sink : Writer W F) (layout : 
         → PullsTitle source old.decoder header titled → RestStops 0 header (sides titled old.writer) error new
         → ItemStops old error new
 
-  -- the show of the rest of an item, by its answer
+  -- The show of the rest of an item, by its answer.
   abbrev pub ShowsRest : ℕ → Header → Sides R W → Result (Unit {0}) (DiagError E F) → Sides R W → Type 0
   ShowsRest level header old (Ok done) new = RestShown source sink layout level header old new
   ShowsRest level header old (Err error) new = RestStops level header old error new
 
-  -- the show of what the header contains, by its answer, which says whether that is nothing
+  -- The show of what the header contains, by its answer, which says whether the header contains nothing.
   abbrev pub ShowsWithin : ℕ → Header → Sides R W → Result Bool (DiagError E F) → Sides R W → Type 0
   ShowsWithin level header old (Ok empty) new = WithinShown source sink layout level header old empty new
   ShowsWithin level header old (Err error) new = WithinStops level header old error new
 
-  -- the show of one item, by its answer
+  -- The show of an item, by its answer.
   abbrev pub ShowsItem : Sides R W → Result (Unit {0}) (DiagError E F) → Sides R W → Type 0
   ShowsItem old (Ok done) new = ItemShown source sink layout old new
   ShowsItem old (Err error) new = ItemStops old error new

@@ -1,4 +1,4 @@
--- The diagnostic notation of whole items (RFC 8949, section 8): what is written of an item, by its bytes.
+-- The diagnostic notation of whole items (RFC 8949, section 8): the text of an item, by its bytes.
 use Rattle.std.specs.Prelude.{◌≡◌, ℕ, zero, suc, ◌*◌, ◌%◌, ◌==◌, Bool, true, false, List, [], ◌∷◌, ◌++◌, codes, decimal}
 use Rattle.std.specs.Prelude.{Option, Some, None}
 use Rattle.ciborium_ll.specs.Types.Read.{Ghosts as Reader}
@@ -8,7 +8,7 @@ use Rattle.ciborium_ll.specs.Types.Header.{Header}
 use Rattle.ciborium_ll.specs.Types.Header.TheVariants as h
 use Rattle.ciborium_ll.specs.Title.{IsTitle, shortest_title}
 use Rattle.ciborium_ll.specs.Strings.{Kind, Bytes, Text, kind_header, IsString}
-use Rattle.ciborium_ll.specs.Decoding.{Passes}
+use Rattle.ciborium_ll.specs.Decoding.{ReadsPast}
 use Rattle.ciborium_ll.specs.Encoding.{WritesAll}
 use Rattle.ciborium_ll.specs.Sides.{Sides}
 use Rattle.cbor_diag.specs.declared.layout.Layout.{Layout}
@@ -21,8 +21,8 @@ use Rattle.cbor_diag.specs.StringShows.{string_text, is_indefinite}
 
 -- ---- what stands around the items of a tag, an array or a map
 
--- in front of them: a tag's number and a parenthesis, or a bracket, with an underscore in the indefinite forms (RFC
--- 8949, 8 and 8.1)
+-- The text before the items: a tag's number and a parenthesis, or a bracket, with an underscore in the indefinite forms
+-- (RFC 8949, 8 and 8.1).
 abbrev pub nest_opening : Header → List ℕ
 nest_opening (h.Tag number) = decimal number ++ codes "("
 nest_opening (h.Array (Some count)) = codes "["
@@ -31,60 +31,61 @@ nest_opening (h.Map (Some count)) = codes "{"
 nest_opening (h.Map None) = codes "{_"
 nest_opening header = []
 
--- behind them (RFC 8949, 8)
+-- The text after the items (RFC 8949, 8).
 abbrev pub nest_closing : Header → List ℕ
 nest_closing (h.Tag number) = codes ")"
 nest_closing (h.Array len) = codes "]"
 nest_closing (h.Map len) = codes "}"
 nest_closing header = []
 
--- two spaces for each level
+-- Two spaces for each level.
 abbrev pub indent : ℕ → List ℕ
 indent zero = []
 indent (suc level) = codes "  " ++ indent level
 
--- a line feed, and what a line of this level begins with
+-- A line feed, and the indent of a line of this level.
 abbrev pub new_line : ℕ → List ℕ
 new_line level = 10 ∷ indent level
 
--- the level of what stands within the header: in an array or a map it is one deeper, and behind a tag the same
+-- The level of what the header contains: one deeper in an array or a map, and the same in a tag.
 abbrev pub level_within : Header → ℕ → ℕ
 level_within (h.Array len) level = suc level
 level_within (h.Map len) level = suc level
 level_within header level = level
 
--- in front of an item, by whether its array or map is of the indefinite form, and whether the item is its first: with
--- lines a new line, else a space, but for none behind the bracket of a definite form
+-- The space before an item, by whether its array or map has the indefinite form, and whether the item is its first.
+-- With lines it is a new line, and otherwise a space. After the bracket of a definite form on one line there is none.
 abbrev pub item_space : Layout → ℕ → Bool → Bool → List ℕ
 item_space l.Indented level opens first = new_line level
 item_space l.OneLine level true first = codes " "
 item_space l.OneLine level false true = []
 item_space l.OneLine level false false = codes " "
 
--- the same within this header: behind a tag stands nothing
+-- The space before an item within this header. An item of a tag has none.
 abbrev pub nest_space : Header → Layout → ℕ → Bool → List ℕ
 nest_space (h.Array len) layout level first = item_space layout level (is_indefinite len) first
 nest_space (h.Map len) layout level first = item_space layout level (is_indefinite len) first
 nest_space header layout level first = []
 
--- between two items
+-- The comma between two items.
 abbrev pub comma : Bool → List ℕ
 comma true = []
 comma false = codes ","
 
--- in front of an item within this header, by whether it is the value of a pair, and whether it is the first item
+-- What precedes an item within this header, by whether it is the value of a pair, and whether it is the first item.
 abbrev pub item_lead : Header → Layout → ℕ → Bool → Bool → List ℕ
 item_lead header layout level true first = codes ": "
 item_lead header layout level false first = comma first ++ nest_space header layout level first
 
--- behind the last item, by whether there is none: with lines a new line, and a space in an indefinite form without items
+-- The space after the last item, by whether the form is indefinite, and whether there is no item. With lines it is a
+-- new line. An indefinite form without items has a space.
 abbrev pub last_space : Layout → ℕ → Bool → Bool → List ℕ
 last_space layout level true true = codes " "
 last_space layout level false true = []
 last_space l.Indented level opens false = new_line level
 last_space l.OneLine level opens false = []
 
--- the same within this header: behind a tag's item stands nothing
+-- The space after the last item within this header. An item of a tag has none.
 abbrev pub nest_last : Header → Layout → ℕ → Bool → List ℕ
 nest_last (h.Array len) layout level empty = last_space layout level (is_indefinite len) empty
 nest_last (h.Map len) layout level empty = last_space layout level (is_indefinite len) empty
@@ -92,18 +93,19 @@ nest_last header layout level empty = []
 
 -- ---- an item
 
--- behind so many items within the header the next one is the value of a pair: in a map, each second one (RFC 7049, 2.1)
+-- After `count` items within the header the next item is the value of a pair: in a map, each second item (RFC 7049,
+-- 2.1).
 abbrev pub is_value_at : Header → ℕ → Bool
 is_value_at (h.Map len) count = count % 2 == 1
 is_value_at header count = false
 
--- behind so many items the next one is the first
+-- After `count` items the next item is the first.
 abbrev pub is_first_at : ℕ → Bool
 is_first_at zero = true
 is_first_at (suc count) = false
 
--- so many items are all that the header contains: one behind a tag, as many as an array counts, two for each pair of a
--- map, and in the indefinite forms any number, of a map an even one (RFC 7049, 2.1, 2.2.1 and 2.4)
+-- `count` items are all that the header contains: one in a tag, as many as an array counts, and two for each pair of a
+-- map. An indefinite form has any number, and an indefinite map an even number (RFC 7049, 2.1, 2.2.1 and 2.4).
 abbrev pub IsAll : Header → ℕ → Type 0
 IsAll (h.Tag number) count = count ≡ 1
 IsAll (h.Array (Some len)) count = count ≡ len
@@ -112,20 +114,20 @@ IsAll (h.Array None) count = Unit {0}
 IsAll (h.Map None) count = (pairs : ℕ) × (count ≡ 2 * pairs)
 IsAll header count = ⊥
 
--- what ends them: a break in the indefinite forms (RFC 7049, 2.2.1)
+-- The end of the items: a break in the indefinite forms (RFC 7049, 2.2.1).
 abbrev pub nest_end : Header → List ℕ
 nest_end (h.Array None) = 0xff ∷ []
 nest_end (h.Map None) = 0xff ∷ []
 nest_end header = []
 
--- the quotes of a string of the kind (RFC 8949, 8)
+-- The quotes of a string of the kind (RFC 8949, 8).
 abbrev pub kind_quotes : Kind → Quotes
 kind_quotes Bytes = q.Hex
 kind_quotes Text = q.Text
 
 mutual
-  -- `IsShown layout level header rest text`: the text shows an item of this level, of which the rest stands behind a
-  -- title of the header (RFC 8949, 8)
+  -- `IsShown layout level header rest text`: the text shows an item of this level. A title of the header begins the
+  -- item, and the rest follows it (RFC 8949, 8). `82 01 02` is shown as `[1, 2]`.
   pub data IsShown (layout : Layout) : ℕ → Header → List ℕ → List ℕ → Type 0 where
     scalar : {level : ℕ} {header : Header} {text : List ℕ} → header_notation header ≡ Some text
         → IsShown layout level header [] text
@@ -139,8 +141,8 @@ mutual
         → IsShown layout level header (items ++ nest_end header)
         (nest_opening header ++ (text ++ (nest_last header layout level (is_first_at count) ++ nest_closing header)))
 
-  -- `AreShown layout level header count items text`: the text shows so many items of this level within the header, one
-  -- behind the other, each with what stands in front of it
+  -- `AreShown layout level header count items text`: the text shows `count` items of this level within the header, one
+  -- after the other, each with what precedes it.
   pub data AreShown (layout : Layout) : ℕ → Header → ℕ → List ℕ → List ℕ → Type 0 where
     none : {level : ℕ} {header : Header} → AreShown layout level header zero [] []
     more : {level count : ℕ} {header first : Header} {items text title rest item : List ℕ}
@@ -150,26 +152,27 @@ mutual
         (text ++ (item_lead header layout level (is_value_at header count) (is_first_at count) ++ item))
 
 module _ {R E W F : Type 0} (source : Reader R E) (sink : Writer W F) (layout : Layout) where
-  -- behind its header the rest of an item was read, and all of its text was written
+  -- After its header the rest of an item was read, and its whole text was written.
   pub record RestShown (level : ℕ) (header : Header) (old new : Sides R W) : Type 0 where
     pub rest : List ℕ
     pub text : List ℕ
     pub shown : IsShown layout level header rest text
-    pub passed : Passes source old.decoder rest new.decoder
+    pub passed : ReadsPast source old.decoder rest new.decoder
     pub written : WritesAll sink old.writer text new.writer
 
-  -- behind the header all that it contains was read, and its text was written. The answer says whether that is nothing
+  -- After the header all that it contains was read, and its text was written. The answer says whether it contains
+  -- nothing.
   pub record WithinShown (level : ℕ) (header : Header) (old : Sides R W) (empty : Bool) (new : Sides R W) : Type 0 where
     pub count : ℕ
     pub items : List ℕ
     pub text : List ℕ
     pub all : IsAll header count
     pub shown : AreShown layout level header count items text
-    pub passed : Passes source old.decoder (items ++ nest_end header) new.decoder
+    pub passed : ReadsPast source old.decoder (items ++ nest_end header) new.decoder
     pub written : WritesAll sink old.writer text new.writer
     pub counted : empty ≡ (is_first_at count)
 
-  -- one whole item was read, and all of its text was written
+  -- One whole item was read, and its whole text was written.
   pub record ItemShown (old new : Sides R W) : Type 0 where
     pub title : List ℕ
     pub header : Header
@@ -177,5 +180,5 @@ module _ {R E W F : Type 0} (source : Reader R E) (sink : Writer W F) (layout : 
     pub text : List ℕ
     pub is_title : IsTitle title header
     pub shown : IsShown layout 0 header rest text
-    pub passed : Passes source old.decoder (title ++ rest) new.decoder
+    pub passed : ReadsPast source old.decoder (title ++ rest) new.decoder
     pub written : WritesAll sink old.writer text new.writer

@@ -1,4 +1,4 @@
--- The diagnostic notation of what a header says by itself (RFC 8949, section 8).
+-- The diagnostic notation of a header that is a whole item, and of bytes in quotes (RFC 8949, section 8).
 use Rattle.std.specs.Prelude.{ℕ, ◌==◌, nat_lt, List, [], ◌∷◌, ◌++◌, codes, decimal, if◌then◌else◌}
 use Rattle.std.specs.Prelude.{Option, Some, None, negsuc}
 use Rattle.std.specs.Fmt.{signed_decimal}
@@ -8,7 +8,7 @@ use Rattle.ciborium_ll.specs.Types.Header.TheVariants as h
 use Rattle.cbor_diag.specs.declared.strings.quotes.Quotes.{Quotes}
 use Rattle.cbor_diag.specs.declared.strings.quotes.Quotes.TheVariants as q
 
--- a simple value: the four that have names by these, and others as `simple(N)` (RFC 8949, 8)
+-- A simple value: the four values that have names by these, and others as `simple(N)` (RFC 8949, 8).
 abbrev pub simple_notation : ℕ → List ℕ
 simple_notation number =
     if number == 20 then codes "false"
@@ -17,16 +17,16 @@ simple_notation number =
     else (if number == 23 then codes "undefined"
     else (codes "simple(" ++ decimal number) ++ codes ")")))
 
--- the text of a header that is an integer or a simple value, which is the whole item: an integer by its digits in base
--- 10, where a negative one is -1 - n (RFC 7049, 2.1)
+-- The text of a header that is an integer or a simple value, which is the whole item. An integer has its digits in base
+-- 10, and a negative integer is -1 - n (RFC 7049, 2.1).
 abbrev pub header_notation : Header → Option (List ℕ)
 header_notation (h.Positive number) = Some (decimal number)
 header_notation (h.Negative number) = Some (signed_decimal (negsuc number))
 header_notation (h.Simple number) = Some (simple_notation number)
 header_notation header = None
 
--- a byte of a text, between its quotes, with the escapes of JSON (RFC 8259, 7): a backslash, which is 92, in front of a
--- quote, a backslash, or the letter of a control character, or of u and four digits; each other byte as it is
+-- A byte of a text between its quotes, with the escapes of JSON (RFC 8259, 7). A backslash, which is 92, precedes a
+-- quote, a backslash, the letter of a control character, or u and four digits. Each other byte stands for itself.
 abbrev pub escaped_text : ℕ → List ℕ
 escaped_text byte =
     if byte == 34 then 92 ∷ 34 ∷ []
@@ -39,12 +39,12 @@ escaped_text byte =
     else (if nat_lt byte 32 then (92 ∷ 117 ∷ 48 ∷ 48 ∷ []) ++ hex_text byte
     else byte ∷ [])))))))
 
--- a byte between quotes of the kind, of a byte string by two digits between those of h'' (RFC 8949, 8)
+-- A byte between quotes of the kind. A byte string has two digits for each byte, in h'' (RFC 8949, 8).
 abbrev pub byte_text : Quotes → ℕ → List ℕ
 byte_text q.Hex byte = hex_text byte
 byte_text q.Text byte = escaped_text byte
 
--- bytes between quotes of the kind, one behind the other (RFC 8949, 8)
+-- Bytes between quotes of the kind, one after the other (RFC 8949, 8).
 abbrev pub body_text : Quotes → List ℕ → List ℕ
 body_text quotes [] = []
 body_text quotes (byte ∷ bytes) = byte_text quotes byte ++ body_text quotes bytes

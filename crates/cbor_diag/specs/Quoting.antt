@@ -8,44 +8,44 @@ use Rattle.cbor_diag.specs.Notation.{body_text}
 
 -- ---- numbers that stand for what can be told of a writer, and of quotes
 
--- a room that is told, or none
+-- A number for a room: 0 if none is told.
 abbrev pub room_code : Option ℕ → ℕ
 room_code None = 0
 room_code (Some room) = suc room
 
--- bytes written that are told, or none
+-- Numbers for the written bytes: an empty list if none are told.
 abbrev pub written_code : Option (List ℕ) → List ℕ
 written_code None = []
 written_code (Some bytes) = 0 ∷ bytes
 
--- both, and how many calls failed
+-- Numbers for the failed calls, the room and the written bytes.
 abbrev pub told_code : Option (List ℕ) → Option ℕ → ℕ → List ℕ
 told_code written room failures = failures ∷ room_code room ∷ written_code written
 
--- a kind of quotes
+-- A number for a kind of quotes.
 abbrev pub quotes_code : Quotes → ℕ
 quotes_code q.Hex = 0
 quotes_code q.Text = 1
 
 -- ---- what was written
 
--- how many failures there were, of which one alone is passed on
+-- How many failures there were. At most one is passed on.
 abbrev pub failure_count : Bool → ℕ
 failure_count false = 0
 failure_count true = 1
 
 module _ {W F : Type 0} (sink : Ghosts W F) where
-  -- all that a writer tells, in one list
+  -- All that a writer tells, in one list.
   abbrev pub writer_code : W → List ℕ
   writer_code writer = told_code (sink.written writer) (sink.room writer) (sink.failures writer)
 
-  -- the text was written, or a beginning of it, and the writer failed
+  -- The text was written, or the writer failed and a beginning of the text was written.
   abbrev pub WritesUntil : Bool → W → List ℕ → W → Type 0
   WritesUntil false old text new = WritesAll sink old text new
   WritesUntil true old text new = WritesFront sink old text new
 
-  -- since the writer within told what this list has, these bytes were written to it as they stand between quotes, or it
-  -- failed at them
+  -- Since the writer within told the numbers of this list, these bytes were written to it as they stand between quotes,
+  -- or it failed at them.
   abbrev pub IsQuoted : List ℕ → Quotes → Bool → List ℕ → W → Type 0
   IsQuoted began quotes failed given writer =
       (before : W) → writer_code before ≡ began → WritesUntil failed before (body_text quotes given) writer

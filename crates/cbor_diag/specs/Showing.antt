@@ -1,4 +1,4 @@
--- What a show of an item does to its decoder, as long as the writer does not fail, and what it writes of a header.
+-- What a show of an item does to its decoder if the writer does not fail, and what it writes of a header.
 use Rattle.std.specs.Prelude.{◌≡◌, ℕ, Bool, List, Option, Some, None, Result, Ok, Err}
 use Rattle.ciborium_ll.specs.Types.Read.{Ghosts}
 use Rattle.ciborium_ll.specs.Types.Write.{Ghosts as Sink}
@@ -20,25 +20,26 @@ use Rattle.cbor_diag.specs.Floats.{IsFloatText}
 use Rattle.cbor_diag.specs.declared.strings.quotes.Quotes.TheVariants as q
 use Rattle.cbor_diag.specs.Notation.{header_notation}
 use Rattle.cbor_diag.specs.StringShows.{ShowsString}
+use Rattle.cbor_diag.specs.declared.strings.TheConstants.{BUFFER_SIZE}
 
 module _ {E F : Type 0} where
-  -- an error is that of the writer
+  -- The error is that of the writer.
   abbrev pub IsWriting : DiagError E F → Type 0
   IsWriting (d.Read error) = ⊥
   IsWriting (d.Write fault) = Unit {0}
 
-  -- what a write answered, as the answer of a show
+  -- The answer of a write, as the answer of a show.
   abbrev pub said_of : {T : Type 0} → Result T F → Result T (DiagError E F)
   said_of (Ok done) = Ok done
   said_of (Err fault) = Err (d.Write fault)
 
-  -- Of the read this holds, by its answer. Where the writer failed, the read has none
+  -- The relation holds for the read, by its answer. If the writer failed, the read has no answer.
   abbrev pub OnReading : {T : Type 0} → (Result (Unit {0}) (SkipError E) → Type 0) → Result T (DiagError E F) → Type 0
   OnReading Holds (Ok done) = Holds (Ok (tt {0}))
   OnReading Holds (Err (d.Read error)) = Holds (Err error)
   OnReading Holds (Err (d.Write fault)) = Unit {0}
 
-  -- the same of the read of a string, which fails as the decoder does
+  -- The relation holds for the read of a string, which fails as the decoder does.
   abbrev pub OnString : (Result (Unit {0}) (Error E) → Type 0) → Result (Unit {0}) (DiagError E F) → Type 0
   OnString Holds (Ok done) = Holds (Ok (tt {0}))
   OnString Holds (Err (d.Read (s.Read error))) = Holds (Err error)
@@ -46,28 +47,28 @@ module _ {E F : Type 0} where
   OnString Holds (Err (d.Read (s.Deep at))) = ⊥
   OnString Holds (Err (d.Write fault)) = Unit {0}
 
-  -- How often the reader failed, by the answer of a show: once where the error of the read says so. Where the writer
-  -- failed, the reader did not
+  -- How often the reader failed, by the answer of a show: once if the error of the read says so. If the writer failed,
+  -- the reader did not fail.
   abbrev pub CountsShown : {T : Type 0} → Result T (DiagError E F) → ℕ → ℕ → Type 0
   CountsShown (Ok done) old new = new ≡ old
   CountsShown (Err (d.Read error)) old new = CountsItemFailure error old new
   CountsShown (Err (d.Write fault)) old new = new ≡ old
 
 module _ {R E : Type 0} (source : Ghosts R E) where
-  -- The read of one item, by its answer. `outer` says whether a break may stand in its place
+  -- The read of an item, by its answer. `outer` says whether a break may stand in its place.
   abbrev pub ReadsFrom : Bool → ℕ → ℕ → Decoder R → Result (Unit {0}) (SkipError E) → Decoder R → Type 0
   ReadsFrom outer depth room old (Ok done) new = ReadsItem source depth old new
   ReadsFrom outer depth room old (Err error) new = StopsItem source outer depth room old error new
 
-  -- what `diagnose` reads, if the writer does not fail, and what it keeps, whatever it answers
+  -- What `diagnose` reads if the writer does not fail, and what it keeps whatever it answers.
   pub record ReadsShown {F : Type 0} (depth : ℕ) (old : Decoder R) (result : Result (Unit {0}) (DiagError E F))
       (new : Decoder R) : Type 0 where
-    pub reads : OnReading (λ answer. SkipsItem source depth 64 old answer new) result
+    pub reads : OnReading (λ answer. SkipsItem source depth BUFFER_SIZE old answer new) result
     pub failures : CountsShown result (failures_of source old) (failures_of source new)
     pub moves_on : MovesOn source old new
 
 module _ {E W F : Type 0} (sink : Sink W F) where
-  -- the text was written, all of it, or a beginning where the writer failed
+  -- The whole text was written, or the writer failed and a beginning of the text was written.
   abbrev pub ShowsText : Option (List ℕ) → W → Result (Unit {0}) (DiagError E F) → W → Type 0
   ShowsText None old result new = ⊥
   ShowsText (Some text) old (Ok done) new = WritesBytes sink {T = Unit {0}} old (Ok done) text new
@@ -75,17 +76,17 @@ module _ {E W F : Type 0} (sink : Sink W F) where
   ShowsText (Some text) old (Err (d.Read error)) new = ⊥
 
 module _ {R E W F : Type 0} (source : Ghosts R E) (sink : Sink W F) where
-  -- behind the header of an integer, a simple value or a float its text was written, and nothing was read
+  -- After the header of an integer, a simple value or a float its text was written, and nothing was read.
   pub record ShowsAlone (text : Option (List ℕ)) (old : Sides R W) (result : Result (Unit {0}) (DiagError E F))
       (new : Sides R W) : Type 0 where
     pub written : ShowsText sink text old.writer result new.writer
     pub unread : new.decoder ≡ old.decoder
 
-  -- behind the header of an integer, a simple value, a float or a string its item was read and its text written: of a
-  -- float a text that fits, and of a string that of the bodies that were read
+  -- After the header of an integer, a simple value, a float or a string the rest of the item was read and its text
+  -- written. For a float it is a text that fits, and for a string the text of the bodies that were read.
   abbrev pub ShowsHeader : Header → Sides R W → Result (Unit {0}) (DiagError E F) → Sides R W → Type 0
   ShowsHeader (h.Float float) old result new =
       (text : List ℕ) × IsFloatText float text × ShowsAlone (Some text) old result new
-  ShowsHeader (h.Bytes len) old result new = ShowsString source sink Bytes q.Hex len 64 old result new
-  ShowsHeader (h.Text len) old result new = ShowsString source sink Text q.Text len 64 old result new
+  ShowsHeader (h.Bytes len) old result new = ShowsString source sink Bytes q.Hex len BUFFER_SIZE old result new
+  ShowsHeader (h.Text len) old result new = ShowsString source sink Text q.Text len BUFFER_SIZE old result new
   ShowsHeader header old result new = ShowsAlone (header_notation header) old result new

@@ -1,4 +1,4 @@
--- What is written of a string in diagnostic notation (RFC 8949, section 8), and of what was read by then.
+-- The text of a string in diagnostic notation (RFC 8949, section 8), and the text of a string that was read in part.
 use Rattle.std.specs.Prelude.{◌≡◌, ◌⊎◌, ℕ, ◌+◌, ◌≤◌, Bool, true, false, List, [], ◌∷◌, ◌++◌, length, codes}
 use Rattle.std.specs.Prelude.{Option, Some, None, Result, Ok, Err}
 use Rattle.ciborium_ll.specs.Types.Read.{Ghosts as Reader}
@@ -11,7 +11,7 @@ use Rattle.ciborium_ll.specs.Types.RecodeError.TheVariants as r
 use Rattle.ciborium_ll.specs.Title.{IsTitle, shortest_title}
 use Rattle.ciborium_ll.specs.Strings.{Kind, kind_header, IsString, most_kept}
 use Rattle.ciborium_ll.specs.Faults.{IsInside}
-use Rattle.ciborium_ll.specs.Decoding.{Passes, PullsHeader, PullsTitle}
+use Rattle.ciborium_ll.specs.Decoding.{ReadsPast, DecoderPullAnswer, PullsTitle}
 use Rattle.ciborium_ll.specs.Encoding.{WritesAll, WritesFront}
 use Rattle.ciborium_ll.specs.Finishing.{ReadsRest, StopsRest}
 use Rattle.ciborium_ll.specs.Sides.{Sides, sides}
@@ -24,55 +24,55 @@ use Rattle.cbor_diag.specs.Notation.{body_text}
 
 -- ---- the text
 
--- what stands in front of a body; 34 is a quote
+-- The text before a body. 34 is a quote.
 abbrev pub opening : Quotes → List ℕ
 opening q.Hex = codes "h'"
 opening q.Text = 34 ∷ []
 
--- what stands behind it
+-- The text after a body.
 abbrev pub closing : Quotes → List ℕ
 closing q.Hex = codes "'"
 closing q.Text = 34 ∷ []
 
--- a body in quotes
+-- A body in quotes: `h'0102'` for the bytes `01 02`.
 abbrev pub quoted_body : Quotes → List ℕ → List ℕ
 quoted_body quotes body = (opening quotes ++ body_text quotes body) ++ closing quotes
 
--- one whose end is missing
+-- A body in quotes whose end is missing.
 abbrev pub begun_text : Quotes → List ℕ → List ℕ
 begun_text quotes front = opening quotes ++ body_text quotes front
 
 -- ---- one body
 
 module _ {R E W F : Type 0} (source : Reader R E) (sink : Writer W F) (kind : Kind) (len : ℕ) where
-  -- the writer failed within the text of these bytes of the body, which were read. Of a text string up to three bytes
-  -- were read behind them
+  -- The writer failed within the text of these bytes of the body, which were read. Up to three more bytes of a text
+  -- string were read after them.
   pub record BodyUnshown (text : List ℕ → List ℕ) (old new : Sides R W) : Type 0 where
     pub bytes : List ℕ
     pub kept : List ℕ
-    pub passed : Passes source old.decoder (bytes ++ kept) new.decoder
+    pub passed : ReadsPast source old.decoder (bytes ++ kept) new.decoder
     pub within : length bytes + length kept ≤ len
     pub few : length kept ≤ most_kept kind
     pub stopped : WritesFront sink old.writer (text bytes) new.writer
 
 module _ {R E W F : Type 0} (source : Reader R E) (sink : Writer W F) (kind : Kind) (len room place : ℕ) where
-  -- a body of so many bytes was read whole, and its text written
+  -- A body of this length was read whole, and its text was written.
   pub record BodyShown (text : List ℕ → List ℕ) (old new : Sides R W) : Type 0 where
     pub ends : ReadsRest source kind [] len old.decoder new.decoder
     pub written : WritesAll sink old.writer (text ends.read) new.writer
 
-  -- its read was stopped, through a buffer of so much room, and the text of what was handed out of it was written
+  -- The read of a body stopped, through a buffer of this room. The text of the bytes that were handed out was written.
   pub record BodyStopped (text : List ℕ → List ℕ) (old : Sides R W) (error : Error E) (new : Sides R W) : Type 0 where
     pub ends : StopsRest source kind [] len room place old.decoder error new.decoder
     pub written : WritesAll sink old.writer (text ends.part.front) new.writer
 
-  -- a body was copied to a writer of what stands between quotes
+  -- A body was copied to a writer of what stands between quotes.
   abbrev pub CopiesQuoted : Quotes → Sides R W → Result (Unit {0}) (RecodeError E F) → Sides R W → Type 0
   CopiesQuoted quotes old (Ok done) new = BodyShown (body_text quotes) old new
   CopiesQuoted quotes old (Err (r.Read error)) new = BodyStopped (body_text quotes) old error new
   CopiesQuoted quotes old (Err (r.Write fault)) new = BodyUnshown source sink kind len (body_text quotes) old new
 
-  -- a body was shown in quotes. Where its read stopped, the text ends behind what was handed out
+  -- A body was shown in quotes. If its read stopped, the text ends after the bytes that were handed out.
   abbrev pub ShowsBody : Quotes → Sides R W → Result (Unit {0}) (DiagError E F) → Sides R W → Type 0
   ShowsBody quotes old (Ok done) new = BodyShown (quoted_body quotes) old new
   ShowsBody quotes old (Err (d.Read (s.Read error))) new = BodyStopped (begun_text quotes) old error new
@@ -82,99 +82,102 @@ module _ {R E W F : Type 0} (source : Reader R E) (sink : Writer W F) (kind : Ki
 
 -- ---- the text of a string
 
--- what stands in front of a body, by whether the string is of the indefinite form, and whether the body is its first
+-- The text before a body, by whether the string has the indefinite form, and whether the body is its first.
 abbrev pub lead_text : Bool → Bool → List ℕ
 lead_text false first = []
 lead_text true true = codes "(_ "
 lead_text true false = codes ", "
 
--- whether there is none
+-- Whether there is no body.
 abbrev pub is_none : List (List ℕ) → Bool
 is_none [] = true
 is_none (body ∷ bodies) = false
 
--- bodies behind a first one, each in quotes
+-- The bodies after the first body, each in quotes.
 abbrev pub more_bodies : Bool → Quotes → List (List ℕ) → List ℕ
 more_bodies opens quotes [] = []
 more_bodies opens quotes (body ∷ bodies) =
     (lead_text opens false ++ quoted_body quotes body) ++ more_bodies opens quotes bodies
 
--- all that stand in a string
+-- All bodies of a string.
 abbrev pub bodies_text : Bool → Quotes → List (List ℕ) → List ℕ
 bodies_text opens quotes [] = []
 bodies_text opens quotes (body ∷ bodies) =
     (lead_text opens true ++ quoted_body quotes body) ++ more_bodies opens quotes bodies
 
--- what stands behind them: a string of the indefinite form that has no body is told by its quotes (RFC 8949, 8.1)
+-- The text after the bodies. A string of the indefinite form that has no body is shown by its quotes and an underscore
+-- (RFC 8949, 8.1).
 abbrev pub end_text : Bool → Quotes → Bool → List ℕ
 end_text false quotes none = []
 end_text true q.Hex true = codes "''_"
 end_text true q.Text true = 34 ∷ 34 ∷ 95 ∷ []
 end_text true quotes false = codes ")"
 
--- a string with these bodies
+-- A string with these bodies: `(_ h'01', h'02')` in the indefinite form.
 abbrev pub string_text : Bool → Quotes → List (List ℕ) → List ℕ
 string_text opens quotes bodies = bodies_text opens quotes bodies ++ end_text opens quotes (is_none bodies)
 
--- whether it is of the indefinite form
+-- Whether the form is indefinite.
 abbrev pub is_indefinite : Option ℕ → Bool
 is_indefinite None = true
 is_indefinite (Some len) = false
 
 -- ---- one string
 
--- behind the header of a string these bytes are a beginning of it, with these bodies
+-- These bytes follow the header of a string and begin it, with these bodies.
 abbrev pub BeginsBodies : Kind → Option ℕ → List ℕ → List (List ℕ) → Type 0
 BeginsBodies kind (Some len) behind bodies = (behind ≡ []) × (bodies ≡ [])
 BeginsBodies kind None behind bodies = IsInside kind (shortest_title (kind_header kind None) ++ behind) bodies
 
--- they end with the title of one more body, of so many bytes: of a definite string that is its header
+-- The bytes end with the title of one more body, of this many bytes. In a string of the definite form that title is its
+-- header.
 abbrev pub IsTitled : Kind → Option ℕ → List ℕ → List (List ℕ) → ℕ → Type 0
 IsTitled kind (Some len) behind bodies count = (behind ≡ []) × (bodies ≡ []) × (count ≡ len)
 IsTitled kind None behind bodies count =
     (strings : List ℕ) × (title : List ℕ) × (behind ≡ strings ++ title) × BeginsBodies kind None strings bodies
     × IsTitle title (kind_header kind (Some count))
 
--- where a title is due none came, or one that is that of no body
+-- A title is due, and none came, or the title begins no body.
 abbrev pub MeetsNoBody : {R E : Type 0} → Reader R E → Kind → Decoder R → Error E → Decoder R → Type 0
 MeetsNoBody source kind between error new =
-    PullsHeader source between (Err error) new ⊎
+    DecoderPullAnswer source between (Err error) new ⊎
     ((header : Header) × PullsTitle source between header new
     × ((count : ℕ) → header ≡ kind_header kind (Some count) → ⊥))
 
--- a whole string was read behind its header
+-- A whole string was read after its header.
 pub record StringRead {R E : Type 0} (source : Reader R E) (kind : Kind) (len : Option ℕ) (old new : Decoder R)
     : Type 0 where
   pub behind : List ℕ
   pub bodies : List (List ℕ)
   pub is_string : IsString kind (shortest_title (kind_header kind len) ++ behind) bodies
-  pub passed : Passes source old behind new
+  pub passed : ReadsPast source old behind new
 
 module _ {R E W F : Type 0} (source : Reader R E) (sink : Writer W F) (kind : Kind) (quotes : Quotes)
     (len : Option ℕ) where
-  -- a whole string was read, and shown
+  -- A whole string was read and shown.
   pub record StringShown (old new : Sides R W) : Type 0 where
     pub reads : StringRead source kind len old.decoder new.decoder
     pub written : WritesAll sink old.writer (string_text (is_indefinite len) quotes reads.bodies) new.writer
 
-  -- a beginning of it was read, and its bodies were shown
+  -- A beginning of a string was read, and its bodies were shown.
   pub record StringBegun (old now : Sides R W) : Type 0 where
     pub behind : List ℕ
     pub bodies : List (List ℕ)
     pub begun : BeginsBodies kind len behind bodies
-    pub passed : Passes source old.decoder behind now.decoder
+    pub passed : ReadsPast source old.decoder behind now.decoder
     pub written : WritesAll sink old.writer (bodies_text (is_indefinite len) quotes bodies) now.writer
 
-  -- so it was, up to the title of one more body of so many bytes, in front of which what stands there was written
+  -- A beginning of a string was read, up to the title of one more body of this many bytes. The earlier bodies were
+  -- shown, and what precedes the new body was written.
   pub record BodyAnnounced (count : ℕ) (old now : Sides R W) : Type 0 where
     pub behind : List ℕ
     pub bodies : List (List ℕ)
     pub titled : IsTitled kind len behind bodies count
-    pub passed : Passes source old.decoder behind now.decoder
+    pub passed : ReadsPast source old.decoder behind now.decoder
     pub written : WritesAll sink old.writer
         (bodies_text (is_indefinite len) quotes bodies ++ lead_text (is_indefinite len) (is_none bodies)) now.writer
 
-  -- the read stopped where a title is due, or within a body. The text ends there
+  -- The read stopped at a title that is due, or within a body. The text ends there.
   pub data StringStops (room : ℕ) (old : Sides R W) (error : Error E) (new : Sides R W) : Type 0 where
     at_title : (between : Decoder R) → StringBegun old (sides between new.writer)
         → MeetsNoBody source kind between error new.decoder → StringStops room old error new
@@ -182,10 +185,10 @@ module _ {R E W F : Type 0} (source : Reader R E) (sink : Writer W F) (kind : Ki
         → BodyStopped source sink kind count room place (begun_text quotes) between error new
         → StringStops room old error new
 
-  -- the writer failed: in front of a body, within it, or behind the last one
+  -- The writer failed: before a body, within it, or after the last body.
   pub data StringUnshown (old new : Sides R W) : Type 0 where
     at_lead : (behind : List ℕ) (bodies : List (List ℕ)) (count : ℕ) → IsTitled kind len behind bodies count
-        → Passes source old.decoder behind new.decoder
+        → ReadsPast source old.decoder behind new.decoder
         → WritesFront sink old.writer
         (bodies_text (is_indefinite len) quotes bodies ++ lead_text (is_indefinite len) (is_none bodies)) new.writer
         → StringUnshown old new
@@ -195,7 +198,7 @@ module _ {R E W F : Type 0} (source : Reader R E) (sink : Writer W F) (kind : Ki
         → WritesFront sink old.writer (string_text (is_indefinite len) quotes reads.bodies) new.writer
         → StringUnshown old new
 
-  -- the show of a string behind its header, through a buffer of so much room
+  -- The show of a string after its header, through a buffer of this room.
   abbrev pub ShowsString : ℕ → Sides R W → Result (Unit {0}) (DiagError E F) → Sides R W → Type 0
   ShowsString room old (Ok done) new = StringShown old new
   ShowsString room old (Err (d.Read (s.Read error))) new = StringStops room old error new

@@ -1,16 +1,16 @@
--- What is written of a text of which only some facts are told.
+-- What is written of a text, if contracts tell only some facts of it.
 use Rattle.std.specs.Prelude.{List, ℕ, ◌++◌, Result}
 use Rattle.ciborium_ll.specs.Types.Write.{Ghosts}
 use Rattle.ciborium_ll.specs.Encoding.{WritesBytes}
 
 module _ {W F : Type 0} (sink : Ghosts W F) where
-  -- one such text was written, or where the writer failed a beginning of it
+  -- A text with these facts was written, or the writer failed and a beginning of it was written.
   pub record ShowsOne (IsText : List ℕ → Type 0) (old : W) (result : Result (Unit {0}) F) (new : W) : Type 0 where
     pub text : List ℕ
     pub is_text : IsText text
     pub written : WritesBytes sink old result text new
 
-  -- one such text, and a mark behind it
+  -- A text with these facts was written, and a mark after it; or the writer failed, and a beginning was written.
   pub record ShowsMarked (IsText : List ℕ → Type 0) (mark : List ℕ) (old : W) (result : Result (Unit {0}) F)
       (new : W) : Type 0 where
     pub text : List ℕ

@@ -1,8 +1,9 @@
-//! Where an item of an array or a map stands on the page.
+//! The spaces and line ends around the items of arrays and maps.
 
 ghost use Rattle.std.specs.Prelude.{◌≡◌, ◌<◌, ◌++◌};
 ghost use Rattle.ciborium_ll.specs.Encoding.{WritesBytes};
 ghost use Rattle.cbor_diag.specs.ItemTexts.{comma, item_space, last_space, level_within, nest_last, nest_space, new_line};
+ghost use Rattle.ciborium_ll_grammar.specs.declared.limits.TheConstants.{MOST_LEVELS};
 
 use crate::put::put;
 use ciborium_ll::Header;
@@ -11,9 +12,9 @@ use ciborium_ll::io::Write;
 /// How the items of arrays and maps are laid out.
 #[derive(Clone, Copy, Debug, PartialEq, Eq)]
 pub enum Layout {
-    /// All on one line.
+    /// All items on one line.
     OneLine,
-    /// Each on a line of its own, indented by two spaces a level.
+    /// Each item on a line of its own, indented by two spaces for each level.
     Indented,
 }
 
@@ -25,9 +26,9 @@ pub(crate) struct Line {
 }
 
 impl Line {
-    /// The line of what the header contains.
+    /// Returns the line of what the header contains.
     pub(crate) fn within(self, header: Header) -> Line
-        requires { self.level < 256 }
+        requires { self.level < MOST_LEVELS }
         ensures layout { result.layout ≡ self.layout }
         ensures level { result.level ≡ level_within header self.level }
     {
@@ -40,7 +41,7 @@ impl Line {
         }
     }
 
-    /// Writes what stands in front of an item: behind the bracket of the header that contains it, or another item.
+    /// Writes what precedes an item: the comma after another item, and the space.
     pub(crate) fn before<W: Write>(
         self,
         writer: &mut W,
@@ -57,7 +58,7 @@ impl Line {
         self.space(writer, header, is_first)
     }
 
-    /// Writes the space in front of an item within the header.
+    /// Writes the space before an item within the header.
     fn space<W: Write>(self, writer: &mut W, header: Header, is_first: bool) -> Result<(), W::Error>
         ensures { WritesBytes W.Write writer.old result (nest_space header self.layout self.level is_first)
             writer.new }
@@ -70,7 +71,7 @@ impl Line {
         }
     }
 
-    /// Writes the space in front of an item of an array or a map, which may be of the indefinite form.
+    /// Writes the space before an item of an array or a map. `is_open` says that this has the indefinite form.
     fn item_space<W: Write>(
         self,
         writer: &mut W,
@@ -87,7 +88,7 @@ impl Line {
         }
     }
 
-    /// Writes what stands behind the last item, in front of the bracket of the header that contains it.
+    /// Writes what follows the last item, before the closing bracket of the header that contains it.
     pub(crate) fn behind<W: Write>(
         self,
         writer: &mut W,
@@ -105,7 +106,8 @@ impl Line {
         }
     }
 
-    /// Writes the space in front of the closing bracket of an array or a map, which may be of the indefinite form.
+    /// Writes the space before the closing bracket of an array or a map. `is_open` says that this has the indefinite
+    /// form.
     fn last_space<W: Write>(
         self,
         writer: &mut W,

@@ -1,10 +1,12 @@
-//! One item of CBOR in diagnostic notation (RFC 8949, section 8). No call takes memory.
+// SPDX-License-Identifier: Apache-2.0
+//! Shows an item of CBOR in diagnostic notation (RFC 8949, section 8). No call takes memory.
 #![tactic(auto)]
 
 ghost use Rattle.std.specs.Prelude.{◌≡◌, ◌≤◌};
 ghost use Rattle.ciborium_ll.specs.Sides.{sides};
 ghost use Rattle.cbor_diag.specs.ItemStops.{ShowsItem};
 ghost use Rattle.cbor_diag.specs.Showing.{ReadsShown};
+ghost use Rattle.ciborium_ll_grammar.specs.declared.limits.TheConstants.{MOST_LEVELS};
 
 mod layout;
 mod messages;
@@ -24,9 +26,9 @@ use ciborium_ll::{Decoder, Error, Header};
 /// Why an item was not shown whole.
 #[derive(Debug, Drop)]
 pub enum DiagError<E, F> {
-    /// The read of the item stopped, and this is why.
+    /// The read of the item stopped, for this reason.
     Read(SkipError<E>),
-    /// The writer failed, and this is its error.
+    /// The writer failed, with this error.
     Write(F),
 }
 
@@ -41,48 +43,56 @@ impl<E, F> From<Error<E>> for DiagError<E, F> {
     }
 }
 
-/// Shows the one item that is next in diagnostic notation (RFC 8949, section 8), as UTF-8, with tags, arrays and maps
-/// nested at most `depth` levels deep. The depth is at most 256.
+/// Shows the next item in diagnostic notation (RFC 8949, section 8), as UTF-8.
 ///
-/// Where the writer does not fail the item is read as `cbor_skip::skip_item` reads it: `Ok` says that one whole item
-/// was there, each body of a text UTF-8, and the decoder is behind it; `Read` carries the error that `skip_item`
-/// answers, and the decoder is where that leaves it. `Write` carries the writer's error, and behind it it is said up to
-/// which header the item was read, and of strings how far. Behind the header of an integer, a float or a simple value
-/// nothing is read.
+/// Tags, arrays and maps nest at most `depth` levels deep, and the depth is at most 256. If the writer does not fail,
+/// the call reads the item as `cbor_skip::skip_item` does. `Ok` says that one whole item was there, that each body of a
+/// text was UTF-8, and that the decoder is after the item. The whole text of the item was written, and nothing more.
 ///
-/// Whatever the answer, the decoder moves on as [`Decoder`] says. The reader fails once if the answer carries
-/// `Error::Io`, and otherwise it does not fail.
+/// In each case the decoder moves on as [`Decoder`] says. The reader fails once if the answer carries `Error::Io`, and
+/// otherwise it does not fail.
 ///
-/// `Ok` says as well that the text of the whole item was written, and just that. Of an integer or a simple value it is
-/// the digits in base 10, or the name, or `simple(N)`. Of a float it is digits that are read as its value, or `NaN`,
-/// `Infinity`, `-Infinity`, and the indicator of its width. The digits are read by the kit's `parse_float`, which rounds
-/// to the nearest double, and laid out as the kit's `ryu` promises, with a point, and with a sign at an exponent.
+/// # The text
 ///
-/// That indicator is `_2` or `_3`, and stands exactly where a shorter width holds the same value. No other indicator
-/// is written but that of the indefinite forms: how long the titles of integers, lengths and tags are is not shown.
+/// - An integer is its digits in base 10. A simple value is its name or `simple(N)`.
+/// - A float is digits that are read as its value, or `NaN`, `Infinity` or `-Infinity`. The kit's `parse_float`, which
+///   rounds to the nearest double, reads the digits. They are laid out as the kit's `ryu` promises, with a point, and
+///   with a sign at an exponent.
+/// - `_2` or `_3` follows a float exactly if a shorter width holds the same value. Apart from this mark only indefinite
+///   forms have one: the text does not show how long the titles of integers, lengths and tags are.
+/// - A byte string has two digits for each byte in `h''`. A text string has the escapes of JSON in `""`. The bodies of
+///   a string of the indefinite form stand in `(_ )`, with commas. If it has no body, it is `''_` or `""_`.
+/// - A tag is its number and its item in parentheses. The items of an array stand in brackets with commas between them.
+///   The items of a map stand in braces, with a colon after each key. The bracket of an indefinite form has an
+///   underscore.
+/// - All items stand on one line, or each item of an array and of a map stands on a line of its own, with two spaces
+///   for each level.
 ///
-/// Of a string its bodies are written, in quotes: a byte by two digits in `h''`, text with the escapes of JSON in `""`;
-/// of the indefinite form all of them in `(_ )`, with commas, or `''_` or `""_` where there is none. A tag is its number
-/// and its item in parentheses. The items of an array stand in brackets with commas between them, those of a map in
-/// braces with a colon behind each key, and in the indefinite forms the bracket has an underscore. All stand on one
-/// line, or each item of an array and of a map on a line of its own, with two spaces for each level.
+/// Tests alone say that a float's digits are the shortest.
 ///
-/// An error says what was written by then. Where no header was pulled, or a break, nothing was. Where the read of a
-/// string stops, the text ends behind what was handed out. Within a tag, an array or a map it is the text of the items
-/// in front, and, where the next one has a title, what stands in front of that and what was shown of it. Where the
-/// writer fails, it is all of that up to the write that failed, and a beginning of what that one had to write.
+/// # Errors
 ///
-/// Only tested is that a float's digits are the shortest.
+/// - `Read`: the read of the item stopped, with the error of `skip_item` and the decoder as that call leaves it.
+/// - `Write`: the writer failed. The contract says up to which header the item was read, and how far a string was read.
+///   No byte is read after the header of an integer, a float or a simple value.
+///
+/// The contract also says what was written before the error:
+///
+/// - Nothing, if no header was pulled, or a break was pulled.
+/// - If the read of a string stops, the text of all bytes that were handed out.
+/// - Within a tag, an array or a map, the text of the earlier items. If the next item has a title, what precedes the
+///   item and what was shown of it follow.
+/// - If the writer failed, all of this up to the write that failed, and a beginning of what that write had to write.
 pub fn diagnose<R: Read, W: Write>(
     decoder: &mut Decoder<R>,
     writer: &mut W,
     depth: usize,
     layout: Layout,
 ) -> Result<(), DiagError<R::Error, W::Error>>
-    requires shallow { depth ≤ 256 }
-    ensures reads { ReadsShown R.Read depth decoder.old result decoder.new }
+    requires shallow { depth ≤ MOST_LEVELS }
     ensures shown { ShowsItem R.Read W.Write layout (sides decoder.old writer.old) result
         (sides decoder.new writer.new) }
+    ensures reads { ReadsShown R.Read depth decoder.old result decoder.new }
 {
     let place = decoder.offset();
     let header = decoder.pull()?;

@@ -1,4 +1,4 @@
-//! What the errors say to a person.
+//! The texts of the errors for a person.
 
 ghost use Rattle.cbor_diag.specs.DiagTexts.{diag_error_text};
 

@@ -1,4 +1,4 @@
-//! Items, and what tags, arrays and maps contain.
+//! Shows items, and what tags, arrays and maps contain.
 
 ghost use Rattle.std.specs.Prelude.{◌≡◌, ◌≤◌, ◌+◌, ◌++◌, Bool, Err, None, Ok, if◌then◌else◌};
 ghost use Rattle.ciborium_ll.specs.Types.Decoder.{Decoder as AnyDecoder};
@@ -12,6 +12,8 @@ ghost use Rattle.cbor_skip.specs.Skipping.{SkipsWithin};
 ghost use Rattle.cbor_diag.specs.ItemTexts.{item_lead, nest_closing, nest_last, nest_opening};
 ghost use Rattle.cbor_diag.specs.ItemStops.{ShowsRest, ShowsWithin};
 ghost use Rattle.cbor_diag.specs.Showing.{OnReading, ReadsFrom};
+ghost use Rattle.ciborium_ll_grammar.specs.declared.limits.TheConstants.{MOST_LEVELS};
+ghost use Rattle.cbor_diag.specs.declared.strings.TheConstants.{BUFFER_SIZE};
 
 use crate::DiagError;
 use crate::layout::Line;
@@ -22,7 +24,7 @@ use ciborium_ll::io::{Read, Write};
 use ciborium_ll::{Decoder, Header};
 use itoa::Buffer;
 
-/// Shows what a tag, an array or a map contains, behind its header. The answer says whether that is nothing.
+/// Shows what a tag, an array or a map contains after its header, and returns whether it is empty.
 #[cycle(items)]
 pub(crate) fn show_within<R: Read, W: Write>(
     decoder: &mut Decoder<R>,
@@ -32,8 +34,8 @@ pub(crate) fn show_within<R: Read, W: Write>(
     line: Line,
 ) -> Result<bool, DiagError<R::Error, W::Error>>
     requires nest { IsNest header }
-    requires shallow { line.level + depth ≤ 256 }
-    ensures reads { OnReading (λ answer. SkipsWithin R.Read header depth 64 decoder.old answer decoder.new) result }
+    requires shallow { line.level + depth ≤ MOST_LEVELS }
+    ensures reads { OnReading (λ answer. SkipsWithin R.Read header depth BUFFER_SIZE decoder.old answer decoder.new) result }
     ensures shown { ShowsWithin R.Read W.Write line.layout line.level header (sides decoder.old writer.old) result
         (sides decoder.new writer.new) }
     ensures moves_on { MovesOn R.Read decoder.old decoder.new }
@@ -54,7 +56,7 @@ pub(crate) fn show_within<R: Read, W: Write>(
     Ok(is_first)
 }
 
-/// What a break answers that stands at this place instead of what is due. `is_first` says that nothing stood before it.
+/// Answers a break at this place in place of a due item. `is_first` says that no item stood before it.
 fn at_break<E, F>(
     remaining: Remaining,
     place: usize,
@@ -68,7 +70,7 @@ fn at_break<E, F>(
     Err(DiagError::Read(SkipError::Break(place)))
 }
 
-/// Shows an item, behind its header, which was pulled at this offset.
+/// Shows an item after its header, which was pulled at the offset `place`.
 #[cycle(items)]
 pub(crate) fn show_item<R: Read, W: Write>(
     decoder: &mut Decoder<R>,
@@ -81,10 +83,10 @@ pub(crate) fn show_item<R: Read, W: Write>(
     requires none_waits { waiting_of decoder.old ≡ None }
     requires covered { title_len header ≤ offset_of decoder.old }
     requires no_break { header ≡ Header.Break → ⊥ }
-    requires shallow { line.level + depth ≤ 256 }
+    requires shallow { line.level + depth ≤ MOST_LEVELS }
     ensures reads { (before : AnyDecoder R) (outer : Bool) → place ≡ offset_of before
         → PullsTitle R.Read before header decoder.old → (IsSteady R.Read before → IsSteady R.Read decoder.old)
-        → OnReading (λ answer. ReadsFrom R.Read outer depth 64 before answer decoder.new) result }
+        → OnReading (λ answer. ReadsFrom R.Read outer depth BUFFER_SIZE before answer decoder.new) result }
     ensures shown { ShowsRest R.Read W.Write line.layout line.level header (sides decoder.old writer.old) result
         (sides decoder.new writer.new) }
     ensures moves_on { MovesOn R.Read decoder.old decoder.new }
@@ -103,7 +105,7 @@ pub(crate) fn show_item<R: Read, W: Write>(
     }
 }
 
-/// Writes what stands in front of an item.
+/// Writes what precedes an item.
 fn before<W: Write>(
     writer: &mut W,
     line: Line,
@@ -121,7 +123,7 @@ fn before<W: Write>(
     }
 }
 
-/// Writes what stands in front of the items of a tag, an array or a map.
+/// Writes what precedes the items of a tag, an array or a map.
 fn open<W: Write>(writer: &mut W, header: Header) -> Result<(), W::Error>
     ensures { WritesBytes W.Write writer.old result (nest_opening header) writer.new }
 {
@@ -135,7 +137,7 @@ fn open<W: Write>(writer: &mut W, header: Header) -> Result<(), W::Error>
     }
 }
 
-/// Writes what stands behind them.
+/// Writes what follows the items of a tag, an array or a map.
 fn close<W: Write>(
     writer: &mut W,
     line: Line,

@@ -1,4 +1,4 @@
-//! Items that contain no others.
+//! Shows items that contain no others.
 
 ghost use Rattle.std.specs.Prelude.{◌≡◌, ◌≤◌, ℕ, Bool, None, OnOk};
 ghost use Rattle.ciborium_ll.specs.Types.Decoder.{Decoder as AnyDecoder};
@@ -9,6 +9,7 @@ ghost use Rattle.cbor_skip.specs.Due.{IsNest};
 ghost use Rattle.cbor_diag.specs.declared.layout.Layout.{Layout};
 ghost use Rattle.cbor_diag.specs.ItemTexts.{RestShown};
 ghost use Rattle.cbor_diag.specs.Showing.{OnReading, ReadsFrom, ShowsHeader};
+ghost use Rattle.cbor_diag.specs.declared.strings.TheConstants.{BUFFER_SIZE};
 
 use crate::DiagError;
 use crate::put::said;
@@ -17,7 +18,7 @@ use crate::strings::{show_bytes, show_text};
 use ciborium_ll::io::{Read, Write};
 use ciborium_ll::{Decoder, Header};
 
-/// Shows an integer, a float, a simple value or a string, behind its header.
+/// Shows an integer, a float, a simple value or a string after its header.
 pub(crate) fn show_plain<R: Read, W: Write>(
     decoder: &mut Decoder<R>,
     writer: &mut W,
@@ -29,7 +30,7 @@ pub(crate) fn show_plain<R: Read, W: Write>(
     requires no_nest { IsNest header → ⊥ }
     ensures reads { (before : AnyDecoder R) (outer : Bool) (depth : ℕ) → PullsTitle R.Read before header decoder.old
         → (IsSteady R.Read before → IsSteady R.Read decoder.old)
-        → OnReading (λ answer. ReadsFrom R.Read outer depth 64 before answer decoder.new) result }
+        → OnReading (λ answer. ReadsFrom R.Read outer depth BUFFER_SIZE before answer decoder.new) result }
     ensures text { ShowsHeader R.Read W.Write header (sides decoder.old writer.old) result
         (sides decoder.new writer.new) }
     ensures shown { (layout : Layout) (level : ℕ) → OnOk result (RestShown R.Read W.Write layout level header

@@ -1,4 +1,4 @@
-//! Pieces of text, written.
+//! Writes pieces of text.
 
 ghost use Rattle.std.specs.Prelude.{◌≡◌, ◌++◌, IfErr, Some};
 ghost use Rattle.ciborium_ll.specs.Encoding.{WritesBytes};
@@ -14,7 +14,7 @@ pub(crate) fn put<W: Write>(writer: &mut W, text: &[u8]) -> Result<(), W::Error>
     writer.write_all(text)
 }
 
-/// Writes two texts, one behind the other.
+/// Writes two texts, one after the other.
 pub(crate) fn put_two<W: Write>(writer: &mut W, first: &[u8], second: &[u8]) -> Result<(), W::Error>
     ensures { WritesBytes W.Write writer.old result (first.now ++ second.now) writer.new }
 {
@@ -22,7 +22,7 @@ pub(crate) fn put_two<W: Write>(writer: &mut W, first: &[u8], second: &[u8]) -> 
     put(writer, second)
 }
 
-/// Writes three texts, one behind the other.
+/// Writes three texts, one after the other.
 pub(crate) fn put_three<W: Write>(
     writer: &mut W,
     first: &[u8],
@@ -43,7 +43,7 @@ pub(crate) fn say<E, W: Write>(writer: &mut W, text: &[u8]) -> Result<(), DiagEr
     said(put(writer, text))
 }
 
-/// What a write answered, as the answer of a show.
+/// Turns the answer of a write into the answer of a show.
 pub(crate) fn said<E, F>(answer: Result<(), F>) -> Result<(), DiagError<E, F>>
     ensures writing { IfErr result IsWriting }
     ensures same { result ≡ said_of answer }

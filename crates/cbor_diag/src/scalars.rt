@@ -1,4 +1,4 @@
-//! Numbers, floats and simple values.
+//! Shows numbers, floats and simple values.
 
 ghost use Rattle.std.specs.Prelude.{◌≡◌, ◌<◌, ◌≤◌, [], negsuc, decimal, if◌then◌else◌};
 ghost use Rattle.std.specs.Fmt.{signed_decimal};
@@ -57,7 +57,7 @@ struct Width {
     most: u64,
 }
 
-// The exponents of halves are from -14 to 15, and those of singles from -126 to 127.
+// Halves have exponents from -14 to 15, and singles from -126 to 127.
 const HALF: Width = Width {
     digits: 10,
     least: 1009,
@@ -70,7 +70,7 @@ const SINGLE: Width = Width {
     most: 1150,
 };
 
-/// Shows a float, and its width where a shorter one holds the same value (RFC 8949, 8.1).
+/// Shows a float, and the mark of its width if a shorter width holds the same value (RFC 8949, 8.1).
 #[tactic(auto, using(crate::proofs::FloatLaws::float_shown))]
 pub(crate) fn show_float<W: Write>(writer: &mut W, float: Float) -> Result<(), W::Error>
     ensures { ShowsOne W.Write (IsFloatText float) writer.old result writer.new }
@@ -89,7 +89,7 @@ pub(crate) fn show_float<W: Write>(writer: &mut W, float: Float) -> Result<(), W
     }
 }
 
-/// The value of a half (RFC 8949, appendix D).
+/// Returns the value of a half (RFC 8949, appendix D).
 fn half_value(bits: u16) -> f64
     ensures { result ≡ half_value bits }
 {
@@ -97,7 +97,7 @@ fn half_value(bits: u16) -> f64
     if bits < 0x8000 { size } else { -size }
 }
 
-/// The value of a half without its sign.
+/// Returns the value of a half without its sign.
 fn half_size(exponent: u16, fraction: u16) -> f64
     requires exponent { exponent < 32 }
     requires fraction { fraction < 1024 }
@@ -116,7 +116,7 @@ fn half_size(exponent: u16, fraction: u16) -> f64
     f64::from(fraction + 1024) * power_of_two(exponent)
 }
 
-/// Two to the power of the exponent less 25.
+/// Returns two to the power of the exponent less 25.
 fn power_of_two(exponent: u16) -> f64
     requires { exponent < 32 }
     ensures { result ≡ power_of_two exponent }
@@ -124,7 +124,7 @@ fn power_of_two(exponent: u16) -> f64
     f64_from_bits_with_nan((u64::from(exponent) + 998) * 0x10_0000_0000_0000)
 }
 
-/// The mark, where the width holds the double too.
+/// Returns the mark if the width holds the double too, and otherwise nothing.
 fn mark<'a>(double: u64, width: Width, mark: &'a [u8]) -> &'a [u8]
     requires narrow { width.digits ≤ 52 }
     ensures { result.now ≡ (if holds width double then mark.now else []) }
@@ -132,7 +132,7 @@ fn mark<'a>(double: u64, width: Width, mark: &'a [u8]) -> &'a [u8]
     if holds(double, width) { mark } else { b"" }
 }
 
-/// Whether a float of the width has the value of the double.
+/// Returns whether a float of the width has the value of the double.
 fn holds(double: u64, width: Width) -> bool
     requires narrow { width.digits ≤ 52 }
     ensures { result ≡ holds width double }
@@ -144,7 +144,7 @@ fn holds(double: u64, width: Width) -> bool
     )
 }
 
-/// The same by the exponent and the fraction of the double.
+/// Returns whether a float of the width has the value of the double with this exponent and fraction.
 fn is_held(width: Width, exponent: u64, fraction: u64) -> bool
     requires narrow { width.digits ≤ 52 }
     requires exponent { exponent < 2048 }
@@ -159,7 +159,7 @@ fn is_held(width: Width, exponent: u64, fraction: u64) -> bool
     if exponent > width.most || exponent + width.digits < width.least {
         return false;
     }
-    // Below its least exponent a width has a bit less for each step.
+    // Below its least exponent a width has one bit less for each step.
     let lost = (52 - width.digits) + width.least.saturating_sub(exponent);
     fraction % 2u64.pow(lost as u32) == 0
 }
@@ -185,7 +185,7 @@ fn show_number<W: Write>(writer: &mut W, value: f64, mark: &[u8]) -> Result<(), 
     }
 }
 
-/// Shows digits as the standard spells them: with a point in front of the exponent.
+/// Shows digits as the standard spells them, with a point before the exponent.
 fn show_digits<W: Write>(writer: &mut W, digits: &[u8]) -> Result<(), W::Error>
     ensures { WritesBytes W.Write writer.old result (with_point digits.now) writer.new }
 {

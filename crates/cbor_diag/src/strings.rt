@@ -1,4 +1,4 @@
-//! Strings, in quotes.
+//! Shows strings, in quotes.
 
 ghost use Rattle.std.specs.Prelude.{◌≡◌, ◌≤◌, ℕ, [], Option, None, Some, IfErr};
 ghost use Rattle.ciborium_ll.specs.Types.Decoder.{Decoder as AnyDecoder};
@@ -12,6 +12,7 @@ ghost use Rattle.ciborium_ll.specs.Segments.{string_strict};
 ghost use Rattle.ciborium_ll.specs.Skipping.{SkipsString};
 ghost use Rattle.ciborium_ll.specs.Sides.{sides};
 ghost use Rattle.cbor_diag.specs.Showing.{IsWriting, OnString, ShowsText};
+ghost use Rattle.cbor_diag.specs.declared.strings.TheConstants.{BUFFER_SIZE};
 ghost use Rattle.cbor_diag.specs.StringShows.{CopiesQuoted, ShowsBody, ShowsString, end_text, is_indefinite, lead_text};
 
 mod noted;
@@ -26,7 +27,10 @@ use cbor_skip::SkipError;
 use ciborium_ll::io::{Read, Write};
 use ciborium_ll::{Body, Chunked, Decoder, RecodeError, Segments};
 
-/// Shows a byte string, behind its header with this length.
+/// The length of the buffer through which the body of a string is read, in bytes.
+pub const BUFFER_SIZE: usize = 64;
+
+/// Shows a byte string after its header, which has this length.
 pub(crate) fn show_bytes<R: Read, W: Write>(
     decoder: &mut Decoder<R>,
     writer: &mut W,
@@ -34,8 +38,8 @@ pub(crate) fn show_bytes<R: Read, W: Write>(
 ) -> Result<(), DiagError<R::Error, W::Error>>
     requires none_waits { waiting_of decoder.old ≡ None }
     requires covered { title_len (Header.Bytes len) ≤ offset_of decoder.old }
-    ensures reads { OnString (λ answer. SkipsString R.Read byte_strings len 64 decoder.old answer decoder.new) result }
-    ensures text { ShowsString R.Read W.Write byte_strings Quotes.Hex len 64 (sides decoder.old writer.old) result
+    ensures reads { OnString (λ answer. SkipsString R.Read byte_strings len BUFFER_SIZE decoder.old answer decoder.new) result }
+    ensures text { ShowsString R.Read W.Write byte_strings Quotes.Hex len BUFFER_SIZE (sides decoder.old writer.old) result
         (sides decoder.new writer.new) }
     ensures moves_on { MovesOn R.Read decoder.old decoder.new }
 {
@@ -43,7 +47,7 @@ pub(crate) fn show_bytes<R: Read, W: Write>(
     show_segments(&mut segments, writer, Quotes::Hex, len.is_none())
 }
 
-/// Shows a text string, behind its header with this length.
+/// Shows a text string after its header, which has this length.
 pub(crate) fn show_text<R: Read, W: Write>(
     decoder: &mut Decoder<R>,
     writer: &mut W,
@@ -51,8 +55,8 @@ pub(crate) fn show_text<R: Read, W: Write>(
 ) -> Result<(), DiagError<R::Error, W::Error>>
     requires none_waits { waiting_of decoder.old ≡ None }
     requires covered { title_len (Header.Text len) ≤ offset_of decoder.old }
-    ensures reads { OnString (λ answer. SkipsString R.Read text_strings len 64 decoder.old answer decoder.new) result }
-    ensures text { ShowsString R.Read W.Write text_strings Quotes.Text len 64 (sides decoder.old writer.old) result
+    ensures reads { OnString (λ answer. SkipsString R.Read text_strings len BUFFER_SIZE decoder.old answer decoder.new) result }
+    ensures text { ShowsString R.Read W.Write text_strings Quotes.Text len BUFFER_SIZE (sides decoder.old writer.old) result
         (sides decoder.new writer.new) }
     ensures moves_on { MovesOn R.Read decoder.old decoder.new }
 {
@@ -60,7 +64,7 @@ pub(crate) fn show_text<R: Read, W: Write>(
     show_segments(&mut segments, writer, Quotes::Text, len.is_none())
 }
 
-/// Shows the segments of a string that was just begun, in brackets where it is of the indefinite form.
+/// Shows the segments of a string from its beginning. If it has the indefinite form, they stand in brackets.
 #[tactic(auto, using(crate::proofs::StringShowLaws::text_start))]
 fn show_segments<R: Read, W: Write, P: Chunked>(
     segments: &mut Segments<'_, R, P>,
@@ -72,11 +76,11 @@ fn show_segments<R: Read, W: Write, P: Chunked>(
     ensures reads { (opened : AnyDecoder R) (len : Option ℕ) → IsInRange (kind_header P.kind len)
         → waiting_of opened ≡ None → TakesBack R.Read opened (kind_header P.kind len) (string_decoder segments.old)
         → string_strict segments.old ≡ strict_of opened
-        → OnString (λ answer. SkipsString R.Read P.kind len 64 opened answer (string_decoder segments.new)) result }
+        → OnString (λ answer. SkipsString R.Read P.kind len BUFFER_SIZE opened answer (string_decoder segments.new)) result }
     ensures moves_on { MovesOn R.Read (string_decoder segments.old) (string_decoder segments.new) }
     ensures text { (opened : AnyDecoder R) (len : Option ℕ) → IsInRange (kind_header P.kind len)
         → waiting_of opened ≡ None → TakesBack R.Read opened (kind_header P.kind len) (string_decoder segments.old)
-        → is_open ≡ is_indefinite len → ShowsString R.Read W.Write P.kind quotes len 64
+        → is_open ≡ is_indefinite len → ShowsString R.Read W.Write P.kind quotes len BUFFER_SIZE
         (sides opened writer.old) result (sides (string_decoder segments.new) writer.new) }
     ensures same_reference { string_reference segments.new ≡ string_reference segments.old }
 {
@@ -91,7 +95,7 @@ fn show_segments<R: Read, W: Write, P: Chunked>(
     }
 }
 
-/// Writes what stands in front of a segment.
+/// Writes what precedes a segment.
 fn open<E, W: Write>(
     writer: &mut W,
     is_open: bool,
@@ -107,7 +111,8 @@ fn open<E, W: Write>(
     }
 }
 
-/// Writes what stands behind the last segment. A string of the indefinite form that has none is told by its quotes.
+/// Writes what follows the last segment. If a string of the indefinite form has no segment, its quotes and an
+/// underscore show its kind.
 fn close<E, W: Write>(
     writer: &mut W,
     quotes: Quotes,
@@ -124,7 +129,7 @@ fn close<E, W: Write>(
     }
 }
 
-/// Shows the body that `advance` gave last, in quotes.
+/// Shows the body that `advance` returned last, in quotes.
 fn show_body<R: Read, W: Write, P: Chunked>(
     segments: &mut Segments<'_, R, P>,
     writer: &mut W,
@@ -132,9 +137,9 @@ fn show_body<R: Read, W: Write, P: Chunked>(
     quotes: Quotes,
 ) -> Result<(), DiagError<R::Error, W::Error>>
     requires none_waits { waiting_of (string_decoder segments.old) ≡ None }
-    ensures reads { OnString (λ answer. EndsBody R.Read P.kind [] body.length 64 body.place
+    ensures reads { OnString (λ answer. EndsBody R.Read P.kind [] body.length BUFFER_SIZE body.place
         (string_decoder segments.old) answer (string_decoder segments.new)) result }
-    ensures text { ShowsBody R.Read W.Write P.kind body.length 64 body.place quotes
+    ensures text { ShowsBody R.Read W.Write P.kind body.length BUFFER_SIZE body.place quotes
         (sides (string_decoder segments.old) writer.old) result (sides (string_decoder segments.new) writer.new) }
     ensures same_reference { string_reference segments.new ≡ string_reference segments.old }
     ensures progress { progress_of segments.new ≡ progress_of segments.old }
@@ -150,7 +155,7 @@ fn show_body<R: Read, W: Write, P: Chunked>(
     say(writer, quotes.closing())
 }
 
-/// Shows what stands between the quotes of that body.
+/// Shows the text between the quotes of that body.
 fn copy_quoted<R: Read, W: Write, P: Chunked>(
     segments: &mut Segments<'_, R, P>,
     writer: &mut W,
@@ -158,7 +163,7 @@ fn copy_quoted<R: Read, W: Write, P: Chunked>(
     quotes: Quotes,
 ) -> Result<(), RecodeError<R::Error, W::Error>>
     requires none_waits { waiting_of (string_decoder segments.old) ≡ None }
-    ensures copied { CopiesQuoted R.Read W.Write P.kind body.length 64 body.place quotes
+    ensures copied { CopiesQuoted R.Read W.Write P.kind body.length BUFFER_SIZE body.place quotes
         (sides (string_decoder segments.old) writer.old) result (sides (string_decoder segments.new) writer.new) }
     ensures same_reference { string_reference segments.new ≡ string_reference segments.old }
     ensures progress { progress_of segments.new ≡ progress_of segments.old }
@@ -166,5 +171,5 @@ fn copy_quoted<R: Read, W: Write, P: Chunked>(
     ensures moves_on { MovesOn R.Read (string_decoder segments.old) (string_decoder segments.new) }
 {
     let mut quoted = Quoted::new(writer, quotes);
-    segments.copy(body, &mut quoted, &mut [0; 64])
+    segments.copy(body, &mut quoted, &mut [0; BUFFER_SIZE])
 }

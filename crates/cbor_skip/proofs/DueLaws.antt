@@ -1,4 +1,4 @@
--- Where an item is due in a whole one, it comes. So a whole item in front excludes whatever stops the read of it.
+-- If an item is due within a whole item, it comes. So nothing stops the read of bytes that begin with a whole item.
 use Rattle.std.proofs.Common.{◌≡◌, ℕ, suc, ◌<◌, ◌⊎◌, Bool, true, false, List, [], ◌∷◌, ◌++◌, length}
 use Rattle.std.proofs.Common.{None, refl, sym, ◌∙◌, inl, inr, arith, append_assoc}
 use Rattle.ciborium_ll_grammar.specs.declared.hdr.Header.{Header}
@@ -23,7 +23,7 @@ use Rattle.ciborium_ll_grammar.proofs.FaultLaws.{Stuck, stop, halt, bad_body, Re
 use Rattle.ciborium_ll_grammar.proofs.FaultLaws.{stuck_or_refused}
 use Rattle.cbor_skip.specs.Due.{IsNest, TakesMore, may_close, ItemDue, here, within, ReachesItem, at_item, at_string}
 use Rattle.cbor_skip.specs.Due.{at_body, at_piece}
-use Rattle.cbor_skip.specs.ItemFaults.{ItemInFront, HasItemFault, HasEarlyBreak, HasDeepNest}
+use Rattle.cbor_skip.specs.ItemFaults.{BeginsWithItem, HasItemFault, HasEarlyBreak, HasDeepNest}
 use Rattle.cbor_skip.proofs.RemainingLaws.{even_pairs}
 use Rattle.cbor_skip.proofs.ItemSteps.{item_of}
 
@@ -237,7 +237,7 @@ refused_stuck true reach s (nested {k = k} {t = t} r on p is) front =
 
 -- ---- nothing that stops
 
-module _ (strict : Bool) (d : ℕ) (x : List ℕ) (front : ItemInFront strict d x) where
+module _ (strict : Bool) (d : ℕ) (x : List ℕ) (front : BeginsWithItem strict d x) where
   in_front : Ahead strict d x
   in_front = ahead strict front.rest front.is_item front.is
 

@@ -1,10 +1,10 @@
--- How often the reader fails in the read of an item, and that the offset doesn't fall.
+-- How often the reader fails in the read of an item. The offset does not fall.
 use Rattle.std.proofs.Common.{◌≤◌, ℕ, Bool, List, [], Option, Some, None, Err, arith}
 use Rattle.ciborium_ll_io.specs.declared.io.Read.{Ghosts}
 use Rattle.ciborium_ll_decoder.specs.declared.dec.Decoder.{Decoder}
 use Rattle.ciborium_ll_decoder.specs.declared.dec.Error.{Error}
 use Rattle.ciborium_ll_grammar.specs.Strings.{Kind}
-use Rattle.ciborium_ll_decoder.specs.Decoding.{PullsHeader, failures_of}
+use Rattle.ciborium_ll_decoder.specs.Decoding.{DecoderPullAnswer, failures_of}
 use Rattle.ciborium_ll_decoder.specs.Finishing.{EndsBody, StopsReading}
 use Rattle.ciborium_ll_decoder.specs.Skipping.{MeetsBody, MeetsNoTitle, SkipsString, StopsInside}
 use Rattle.cbor_skip.specs.declared.SkipError.{SkipError}
@@ -17,7 +17,7 @@ module _ {R E : Type 0} (source : Ghosts R E) where
     pub failures : CountsFailure error (failures_of source old) (failures_of source new)
     pub rises : old.offset ≤ new.offset
 
-  pub pull_fails : (error : Error E) (old new : Decoder R) → PullsHeader source old (Err error) new
+  pub pull_fails : (error : Error E) (old new : Decoder R) → DecoderPullAnswer source old (Err error) new
       → FailsOn error old new
   pull_fails error old new fails = grind arith
 

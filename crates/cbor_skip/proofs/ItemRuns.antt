@@ -1,4 +1,4 @@
--- Items that follow one another, over any reader, where only their number is known.
+-- Items that follow one another, over any reader, if only their number is known.
 use Rattle.std.proofs.Common.{◌≡◌, ℕ, suc, ◌<◌, Bool, List, [], ◌++◌, Some, Result, Ok, Err}
 use Rattle.std.proofs.Common.{refl, sym, arith, append_assoc, append-nil, false, MatchResult}
 use Rattle.ciborium_ll_io.specs.declared.io.Read.{Ghosts}
@@ -6,7 +6,7 @@ use Rattle.ciborium_ll_grammar.specs.declared.hdr.Header.{Header}
 use Rattle.ciborium_ll_decoder.specs.declared.dec.Decoder.{Decoder}
 use Rattle.ciborium_ll_grammar.specs.Items.{AreItems, IsItem, more_items, no_items}
 use Rattle.ciborium_ll_decoder.specs.Decoding.{IsSteady, MovesOn, PullsTitle}
-use Rattle.ciborium_ll_decoder.proofs.DecodingLaws.{Passes-none, Passes-then}
+use Rattle.ciborium_ll_decoder.proofs.DecodingLaws.{ReadsPast-none, ReadsPast-then}
 use Rattle.cbor_skip.specs.declared.SkipError.{SkipError}
 use Rattle.cbor_skip.specs.Due.{IsNest, TakesMore, item_count, may_close}
 use Rattle.cbor_skip.specs.Skipping.{ReadsItem, ReadsCounted, SkipsCounted, SkipsWithin, StopsItem, StopsCounted}
@@ -35,7 +35,7 @@ module _ {R E : Type 0} (source : Ghosts R E) where
   -- ---- the ends
 
   pub none_due : (d : ℕ) (now : Decoder R) → ReadsCounted source 0 d now now
-  none_due d now = record { items = []; are_items = no_items; passed = Passes-none source now }
+  none_due d now = record { items = []; are_items = no_items; passed = ReadsPast-none source now }
 
   -- an error in the first of those that are due
   pub stops_first : {left after d room : ℕ} {now : Decoder R} {error : SkipError E} {new : Decoder R} → suc after ≡ left
@@ -43,7 +43,7 @@ module _ {R E : Type 0} (source : Ghosts R E) where
   stops_first {left = left} {d = d} {now = now} some stops =
       let more : 0 < left = omega arith in
       let none : AreItems (strictness now) d 0 [] = no_items in
-      let passed = Passes-none source now in
+      let passed = ReadsPast-none source now in
       search
 
   -- ---- one item more
@@ -53,11 +53,11 @@ module _ {R E : Type 0} (source : Ghosts R E) where
       → SkipsCounted source n d room now result new → SkipsCounted source (suc n) d room old result new
   item_then n d room old now first (Ok done) new others =
       let items = items_looser _ _ (passed_keeps source first.passed) _ _ _ others.are_items in
-      search (item_first _ _ _ _ _ first.is_item items, Passes-then source _ _ _ _ _ first.passed others.passed)
+      search (item_first _ _ _ _ _ first.is_item items, ReadsPast-then source _ _ _ _ _ first.passed others.passed)
   item_then n d room old now first (Err error) new others =
       let items = items_looser _ _ (passed_keeps source first.passed) _ _ _ others.are_items in
       let more : suc others.before < suc n = omega arith in
-      search (item_first _ _ _ _ _ first.is_item items, Passes-then source _ _ _ _ _ first.passed others.passed)
+      search (item_first _ _ _ _ _ first.is_item items, ReadsPast-then source _ _ _ _ _ first.passed others.passed)
 
   pub item_decides : {room left after levels count depth : ℕ} {now next old : Decoder R} → suc after ≡ left
       → Decides room left levels now count depth old → ReadsItem source levels now next
@@ -117,5 +117,5 @@ module _ {R E : Type 0} (source : Ghosts R E) where
       let inner = stops.stops in
       let none = no_items_read _ d stops.before stops.items stops.more stops.are_items in
       let due = due_looser _ _ (passed_keeps source stops.passed) _ _ _ _ _ inner.due in
-      let passed = rw none at (Passes-then source _ _ _ _ _ stops.passed inner.passed) in
+      let passed = rw none at (ReadsPast-then source _ _ _ _ _ stops.passed inner.passed) in
       search

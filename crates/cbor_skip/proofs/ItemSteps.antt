@@ -13,13 +13,13 @@ use Rattle.ciborium_ll_grammar.specs.Elements.{AreWritable}
 use Rattle.ciborium_ll_grammar.specs.Items.{Completes, byte_string, text_string, open_bytes, open_text, tag, array}
 use Rattle.ciborium_ll_grammar.specs.Items.{pairs, open_array, open_pairs, AreItems, no_items, more_items, IsItem}
 use Rattle.ciborium_ll_grammar.specs.Items.{IsTakenTitle, AreTakenStrings}
-use Rattle.ciborium_ll_decoder.specs.Decoding.{Passes, PullsHeader, PullsTitle, IsSteady}
+use Rattle.ciborium_ll_decoder.specs.Decoding.{ReadsPast, DecoderPullAnswer, PullsTitle, IsSteady}
 use Rattle.ciborium_ll_decoder.specs.Skipping.{IsTakenBehind, SkipsWhole}
 use Rattle.std.proofs.lemmas.List.{append_cancel_right}
 use Rattle.ciborium_ll_grammar.proofs.TitleLaws.{IsTitle-shortest, title_in_range}
 use Rattle.ciborium_ll_grammar.proofs.StringLaws.{fronts}
 use Rattle.ciborium_ll_decoder.proofs.NestLaws.{alone_bytes}
-use Rattle.ciborium_ll_decoder.proofs.DecodingLaws.{Passes-none, Passes-pull, Passes-pulled, Passes-then}
+use Rattle.ciborium_ll_decoder.proofs.DecodingLaws.{ReadsPast-none, ReadsPast-pull, ReadsPast-pulled, ReadsPast-then}
 use Rattle.cbor_skip.specs.declared.SkipError.{SkipError}
 use Rattle.cbor_skip.specs.declared.SkipError.TheVariants as s
 use Rattle.cbor_skip.specs.declared.remaining.Remaining.{Remaining}
@@ -81,23 +81,23 @@ module _ {R E : Type 0} (source : Ghosts R E) where
 
   -- a title was read from the start
   pulled_first : {old titled : Decoder R} {x : Header} (title : PullsTitle source old x titled)
-      → (IsSteady source old → IsSteady source titled) → Passes source old title.title titled
-  pulled_first title steady = Passes-pulled source _ _ _ [] _ title (Passes-none source _) steady
+      → (IsSteady source old → IsSteady source titled) → ReadsPast source old title.title titled
+  pulled_first title steady = ReadsPast-pulled source _ _ _ [] _ title (ReadsPast-none source _) steady
 
   -- an item is a title, and what completes it
   reads_item : {d : ℕ} {old titled new : Decoder R} {x : Header} {rest : List ℕ} → PullsTitle source old x titled
       → (IsSteady source old → IsSteady source titled) → Completes (strictness old) d x rest
-      → Passes source titled rest new → ReadsItem source d old new
+      → ReadsPast source titled rest new → ReadsItem source d old new
   reads_item title steady completes passed = record {
     item = _;
     is_item = item_of _ _ _ _ _ title.is_title (pulled_taken source title) completes;
-    passed = Passes-then source _ _ _ _ _ (pulled_first title steady) passed;
+    passed = ReadsPast-then source _ _ _ _ _ (pulled_first title steady) passed;
   }
 
   pub reads_plain : {d : ℕ} {old titled : Decoder R} {x : Header} → PullsTitle source old x titled
       → (IsSteady source old → IsSteady source titled) → Completes (strictness old) d x []
       → ReadsItem source d old titled
-  reads_plain title steady completes = reads_item title steady completes (Passes-none source _)
+  reads_plain title steady completes = reads_item title steady completes (ReadsPast-none source _)
 
   pub reads_string : {d : ℕ} {old titled new : Decoder R} (k : Kind) (len : Option ℕ)
       → PullsTitle source old (kind_header k len) titled → (IsSteady source old → IsSteady source titled)
@@ -123,7 +123,7 @@ module _ {R E : Type 0} (source : Ghosts R E) where
       → StopsDue source d outer room old error new → StopsItem source outer d room old error new
   stops_here {outer = outer} {d = d} {old = old} stops =
       let due : ItemDue (strictness old) outer d [] d outer = here in
-      let passed = Passes-none source old in
+      let passed = ReadsPast-none source old in
       search
 
   -- the same, where its title or a string behind that failed
@@ -134,7 +134,7 @@ module _ {R E : Type 0} (source : Ghosts R E) where
       stops_here (subst (λ (first : Decoder R). StopsTitle source room first error new) same (rw same_room at stops))
 
   pub pull_stops : {outer : Bool} {d room : ℕ} {old before : Decoder R} {error : Error E} {new : Decoder R}
-      → before ≡ old → PullsHeader source before (Err error) new → StopsItem source outer d room old (s.Read error) new
+      → before ≡ old → DecoderPullAnswer source before (Err error) new → StopsItem source outer d room old (s.Read error) new
   pull_stops same fails = title_stops same refl (inl fails)
 
   -- an error within it, behind its title
@@ -147,8 +147,8 @@ module _ {R E : Type 0} (source : Ghosts R E) where
       let keeps = pulled_keeps source title in
       let items = items_looser _ _ keeps _ _ _ stops.are_items in
       let due = due_looser _ _ (λ on. passed_keeps source stops.passed (keeps on)) _ _ _ _ _ inner.due in
-      let passed = Passes-then source _ _ _ _ _ (pulled_first title steady)
-      (Passes-then source _ _ _ _ _ stops.passed inner.passed) in
+      let passed = ReadsPast-then source _ _ _ _ _ (pulled_first title steady)
+      (ReadsPast-then source _ _ _ _ _ stops.passed inner.passed) in
       let whole : ItemDue (strictness old) outer (suc levels) _ inner.levels inner.closable =
       within title.is_title (pulled_taken source title) stops.takes_more items due in
       rw (sym level) (search)
@@ -161,11 +161,11 @@ module _ {R E : Type 0} (source : Ghosts R E) where
     pub is_remaining : IsRemaining x count remaining
     pub items : List ℕ
     pub are_items : AreItems (strictness old) d count items
-    pub passed : Passes source old items now
+    pub passed : ReadsPast source old items now
 
   pub none_read : {x : Header} {d : ℕ} {old : Decoder R} {remaining : Remaining} → IsRemaining x 0 remaining
       → SoFar x d old old remaining
-  none_read is = record { count = 0; is_remaining = is; items = _; are_items = no_items; passed = Passes-none source _ }
+  none_read is = record { count = 0; is_remaining = is; items = _; are_items = no_items; passed = ReadsPast-none source _ }
 
   pub one_more : {x : Header} {d : ℕ} {old now new : Decoder R} {remaining after : Remaining}
       → SoFar x d old now remaining → ((count : ℕ) → IsRemaining x count remaining → IsRemaining x (suc count) after)
@@ -175,7 +175,7 @@ module _ {R E : Type 0} (source : Ghosts R E) where
       search (
         goes_on so_far.count so_far.is_remaining,
         items_item _ _ _ _ _ so_far.are_items one,
-        Passes-then source _ _ _ _ _ so_far.passed item.passed,
+        ReadsPast-then source _ _ _ _ _ so_far.passed item.passed,
       )
 
   -- an error where one more is due; the buffer was as long from the start
@@ -209,5 +209,5 @@ module _ {R E : Type 0} (source : Ghosts R E) where
     rest = so_far.items ++ 0xff ∷ [];
     completes = all_closed _ x _ _ _ remaining so_far.is_remaining may so_far.are_items;
     passed = rw (alone_bytes title.title h.Break title.is_title refl) at
-        (Passes-pull source _ _ _ _ _ title so_far.passed steady);
+        (ReadsPast-pull source _ _ _ _ _ title so_far.passed steady);
   }

@@ -1,4 +1,4 @@
--- What remains due within a nest says how many items more may stand there, and where a break may.
+-- The items that remain due within a nest tell how many items more may stand there, and whether a break may.
 use Rattle.std.proofs.Common.{◌≡◌, ℕ, suc, ◌*◌, ◌%◌, ◌==◌, true, false, None, arith}
 use Rattle.std.proofs.Common.{add-one}
 use Rattle.std.proofs.Math.Nat.{mul-mod_right, mul-add-mod_self_left}

@@ -1,4 +1,4 @@
--- What a skip means where the bytes are told: the premises turn the general statement into an exact one.
+-- The meaning of a skip if the bytes are told: the premises turn the general statement into an exact one.
 use Rattle.std.proofs.Common.{◌≡◌, ℕ, ◌+◌, ◌≤◌, Bool, true, false, List, [], ◌++◌, length}
 use Rattle.std.proofs.Common.{take, Option, Some, None, Result, Ok, Err, IsOk, ◌↔◌, refl, sym, ap, subst, ◌∙◌}
 use Rattle.std.proofs.Common.{inl, inr, arith, append_assoc, length-append}
@@ -16,7 +16,7 @@ use Rattle.ciborium_ll_grammar.specs.Strings.{Kind, Text, kind_header}
 use Rattle.ciborium_ll_grammar.specs.Faults.{Point, In, Answer, BodyDue, IsAtTitle, IsRefusedIn, FirstFault, CutTitle}
 use Rattle.ciborium_ll_grammar.specs.Faults.{NoTitle, LongTitle, OtherTitle, DamagedText, CutBody, CutDamagedText}
 use Rattle.ciborium_ll_grammar.specs.Faults.{Short, Syntax, with_front}
-use Rattle.ciborium_ll_decoder.specs.Decoding.{view, Passes, PullsHeader, PullsTitle, IsSteady}
+use Rattle.ciborium_ll_decoder.specs.Decoding.{view, ReadsPast, DecoderPullAnswer, PullsTitle, IsSteady}
 use Rattle.ciborium_ll_decoder.specs.Finishing.{IsNoText, StopsRest}
 use Rattle.ciborium_ll_decoder.specs.Skipping.{SkipsString, SkipsInside, MeetsNoTitle, MeetsOther, MeetsBody}
 use Rattle.ciborium_ll_grammar.proofs.TitleLaws.{shortest_no_longer}
@@ -26,11 +26,11 @@ use Rattle.ciborium_ll_decoder.proofs.ToldLaws.{consumes_told, next_read_small}
 use Rattle.ciborium_ll_text.proofs.Lists.{front_of, front_behind}
 use Rattle.ciborium_ll_text.proofs.FrontLaws.{no_text_behind}
 use Rattle.ciborium_ll_decoder.proofs.NestLaws.{alone_bytes, open_alone}
-use Rattle.ciborium_ll_decoder.proofs.DecodingLaws.{Passes-then, Passes-pull, Passes-pulled}
+use Rattle.ciborium_ll_decoder.proofs.DecodingLaws.{ReadsPast-then, ReadsPast-pull, ReadsPast-pulled}
 use Rattle.cbor_skip.specs.declared.SkipError.{SkipError}
 use Rattle.cbor_skip.specs.declared.SkipError.TheVariants as s
 use Rattle.cbor_skip.specs.Due.{ItemDue, ReachesItem, at_item, at_string, at_body, at_piece}
-use Rattle.cbor_skip.specs.ItemFaults.{ItemInFront}
+use Rattle.cbor_skip.specs.ItemFaults.{BeginsWithItem}
 use Rattle.cbor_skip.specs.Skipping.{SkipsItem, ReadsItem, strictness}
 use Rattle.cbor_skip.specs.SkippingTold.{IsReadyToSkip, SkipsFront, MeetsItemFault, SkipsTold}
 use Rattle.cbor_skip.proofs.DueLaws.{no_item_fault, no_early_break, no_deep_nest}
@@ -73,7 +73,7 @@ module _ {R E : Type 0} (source : Ghosts R E) (depth room : ℕ) (old : Decoder 
     Told error new = SkipsTold source (strictness old) depth due old (Err (s.Read error)) new
 
     -- behind bytes that were read
-    module _ {bytes : List ℕ} {at : Decoder R} (passed : Passes source old bytes at) where
+    module _ {bytes : List ℕ} {at : Decoder R} (passed : ReadsPast source old bytes at) where
       -- what is read there is due
       gone : {known : Option (List ℕ)} (read : List ℕ) → Consumes (view source at) known read → (rest : List ℕ)
           × (view source at ≡ Some (read ++ rest)) × (known ≡ Some rest) × (due ≡ bytes ++ (read ++ rest))
@@ -107,7 +107,7 @@ module _ {R E : Type 0} (source : Ghosts R E) (depth room : ℕ) (old : Decoder 
 
       -- where a title is due
       title_told : {point : Point} (error : Error E) (new : Decoder R) → ReachesItem (strictness old) depth bytes point
-          → IsAtTitle point → PullsHeader source at (Err error) new → Told error new
+          → IsAtTitle point → DecoderPullAnswer source at (Err error) new → Told error new
       title_told {point = point} (e.Io fault) new reach title fails =
           let cut = fails.steady (passed.steady ready.steady) in
           met fails.read reach cut.0 fails.offset (λ rest here left.
@@ -164,18 +164,18 @@ module _ {R E : Type 0} (source : Ghosts R E) (depth room : ℕ) (old : Decoder 
 
     -- behind a beginning of an item
     module _ {bytes : List ℕ} {levels : ℕ} {closable : Bool} {at : Decoder R}
-        (item : ItemDue (strictness old) false depth bytes levels closable) (passed : Passes source old bytes at) where
+        (item : ItemDue (strictness old) false depth bytes levels closable) (passed : ReadsPast source old bytes at) where
       -- a string of indefinite length began
       module _ (k : Kind) {titled : Decoder R} (pulled : PullsTitle source at (kind_header k None) titled)
           (steady : IsSteady source at → IsSteady source titled) where
         -- a beginning of it was read
         inside : {between : Decoder R} → SkipsInside source k titled between
-            → (all : List ℕ) × ReachesItem (strictness old) depth all (In k) × Passes source old all between
+            → (all : List ℕ) × ReachesItem (strictness old) depth all (In k) × ReadsPast source old all between
         inside {between = between} part =
             let front = shortest_title (kind_header k None) in
             let lone = alone_bytes pulled.title (kind_header k None) pulled.is_title (open_alone k) in
-            let opened = Passes-pull source old at titled bytes (kind_header k None) pulled passed steady in
-            let behind = Passes-then source old titled between _ part.behind opened part.passed in
+            let opened = ReadsPast-pull source old at titled bytes (kind_header k None) pulled passed steady in
+            let behind = ReadsPast-then source old titled between _ part.behind opened part.passed in
             let taken = inside_when (strictness old) k (front ++ part.behind) part.bodies (λ on.
             let mode : titled.strict ≡ true =
             pulled.mode ∙ (passed.mode ∙ (strict_by old.waiting old.strict on).0) in
@@ -197,7 +197,7 @@ module _ {R E : Type 0} (source : Ghosts R E) (depth room : ℕ) (old : Decoder 
             let w = inside meets.part in
             let title = meets.pulled in
             let still = λ (first : IsSteady source old). meets.steady (steady (passed.steady first)) in
-            let behind = Passes-pulled source old meets.between meets.titled w.0 _ title w.2 still in
+            let behind = ReadsPast-pulled source old meets.between meets.titled w.0 _ title w.2 still in
             let reach = at_piece w.1 title.is_title (behind_taken source w.2 title) in
             body_told behind error new reach w.2.offset meets.ends
 
@@ -233,7 +233,7 @@ module _ {R E : Type 0} (source : Ghosts R E) (depth room : ℕ) (old : Decoder 
       string_told k None error new pulled steady fails = open_told k pulled steady error new fails
       string_told k (Some n) {titled = titled} error new pulled steady ends =
           let header = kind_header k (Some n) in
-          let behind = Passes-pull source old at titled bytes header pulled passed steady in
+          let behind = ReadsPast-pull source old at titled bytes header pulled passed steady in
           let reach = at_body k (at_item item) pulled.is_title (behind_taken source passed pulled) in
           let short = shortest_no_longer pulled.title header pulled.is_title in
           body_told behind error new reach (omega (arith, length-append bytes pulled.title)) ends
@@ -285,7 +285,7 @@ module _ {R E : Type 0} (source : Ghosts R E) (depth room : ℕ) (old : Decoder 
         subst (λ (b : Bool). SkipsTold source b depth due old result new) ready_mode (told_by new result skips)
 
     exactly_told : (new : Decoder R) (result : Result (Unit {0}) (SkipError E))
-        → SkipsTold source old.strict depth due old result new → IsOk result ↔ ItemInFront old.strict depth due
+        → SkipsTold source old.strict depth due old result new → IsOk result ↔ BeginsWithItem old.strict depth due
     exactly_told new (Ok done) told = (λ ok. told.front, λ front. refl)
     exactly_told new (Err (s.Break at)) told =
         (λ ok. absurd cc, λ front. absurd (no_early_break old.strict depth due front told.fault))
@@ -299,5 +299,5 @@ module _ {R E : Type 0} (source : Ghosts R E) (depth room : ℕ) (old : Decoder 
     exactly_told new (Err (s.Read e.Waiting)) told = absurd told
 
     pub skip_exactly : (new : Decoder R) (result : Result (Unit {0}) (SkipError E))
-        → SkipsItem source depth room old result new → IsOk result ↔ ItemInFront old.strict depth due
+        → SkipsItem source depth room old result new → IsOk result ↔ BeginsWithItem old.strict depth due
     skip_exactly new result skips = exactly_told new result (skip_told new result skips)

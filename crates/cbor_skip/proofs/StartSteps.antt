@@ -1,4 +1,4 @@
--- What a title begins tells its header.
+-- The beginning that a title makes tells the title's header.
 use Rattle.std.proofs.Common.{◌≡◌, ℕ, Option, Err, [], Bool, arith, inr}
 use Rattle.ciborium_ll_io.specs.declared.io.Read.{Ghosts}
 use Rattle.ciborium_ll_grammar.specs.declared.hdr.Header.{Header}

@@ -1,4 +1,4 @@
--- What is in its shortest spelling is one of any too, and what a decoder's strictness says of the titles that it gave.
+-- An item in its shortest spelling is also one in any spelling. A decoder's strictness says which titles it gave.
 use Rattle.std.proofs.Common.{◌≡◌, ℕ, Bool, true, false, List, Option, None, arith}
 use Rattle.ciborium_ll_io.specs.declared.io.Read.{Ghosts}
 use Rattle.ciborium_ll_grammar.specs.declared.hdr.Header.{Header}
@@ -8,7 +8,7 @@ use Rattle.ciborium_ll_grammar.specs.Strings.{Kind}
 use Rattle.ciborium_ll_grammar.specs.Items.{Completes, positive, negative, float, simple, byte_string, text_string}
 use Rattle.ciborium_ll_grammar.specs.Items.{open_bytes, open_text, tag, array, pairs, open_array, open_pairs, AreItems}
 use Rattle.ciborium_ll_grammar.specs.Items.{no_items, more_items, IsTakenTitle}
-use Rattle.ciborium_ll_decoder.specs.Decoding.{Passes, PullsTitle}
+use Rattle.ciborium_ll_decoder.specs.Decoding.{ReadsPast, PullsTitle}
 use Rattle.cbor_skip.specs.Due.{ItemDue, here, within, IsTakenInside}
 use Rattle.cbor_skip.specs.Skipping.{strict_unless_waiting, strictness}
 
@@ -84,16 +84,16 @@ module _ {R E : Type 0} (source : Ghosts R E) where
       → strictness new ≡ true
   pulled_keeps p on = grind arith
 
-  pub passed_keeps : {old new : Decoder R} {bytes : List ℕ} → Passes source old bytes new → strictness old ≡ true
+  pub passed_keeps : {old new : Decoder R} {bytes : List ℕ} → ReadsPast source old bytes new → strictness old ≡ true
       → strictness new ≡ true
   passed_keeps p on = grind arith
 
   -- a title that was given behind these bytes
-  pub behind_taken : {old at new : Decoder R} {bytes : List ℕ} {x : Header} → Passes source old bytes at
+  pub behind_taken : {old at new : Decoder R} {bytes : List ℕ} {x : Header} → ReadsPast source old bytes at
       → (p : PullsTitle source at x new) → IsTakenTitle (strictness old) p.title x
   behind_taken passed p = taken_when _ p.title _ (λ on. let still = passed_keeps passed on in grind arith)
 
   -- and behind what was read none waits where none did
-  pub none_behind : {old new : Decoder R} {bytes : List ℕ} → Passes source old bytes new
+  pub none_behind : {old new : Decoder R} {bytes : List ℕ} → ReadsPast source old bytes new
       → (old.strict ≡ true → old.waiting ≡ None) → new.strict ≡ true → new.waiting ≡ None
   none_behind p none on = grind arith

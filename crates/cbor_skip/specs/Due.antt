@@ -1,4 +1,4 @@
--- How far a read of one item comes in bytes, and what is due there.
+-- The point that a read of one item reaches in bytes, and the part that is due there.
 use Rattle.std.specs.Prelude.{◌≡◌, ℕ, suc, ◌-◌, ◌*◌, ◌<◌, ◌%◌, ◌==◌, Bool, true, false, List, [], ◌++◌, length, Option}
 use Rattle.std.specs.Prelude.{Some, None}
 use Rattle.ciborium_ll_grammar.specs.declared.hdr.Header.{Header}
@@ -9,16 +9,16 @@ use Rattle.ciborium_ll_grammar.specs.Elements.{AreWritable}
 use Rattle.ciborium_ll_grammar.specs.Items.{AreItems, AreTakenStrings, IsTakenTitle}
 use Rattle.ciborium_ll_grammar.specs.Faults.{IsInside, Point, Due, In, BodyDue}
 
--- A nest: a header behind which items stand, one level deeper. It is that of a tag (RFC 7049, 2.4), an array or a map
--- (2.1, 2.2.1)
+-- A nest: a header that items follow, one level deeper. It is that of a tag (RFC 7049, 2.4), an array or a map (2.1,
+-- 2.2.1).
 abbrev pub IsNest : Header → Type 0
 IsNest (h.Tag number) = Unit {0}
 IsNest (h.Array len) = Unit {0}
 IsNest (h.Map len) = Unit {0}
 IsNest header = ⊥
 
--- Behind the header and so many items one more may stand: one behind a tag (RFC 7049, 2.4), as many as an array counts,
--- two for each pair of a map (2.1), and any number in the indefinite forms (2.2.1)
+-- After the header and `count` items one more may stand: one item after a tag (RFC 7049, 2.4), as many as an array
+-- counts, two for each pair of a map (2.1), and any number in the indefinite forms (2.2.1).
 abbrev pub TakesMore : Header → ℕ → Type 0
 TakesMore (h.Tag number) count = count < 1
 TakesMore (h.Array (Some len)) count = count < len
@@ -27,43 +27,43 @@ TakesMore (h.Array None) count = Unit {0}
 TakesMore (h.Map None) count = Unit {0}
 TakesMore header count = ⊥
 
--- how many items the nest contains, where its header tells it: one behind a tag, as many as an array counts, and two
--- for each pair of a map (RFC 7049, 2.1 and 2.4)
+-- How many items the nest contains, if its header tells it: one after a tag, as many as an array counts, and two for
+-- each pair of a map (RFC 7049, 2.1 and 2.4). For example, the map `a2` has 4 items.
 abbrev pub item_count : Header → Option ℕ
 item_count (h.Tag number) = Some 1
 item_count (h.Array len) = len
 item_count (h.Map (Some len)) = Some (2 * len)
 item_count header = None
 
--- Whether a break may stand in place of that item: in an array of indefinite length, and in such a map behind whole
--- pairs, which is an even number of items (RFC 7049, 2.2.1)
+-- Whether a break may stand in place of the next item. It may in an array of indefinite length, and in a map of
+-- indefinite length after whole pairs, which are an even number of items (RFC 7049, 2.2.1).
 abbrev pub may_close : Header → ℕ → Bool
 may_close (h.Array None) count = true
 may_close (h.Map None) count = count % 2 == 0
 may_close header count = false
 
--- `ItemDue strict outer depth bytes levels closable`: the bytes are a beginning of an item to the depth, in its
--- shortest spelling where only that is taken, and behind them an item to so many levels is due. `closable` says whether
--- a break may stand in its place; `outer` says it of the whole (RFC 7049, 2.1 to 2.4)
+-- `ItemDue strict outer depth bytes levels closable`: the bytes are a beginning of an item to the depth, and then an
+-- item to `levels` levels is due. If `strict` holds, the beginning is in the shortest spelling. `closable` says whether
+-- a break may stand in place of the item that is due; `outer` says the same of the whole item (RFC 7049, 2.1 to 2.4).
 pub data ItemDue (strict : Bool) : Bool → ℕ → List ℕ → ℕ → Bool → Type 0 where
-  -- nothing was read
+  -- Nothing was read.
   here : {outer : Bool} {depth : ℕ} → ItemDue strict outer depth [] depth outer
-  -- a nest's title and some of its items were read, and a beginning of the next one
+  -- A nest's title and some of its items were read, and a beginning of the next one.
   within : {outer closable : Bool} {depth levels count : ℕ} {title items more : List ℕ} {header : Header}
       → IsTitle title header → IsTakenTitle strict title header → TakesMore header count
       → AreItems strict depth count items → ItemDue strict (may_close header count) depth more levels closable
       → ItemDue strict outer (suc depth) (title ++ (items ++ more)) levels closable
 
--- within a string that isn't closed: where only the shortest spelling is taken, behind an open only strings of a
--- definite length stand, each under a strict title (RFC 7049, 2.2.2 and 3.9)
+-- Within a string that isn't closed: if only the shortest spelling is taken, the open holds only strings of a definite
+-- length, each under a strict title (RFC 7049, 2.2.2 and 3.9).
 abbrev pub IsTakenInside : Bool → Kind → List ℕ → List (List ℕ) → Type 0
 IsTakenInside true kind opens bodies = (strings : List ℕ)
     × (opens ≡ shortest_title (kind_header kind None) ++ strings) × AreTakenStrings true kind strings bodies
 IsTakenInside false kind opens bodies = Unit {0}
 
--- `ReachesItem strict depth bytes point`: the bytes are a beginning of an item to the depth, in its shortest spelling
--- where only that is taken, and lead to the point: an item is due; within a string a further one or its end; or a body
--- (RFC 7049, 2.2.2 and 3.9)
+-- `ReachesItem strict depth bytes point`: the bytes are a beginning of an item to the depth, and lead to the point. If
+-- `strict` holds, the beginning is in the shortest spelling. At the point an item is due; within a string a further one
+-- or its end; or a body (RFC 7049, 2.2.2 and 3.9).
 pub data ReachesItem (strict : Bool) (depth : ℕ) : List ℕ → Point → Type 0 where
   at_item : {bytes : List ℕ} {levels : ℕ} {closable : Bool} → ItemDue strict false depth bytes levels closable
       → ReachesItem strict depth bytes Due
@@ -71,7 +71,8 @@ pub data ReachesItem (strict : Bool) (depth : ℕ) : List ℕ → Point → Type
       → ItemDue strict false depth bytes levels closable → IsInside kind opens bodies
       → IsTakenInside strict kind opens bodies → AreWritable kind bodies
       → ReachesItem strict depth (bytes ++ opens) (In kind)
-  -- the offset is the end of the title less the length of the shortest one: late, where the title is a longer one
+  -- The place is the end of the title less the length of the shortest title. If the title is longer than the shortest
+  -- title, the place is later than the title's start.
   at_body : {bytes title : List ℕ} {len : ℕ} (kind : Kind) → ReachesItem strict depth bytes Due
       → IsTitle title (kind_header kind (Some len)) → IsTakenTitle strict title (kind_header kind (Some len))
       → ReachesItem strict depth (bytes ++ title)

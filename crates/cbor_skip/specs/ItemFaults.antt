@@ -1,5 +1,5 @@
--- What may stand in front of some bytes, as a read of one item sees it: a whole item, or what stops the read. Each is
--- said of any spelling, or, where only the shortest one is taken, of that.
+-- The beginning of some bytes, as a read of one item sees it: a whole item, or the part that stops the read. If
+-- `strict` holds, only the shortest spelling is taken.
 use Rattle.std.specs.Prelude.{◌≡◌, ℕ, false, Bool, List, [], ◌∷◌, ◌++◌}
 use Rattle.ciborium_ll_grammar.specs.declared.hdr.Header.{Header}
 use Rattle.ciborium_ll_grammar.specs.Title.{IsTitle}
@@ -7,18 +7,17 @@ use Rattle.ciborium_ll_grammar.specs.Items.{IsItem, IsTakenTitle}
 use Rattle.ciborium_ll_grammar.specs.Faults.{Point, Answer, FirstFault}
 use Rattle.cbor_skip.specs.Due.{IsNest, ItemDue, ReachesItem}
 
--- an item to the depth stands in front of the bytes, in any spelling or in the shortest one (RFC 7049, 2.1 to 2.4 and
--- 3.9)
-pub record ItemInFront (strict : Bool) (depth : ℕ) (bytes : List ℕ) : Type 0 where
+-- The bytes begin with an item to the depth, in any spelling or in the shortest (RFC 7049, 2.1 to 2.4 and 3.9).
+pub record BeginsWithItem (strict : Bool) (depth : ℕ) (bytes : List ℕ) : Type 0 where
   pub item : List ℕ
   pub rest : List ℕ
   pub is_item : IsItem strict depth item
   pub is : bytes ≡ item ++ rest
 
--- Behind a beginning of an item the bytes are at fault: a title is cut off, none, or may not stand within its string,
--- or a body is cut off or no text; where only the shortest spelling is taken, also a title that isn't the shortest, a
--- small simple value, or an open within a string (RFC 7049, 2.2.2 and 3.9). It is a row of `FirstFault strict`, whose
--- word on writing is left open
+-- The bytes are at fault after a beginning of an item: a title is cut off, is none, or may not stand within its string,
+-- or a body is cut off or is no text. If only the shortest spelling is taken, there are three more faults: a title that
+-- isn't the shortest, a simple value from 24 to 31, and an open within a string (RFC 7049, 2.2.2 and 3.9). The fault is
+-- a row of `FirstFault strict`, whose part on writing is left open.
 pub record HasItemFault (strict : Bool) (depth : ℕ) (bytes : List ℕ) : Type 0 where
   pub before : List ℕ
   pub point : Point
@@ -30,7 +29,7 @@ pub record HasItemFault (strict : Bool) (depth : ℕ) (bytes : List ℕ) : Type 
   pub is : bytes ≡ before ++ ahead
   pub fault : FirstFault strict before [] point ahead answer written consumed
 
--- behind a beginning of an item a break stands where an item is due, and may not stand in its place (RFC 7049, 2.2.1)
+-- After a beginning of an item a further one is due, and a break stands there that may not (RFC 7049, 2.2.1).
 pub record HasEarlyBreak (strict : Bool) (depth : ℕ) (bytes : List ℕ) : Type 0 where
   pub before : List ℕ
   pub rest : List ℕ
@@ -38,7 +37,7 @@ pub record HasEarlyBreak (strict : Bool) (depth : ℕ) (bytes : List ℕ) : Type
   pub item_due : ItemDue strict false depth before levels false
   pub is : bytes ≡ before ++ 0xff ∷ rest
 
--- behind a beginning of an item a tag, an array or a map stands where no level is left
+-- After a beginning of an item a tag, an array or a map stands for which no level is left.
 pub record HasDeepNest (strict : Bool) (depth : ℕ) (bytes : List ℕ) : Type 0 where
   pub before : List ℕ
   pub title : List ℕ

@@ -1,12 +1,12 @@
--- What is due yet within a tag, an array or a map, as the loop over its items counts it.
+-- The items that are still due within a tag, an array or a map, as the loop over its items counts them.
 use Rattle.std.specs.Prelude.{◌≡◌, ℕ, zero, ◌+◌, ◌*◌, Bool, true, false, Some, None}
 use Rattle.ciborium_ll_grammar.specs.declared.hdr.Header.{Header}
 use Rattle.ciborium_ll_grammar.specs.declared.hdr.Header.TheVariants as h
 use Rattle.cbor_skip.specs.declared.remaining.Remaining.{Remaining}
 use Rattle.cbor_skip.specs.declared.remaining.Remaining.TheVariants as r
 
--- Behind the header and so many items this remains: of one item behind a tag, of as many as an array counts, of two for
--- each pair of a map (RFC 7049, 2.1 and 2.4); and where a break ends them any number, in a map an even one (2.2.1)
+-- After the header and `count` items these items remain. A tag has one item, an array as many as it counts, and a map
+-- two for each pair (RFC 7049, 2.1 and 2.4). A break ends any number of items, and in a map an even number (2.2.1).
 abbrev pub IsRemaining : Header → ℕ → Remaining → Type 0
 IsRemaining (h.Tag number) count (r.Items more) = count + more ≡ 1
 IsRemaining (h.Array (Some len)) count (r.Items more) = count + more ≡ len
@@ -17,19 +17,19 @@ IsRemaining (h.Map None) count r.OpenPairs = (pairs : ℕ) × (count ≡ 2 * pai
 IsRemaining (h.Map None) count r.OpenValue = (pairs : ℕ) × (count ≡ 2 * pairs + 1)
 IsRemaining header count remaining = ⊥
 
--- nothing is due
+-- Nothing is due.
 abbrev pub is_done : Remaining → Bool
 is_done (r.Items zero) = true
 is_done (r.Pairs zero) = true
 is_done remaining = false
 
--- a break may stand in place of the next item
+-- A break may stand in place of the next item.
 abbrev pub closes : Remaining → Bool
 closes r.OpenItems = true
 closes r.OpenPairs = true
 closes remaining = false
 
--- the next item is the value of a pair
+-- The next item is the value of a pair.
 abbrev pub is_value : Remaining → Bool
 is_value (r.Value count) = true
 is_value r.OpenValue = true

@@ -1,4 +1,4 @@
--- What `skip_item` does where the bytes are told, and the reader fails only where bytes are missing.
+-- `skip_item` if the bytes are told and the reader fails only if bytes are missing.
 use Rattle.std.specs.Prelude.{◌≡◌, ℕ, ◌+◌, ◌<◌, Bool, true, List, length, drop, Some, None, Result, Ok, Err}
 use Rattle.ciborium_ll_io.specs.declared.io.Read.{Ghosts}
 use Rattle.ciborium_ll_decoder.specs.declared.dec.Decoder.{Decoder}
@@ -7,11 +7,11 @@ use Rattle.ciborium_ll_grammar.specs.Faults.{Answer, Short, Syntax}
 use Rattle.ciborium_ll_decoder.specs.Decoding.{offset_limit, view, IsSteady}
 use Rattle.cbor_skip.specs.declared.SkipError.{SkipError}
 use Rattle.cbor_skip.specs.declared.SkipError.TheVariants as s
-use Rattle.cbor_skip.specs.ItemFaults.{HasDeepNest, HasEarlyBreak, HasItemFault, ItemInFront}
+use Rattle.cbor_skip.specs.ItemFaults.{HasDeepNest, HasEarlyBreak, HasItemFault, BeginsWithItem}
 
 module _ {R E : Type 0} (source : Ghosts R E) where
-  -- the reader gives the bytes that it tells, the offset fits what is due, with 8 and with the buffer's length to
-  -- spare, and on a strict decoder no header waits
+  -- The reader gives the bytes that it tells. The offset fits the bytes that are due, with 8 and with the buffer's
+  -- length to spare. No header waits on a strict decoder.
   pub record IsReadyToSkip (room : ℕ) (decoder : Decoder R) (due : List ℕ) : Type 0 where
     pub none_waits : decoder.strict ≡ true → decoder.waiting ≡ None
     pub steady : IsSteady source decoder
@@ -19,13 +19,13 @@ module _ {R E : Type 0} (source : Ghosts R E) where
     pub fits-title : decoder.offset + length due + 8 < offset_limit
     pub fits-chunk : decoder.offset + length due + room < offset_limit
 
-  -- an item stood in front, and just what follows it is left
+  -- The bytes began with an item, and exactly the bytes that follow are left.
   pub record SkipsFront (strict : Bool) (depth : ℕ) (due : List ℕ) (old new : Decoder R) : Type 0 where
-    pub front : ItemInFront strict depth due
+    pub front : BeginsWithItem strict depth due
     pub left : view source new ≡ Some front.rest
     pub offset : new.offset ≡ old.offset + length front.item
 
-  -- a fault was met: the answer and what is consumed are its own
+  -- The read met a fault. The answer and the bytes that are consumed are the fault's own.
   pub record MeetsItemFault (strict : Bool) (depth : ℕ) (due : List ℕ) (answer : Answer) (old new : Decoder R) : Type 0
     where
       pub fault : HasItemFault strict depth due
@@ -33,7 +33,7 @@ module _ {R E : Type 0} (source : Ghosts R E) where
       pub left : view source new ≡ Some (drop fault.consumed fault.ahead)
       pub offset : new.offset ≡ old.offset + length fault.before + fault.consumed
 
-  -- a break stood where none may: the place is its offset, and it is consumed
+  -- A break stood at a place that allows none. The answer names its offset, and the break is consumed.
   pub record FindsBreak (strict : Bool) (depth : ℕ) (due : List ℕ) (old : Decoder R) (at : ℕ) (new : Decoder R) : Type 0
     where
       pub fault : HasEarlyBreak strict depth due
@@ -41,7 +41,7 @@ module _ {R E : Type 0} (source : Ghosts R E) where
       pub left : view source new ≡ Some fault.rest
       pub offset : new.offset ≡ at + 1
 
-  -- a tag, an array or a map stood too deep: the place is its title's offset, and the title is consumed
+  -- A tag, an array or a map stood too deep. The answer names its title's offset, and the title is consumed.
   pub record FindsNest (strict : Bool) (depth : ℕ) (due : List ℕ) (old : Decoder R) (at : ℕ) (new : Decoder R) : Type 0
     where
       pub fault : HasDeepNest strict depth due
@@ -49,8 +49,8 @@ module _ {R E : Type 0} (source : Ghosts R E) where
       pub left : view source new ≡ Some fault.rest
       pub offset : new.offset ≡ at + length fault.title
 
-  -- what `skip_item` then does: one item is skipped, in any spelling or in the shortest one, or what stops the read of
-  -- it is met, each with what is left and the offset
+  -- `skip_item` skips one item, in any spelling or in the shortest, or meets the fault that stops it. The relation says
+  -- which bytes are left, and the offset.
   abbrev pub SkipsTold : Bool → ℕ → List ℕ → Decoder R → Result (Unit {0}) (SkipError E) → Decoder R → Type 0
   SkipsTold strict depth due old (Ok done) new = SkipsFront strict depth due old new
   SkipsTold strict depth due old (Err (s.Break at)) new = FindsBreak strict depth due old at new

@@ -1,6 +1,8 @@
-//! One item of CBOR (RFC 7049, 2.1 to 2.4) skipped, whatever it contains. No call takes memory.
+// SPDX-License-Identifier: Apache-2.0
+//! Skips one item of CBOR (RFC 7049, 2.1 to 2.4), whatever it contains. No call takes memory.
 //!
-//! It stands on the contracts of the parts of `ciborium_ll`, and returns over any reader, one that never ends too.
+//! The crate rests on the contracts of the parts of `ciborium_ll`. Each call returns over any reader, also over one
+//! that never ends.
 #![tactic(auto)]
 
 ghost use Rattle.std.specs.Prelude.{◌≡◌, ◌<◌, ◌≤◌, ◌↔◌, ℕ, Bool, false, List, length, IsOk, MatchResult, Some};
@@ -9,10 +11,11 @@ ghost use Rattle.ciborium_ll_decoder.specs.declared.dec.Decoder.{Decoder as AnyD
 ghost use Rattle.ciborium_ll_decoder.specs.Decoding.{MovesOn, offset_of, strict_of, view};
 ghost use Rattle.cbor_skip.specs.declared.Begun.TheVariants.{Break as BegunBreak, Nest as BegunNest};
 ghost use Rattle.cbor_skip.specs.Due.{IsNest};
-ghost use Rattle.cbor_skip.specs.ItemFaults.{ItemInFront};
+ghost use Rattle.cbor_skip.specs.ItemFaults.{BeginsWithItem};
 ghost use Rattle.cbor_skip.specs.Skipping.{BeginsNest, IsBegun, SkipsCounted, SkipsOne, SkipsWithin, StopsTitle};
 ghost use Rattle.cbor_skip.specs.Skipping.{ReadsItem, StopsItem, strictness};
 ghost use Rattle.cbor_skip.specs.SkippingTold.{IsReadyToSkip, SkipsFront, SkipsTold};
+ghost use Rattle.ciborium_ll_grammar.specs.declared.limits.TheConstants.{LEAST_BUFFER, MOST_LEVELS};
 
 pub mod laws;
 mod messages;
@@ -30,10 +33,10 @@ use ciborium_ll_io::io::Read;
 pub enum SkipError<E> {
     /// The decoder failed, and this is its error.
     Read(Error<E>),
-    /// At this offset a break stands where an item is due and none may end: outside of arrays and maps of indefinite
-    /// length, or in place of a value in such a map.
+    /// A break stands at this offset, but an item is due and nothing may end there. It is outside of arrays and maps of
+    /// indefinite length, or in place of a value in a map of indefinite length.
     Break(usize),
-    /// At this offset the title of a tag, an array or a map stands deeper than was allowed.
+    /// The title of a tag, an array or a map stands at this offset, deeper than was allowed.
     Deep(usize),
 }
 
@@ -47,32 +50,32 @@ impl<E> From<Error<E>> for SkipError<E> {
     }
 }
 
-/// What a title began, which was read.
+/// The beginning that a title made, which was read.
 enum Begun {
     /// An item without others in it, which was read to its end.
     Item,
     /// The end of an indefinite form.
     Break,
-    /// A tag, an array or a map of so many items.
+    /// A tag, an array or a map of this many items.
     Items(usize),
     /// An array or a map of indefinite length, or a map of more items than a `usize` counts, with this header.
     Nest(Header),
 }
 
-/// Reads the next title, and of a string the rest.
+/// Reads the next title, and the rest of a string.
 #[inline(always)]
 fn skip_title<R: Read>(
     decoder: &mut Decoder<R>,
     buffer: &mut [u8],
 ) -> Result<Begun, Error<R::Error>>
-    requires room { 4 ≤ length buffer.old }
+    requires room { LEAST_BUFFER ≤ length buffer.old }
     ensures begun { MatchResult result (λ begun. IsBegun R.Read begun decoder.old decoder.new)
         (λ error. StopsTitle R.Read (length buffer.old) decoder.old error decoder.new) }
     ensures moves_on { MovesOn R.Read decoder.old decoder.new }
     ensures rises { IsOk result → offset_of decoder.old < offset_of decoder.new }
 {
     let (header, title) = pull_title(decoder)?;
-    // Of the title's parts, so that no header is made but that of a nest whose items are not counted.
+    // The title's parts give the start, so no header is made except that of a nest whose items are not counted.
     match title.start(header) {
         Start::Value => Ok(Begun::Item),
         Start::Break => Ok(Begun::Break),
@@ -88,7 +91,7 @@ fn skip_title<R: Read>(
     }
 }
 
-/// What the header of a tag, an array or a map begins.
+/// Returns the beginning that the header of a tag, an array or a map makes.
 #[inline(always)]
 fn nest_begun(nest: Header) -> Begun
     requires { IsNest nest }
@@ -102,7 +105,7 @@ fn nest_begun(nest: Header) -> Begun
     }
 }
 
-/// Skips so many items.
+/// Skips `count` items.
 #[cycle(nests)]
 fn skip_items<R: Read>(
     decoder: &mut Decoder<R>,
@@ -110,7 +113,7 @@ fn skip_items<R: Read>(
     depth: usize,
     buffer: &mut [u8],
 ) -> Result<(), SkipError<R::Error>>
-    requires room { 4 ≤ length buffer.old }
+    requires room { LEAST_BUFFER ≤ length buffer.old }
     ensures skipped { SkipsCounted R.Read count depth (length buffer.old) decoder.old result decoder.new }
     ensures moves_on { MovesOn R.Read decoder.old decoder.new }
 {
@@ -120,7 +123,7 @@ fn skip_items<R: Read>(
         let place = decoder.offset();
         left -= 1;
         match skip_title(decoder, buffer)? {
-            // Behind the last item nothing is due but what it contains, so no call waits for that.
+            // After the last item only its contents are due, so no call waits for them.
             Begun::Items(within) if left == 0 && levels > 0 => {
                 left = within;
                 levels -= 1;
@@ -131,8 +134,8 @@ fn skip_items<R: Read>(
     Ok(())
 }
 
-/// Skips what an array or a map of indefinite length contains, or a map of more items than a `usize` counts, behind its
-/// header.
+/// Skips the contents of an array or a map of indefinite length, or of a map of more items than a `usize` counts, after
+/// its header.
 #[cycle(nests)]
 fn skip_within<R: Read>(
     decoder: &mut Decoder<R>,
@@ -140,7 +143,7 @@ fn skip_within<R: Read>(
     depth: usize,
     buffer: &mut [u8],
 ) -> Result<(), SkipError<R::Error>>
-    requires room { 4 ≤ length buffer.old }
+    requires room { LEAST_BUFFER ≤ length buffer.old }
     requires nest { IsNest header }
     ensures skipped { SkipsWithin R.Read header depth (length buffer.old) decoder.old result decoder.new }
     ensures moves_on { MovesOn R.Read decoder.old decoder.new }
@@ -157,7 +160,7 @@ fn skip_within<R: Read>(
     Ok(())
 }
 
-/// Skips what is left of an item behind its title, which stands at this place and began that much. A break is none.
+/// Skips the rest of an item after its title, which stands at this place and made this beginning. A break is no item.
 #[cycle(nests)]
 #[inline(always)]
 fn skip_rest<R: Read>(
@@ -167,7 +170,7 @@ fn skip_rest<R: Read>(
     depth: usize,
     buffer: &mut [u8],
 ) -> Result<(), SkipError<R::Error>>
-    requires room { 4 ≤ length buffer.old }
+    requires room { LEAST_BUFFER ≤ length buffer.old }
     requires nest { (header : AnyHeader) → begun ≡ BegunNest header → IsNest header }
     ensures skipped { (closable : Bool) (before : AnyDecoder R) → IsBegun R.Read begun before decoder.old
         → MovesOn R.Read before decoder.old → place ≡ offset_of before → (begun ≡ BegunBreak → closable ≡ false)
@@ -184,28 +187,40 @@ fn skip_rest<R: Read>(
     }
 }
 
-/// Skips one item, with tags, arrays and maps nested at most `depth` levels deep (RFC 7049, 2.1 to 2.4). `depth` is at
-/// most 256, and `buffer` has four bytes at least.
+/// Skips one item, with tags, arrays and maps nested at most `depth` levels deep (RFC 7049, 2.1 to 2.4).
 ///
-/// A tag, an array and a map take a level, an empty one too; a string takes none. `Ok` says that one whole item was
-/// there, each body of a text UTF-8 by itself, and the decoder is behind it; of a strict decoder, that it was there in
-/// its shortest spelling (3.9). Strings go through `buffer`. No memory is taken but for the stack, of which each level
-/// takes a frame.
+/// `depth` is at most 256. A tag, an array and a map take a level, also an empty one; a string takes none. Strings go
+/// through `buffer`, which has four bytes at least. The call takes no memory except for the stack, on which each level
+/// has a frame.
 ///
-/// `Break` names the offset of a break that stands in place of an item. It may do so only where an array of indefinite
-/// length ends, or such a map behind whole pairs. `Deep` names the offset of a tag, an array or a map for which no
-/// level is left. Both have consumed that title alone behind what they read.
+/// `Ok` means that one whole item was there, each body of a text UTF-8 by itself, and that the decoder is after it. A
+/// strict decoder read the item in its shortest spelling (3.9).
 ///
-/// `Read` carries the decoder's error. `Syntax` names the offset of a title that is none or may not stand within its
-/// string, and of a strict decoder also of one that isn't strict, or of an open within a string; of a body that is no
-/// text the offset of its title, or, where a whole string's title is longer than its shortest one, of the byte from
-/// which the shortest would reach the body. `Io` says that the reader failed, `TooLong` that the offset can't take the
-/// next read.
+/// # Errors
 ///
-/// Over a reader that tells its bytes `Ok` says that what was due began with that item, and that just what follows it
-/// is due. Where besides the reader is steady, the offset fits, and no header waits on a strict decoder, `Ok` comes
-/// exactly where an item to the depth is in front, of a strict decoder in its shortest spelling; else `Break`, `Deep`
-/// or a fault of the bytes does, with its place. Whatever the answer, the decoder moves on as [`Decoder`] says.
+/// - `Break(offset)`: a break stands in place of an item. It may stand there only as the end of an array of indefinite
+///   length, or of a map of indefinite length after whole pairs.
+/// - `Deep(offset)`: no level is left for the tag, array or map at this offset.
+/// - `Read` with `Syntax(offset)`: the bytes are no title, a title that may not stand within its string, or a body that
+///   is no text, at the place that [`Error::Syntax`] names. A strict decoder also refuses a title that isn't strict,
+///   and an open within a string.
+/// - `Read` with `Io`: the reader failed.
+/// - `Read` with `TooLong`: the offset can't take the next read.
+///
+/// `Break` and `Deep` consume the title at that offset, after the bytes that were read before.
+///
+/// # Conditions for success
+///
+/// Over a reader that tells its bytes, `Ok` means that the bytes that were due began with that item, and that exactly
+/// the bytes that follow are due.
+///
+/// Suppose that the reader is also steady, that the offset fits, and that no header waits on a strict decoder. `Ok`
+/// then comes exactly if the bytes begin with an item to the depth, for a strict decoder in its shortest spelling.
+/// Otherwise the answer is `Break`, `Deep` or a fault of the bytes, with its place.
+///
+/// Whatever the answer, the decoder moves on as [`Decoder`] says.
+///
+/// # Examples
 ///
 /// ```rust
 /// let mut decoder = Decoder::from(SliceReader::new(bytes));
@@ -217,15 +232,15 @@ pub fn skip_item<R: Read>(
     depth: usize,
     buffer: &mut [u8],
 ) -> Result<(), SkipError<R::Error>>
-    requires shallow { depth ≤ 256 }
-    requires room { 4 ≤ length buffer.old }
-    ensures skipped { SkipsOne R.Read depth (length buffer.old) decoder.old result decoder.new }
-    ensures told { (due : List ℕ) → IsReadyToSkip R.Read (length buffer.old) decoder.old due
-        → SkipsTold R.Read (strict_of decoder.old) depth due decoder.old result decoder.new }
+    requires shallow { depth ≤ MOST_LEVELS }
+    requires room { LEAST_BUFFER ≤ length buffer.old }
     ensures exactly { (due : List ℕ) → IsReadyToSkip R.Read (length buffer.old) decoder.old due
-        → (IsOk result ↔ ItemInFront (strict_of decoder.old) depth due) }
+        → (IsOk result ↔ BeginsWithItem (strict_of decoder.old) depth due) }
     ensures front { (due : List ℕ) → view R.Read decoder.old ≡ Some due → IsOk result
         → SkipsFront R.Read (strictness decoder.old) depth due decoder.old decoder.new }
+    ensures told { (due : List ℕ) → IsReadyToSkip R.Read (length buffer.old) decoder.old due
+        → SkipsTold R.Read (strict_of decoder.old) depth due decoder.old result decoder.new }
+    ensures skipped { SkipsOne R.Read depth (length buffer.old) decoder.old result decoder.new }
 {
     skip_items(decoder, 1, depth, buffer)
 }

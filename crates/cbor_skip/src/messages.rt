@@ -1,4 +1,4 @@
-//! What the errors of a skip say to a person.
+//! The messages that a person reads for the errors of a skip.
 
 ghost use Rattle.cbor_skip.specs.SkipTexts.{skip_error_text};
 

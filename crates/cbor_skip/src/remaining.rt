@@ -1,4 +1,4 @@
-//! What is due yet within a tag, an array or a map.
+//! The items that are still due within a tag, an array or a map.
 
 ghost use Rattle.std.specs.Prelude.{◌≡◌, ℕ, suc, false};
 ghost use Rattle.ciborium_ll_grammar.specs.declared.hdr.Header.{Header as AnyHeader};
@@ -7,16 +7,16 @@ ghost use Rattle.cbor_skip.specs.Remaining.{IsRemaining, closes, is_done, is_val
 
 use ciborium_ll_grammar::hdr::Header;
 
-/// What is due yet within a tag, an array or a map.
+/// The items that are still due within a tag, an array or a map.
 ///
-/// Pairs are counted as pairs, so that no count is greater than the one in the header.
+/// Pairs count as pairs, so no count is greater than the one in the header.
 #[derive(Clone, Copy)]
 pub enum Remaining {
-    /// So many items.
+    /// This many items.
     Items(usize),
-    /// So many pairs.
+    /// This many pairs.
     Pairs(usize),
-    /// The value of a pair, and then so many pairs.
+    /// The value of a pair, and then this many pairs.
     Value(usize),
     /// Items up to a break.
     OpenItems,
@@ -27,7 +27,7 @@ pub enum Remaining {
 }
 
 impl Remaining {
-    /// What the header of a tag, an array or a map announces.
+    /// Returns the items that the header of a tag, an array or a map announces.
     pub fn behind(header: Header) -> Remaining
         requires { IsNest header }
         ensures { IsRemaining header 0 result }
@@ -41,28 +41,28 @@ impl Remaining {
         }
     }
 
-    /// Whether nothing is due.
+    /// Returns whether nothing is due.
     pub fn is_done(self) -> bool
         ensures { result ≡ is_done self }
     {
         matches!(self, Remaining::Items(0) | Remaining::Pairs(0))
     }
 
-    /// Whether a break may stand in place of the next item.
+    /// Returns whether a break may stand in place of the next item.
     pub fn closes(self) -> bool
         ensures { result ≡ closes self }
     {
         matches!(self, Remaining::OpenItems | Remaining::OpenPairs)
     }
 
-    /// Whether the next item is the value of a pair.
+    /// Returns whether the next item is the value of a pair.
     pub fn is_value(self) -> bool
         ensures { result ≡ is_value self }
     {
         matches!(self, Remaining::Value(_) | Remaining::OpenValue)
     }
 
-    /// What is due behind the next item.
+    /// Returns the items that are due after the next item.
     pub fn after_item(self) -> Remaining
         requires { is_done self ≡ false }
         ensures { (header : AnyHeader) (count : ℕ) → IsRemaining header count self

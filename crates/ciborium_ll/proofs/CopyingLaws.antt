@@ -1,4 +1,4 @@
--- Titles joined, and the copy of one header more.
+-- Titles joined, and the copy of one more header.
 use Rattle.std.proofs.Common.{◌≡◌, ℕ, List, [], ◌∷◌, ◌++◌, Ok, append_assoc, append-nil}
 use Rattle.ciborium_ll_io.specs.declared.io.Read.{Ghosts as Reader}
 use Rattle.ciborium_ll_io.specs.declared.io.Write.{Ghosts as Writer}
@@ -9,7 +9,7 @@ use Rattle.ciborium_ll_io.specs.Writes.{WritesAll}
 use Rattle.ciborium_ll.specs.Copying.{AreTitles, none, next, shortest_titles, Copies}
 use Rattle.ciborium_ll_decoder.specs.BodyCopies.{Sides}
 use Rattle.ciborium_ll_grammar.proofs.TitleLaws.{IsTitle-shortest, title_in_range}
-use Rattle.ciborium_ll_decoder.proofs.DecodingLaws.{Passes-none, Passes-pull}
+use Rattle.ciborium_ll_decoder.proofs.DecodingLaws.{ReadsPast-none, ReadsPast-pull}
 use Rattle.ciborium_ll_io.proofs.WriteLaws.{WritesBytes-then}
 use Rattle.ciborium_ll.proofs.PiecesWritten.{writes_nothing}
 
@@ -38,7 +38,7 @@ module _ {R E W F : Type 0} (source : Reader R E) (sink : Writer W F) where
   Copies-none start = record {
     bytes = [];
     titles = none;
-    passed = Passes-none source start.decoder;
+    passed = ReadsPast-none source start.decoder;
     written = writes_nothing sink start.writer;
   }
 
@@ -51,7 +51,7 @@ module _ {R E W F : Type 0} (source : Reader R E) (sink : Writer W F) where
   Copies-push {headers} {header} {old} {between} {new} copied pulled steady written = record {
     bytes = copied.bytes ++ pulled.title;
     titles = AreTitles-push copied.titles pulled.is_title;
-    passed = Passes-pull source old.decoder between.decoder new.decoder copied.bytes header pulled copied.passed steady;
+    passed = ReadsPast-pull source old.decoder between.decoder new.decoder copied.bytes header pulled copied.passed steady;
     written = rw (shortest_titles-push headers header) (WritesBytes-then sink {T = Unit {0}} old.writer between.writer
         new.writer (Ok (tt {0})) (shortest_titles headers) (shortest_title header) copied.written written);
   }

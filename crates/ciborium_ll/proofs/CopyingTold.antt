@@ -1,5 +1,5 @@
--- What a copy of headers means where the bytes are told: the premises turn the general statement into an exact one. The
--- lemmas of told bytes are handed on.
+-- The meaning of a copy of headers if the bytes are told: the premises turn the general statement into an exact
+-- statement. This file re-exports the lemmas of told bytes.
 use Rattle.std.proofs.Common.{◌≡◌, ℕ, ◌<◌, ◌≤◌, List, [], ◌∷◌, ◌++◌, ◌⊎◌, length, Some, Result, Ok, Err, IsOk, ◌↔◌}
 use Rattle.std.proofs.Common.{refl, sym, ap, ◌∙◌, inl, inr, arith, append_assoc, length-append}
 use Rattle.ciborium_ll_io.specs.declared.io.Read.{Ghosts as Reader}

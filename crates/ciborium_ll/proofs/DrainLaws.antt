@@ -1,4 +1,4 @@
--- A drain of a body, chunk by chunk: what the calls come to.
+-- A drain of a body, chunk by chunk: the sum of its calls.
 use Rattle.std.proofs.Common.{◌≡◌, ℕ, ◌+◌, ◌<◌, ◌≤◌, ◌⊎◌, All, List, [], ◌∷◌, ◌++◌, length, take, drop, get_or, Ok}
 use Rattle.std.proofs.Common.{refl, sym, ap, ◌∙◌, inl, inr, arith, append_assoc, append-nil, length-append}
 use Rattle.std.proofs.Common.{length-take-le}
@@ -17,11 +17,11 @@ use Rattle.ciborium_ll_decoder.specs.Decoding.{IsSteady}
 use Rattle.ciborium_ll_io.specs.Writes.{WritesAll}
 use Rattle.ciborium_ll_decoder.specs.Chunks.{IsSplit, GivesChunk, left_of}
 use Rattle.ciborium_ll.specs.Drains.{gains, DrainsEach, DrainsUpTo, DrainsSome, none, more}
-use Rattle.ciborium_ll_decoder.proofs.DecodingLaws.{Passes-none}
+use Rattle.ciborium_ll_decoder.proofs.DecodingLaws.{ReadsPast-none}
 use Rattle.ciborium_ll_text.proofs.Lists.{length_zero}
 use Rattle.ciborium_ll_io.proofs.WriteLaws.{WritesBytes-then}
 use Rattle.ciborium_ll.proofs.PiecesWritten.{writes_nothing}
-use Rattle.ciborium_ll_decoder.proofs.BodyLaws.{split_parts, writable_nil, writable_chunk, few_kept, Passes-read}
+use Rattle.ciborium_ll_decoder.proofs.BodyLaws.{split_parts, writable_nil, writable_chunk, few_kept, ReadsPast-read}
 
 -- the front of a buffer that takes each of the sizes
 pub front_long : (sizes buffer buffer' : List ℕ) (index : ℕ) → All (λ size. size ≤ length buffer) sizes
@@ -49,7 +49,7 @@ module _ {R E P W F : Type 0} {parser : Parser P} (source : Reader R E) (sink : 
     parts = append-nil (kept_bytes segment.kept);
     sound = writable_nil parser.kind;
     written = writes_nothing sink writer;
-    passed = Passes-none source segment.decoder.now;
+    passed = ReadsPast-none source segment.decoder.now;
     unread = omega arith;
     place = refl;
     damaged = refl;
@@ -100,7 +100,7 @@ module _ {R E P W F : Type 0} {parser : Parser P} (source : Reader R E) (sink : 
       sound = writable_chunk parser.kind some.given _ chunk _ some.sound gives.split;
       written = WritesBytes-then sink {T = Unit {0}} writer now writer' (Ok (tt {0})) some.given chunk some.written
           written;
-      passed = Passes-read source old.decoder.now between.decoder.now new.decoder.now some.read gives.read
+      passed = ReadsPast-read source old.decoder.now between.decoder.now new.decoder.now some.read gives.read
           some.passed gives.reads.reads steady;
       unread = omega (arith, some.unread, gives.reads.unread, length-append some.read gives.read);
       place = gives.reads.place ∙ some.place;

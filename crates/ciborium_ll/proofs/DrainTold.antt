@@ -1,4 +1,4 @@
--- What a drain means where the bytes are told: the premises turn the general statement into an exact one.
+-- The meaning of a drain if the bytes are told: the premises turn the general statement into an exact statement.
 use Rattle.std.proofs.Common.{◌≡◌, ◌⊎◌, ℕ, ◌+◌, ◌-◌, ◌*◌, ◌<◌, ◌≤◌, ◌↔◌, All, List, [], ◌∷◌, ◌++◌, length, take, drop}
 use Rattle.std.proofs.Common.{sum, Option, Some, Result, Ok, Err, IfOk, refl, sym, ap, ◌∙◌, inl, inr, arith}
 use Rattle.std.proofs.Common.{append_assoc, append-nil, length-append, length-take-le, suc-mul, div-add-mod', mod-lt}

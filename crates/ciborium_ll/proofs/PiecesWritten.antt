@@ -7,7 +7,7 @@ use Rattle.ciborium_ll_io.specs.declared.io.Read.{Ghosts as Reader}
 use Rattle.ciborium_ll_io.specs.declared.io.Write.{Ghosts}
 use Rattle.ciborium_ll_decoder.specs.declared.dec.Decoder.{Decoder}
 use Rattle.ciborium_ll_decoder.specs.declared.copy.RecodeError.{RecodeError}
-use Rattle.ciborium_ll_grammar.specs.Faults.{RunInFront}
+use Rattle.ciborium_ll_grammar.specs.Faults.{BeginsWithElements}
 use Rattle.ciborium_ll_recode.specs.RecodingTold.{RecodesTold}
 use Rattle.ciborium_ll_decoder.specs.BodyCopies.{sides}
 use Rattle.ciborium_ll_grammar.specs.declared.hdr.Header.{Header}
@@ -117,7 +117,7 @@ module _ {R E W F : Type 0} (source : Reader R E) (sink : Ghosts W F) where
   -- the run in front is the one that stands there
   pub copied_same : (count : ℕ) (marks : List Mark) (rest written : List ℕ) (old new : Decoder R) (writer' : W)
       (result : Result (Unit {0}) (RecodeError E F)) → IsRun count (spelling marks) marks
-      → (IsOk result ↔ RunInFront false count (spelling marks ++ rest))
+      → (IsOk result ↔ BeginsWithElements false count (spelling marks ++ rest))
       → RecodesTold source sink false count (spelling marks ++ rest) written old result (sides new writer')
       → CopiesSame source sink (spelling marks) rest written result new writer'
   copied_same count marks rest written old new writer' result run exactly told = grind (arith, one_run)

@@ -1,4 +1,4 @@
--- A string that is read body by body, by a caller's loop over `advance`: the bodies that were read, and the bytes.
+-- A string that a caller reads body by body, by a loop over `advance`: the bodies read, and the bytes.
 use Rattle.std.proofs.Common.{◌≡◌, Bool, ℕ, ◌⊎◌, List, [], ◌∷◌, ◌++◌, length, Option, Some, None, Ok, Result, refl, sym}
 use Rattle.std.proofs.Common.{ap, ◌∙◌, inl, inr, arith, append_assoc}
 use Rattle.ciborium_ll_io.specs.declared.io.Read.{Ghosts as Reader}
@@ -11,14 +11,14 @@ use Rattle.ciborium_ll_decoder.specs.declared.seg.Progress.TheVariants as p
 use Rattle.ciborium_ll_grammar.specs.Title.{IsTitle}
 use Rattle.ciborium_ll_grammar.specs.Strings.{Kind, kind_header, IsString, definite, none}
 use Rattle.ciborium_ll_grammar.specs.Elements.{AreWritable}
-use Rattle.ciborium_ll_decoder.specs.Decoding.{IsSteady, Passes, TakesBack}
+use Rattle.ciborium_ll_decoder.specs.Decoding.{IsSteady, ReadsPast, TakesBack}
 use Rattle.ciborium_ll_decoder.specs.Finishing.{ReadsRest}
 use Rattle.ciborium_ll_decoder.specs.Segments.{AdvancesFrom, AdvancesTo, EndsAdvance}
 use Rattle.ciborium_ll_grammar.proofs.ElementLaws.{AreWritable-append}
 use Rattle.ciborium_ll_grammar.proofs.OpenStrings.{IsInsideAt, one_open}
 use Rattle.ciborium_ll_grammar.proofs.StepLaws.{add_string}
 use Rattle.ciborium_ll_grammar.proofs.TitleLaws.{title_in_range}
-use Rattle.ciborium_ll_decoder.proofs.DecodingLaws.{Passes-none, Passes-pulled, Passes-then, passes_same}
+use Rattle.ciborium_ll_decoder.proofs.DecodingLaws.{ReadsPast-none, ReadsPast-pulled, ReadsPast-then, passes_same}
 use Rattle.ciborium_ll_decoder.proofs.NestLaws.{FindsOnly, advance_definite, advance_opened, alone_bytes, nest_inside}
 use Rattle.ciborium_ll_decoder.proofs.BodyLaws.{sound_body}
 use Rattle.ciborium_ll_decoder.proofs.SegmentLaws.{some_open}
@@ -43,7 +43,7 @@ module _ {R E : Type 0} (source : Reader R E) (k : Kind) where
     pub strings : List ℕ
     pub within : IsInsideAt k opens (title ++ strings) bodies
     pub sound : AreWritable k bodies
-    pub passed : Passes source opened strings now
+    pub passed : ReadsPast source opened strings now
 
   abbrev pub HasBegun : Option ℕ → List ℕ → Decoder R → List (List ℕ) → Progress → Decoder R → Type 0
   HasBegun (Some len) title opened bodies progress now = HasReadBody len opened bodies now × (progress ≡ p.Ended)
@@ -63,7 +63,7 @@ module _ {R E : Type 0} (source : Reader R E) (k : Kind) where
       pub behind : List ℕ
       pub is_string : IsString k (title ++ behind) bodies
       pub sound : AreWritable k bodies
-      pub passed : Passes source opened behind new
+      pub passed : ReadsPast source opened behind new
 
   -- `advance` behind opens that aren't closed
   pub record Advanced (strict : Bool) (title : List ℕ) (opened : Decoder R) (bodies : List (List ℕ))
@@ -101,7 +101,7 @@ module _ {R E : Type 0} (source : Reader R E) (k : Kind) where
         within = rw (← append_assoc title has.strings all.nest)
             (nest_inside k opens all.left (title ++ has.strings) all.nest bodies has.within all.nests);
         sound = has.sound;
-        passed = Passes-then source opened from all.between has.strings all.nest has.passed all.passed;
+        passed = ReadsPast-then source opened from all.between has.strings all.nest has.passed all.passed;
       };
       ends = all.ends;
       steady = λ s. steady (has.passed.steady s);
@@ -118,13 +118,13 @@ module _ {R E : Type 0} (source : Reader R E) (k : Kind) where
       -- so the body's title comes first
       pub lone_titled : (len : ℕ) (body : Body) → ReadSoFar (Some len) title opened bodies last now
           → AdvancesTo source k strict last now (Ok (Some body)) after new
-          → (bodies ≡ []) × (body.length ≡ len) × (after ≡ p.Ended) × Passes source opened [] new
+          → (bodies ≡ []) × (body.length ≡ len) × (after ≡ p.Ended) × ReadsPast source opened [] new
       lone_titled len body so_far advances = elim (lone_advanced len (Ok (Some body)) so_far advances) [
         | inl (nothing, only) ↦ (
           nothing,
           cc (only.found, only.length-is),
           only.ended,
-          passes_same source opened opened new [] (Passes-none source opened) so_far.settled only.reader only.offset
+          passes_same source opened opened new [] (ReadsPast-none source opened) so_far.settled only.reader only.offset
               only.none_waits only.mode,
         )
         | inr done ↦ absurd (cc done.0)
@@ -139,7 +139,7 @@ module _ {R E : Type 0} (source : Reader R E) (k : Kind) where
           strings = [];
           within = one_open so_far.is_title none;
           sound = tt;
-          passed = Passes-none source opened;
+          passed = ReadsPast-none source opened;
         })) (advance_opened source k strict opened now new result after so_far.settled start.back
             (rw start.fresh at advances)) (λ s. steady (rw start.back.reader s))
         | inr way ↦ nested way.0 now result way.2 (rw way.1 at advances) steady
@@ -160,7 +160,7 @@ module _ {R E : Type 0} (source : Reader R E) (k : Kind) where
               read = reads.read;
               all = reads.all ∙ lone.1;
               sound = reads.sound;
-              passed = Passes-then source opened new ended [] reads.read lone.3 reads.passed;
+              passed = ReadsPast-then source opened new ended [] reads.read lone.3 reads.passed;
             };
             one = ap (λ (z : List (List ℕ)). z ++ reads.read ∷ []) lone.0;
           },
@@ -182,7 +182,7 @@ module _ {R E : Type 0} (source : Reader R E) (k : Kind) where
                 (one_body t b body.length reads.all all.ends.pulled.is_title));
             sound = AreWritable-append k bodies (b ∷ []) all.has.sound (sound_body k b reads.sound);
             passed = rw (← append_assoc all.has.strings t b)
-                (Passes-then source opened new ended (all.has.strings ++ t) b (Passes-pulled source opened all.between
+                (ReadsPast-then source opened new ended (all.has.strings ++ t) b (ReadsPast-pulled source opened all.between
                 new all.has.strings _ all.ends.pulled all.has.passed all.steady) reads.passed);
           },
         )
@@ -219,6 +219,6 @@ module _ {R E : Type 0} (source : Reader R E) (k : Kind) where
           is_string = rw (← append_assoc title strings (0xff ∷ []))
               (close_string k (title ++ strings) bodies (rw all.ends.last at all.has.within));
           sound = all.has.sound;
-          passed = rw break at (Passes-pulled source opened all.between new strings h.Break all.ends.pulled
+          passed = rw break at (ReadsPast-pulled source opened all.between new strings h.Break all.ends.pulled
               all.has.passed all.steady);
         }

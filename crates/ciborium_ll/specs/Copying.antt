@@ -10,22 +10,22 @@ use Rattle.ciborium_ll_decoder.specs.declared.copy.RecodeError.{RecodeError}
 use Rattle.ciborium_ll_decoder.specs.declared.copy.RecodeError.TheVariants as r
 use Rattle.ciborium_ll_decoder.specs.declared.dec.Error.TheVariants as e
 use Rattle.ciborium_ll_grammar.specs.Title.{IsTitle, shortest_title, BeginsRefused, IsCutTitle}
-use Rattle.ciborium_ll_decoder.specs.Decoding.{offset_limit, view, IsSteady, MovesOn, Passes, PullsHeader}
+use Rattle.ciborium_ll_decoder.specs.Decoding.{offset_limit, view, IsSteady, MovesOn, ReadsPast, DecoderPullAnswer}
 use Rattle.ciborium_ll_decoder.specs.BodyCopies.{Sides, sides}
 use Rattle.ciborium_ll_io.specs.Writes.{WritesAll, WritesFront}
 
--- the bytes are titles of the headers, joined
+-- The bytes are titles of the headers, joined.
 pub data AreTitles : List ℕ → List Header → Type 0 where
   none : AreTitles [] []
   next : {title rest : List ℕ} {header : Header} {headers : List Header} → IsTitle title header → AreTitles rest headers
       → AreTitles (title ++ rest) (header ∷ headers)
 
--- the shortest titles of the headers, joined
+-- The shortest titles of the headers, joined.
 abbrev pub shortest_titles : List Header → List ℕ
 shortest_titles [] = []
 shortest_titles (header ∷ headers) = shortest_title header ++ shortest_titles headers
 
--- this many titles stand in front of the bytes
+-- The bytes begin with `count` titles.
 pub record TitlesInFront (count : ℕ) (bytes : List ℕ) : Type 0 where
   pub headers : List Header
   pub all : length headers ≡ count
@@ -35,45 +35,45 @@ pub record TitlesInFront (count : ℕ) (bytes : List ℕ) : Type 0 where
   pub titles : AreTitles front headers
 
 module _ {R E W F : Type 0} (source : Reader R E) (sink : Writer W F) where
-  -- the titles of the headers were read, and their shortest titles written
+  -- The titles of the headers were read, and their shortest titles were written.
   pub record Copies (headers : List Header) (old new : Sides R W) : Type 0 where
     pub bytes : List ℕ
     pub titles : AreTitles bytes headers
-    pub passed : Passes source old.decoder bytes new.decoder
+    pub passed : ReadsPast source old.decoder bytes new.decoder
     pub written : WritesAll sink old.writer (shortest_titles headers) new.writer
 
-  -- all headers were copied; what was written are titles of just these headers again
+  -- All headers were copied. The bytes written are titles of the same headers.
   pub record CopiesEach (count : ℕ) (old new : Sides R W) : Type 0 where
     pub headers : List Header
     pub all : length headers ≡ count
     pub copied : Copies headers old new
     pub again : AreTitles (shortest_titles headers) headers
 
-  -- behind fewer headers, `pull` failed with this error
+  -- After fewer headers, `pull` failed with this error.
   pub record StopsAtPull (count : ℕ) (old : Sides R W) (error : Error E) (new : Sides R W) : Type 0 where
     pub headers : List Header
     pub fewer : length headers < count
     pub between : Decoder R
     pub copied : Copies headers old (sides between new.writer)
-    pub stopped : PullsHeader source between (Err error) new.decoder
+    pub stopped : DecoderPullAnswer source between (Err error) new.decoder
 
-  -- behind fewer headers, `push` of the next one failed
+  -- After fewer headers, `push` of the next header failed.
   pub record StopsAtPush (count : ℕ) (old new : Sides R W) : Type 0 where
     pub headers : List Header
     pub fewer : length headers < count
     pub between : Sides R W
     pub copied : Copies headers old between
     pub last : Header
-    pub pulled : PullsHeader source between.decoder (Ok last) new.decoder
+    pub pulled : DecoderPullAnswer source between.decoder (Ok last) new.decoder
     pub stopped : WritesFront sink between.writer (shortest_title last) new.writer
 
-  -- what `copy_headers` does with so many headers, by its answer
+  -- The effect of `copy_headers` with `count` headers, by its answer.
   abbrev pub CopiesHeaders : ℕ → Sides R W → Result (Unit {0}) (RecodeError E F) → Sides R W → Type 0
   CopiesHeaders count old (Ok done) new = CopiesEach count old new
   CopiesHeaders count old (Err (r.Read error)) new = StopsAtPull count old error new
   CopiesHeaders count old (Err (r.Write fault)) new = StopsAtPush count old new
 
-  -- what `copy_headers` does, whatever fails, and what it keeps; the writer stays on its slice
+  -- The effect of `copy_headers` if any call may fail, with the facts that it keeps. The writer stays on its slice.
   pub record CopiesByHeaders (count : ℕ) (old : Sides R W) (result : Result (Unit {0}) (RecodeError E F))
       (new : Sides R W) : Type 0 where
     pub copied : CopiesHeaders count old result new
@@ -82,8 +82,8 @@ module _ {R E W F : Type 0} (source : Reader R E) (sink : Writer W F) where
 
   -- ---- what that means where the bytes are told
 
-  -- the decoder isn't strict, the reader gives the bytes that it tells, the writer has room for as many, and the offset
-  -- fits, with 8 to spare
+  -- The decoder is not strict, and the reader gives the bytes that it tells. The writer has room for as many bytes, and
+  -- the offset fits, with 8 to spare.
   pub record IsReadyForTitles (now : Sides R W) (due written : List ℕ) : Type 0 where
     pub lenient : now.decoder.strict ≡ false
     pub steady : IsSteady source now.decoder
@@ -94,7 +94,7 @@ module _ {R E W F : Type 0} (source : Reader R E) (sink : Writer W F) where
     pub enough : length due ≤ room
     pub fits : now.decoder.offset + length due + 8 < offset_limit
 
-  -- titles of the headers stand in front of the bytes due, and their shortest titles were written
+  -- The bytes due begin with titles of the headers, and their shortest titles were written.
   pub record CopiesTitles (headers : List Header) (due written : List ℕ) (writer' : W) : Type 0 where
     pub front : List ℕ
     pub rest : List ℕ
@@ -102,7 +102,7 @@ module _ {R E W F : Type 0} (source : Reader R E) (sink : Writer W F) where
     pub titles : AreTitles front headers
     pub output : sink.written writer' ≡ Some (written ++ shortest_titles headers)
 
-  -- as many titles were copied, and what follows them is left
+  -- `count` titles were copied, and the bytes that follow them are left.
   pub record CopiesSoMany (count : ℕ) (due written : List ℕ) (old : Decoder R) (new : Sides R W) : Type 0 where
     pub headers : List Header
     pub all : length headers ≡ count
@@ -111,7 +111,7 @@ module _ {R E W F : Type 0} (source : Reader R E) (sink : Writer W F) where
     pub left : view source new.decoder ≡ Some copied.rest
     pub offset : new.decoder.offset ≡ old.offset + length copied.front
 
-  -- behind fewer titles the bytes end, at once or inside a title, of which the first byte is gone
+  -- After fewer titles the bytes end, at once or within a title. The title's first byte is consumed.
   pub record MeetsCutTitle (count : ℕ) (due written : List ℕ) (old : Decoder R) (new : Sides R W) : Type 0 where
     pub headers : List Header
     pub fewer : length headers < count
@@ -120,7 +120,7 @@ module _ {R E W F : Type 0} (source : Reader R E) (sink : Writer W F) where
     pub left : view source new.decoder ≡ Some (drop 1 copied.rest)
     pub offset : new.decoder.offset ≡ old.offset + length copied.front + length (take 1 copied.rest)
 
-  -- behind fewer titles stands a byte with which no title begins; it is gone, and the place is its offset
+  -- After fewer titles a byte comes with which no title begins. The byte is consumed, and the place is its offset.
   pub record MeetsRefused (count : ℕ) (due written : List ℕ) (place : ℕ) (old : Decoder R) (new : Sides R W) : Type 0
     where
       pub headers : List Header
@@ -131,8 +131,8 @@ module _ {R E W F : Type 0} (source : Reader R E) (sink : Writer W F) where
       pub left : view source new.decoder ≡ Some (drop 1 copied.rest)
       pub offset : new.decoder.offset ≡ place + 1
 
-  -- what `copy_headers` then does: it ends with all titles, or at the first place where none stands, each with what was
-  -- copied, what is left and the offset
+  -- The effect of `copy_headers` then: it ends after all titles, or at the first place without a title. Each case gives
+  -- the titles copied, the bytes left and the offset.
   abbrev pub CopiesTold : ℕ → List ℕ → List ℕ → Decoder R → Result (Unit {0}) (RecodeError E F) → Sides R W → Type 0
   CopiesTold count due written old (Ok done) new = CopiesSoMany count due written old new
   CopiesTold count due written old (Err (r.Read (e.Io fault))) new = MeetsCutTitle count due written old new

@@ -15,28 +15,29 @@ use Rattle.ciborium_ll_decoder.specs.declared.seg.Segment.{Segment}
 use Rattle.ciborium_ll_grammar.specs.Strings.{Kind, Text, IsWritable, most_kept}
 use Rattle.ciborium_ll_text.specs.Text.{IsCharacters}
 use Rattle.ciborium_ll_decoder.specs.Kept.{kept_bytes}
-use Rattle.ciborium_ll_decoder.specs.Decoding.{offset_limit, IsSteady, MovesOn, Passes}
+use Rattle.ciborium_ll_decoder.specs.Decoding.{offset_limit, IsSteady, MovesOn, ReadsPast}
 use Rattle.ciborium_ll_io.specs.Writes.{WritesAll, WritesFront}
-use Rattle.ciborium_ll_decoder.specs.Chunks.{GivesChunk, PullsChunk, SegmentEnds, left_of, rest}
+use Rattle.ciborium_ll_decoder.specs.Chunks.{GivesChunk, SegmentPullAnswer, SegmentEnds, left_of, rest}
 use Rattle.ciborium_ll_decoder.specs.Chunks.{segment_decoder, segment_reference}
 
 -- ---- sizes
 
--- what calls with buffers of these sizes read at least: of a text up to three bytes of each size may be kept ones
+-- The least number of bytes that calls with buffers of these sizes read. For text, up to three bytes of each size may
+-- be kept bytes.
 abbrev pub gains : Kind → List ℕ → ℕ
 gains kind sizes = sum_by (λ size. size - most_kept kind) sizes
 
--- how many calls with buffers of at least this size bring on so many bytes: the bytes by what each call reads at least,
--- rounded up
+-- The number of calls with buffers of at least this size that read `bytes` bytes: `bytes` divided by the least gain of
+-- a call, rounded up.
 abbrev pub calls_for : Kind → ℕ → ℕ → ℕ
 calls_for kind size bytes = let gain = size - most_kept kind in (bytes + gain - 1) / gain
 
--- so many of the sizes in front, and not all of them, bring on as many bytes
+-- The first `count` sizes, and not all sizes, are enough for `bytes` bytes.
 pub record IsEnough (kind : Kind) (sizes : List ℕ) (bytes count : ℕ) : Type 0 where
   pub fewer : count < length sizes
   pub enough : bytes ≤ gains kind (take count sizes)
 
--- so many of the sizes in front, and not all of them, add up to as many bytes
+-- The first `count` sizes, and not all sizes, add up to at least `bytes`.
 pub record AddUp (sizes : List ℕ) (bytes count : ℕ) : Type 0 where
   pub fewer : count < length sizes
   pub enough : bytes ≤ sum (take count sizes)
@@ -44,8 +45,8 @@ pub record AddUp (sizes : List ℕ) (bytes count : ℕ) : Type 0 where
 -- ---- over any reader and writer
 
 module _ {R E P W F : Type 0} {parser : Parser P} (source : Reader R E) (sink : Writer W F) where
-  -- with a buffer of each of these sizes, one after the other, a call gave a chunk, as `pull` does, and the whole of it
-  -- was written
+  -- For each of these sizes in turn, a call gave a chunk, as `pull` does with a buffer of that size, and the whole
+  -- chunk was written.
   pub data DrainsEach : List ℕ → Segment R P parser → W → Segment R P parser → W → Type 0 where
     none : {segment : Segment R P parser} {writer : W} → DrainsEach [] segment writer segment writer
     more : {sizes : List ℕ} {size : ℕ} {chunk : List ℕ} {old between new : Segment R P parser} {writer now writer' : W}
@@ -53,7 +54,7 @@ module _ {R E P W F : Type 0} {parser : Parser P} (source : Reader R E) (sink : 
         → MovesOn source (segment_decoder between) (segment_decoder new) → WritesAll sink now chunk writer'
         → DrainsEach (sizes ++ size ∷ []) old writer new writer'
 
-  -- the sizes are those that were used so, this one, which is next, and others
+  -- The sizes are the sizes used so far, the next size, and others.
   pub record DrainsUpTo (sizes : List ℕ) (old : Segment R P parser) (writer : W) (size : ℕ) (new : Segment R P parser)
       (writer' : W) : Type 0 where
     pub before : List ℕ
@@ -61,7 +62,7 @@ module _ {R E P W F : Type 0} {parser : Parser P} (source : Reader R E) (sink : 
     pub parts : sizes ≡ before ++ size ∷ others
     pub each : DrainsEach before old writer new writer'
 
-  -- the call with the next size found that the body had ended
+  -- The call with the next size found that the body had ended.
   pub record DrainsAll (sizes : List ℕ) (old : Segment R P parser) (writer : W) (calls : ℕ)
       (new : Segment R P parser) (writer' : W) : Type 0 where
     pub size : ℕ
@@ -70,21 +71,21 @@ module _ {R E P W F : Type 0} {parser : Parser P} (source : Reader R E) (sink : 
     pub counted : calls ≡ length comes.before + 1
     pub ends : SegmentEnds source between new
 
-  -- each size was used
+  -- Each size was used.
   pub record DrainsSizes (sizes : List ℕ) (old : Segment R P parser) (writer : W) (calls : ℕ)
       (new : Segment R P parser) (writer' : W) : Type 0 where
     pub each : DrainsEach sizes old writer new writer'
     pub counted : calls ≡ length sizes
 
-  -- the call with the next size failed
+  -- The call with the next size failed.
   pub record DrainFails (sizes : List ℕ) (old : Segment R P parser) (writer : W) (error : Error E)
       (new : Segment R P parser) (writer' : W) : Type 0 where
     pub size : ℕ
     pub between : Segment R P parser
     pub comes : DrainsUpTo sizes old writer size between writer'
-    pub fails : PullsChunk source size between (Err error) new
+    pub fails : SegmentPullAnswer source size between (Err error) new
 
-  -- the call with the next size gave a chunk, and the write of it failed
+  -- The call with the next size gave a chunk, and the write of it failed.
   pub record DrainUnwritten (sizes : List ℕ) (old : Segment R P parser) (writer : W) (new : Segment R P parser)
       (writer' : W) : Type 0 where
     pub size : ℕ
@@ -95,19 +96,19 @@ module _ {R E P W F : Type 0} {parser : Parser P} (source : Reader R E) (sink : 
     pub gives : GivesChunk source size between chunk new
     pub stopped : WritesFront sink writer-between chunk writer'
 
-  -- how a drain ended that met no error
+  -- The end of a drain without an error.
   abbrev pub EndsDrain : List ℕ → Segment R P parser → W → ℕ → End → Segment R P parser → W → Type 0
   EndsDrain sizes old writer calls end.Ended new writer' = DrainsAll sizes old writer calls new writer'
   EndsDrain sizes old writer calls end.OutOfSizes new writer' = DrainsSizes sizes old writer calls new writer'
 
-  -- what `drain_bytes` and `drain_text` do, by their answer
+  -- The effect of `drain_bytes` and `drain_text`, by their answer.
   abbrev pub Drains : List ℕ → Segment R P parser → W → Result Drained (RecodeError E F) → Segment R P parser → W
       → Type 0
   Drains sizes old writer (Ok drained) new writer' = EndsDrain sizes old writer drained.calls drained.end new writer'
   Drains sizes old writer (Err (r.Read error)) new writer' = DrainFails sizes old writer error new writer'
   Drains sizes old writer (Err (r.Write fault)) new writer' = DrainUnwritten sizes old writer new writer'
 
-  -- the same, and what both keep; the writer stays on its slice
+  -- The effect of `drain_bytes` and `drain_text`, with the facts that both keep. The writer stays on its slice.
   pub record DrainsSegment (sizes : List ℕ) (old : Segment R P parser) (writer : W)
       (result : Result Drained (RecodeError E F)) (new : Segment R P parser) (writer' : W) : Type 0 where
     pub drains : Drains sizes old writer result new writer'
@@ -115,8 +116,8 @@ module _ {R E P W F : Type 0} {parser : Parser P} (source : Reader R E) (sink : 
     pub same_reference : segment_reference new ≡ segment_reference old
     pub target : sink.target writer' ≡ sink.target writer
 
-  -- what the calls of `DrainsEach` come to: what was kept of the body and read is what was given and what is kept now,
-  -- and what was given was written
+  -- The sum of the calls of `DrainsEach`. The bytes kept before and the bytes read are the bytes given and the bytes
+  -- kept after. The bytes given were written.
   pub record DrainsSome (sizes : List ℕ) (old : Segment R P parser) (writer : W) (new : Segment R P parser)
       (writer' : W) : Type 0 where
     pub read : List ℕ
@@ -124,22 +125,22 @@ module _ {R E P W F : Type 0} {parser : Parser P} (source : Reader R E) (sink : 
     pub parts : kept_bytes old.kept ++ read ≡ given ++ kept_bytes new.kept
     pub sound : IsWritable parser.kind given
     pub written : WritesAll sink writer given writer'
-    pub passed : Passes source old.decoder.now read new.decoder.now
+    pub passed : ReadsPast source old.decoder.now read new.decoder.now
     pub unread : new.unread + length read ≡ old.unread
     pub place : new.place ≡ old.place
     pub damaged : new.damaged ≡ old.damaged
-    -- no chunk is longer than its buffer
+    -- No chunk is longer than its buffer.
     pub most : length given ≤ sum sizes
-    -- each size was used while the ones before it had not brought all
+    -- Each size was used while the sizes before it had not brought the whole body.
     pub needed : (count : ℕ) → count < length sizes → gains parser.kind (take count sizes) < old.unread
-    -- each buffer is filled as far as the body reaches
+    -- Each buffer was filled as far as the body reaches.
     pub least : (gains parser.kind sizes ≤ length read) ⊎ (new.unread ≡ 0)
     pub filled : All (λ size. size ≤ length (kept_bytes old.kept) + length read) sizes ⊎ (new.unread ≡ 0)
 
   -- ---- where the bytes are told, and no side fails by itself
 
-  -- the body is told and whole, no fault of it was found, the reader is steady, the offset takes it, and the writer has
-  -- room for it
+  -- The body is told and whole, and no fault of it was found. The reader is steady, the offset fits, and the writer has
+  -- room for the body.
   pub record IsDrainable (segment : Segment R P parser) (writer : W) (body written : List ℕ) : Type 0 where
     pub sound : segment.damaged ≡ false
     pub steady : IsSteady source segment.decoder.now
@@ -151,7 +152,7 @@ module _ {R E P W F : Type 0} {parser : Parser P} (source : Reader R E) (sink : 
     pub room-told : sink.room writer ≡ Some room
     pub enough : length body ≤ room
 
-  -- the whole body was written, as soon as the sizes were enough
+  -- The whole body was written, as soon as the sizes were enough.
   pub record WritesBody (sizes body written : List ℕ) (calls : ℕ) (new : Segment R P parser) (writer' : W) : Type 0
     where
       pub sound : IsWritable parser.kind body
@@ -162,7 +163,7 @@ module _ {R E P W F : Type 0} {parser : Parser P} (source : Reader R E) (sink : 
       pub needed : length body ≤ sum (take (calls - 1) sizes)
       pub soon : (count : ℕ) → IsEnough parser.kind sizes (length body) count → calls ≤ count + 1
 
-  -- a beginning of the body was written and the rest is left, since the sizes were not enough
+  -- A beginning of the body was written and the rest is left, because the sizes were not enough.
   pub record LeavesRest (sizes body written : List ℕ) (calls : ℕ) (old new : Segment R P parser) (writer' : W) :
       Type 0 where
     pub all_sizes : calls ≡ length sizes
@@ -175,7 +176,7 @@ module _ {R E P W F : Type 0} {parser : Parser P} (source : Reader R E) (sink : 
     pub least : (gains parser.kind sizes + new.unread ≤ old.unread) ⊎ (new.unread ≡ 0)
     pub too_few : (count : ℕ) → IsEnough parser.kind sizes (length body) count → ⊥
 
-  -- the body is no text, and a beginning of it that is one was written
+  -- The body is no text, and a beginning of it that is text was written.
   pub record FindsNoText (body written : List ℕ) (at : ℕ) (old : Segment R P parser) (writer' : W) : Type 0 where
     pub textual : parser.kind ≡ Text
     pub no_text : IsCharacters body → ⊥
@@ -186,12 +187,12 @@ module _ {R E P W F : Type 0} {parser : Parser P} (source : Reader R E) (sink : 
     pub sound : IsCharacters given
     pub output : sink.written writer' ≡ Some (written ++ given)
 
-  -- how a drain ends that meets no error
+  -- The end of a drain without an error.
   abbrev pub EndsTold : List ℕ → List ℕ → List ℕ → Segment R P parser → ℕ → End → Segment R P parser → W → Type 0
   EndsTold sizes body written old calls end.Ended new writer' = WritesBody sizes body written calls new writer'
   EndsTold sizes body written old calls end.OutOfSizes new writer' = LeavesRest sizes body written calls old new writer'
 
-  -- what a drain then does: the body is written, or the sizes are not enough, or the body is no text
+  -- The effect of a drain then: the body is written, or the sizes are not enough, or the body is no text.
   abbrev pub DrainsTold : List ℕ → List ℕ → List ℕ → Segment R P parser → Result Drained (RecodeError E F)
       → Segment R P parser → W → Type 0
   DrainsTold sizes body written old (Ok drained) new writer' =
@@ -202,7 +203,7 @@ module _ {R E P W F : Type 0} {parser : Parser P} (source : Reader R E) (sink : 
   DrainsTold sizes body written old (Err (r.Read e.Waiting)) new writer' = ⊥
   DrainsTold sizes body written old (Err (r.Write fault)) new writer' = ⊥
 
--- the answer says that the body has ended
+-- The answer says that the body has ended.
 abbrev pub SaysEnded : {E F : Type 0} → Result Drained (RecodeError E F) → Type 0
 SaysEnded (Ok drained) = drained.end ≡ end.Ended
 SaysEnded (Err error) = ⊥

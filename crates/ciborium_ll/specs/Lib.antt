@@ -1,5 +1,6 @@
 pub mod Copying
 pub mod Drains
+pub mod Limits
 pub mod Pieces
 pub mod Types
 pub use Rattle.ciborium_ll_text.specs.Cuts
@@ -12,6 +13,7 @@ pub use Rattle.ciborium_ll_grammar.specs.Faults
 pub use Rattle.ciborium_ll_grammar.specs.Items
 pub use Rattle.ciborium_ll_grammar.specs.Parts
 pub use Rattle.ciborium_ll_grammar.specs.Shortening
+pub use Rattle.ciborium_ll_grammar.specs.Spellings
 pub use Rattle.ciborium_ll_grammar.specs.StrictElements
 pub use Rattle.ciborium_ll_grammar.specs.Strings
 pub use Rattle.ciborium_ll_grammar.specs.Title

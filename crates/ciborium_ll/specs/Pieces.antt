@@ -1,4 +1,4 @@
--- Pieces: what is written by one call, a header or a value of bytes or of text (RFC 7049, 2.1).
+-- Pieces: the arguments of calls that write, a header or a value of bytes or of text (RFC 7049, 2.1).
 use Rattle.std.specs.Prelude.{◌≡◌, ℕ, List, [], ◌∷◌, ◌++◌, length, Option, Some, Result, Ok, Err, IsOk}
 use Rattle.ciborium_ll_io.specs.declared.io.Read.{Ghosts as Reader}
 use Rattle.ciborium_ll_io.specs.declared.io.Write.{Ghosts}
@@ -12,40 +12,39 @@ use Rattle.ciborium_ll_grammar.specs.Values.{value_limit, IsWritten, segments}
 use Rattle.ciborium_ll_decoder.specs.Decoding.{view}
 use Rattle.ciborium_ll_io.specs.Writes.{WritesAll, WritesBytes, WritesFront}
 
--- a piece is what one call writes. One that is a header begins no string: strings are written as values of bytes and of
--- text
+-- A header piece begins no string: strings are written as values of bytes and of text.
 abbrev pub IsPlainPiece : Piece → Type 0
 IsPlainPiece (p.Header header) = IsPlain header
 IsPlainPiece (p.Bytes value segment) = Unit {0}
 IsPlainPiece (p.Text value segment) = Unit {0}
 
--- the marks of a value in segments of at most as many bytes as are asked for (RFC 7049, 2.2.2); their bodies joined
--- are the value
+-- The marks of a value in segments of at most the requested number of bytes (RFC 7049, 2.2.2). Their bodies, joined,
+-- are the value.
 pub record IsValue (kind : Kind) (segment : Option ℕ) (value : List ℕ) (marks : List Mark) : Type 0 where
   pub written : IsWritten kind (value_limit kind segment value) value marks
   pub whole : joined (segments marks) ≡ value
 
--- the marks of one piece: a header's own, or those of a value under its limit
+-- The marks of one piece: the header's own mark, or the marks of a value under its limit.
 abbrev pub IsPiece : Piece → List Mark → Type 0
 IsPiece (p.Header header) marks = marks ≡ Plain header ∷ []
 IsPiece (p.Bytes value segment) marks = IsValue Bytes segment value.now marks
 IsPiece (p.Text value segment) marks = IsValue Text segment value.now marks
 
--- the marks of the pieces, one by one
+-- The marks of the pieces, one piece after the other.
 pub data HaveMarks : List Piece → List Mark → Type 0 where
   none : HaveMarks [] []
   next : {piece : Piece} {rest : List Piece} (marks : List Mark) {others : List Mark} → IsPiece piece marks
       → HaveMarks rest others
       → HaveMarks (piece ∷ rest) (marks ++ others)
 
--- marks of the pieces, whose spelling is an element for each piece
+-- Marks of the pieces, whose spelling is one element for each piece.
 pub record HaveSpelling (pieces : List Piece) : Type 0 where
   pub marks : List Mark
   pub have_marks : HaveMarks pieces marks
   pub run : IsRun (length pieces) (spelling marks) marks
 
 module _ {W F : Type 0} (sink : Ghosts W F) where
-  -- the spelling of one piece, which is one element, was written, or a beginning of it; the writer stays on its slice
+  -- The spelling of one piece, which is one element, was written, or a beginning of it. The writer stays on its slice.
   pub record WritesMarked {T : Type 0} (are_marks : List Mark → Type 0) (old : W) (result : Result T F) (new : W) :
       Type 0 where
     pub marks : List Mark
@@ -54,12 +53,12 @@ module _ {W F : Type 0} (sink : Ghosts W F) where
     pub bytes : WritesBytes sink old result (spelling marks) new
     pub target : sink.target new ≡ sink.target old
 
-  -- each of the pieces was written: an element for each
+  -- Each piece was written, as one element.
   pub record WritesEach (pieces : List Piece) (old new : W) : Type 0 where
     pub spelled : HaveSpelling pieces
     pub written : WritesAll sink old (spelling spelled.marks) new
 
-  -- the writer failed at one of the pieces: those in front of it were written, and of its spelling a beginning
+  -- The writer failed at one of the pieces. The pieces before it were written, and a beginning of its spelling.
   pub record StopsAtPiece (pieces : List Piece) (old new : W) : Type 0 where
     pub front : List Piece
     pub piece : Piece
@@ -71,18 +70,18 @@ module _ {W F : Type 0} (sink : Ghosts W F) where
     pub is_piece : IsPiece piece marks
     pub stopped : WritesFront sink between (spelling marks) new
 
-  -- what `write_pieces` does, by its answer: all pieces are written, or those in front of one
+  -- The effect of `write_pieces`, by its answer: all pieces were written, or the pieces before one of them.
   abbrev pub WritesElements : {T : Type 0} → List Piece → W → Result T F → W → Type 0
   WritesElements pieces old (Ok done) new = WritesEach pieces old new
   WritesElements pieces old (Err fault) new = StopsAtPiece pieces old new
 
-  -- the same; the writer stays on its slice
+  -- The effect of `write_pieces`, with the fact that the writer stays on its slice.
   pub record WritesPieceList {T : Type 0} (pieces : List Piece) (old : W) (result : Result T F) (new : W) : Type 0 where
     pub elements : WritesElements pieces old result new
     pub target : sink.target new ≡ sink.target old
 
 module _ {R E W F : Type 0} (source : Reader R E) (sink : Ghosts W F) where
-  -- the bytes were copied unchanged, and just what follows them is left
+  -- The bytes were copied unchanged, and exactly the bytes that follow them are left.
   pub record CopiesSame {T X : Type 0} (bytes rest written : List ℕ) (result : Result T X) (new : Decoder R)
       (writer' : W) : Type 0 where
     pub ok : IsOk result

@@ -10,6 +10,7 @@ pub use Rattle.ciborium_ll_decoder.specs.declared.seg.Segments
 pub use Rattle.ciborium_ll_encoder.specs.declared.enc.Encoder
 pub use Rattle.ciborium_ll_grammar.specs.declared.hdr.Float
 pub use Rattle.ciborium_ll_grammar.specs.declared.hdr.Header
+pub use Rattle.ciborium_ll_grammar.specs.declared.spelling.Spelling
 pub use Rattle.ciborium_ll_io.specs.declared.io.Read
 pub use Rattle.ciborium_ll_io.specs.declared.io.Write
 pub use Rattle.ciborium_ll_streams.specs.declared.buffered.BufferedReader

@@ -1,8 +1,9 @@
-//! Readers and writers, with what they tell: those over slices, and those over readers and writers of std.
+//! Readers and writers, and the facts that they tell: over slices, over those of std, and into memory that grows.
 
 pub use ciborium_ll_io::io::{
     Discard, EndOfFile, Failures, OutOfSpace, Read, SliceReader, SliceWriter, Write,
 };
 pub use ciborium_ll_streams::{
-    BufferedReader, BufferedWriter, FaultKept, ReadFault, StdReader, StdWriter, WriteFault,
+    BufferedReader, BufferedWriter, FaultKept, OutOfMemory, ReadFault, StdReader, StdWriter,
+    VecWriter, WriteFault,
 };

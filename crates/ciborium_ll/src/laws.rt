@@ -1,10 +1,10 @@
-//! Functions whose contracts tie the calls of the library together, and the laws of its definitions.
+//! Functions whose contracts tie the library's calls together, and the laws of its definitions.
 //!
 //! The functions for laws are empty: their contracts are the laws.
 //!
-//! The laws on strings, elements, runs, faults and items are about the definitions alone. `recode` is tied to
-//! elements, runs and faults by its clauses `front` and `told`, `Encoder::bytes` and `Encoder::text` to elements,
-//! and `skip_item` of `cbor_skip` to items.
+//! The laws on strings, elements, runs, faults and items speak of the definitions alone. The clauses `front` and `told`
+//! of `recode` tie it to elements, runs and faults. The contracts of `Encoder::bytes` and `Encoder::text` tie these
+//! calls to elements, and the contract of `cbor_skip`'s `skip_item` ties it to items.
 
 mod copy;
 mod drains;
@@ -19,7 +19,6 @@ pub use self::headers::{copied_float, copied_header, pull_again, same_float, sam
 pub use self::pieces::{Piece, copy_spelled, write_pieces};
 pub use self::shortening::shortened_run;
 pub use self::strict::strict_run;
-pub use ciborium_ll_decoder::skip::{skip_bytes, skip_text};
 pub use ciborium_ll_laws::{
     cut_titles, damage_by_state, fewest_segments, full_cuts, joined_texts, no_fault,
     no_rest_of_text, no_text_begins, one_element, one_fault, one_front, one_item, one_run,

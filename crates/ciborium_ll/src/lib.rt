@@ -1,13 +1,18 @@
-//! Headers and string segments of CBOR (RFC 7049, 2.1 to 2.3), over any reader and writer. No call takes memory.
+// SPDX-License-Identifier: Apache-2.0
+//! Headers and string segments of CBOR (RFC 7049, 2.1 to 2.3), over any reader and writer.
 //!
-//! A [`Decoder`] gives the headers of items, and the bodies of strings piece by piece. An [`Encoder`] writes headers,
-//! each as its shortest title, and strings in pieces of a limited length. What each call does is its contract.
+//! A [`Decoder`] gives the headers of items, and the bodies of strings chunk by chunk. An [`Encoder`] writes headers,
+//! each as its shortest title, and strings in pieces of a limited length. The contract of each call says what the call
+//! does.
+//!
+//! Only [`io::VecWriter`] allocates memory, out of the allocator that its caller names.
 #![tactic(auto)]
 
 pub mod io;
 pub mod laws;
 pub mod recode;
 pub mod simple;
+pub mod skip;
 pub mod tag;
 pub mod title;
 
@@ -16,3 +21,5 @@ pub use ciborium_ll_decoder::dec::{Decoder, Error};
 pub use ciborium_ll_decoder::seg::{Body, Bytes, Chunked, Segment, Segments, Text};
 pub use ciborium_ll_encoder::enc::Encoder;
 pub use ciborium_ll_grammar::hdr::{Float, Header};
+pub use ciborium_ll_grammar::limits;
+pub use ciborium_ll_grammar::spelling::Spelling;

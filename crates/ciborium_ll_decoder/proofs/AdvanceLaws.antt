@@ -11,12 +11,12 @@ use Rattle.ciborium_ll_decoder.specs.declared.seg.Progress.TheVariants as p
 use Rattle.ciborium_ll_decoder.specs.declared.seg.Parser.{Ghosts as Parser}
 use Rattle.ciborium_ll_decoder.specs.declared.seg.Segment.{Segment}
 use Rattle.ciborium_ll_grammar.specs.Strings.{Kind}
-use Rattle.ciborium_ll_decoder.specs.Decoding.{IsSteady, Passes, PullsTitle}
+use Rattle.ciborium_ll_decoder.specs.Decoding.{IsSteady, ReadsPast, PullsTitle}
 use Rattle.ciborium_ll_decoder.specs.Segments.{Nests, in_place, deeper, back, AdvancesFrom, AdvancesTo, EndsAdvance}
 use Rattle.ciborium_ll_decoder.specs.Segments.{GivesAgain, StepsOver, Deepens, ClosesInner}
 use Rattle.ciborium_ll_decoder.specs.Progress.{opens_of}
-use Rattle.ciborium_ll_decoder.specs.Chunks.{PullsSegment}
-use Rattle.ciborium_ll_decoder.proofs.DecodingLaws.{Passes-none, Passes-pull}
+use Rattle.ciborium_ll_decoder.specs.Chunks.{SegmentsPull}
+use Rattle.ciborium_ll_decoder.proofs.DecodingLaws.{ReadsPast-none, ReadsPast-pull}
 use Rattle.ciborium_ll_decoder.proofs.NestLaws.{alone_bytes, open_alone, open_length, nests_zero, nests_counted}
 
 module _ {R E : Type 0} (source : Ghosts R E) (kind : Kind) (strict : Bool) where
@@ -24,7 +24,7 @@ module _ {R E : Type 0} (source : Ghosts R E) (kind : Kind) (strict : Bool) wher
   pub record LeadsTo (opens : ℕ) (old : Decoder R) (left : ℕ) (now : Decoder R) : Type 0 where
     pub nest : List ℕ
     pub nests : Nests kind opens nest left
-    pub passed : Passes source old nest now
+    pub passed : ReadsPast source old nest now
     pub shallow : IsTrue strict → opens + length nest ≤ 1
 
   -- what the loop over titles keeps: they lead on or ended the string; and where it has an answer that stays, it is
@@ -39,7 +39,7 @@ module _ {R E : Type 0} (source : Ghosts R E) (kind : Kind) (strict : Bool) wher
 
   leads_start : (opens : ℕ) (decoder : Decoder R) → (IsTrue strict → opens ≤ 1) → LeadsTo opens decoder opens decoder
   leads_start opens decoder few =
-      let passed = Passes-none source decoder in
+      let passed = ReadsPast-none source decoder in
       let none : Nests kind opens [] opens = in_place in
       search arith
 
@@ -53,7 +53,7 @@ module _ {R E : Type 0} (source : Ghosts R E) (kind : Kind) (strict : Bool) wher
     leads_on : (left' : ℕ) (header : Header) (pulled : PullsTitle source now header new)
         → Nests kind opens (led.nest ++ pulled.title) left'
         → (IsTrue strict → opens + length (led.nest ++ pulled.title) ≤ 1) → LeadsTo opens old left' new
-    leads_on left' header pulled nests shallow = search (Passes-pull, arith)
+    leads_on left' header pulled nests shallow = search (ReadsPast-pull, arith)
 
     leads_deeper : (after : Progress) → Deepens source kind strict left now after new → LeadsTo opens old (left + 1) new
     leads_deeper after step = leads_on (left + 1) _ step.pulled (rw add-one (deeper led.nests step.pulled.is_title))
@@ -112,5 +112,5 @@ module _ {R E : Type 0} (source : Ghosts R E) (kind : Kind) (strict : Bool) wher
 module _ {R E P : Type 0} {parser : Parser P} (source : Ghosts R E) (kind : Kind) (strict : Bool) where
   -- what `pull` answers where an answer stays
   pub given_again : (progress : Progress) (old : Decoder R) (result : Result (Option (Segment R P parser)) (Error E))
-      → PullsSegment source kind strict progress old result → GivesAgain progress result
+      → SegmentsPull source kind strict progress old result → GivesAgain progress result
   given_again progress old result pulls = grind arith

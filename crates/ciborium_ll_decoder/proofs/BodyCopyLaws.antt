@@ -14,7 +14,7 @@ use Rattle.ciborium_ll_decoder.specs.declared.seg.Segment.{Segment}
 use Rattle.ciborium_ll_decoder.specs.Kept.{kept_bytes}
 use Rattle.ciborium_ll_decoder.specs.Decoding.{IsSteady}
 use Rattle.ciborium_ll_io.specs.Writes.{WritesAll, WritesFront}
-use Rattle.ciborium_ll_decoder.specs.Chunks.{IsWhole, GivesChunk, SegmentEnds, PullsChunk}
+use Rattle.ciborium_ll_decoder.specs.Chunks.{IsWhole, GivesChunk, SegmentEnds, SegmentPullAnswer}
 use Rattle.ciborium_ll_decoder.specs.BodyCopies.{BodyWritten, BodyUnwritten, CopiesBody, sides}
 use Rattle.ciborium_ll_decoder.proofs.BodyLaws.{few_kept, split_parts, three_kept}
 use Rattle.ciborium_ll_decoder.proofs.FinishLaws.{RestSoFar, rest_start, rest_chunk, rest_ends}
@@ -80,7 +80,7 @@ module _ {R E P W F : Type 0} {parser : Parser P} (source : Reader R E) (sink : 
     -- a pull that fails ends the copy
     pub so_far_error : (room : ℕ) (error : Error E) (new : Segment R P parser) → 4 ≤ room
         → (IsSteady source segment.decoder.now → IsSteady source new.decoder.now)
-        → PullsChunk source room segment (Err error) new → CopiesBody source sink parser.kind body.length room
+        → SegmentPullAnswer source room segment (Err error) new → CopiesBody source sink parser.kind body.length room
         body.place (sides first.decoder.now writer) (Err (r.Read error)) (sides new.decoder.now now)
     so_far_error room error new four steady pulled =
         let stopped = rw (whole.kept, whole.unread, whole.place) at (rest_ends source first segment so_far.rest room new

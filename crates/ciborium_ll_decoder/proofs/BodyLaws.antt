@@ -1,4 +1,4 @@
--- Bodies, chunk by chunk: what is handed out, what is kept, and a read behind what passed.
+-- Bodies, chunk by chunk: the bytes that are handed out, those that are kept, and a read after the bytes that passed.
 use Rattle.std.proofs.Common.{[], ◌≡◌, ℕ, ◌<◌, ◌≤◌, List, ◌∷◌, ◌++◌, length, Option, None, sym, ap, subst, ◌∙◌, arith}
 use Rattle.std.proofs.Common.{append_assoc, append-nil}
 use Rattle.ciborium_ll_io.specs.declared.io.Read.{Ghosts as Reader}
@@ -9,9 +9,9 @@ use Rattle.ciborium_ll_grammar.specs.Strings.{Kind, Bytes, IsWritable, most_kept
 use Rattle.ciborium_ll_grammar.specs.Elements.{AreWritable}
 use Rattle.ciborium_ll_text.specs.Text.{IsCharacters, IsFront, IsStuck, BeginsNoText}
 use Rattle.ciborium_ll_decoder.specs.Kept.{kept_bytes}
-use Rattle.ciborium_ll_decoder.specs.Decoding.{behind_waiting, IsSteady, Passes, ReadsAll}
+use Rattle.ciborium_ll_decoder.specs.Decoding.{behind_waiting, IsSteady, ReadsPast, ReadsAll}
 use Rattle.ciborium_ll_decoder.specs.Chunks.{IsSplit}
-use Rattle.ciborium_ll_decoder.proofs.DecodingLaws.{Passes-then}
+use Rattle.ciborium_ll_decoder.proofs.DecodingLaws.{ReadsPast-then}
 use Rattle.ciborium_ll_text.proofs.TextLaws.{IsCharacters-append, IsCharacters-rest, no_text_begins}
 
 -- ---- kinds
@@ -61,9 +61,9 @@ pub view_none : (waiting : Option Header) (ahead : Option (List ℕ)) → waitin
 view_none waiting ahead e = grind arith
 
 -- a read behind what passed
-pub Passes-read : {R E : Type 0} (source : Reader R E) (old now new : Decoder R) (bytes read : List ℕ)
-    → Passes source old bytes now → ReadsAll source now read new
-    → (IsSteady source now → IsSteady source new) → Passes source old (bytes ++ read) new
-Passes-read source old now new bytes read passed reads steady =
-    let alone : Passes source now read new = grind arith in
-    Passes-then source old now new bytes read passed alone
+pub ReadsPast-read : {R E : Type 0} (source : Reader R E) (old now new : Decoder R) (bytes read : List ℕ)
+    → ReadsPast source old bytes now → ReadsAll source now read new
+    → (IsSteady source now → IsSteady source new) → ReadsPast source old (bytes ++ read) new
+ReadsPast-read source old now new bytes read passed reads steady =
+    let alone : ReadsPast source now read new = grind arith in
+    ReadsPast-then source old now new bytes read passed alone

@@ -1,4 +1,4 @@
--- What a segment keeps.
+-- The bytes that a segment keeps.
 use Rattle.std.proofs.Common.{[], ◌≡◌, ℕ, ◌+◌, ◌<◌, ◌≤◌, min, false, List, ◌++◌, length, take, Option, Some, None, ◌-◌}
 use Rattle.std.proofs.Common.{arith, append_assoc, length-append, Result, Ok, Err}
 use Rattle.std.proofs.Math.Seq.{take-append-add}
@@ -10,7 +10,7 @@ use Rattle.ciborium_ll_decoder.specs.declared.seg.Segment.{Segment}
 use Rattle.ciborium_ll_decoder.specs.Kept.{kept_bytes}
 use Rattle.std.specs.Borrow.{Bor}
 use Rattle.ciborium_ll_decoder.specs.declared.dec.Error.{Error}
-use Rattle.ciborium_ll_decoder.specs.Chunks.{FillsBehind, GivesChunk, IsPulled, IsSame, PullsChunk, ReadsOn, left_of}
+use Rattle.ciborium_ll_decoder.specs.Chunks.{FillsBehind, GivesChunk, SegmentPull, KeepsSegment, SegmentPullAnswer, ReadsOn, left_of}
 use Rattle.ciborium_ll_decoder.specs.Chunks.{rest, segment_reference}
 use Rattle.ciborium_ll_decoder.proofs.BodyLaws.{split_parts}
 use Rattle.ciborium_ll_decoder.specs.Decoding.{MovesOn, ReadsAll, ReadsBytes}
@@ -21,14 +21,14 @@ module _ {R E P : Type 0} {parser : Parser P} (source : Ghosts R E) (room size c
     (segment new : Segment R P parser) (some : segment.unread ≡ 0 → ⊥) (sound : segment.damaged ≡ false)
     (kept : count ≡ length (kept_bytes segment.kept)) (least : size ≡ min room (segment.unread + count)) where
   -- one that can't go beyond the kept bytes reads nothing
-  pub ReadsOn-none : size ≤ count → IsSame segment new → ReadsAll source segment.decoder.now [] new.decoder.now
+  pub ReadsOn-none : size ≤ count → KeepsSegment segment new → ReadsAll source segment.decoder.now [] new.decoder.now
       → ReadsOn source room segment [] new
   ReadsOn-none short same reads = grind arith
 
   -- and may fail
   pub none_stopped : (answer : Result (Option (Bor (List ℕ))) (Error E)) (error : Error E) → answer ≡ Err error
-      → size ≤ count → IsSame segment new → ReadsBytes source segment.decoder.now (Err error) [] new.decoder.now
-      → PullsChunk source room segment answer new
+      → size ≤ count → KeepsSegment segment new → ReadsBytes source segment.decoder.now (Err error) [] new.decoder.now
+      → SegmentPullAnswer source room segment answer new
   none_stopped answer error is short same fails = grind arith
 
   module _ (filled : List ℕ) (more : count < size) (fills : length filled ≡ size) where
@@ -40,9 +40,9 @@ module _ {R E P : Type 0} {parser : Parser P} (source : Ghosts R E) (room size c
 
     -- and may fail
     pub fill_stopped : (answer : Result (Option (Bor (List ℕ))) (Error E)) (error : Error E) → answer ≡ Err error
-        → IsSame segment new
+        → KeepsSegment segment new
         → FillsBehind source (kept_bytes segment.kept) segment.decoder.now (Err error) filled new.decoder.now
-        → PullsChunk source room segment answer new
+        → SegmentPullAnswer source room segment answer new
     fill_stopped answer error is same fails = grind arith
 
 -- ---- a chunk
@@ -75,7 +75,7 @@ module _ {R E P : Type 0} {parser : Parser P} (source : Ghosts R E) where
   -- a pull that gives a chunk
   pub chunk_pulled : (room : ℕ) (segment new : Segment R P parser) (chunk : Bor (List ℕ))
       → GivesChunk source room segment chunk.now new → segment_reference new ≡ segment_reference segment
-      → MovesOn source segment.decoder.now new.decoder.now → IsPulled source room segment (Ok (Some chunk)) new
+      → MovesOn source segment.decoder.now new.decoder.now → SegmentPull source room segment (Ok (Some chunk)) new
   chunk_pulled room segment new chunk gives same moves_on =
       let left = chunk_left room segment new chunk.now gives in
       let rest_due = chunk_consumed room segment new chunk.now gives in

@@ -1,13 +1,13 @@
--- What was read of a body of a text that is none, by all reads together.
+-- The body of a text that is no text: the bytes that all reads of it gave together.
 use Rattle.std.proofs.Common.{◌≡◌, ℕ, ◌≤◌, List, ◌++◌, length, arith, append_assoc, length-append}
 use Rattle.ciborium_ll_io.specs.declared.io.Read.{Ghosts as Reader}
 use Rattle.ciborium_ll_decoder.specs.declared.dec.Decoder.{Decoder}
 use Rattle.ciborium_ll_decoder.specs.declared.dec.Error.TheVariants as e
 use Rattle.ciborium_ll_grammar.specs.Strings.{Kind, Text}
 use Rattle.ciborium_ll_text.specs.Text.{IsCharacters}
-use Rattle.ciborium_ll_decoder.specs.Decoding.{Passes}
+use Rattle.ciborium_ll_decoder.specs.Decoding.{ReadsPast}
 use Rattle.ciborium_ll_decoder.specs.Finishing.{IsNoText, StopsRest}
-use Rattle.ciborium_ll_decoder.proofs.DecodingLaws.{Passes-then}
+use Rattle.ciborium_ll_decoder.proofs.DecodingLaws.{ReadsPast-then}
 
 module _ {R E : Type 0} (source : Reader R E) (kind : Kind) (kept : List ℕ) (unread : ℕ) where
   -- it is a front that is text, and more
@@ -20,7 +20,7 @@ module _ {R E : Type 0} (source : Reader R E) (kind : Kind) (kept : List ℕ) (u
     pub sound : IsCharacters front
     pub within : length read ≤ unread
     pub no_text : IsNoText kept unread read
-    pub passed : Passes source old read new
+    pub passed : ReadsPast source old read new
 
   abbrev pub damage_read : (room place at : ℕ) (old new : Decoder R)
       → StopsRest source kind kept unread room place old (e.Syntax at) new → ReadsDamage old new
@@ -37,5 +37,5 @@ module _ {R E : Type 0} (source : Reader R E) (kind : Kind) (kept : List ℕ) (u
         sound = rw damage.textual at part.sound;
         within = omega (arith, stops.filled, damage.all, part.within, length-append part.read damage.last);
         no_text = damage.no_text;
-        passed = Passes-then source old stops.between new part.read damage.last part.passed damage.passed;
+        passed = ReadsPast-then source old stops.between new part.read damage.last part.passed damage.passed;
       }

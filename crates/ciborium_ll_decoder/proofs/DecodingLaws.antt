@@ -1,4 +1,4 @@
--- What the relations of the decoder's calls have in common.
+-- The common parts of the relations of the decoder's calls.
 use Rattle.std.proofs.Common.{refl, ◌+◌, [], ◌≡◌, ℕ, false, ◌⊎◌, List, ◌++◌, Option, Some, None, IfSome, Result, Ok}
 use Rattle.std.proofs.Common.{Err, IsErrAnd, ◌<◌, ◌≤◌, ◌-◌, ◌^◌, ◌∙◌, arith, append_assoc, append-nil, length-append}
 use Rattle.std.proofs.KnownBytes.{Consumes-trans}
@@ -10,7 +10,7 @@ use Rattle.ciborium_ll_decoder.specs.declared.dec.Error.TheVariants as e
 use Rattle.ciborium_ll_text.proofs.Lists.{length_zero}
 use Rattle.ciborium_ll_grammar.specs.Title.{shortest_title, title_len, IsInRange}
 use Rattle.ciborium_ll_grammar.proofs.TitleLaws.{IsTitle-shortest}
-use Rattle.ciborium_ll_decoder.specs.Decoding.{Begins, IsSteady, MovesOn, Passes, PullsTitle, PullsHeader, RefusesTitle}
+use Rattle.ciborium_ll_decoder.specs.Decoding.{Begins, IsSteady, MovesOn, ReadsPast, PullsTitle, DecoderPullAnswer, RefusesTitle}
 use Rattle.ciborium_ll_decoder.specs.Decoding.{TakesBack, PullsAgain}
 
 -- the exit of a `?` answers the error that it was given. A caller that names this lemma is spared a search
@@ -36,13 +36,13 @@ waiting_pulled source old new header range waits taken reader offset mode =
 
 -- a waiting header is given
 not_again : {R E : Type 0} (source : Ghosts R E) (old new : Decoder R) (header : Header) (error : Error E)
-    → old.waiting ≡ Some header → PullsHeader source old (Err error) new → ⊥
+    → old.waiting ≡ Some header → DecoderPullAnswer source old (Err error) new → ⊥
 not_again source old new header error waits pulled = grind arith
 
 -- a header that is given back is the next one
 pub pulls_again : {R E : Type 0} (source : Ghosts R E) (old pulled pushed new : Decoder R) (header : Header)
     (result : Result Header (Error E)) → PullsTitle source old header pulled
-    → TakesBack source pulled header pushed → PullsHeader source pushed result new → PullsAgain source old result new
+    → TakesBack source pulled header pushed → DecoderPullAnswer source pushed result new → PullsAgain source old result new
 pulls_again source old pulled pushed new header (Ok again) first back second =
     let waited = rw back.waits at second.waited in
     let pulls = rw waited.0 at first in
@@ -85,46 +85,46 @@ module _ {R E : Type 0} (source : Ghosts R E) where
   MovesOn-then old between new first second = grind arith
 
   -- no bytes
-  pub Passes-none : (decoder : Decoder R) → Passes source decoder [] decoder
-  Passes-none decoder = grind arith
+  pub ReadsPast-none : (decoder : Decoder R) → ReadsPast source decoder [] decoder
+  ReadsPast-none decoder = grind arith
 
-  stayed : (old new : Decoder R) (bytes : List ℕ) → Passes source old bytes new → new ≡ old
+  stayed : (old new : Decoder R) (bytes : List ℕ) → ReadsPast source old bytes new → new ≡ old
       → (bytes ≡ []) × (new.waiting ≡ old.waiting)
   stayed old new bytes passed same = grind (arith, length_zero)
 
   -- one title more
-  pub Passes-pulled : (old between new : Decoder R) (bytes : List ℕ) (header : Header)
-      (title : PullsTitle source between header new) → Passes source old bytes between
-      → (IsSteady source old → IsSteady source new) → Passes source old (bytes ++ title.title) new
-  Passes-pulled old between new bytes header title passed steady =
+  pub ReadsPast-pulled : (old between new : Decoder R) (bytes : List ℕ) (header : Header)
+      (title : PullsTitle source between header new) → ReadsPast source old bytes between
+      → (IsSteady source old → IsSteady source new) → ReadsPast source old (bytes ++ title.title) new
+  ReadsPast-pulled old between new bytes header title passed steady =
       let waited = waited_more shortest_title old between new bytes title.title old.waiting between.waiting in
       grind (arith, Consumes-trans, length-append {A = ℕ}, stayed, append-nil {A = ℕ}, waited)
 
-  pub Passes-pull : (old between new : Decoder R) (bytes : List ℕ) (header : Header)
-      (title : PullsTitle source between header new) → Passes source old bytes between
-      → (IsSteady source between → IsSteady source new) → Passes source old (bytes ++ title.title) new
-  Passes-pull old between new bytes header title passed steady =
-      Passes-pulled old between new bytes header title passed (λ s. steady (passed.steady s))
+  pub ReadsPast-pull : (old between new : Decoder R) (bytes : List ℕ) (header : Header)
+      (title : PullsTitle source between header new) → ReadsPast source old bytes between
+      → (IsSteady source between → IsSteady source new) → ReadsPast source old (bytes ++ title.title) new
+  ReadsPast-pull old between new bytes header title passed steady =
+      ReadsPast-pulled old between new bytes header title passed (λ s. steady (passed.steady s))
 
   -- bytes, and then bytes
-  pub Passes-then : (old between new : Decoder R) (bytes more : List ℕ) → Passes source old bytes between
-      → Passes source between more new → Passes source old (bytes ++ more) new
-  Passes-then old between new bytes more first second =
+  pub ReadsPast-then : (old between new : Decoder R) (bytes more : List ℕ) → ReadsPast source old bytes between
+      → ReadsPast source between more new → ReadsPast source old (bytes ++ more) new
+  ReadsPast-then old between new bytes more first second =
       let waited = waited_more shortest_title old between new bytes more old.waiting between.waiting in
       grind (arith, Consumes-trans, length-append {A = ℕ}, stayed, waited)
 
   -- a decoder that isn't strict refuses first bytes alone
   pub lenient_refuses : (old : Decoder R) (place : ℕ) (new : Decoder R) → old.strict ≡ false
-      → PullsHeader source old (Err (e.Syntax place)) new → RefusesTitle source old place new
+      → DecoderPullAnswer source old (Err (e.Syntax place)) new → RefusesTitle source old place new
   lenient_refuses old place new lenient h4 = grind arith
 
 -- where no header waited none waits
 pub passes_settled : {R E : Type 0} (source : Ghosts R E) (old new : Decoder R) (bytes : List ℕ)
-    → Passes source old bytes new → old.waiting ≡ None → new.waiting ≡ None
+    → ReadsPast source old bytes new → old.waiting ≡ None → new.waiting ≡ None
 passes_settled source old new bytes passed h5 = grind arith
 
 -- a decoder with the same reader and offset, and with no header that waits either
 pub passes_same : {R E : Type 0} (source : Ghosts R E) (old now now' : Decoder R) (bytes : List ℕ)
-    → Passes source old bytes now → now.waiting ≡ None → now'.reader ≡ now.reader → now'.offset ≡ now.offset
-    → now'.waiting ≡ None → now'.strict ≡ now.strict → Passes source old bytes now'
+    → ReadsPast source old bytes now → now.waiting ≡ None → now'.reader ≡ now.reader → now'.offset ≡ now.offset
+    → now'.waiting ≡ None → now'.strict ≡ now.strict → ReadsPast source old bytes now'
 passes_same source old now now' bytes passed none reader offset none' mode = grind arith

@@ -1,4 +1,4 @@
--- Opens and breaks in a row, and the first title of a string. What titles of one byte are is handed on.
+-- Opens and breaks in a row, and the first title of a string. The file hands on the meaning of titles of one byte.
 use Rattle.std.proofs.Common.{Err, IsTrue, [], ◌≡◌, ℕ, suc, ◌+◌, ◌≤◌, Bool, ◌⊎◌, List, ◌++◌, length, Option, Some, None}
 use Rattle.std.proofs.Common.{Result, Ok, refl, sym, ap, ◌∙◌, inl, inr, arith, append_assoc, append-nil, length-append}
 use Rattle.ciborium_ll_io.specs.declared.io.Read.{Ghosts}
@@ -11,7 +11,7 @@ use Rattle.ciborium_ll_decoder.specs.declared.seg.Progress.TheVariants as p
 use Rattle.ciborium_ll_grammar.specs.Title.{IsTitle, shortest_title, title_len, IsInRange}
 use Rattle.ciborium_ll_grammar.specs.Strings.{Kind, kind_header}
 use Rattle.ciborium_ll_grammar.proofs.OpenStrings.{IsInsideAt}
-use Rattle.ciborium_ll_decoder.specs.Decoding.{Begins, Passes, TakesBack}
+use Rattle.ciborium_ll_decoder.specs.Decoding.{Begins, ReadsPast, TakesBack}
 use Rattle.ciborium_ll_decoder.specs.Segments.{Nests, in_place, deeper, back, FindsBody, EndsAdvance, AdvancesFrom}
 use Rattle.ciborium_ll_grammar.proofs.TitleLaws.{one_title, IsTitle-shortest}
 pub use Rattle.ciborium_ll_grammar.proofs.AloneLaws.{alone_bytes, open_alone, open_length, open_in_range, title_some}
@@ -159,7 +159,7 @@ module _ {R E : Type 0} (source : Ghosts R E) (k : Kind) where
   -- what was passed with the waiting open, behind it
   passes_behind : (pulled pushed between : Decoder R) (more : List ℕ) → pulled.waiting ≡ None
       → TakesBack source pulled (kind_header k None) pushed
-      → Passes source pushed (shortest_title (kind_header k None) ++ more) between → Passes source pulled more between
+      → ReadsPast source pushed (shortest_title (kind_header k None) ++ more) between → ReadsPast source pulled more between
   passes_behind pulled pushed between more h4 taken passed = grind arith
 
   -- `advance` over the waiting open of a string of indefinite length goes on behind it

@@ -1,4 +1,4 @@
--- The segments of a string, read one by one behind its open.
+-- The segments of a string, read one by one after its open.
 use Rattle.std.proofs.Common.{[], ◌≡◌, ℕ, Bool, ◌<◌, ◌≤◌, ◌⊎◌, List, ◌∷◌, ◌++◌, length, Option, Some, None, IsTrue}
 use Rattle.std.proofs.Common.{Result, Ok, refl, sym, ap, ◌∙◌, inl, inr, arith, append_assoc, append-nil, length-append}
 use Rattle.ciborium_ll_io.specs.declared.io.Read.{Ghosts as Reader}
@@ -12,14 +12,14 @@ use Rattle.ciborium_ll_grammar.specs.Strings.{Kind, kind_header, definite, none}
 use Rattle.ciborium_ll_grammar.proofs.OpenStrings.{IsInsideAt, one_open, more_open}
 use Rattle.ciborium_ll_grammar.specs.Elements.{AreWritable, Piece, spelling, pieces}
 use Rattle.ciborium_ll_grammar.specs.Faults.{IsRefusedIn}
-use Rattle.ciborium_ll_decoder.specs.Decoding.{Passes, IsSteady, TakesBack}
+use Rattle.ciborium_ll_decoder.specs.Decoding.{ReadsPast, IsSteady, TakesBack}
 use Rattle.ciborium_ll_decoder.specs.Finishing.{ReadsRest}
 use Rattle.ciborium_ll_decoder.specs.Segments.{PullsOther, FindsOther, EndsAdvance, AdvancesFrom, AdvancesTo}
 use Rattle.ciborium_ll_grammar.proofs.TitleLaws.{IsTitle-shortest}
 use Rattle.ciborium_ll_grammar.proofs.StepLaws.{add_string}
 use Rattle.ciborium_ll_grammar.proofs.ElementLaws.{AreWritable-append, pieces-append, spelling-append}
 use Rattle.ciborium_ll_decoder.proofs.BodyLaws.{sound_body}
-use Rattle.ciborium_ll_decoder.proofs.DecodingLaws.{Passes-none, Passes-pulled, Passes-then, passes_settled}
+use Rattle.ciborium_ll_decoder.proofs.DecodingLaws.{ReadsPast-none, ReadsPast-pulled, ReadsPast-then, passes_settled}
 use Rattle.ciborium_ll_decoder.proofs.NestLaws.{title_some, nests_none, nest_inside, advance_opened, open_in_range}
 
 -- each open takes a byte
@@ -50,7 +50,7 @@ module _ {R E : Type 0} (source : Reader R E) (k : Kind) where
     pub strings : List ℕ
     pub within : IsInsideAt k opens (shortest_title (kind_header k None) ++ strings) bodies
     pub sound : AreWritable k bodies
-    pub passed : Passes source opened strings now
+    pub passed : ReadsPast source opened strings now
     -- a strict decoder has no open within, and its bytes are the pieces' spelling
     pub tight : IsTrue opened.strict → (opens ≡ 1) × (strings ≡ spelling (pieces k bodies))
 
@@ -90,7 +90,7 @@ module _ {R E : Type 0} (source : Reader R E) (k : Kind) where
       let title = shortest_title (kind_header k None) in
       let within : IsInsideAt k 1 (title ++ []) [] =
       one_open (IsTitle-shortest (kind_header k None) (open_in_range k)) none in
-      let passed = Passes-none source opened in
+      let passed = ReadsPast-none source opened in
       search (sound_none, arith)
 
   -- opens and breaks further
@@ -103,7 +103,7 @@ module _ {R E : Type 0} (source : Reader R E) (k : Kind) where
       let within =
       rw append_assoc at (nest_inside k opens all.left (shortest_title (kind_header k None) ++ among.strings)
       all.nest bodies among.within all.nests) in
-      let passed = Passes-then source opened begun all.between among.strings all.nest among.passed all.passed in
+      let passed = ReadsPast-then source opened begun all.between among.strings all.nest among.passed all.passed in
       let tight : IsTrue opened.strict → (all.left ≡ 1) × (among.strings ++ all.nest ≡ spelling (pieces k bodies)) =
       grind (arith, nests_none, append-nil {A = ℕ}) in
       let further : IsAmong all.left bodies opened all.between = search in
@@ -148,14 +148,14 @@ module _ {R E : Type 0} (source : Reader R E) (k : Kind) where
       let t = all.ends.pulled.title in
       let b = reads.read in
       let is_title = rw (sym reads.all) at all.ends.pulled.is_title in
-      let pulled = Passes-pulled source opened all.between new among.strings
+      let pulled = ReadsPast-pulled source opened all.between new among.strings
       (kind_header k (Some body.length)) all.ends.pulled among.passed all.steady in
       let counts : progress ≡ p.Open all.left = grind (arith, some_open) in
       let within = rw append_assoc at (add_string k all.left (shortest_title (kind_header k None) ++ among.strings)
       (t ++ b) bodies (b ∷ []) among.within (definite is_title)) in
       let sound = AreWritable-append k bodies (b ∷ []) among.sound (sound_body k b reads.sound) in
       let passed =
-      rw append_assoc at (Passes-then source opened new ended (among.strings ++ t) b pulled reads.passed) in
+      rw append_assoc at (ReadsPast-then source opened new ended (among.strings ++ t) b pulled reads.passed) in
       let tight : IsTrue opened.strict → (all.left ≡ 1)
       × (among.strings ++ (t ++ b) ≡ spelling (pieces k (bodies ++ b ∷ []))) = λ on.
       let only = all.ends.pulled.strict (among.passed.mode ∙ on)

@@ -12,7 +12,7 @@ use Rattle.ciborium_ll_decoder.specs.declared.seg.Progress.TheVariants as p
 use Rattle.ciborium_ll_grammar.specs.Title.{IsInRange, shortest_title, title_len}
 use Rattle.ciborium_ll_grammar.specs.Strings.{Kind, kind_header, IsString, definite, indefinite}
 use Rattle.ciborium_ll_grammar.proofs.OpenStrings.{IsInsideAt, one_open, more_open}
-use Rattle.ciborium_ll_decoder.specs.Decoding.{PullsHeader, Passes, IsSteady, TakesBack}
+use Rattle.ciborium_ll_decoder.specs.Decoding.{DecoderPullAnswer, ReadsPast, IsSteady, TakesBack}
 use Rattle.ciborium_ll_decoder.specs.Segments.{FindsOther, AdvancesTo, NestsTooDeep}
 use Rattle.ciborium_ll_decoder.specs.Finishing.{ReadsRest, BeginsRest, EndsBody}
 use Rattle.ciborium_ll_decoder.specs.Skipping.{SkipsWhole, SkipsInside, MeetsNoTitle, MeetsOther, MeetsBody}
@@ -25,7 +25,7 @@ use Rattle.ciborium_ll_grammar.proofs.TitleLaws.{IsTitle-shortest}
 use Rattle.ciborium_ll_grammar.proofs.StepLaws.{counted, never}
 use Rattle.ciborium_ll_decoder.proofs.FlatStrings.{flat}
 use Rattle.ciborium_ll_decoder.proofs.BodyLaws.{sound_body}
-use Rattle.ciborium_ll_decoder.proofs.DecodingLaws.{Passes-none, Passes-pulled, passes_same}
+use Rattle.ciborium_ll_decoder.proofs.DecodingLaws.{ReadsPast-none, ReadsPast-pulled, passes_same}
 use Rattle.ciborium_ll_decoder.proofs.NestLaws.{alone_bytes, open_length, title_some, advance_definite, FindsOnly}
 use Rattle.ciborium_ll_decoder.proofs.SegmentLaws.{StringSoFar, AdvancesAmong, IsAmong, advances_among, segment_added}
 use Rattle.ciborium_ll_decoder.proofs.SegmentLaws.{opens_counted, other_inside, some_open}
@@ -44,7 +44,7 @@ flat_inside k u bs h3 = grind (arith, flat, respell_all, never)
 -- ---- the end of a body
 
 module _ {R E : Type 0} (source : Reader R E) (k : Kind) (len : ℕ) (old new : Decoder R)
-    (passed : Passes source old [] new) where
+    (passed : ReadsPast source old [] new) where
   begins_behind : (now : Decoder R) → BeginsRest source k [] len new now → BeginsRest source k [] len old now
   begins_behind now part = grind arith
 
@@ -114,12 +114,12 @@ module _ {R E : Type 0} (source : Reader R E) (k : Kind) where
     record LoneBody (body : Body) : Type 0 where
       pub lengths : body.length ≡ len
       pub place : body.place ≡ opened.offset - title_len (kind_header k (Some len))
-      pub passed : Passes source opened [] new
+      pub passed : ReadsPast source opened [] new
       pub ended : progress' ≡ p.Ended
 
     lone_is : (body : Body) → FindsOnly source k len opened (Ok (Some body)) progress' new → opened.waiting ≡ None
         → LoneBody body
-    lone_is body only none = grind (arith, passes_same source opened opened new [] (Passes-none source opened))
+    lone_is body only none = grind (arith, passes_same source opened opened new [] (ReadsPast-none source opened))
 
     lone_body : (body : Body) → AdvancesTo source k strict progress now (Ok (Some body)) progress' new → LoneBody body
     lone_body body advances = elim (lone_found (Ok (Some body)) advances) [
@@ -150,7 +150,7 @@ module _ {R E : Type 0} (source : Reader R E) (k : Kind) where
         let break = alone_bytes all.ends.pulled.title h.Break all.ends.pulled.is_title refl in
         let is_string = rw append_assoc at (close_string k (front ++ strings) bodies
         (rw all.ends.last at all.among.within)) in
-        let passed = rw break at (Passes-pulled source opened all.between new strings h.Break all.ends.pulled
+        let passed = rw break at (ReadsPast-pulled source opened all.between new strings h.Break all.ends.pulled
         all.among.passed all.steady) in
         let taken = taken_among all.among in
         search
@@ -161,7 +161,7 @@ module _ {R E : Type 0} (source : Reader R E) (k : Kind) where
     not_too_deep a settled deep less = grind (arith, opens_counted, open_length, length-append {A = ℕ}, title_some)
 
     no_title : {left : ℕ} {between : Decoder R} (error : Error E) → IsAmong source k left bodies opened between
-        → PullsHeader source between (Err error) new → MeetsNoTitle source k opened error new
+        → DecoderPullAnswer source between (Err error) new → MeetsNoTitle source k opened error new
     no_title {between} error a fails = record { between = between; part = part_of a; fails = fails }
 
     meets_other : {left : ℕ} {between : Decoder R} (at : ℕ) → IsAmong source k left bodies opened between

@@ -9,7 +9,7 @@ use Rattle.ciborium_ll_io.specs.declared.io.Read.{Ghosts}
 use Rattle.ciborium_ll_decoder.specs.declared.dec.Decoder.{Decoder}
 use Rattle.ciborium_ll_decoder.specs.declared.dec.Error.{Error}
 use Rattle.ciborium_ll_decoder.specs.declared.dec.Error.TheVariants as e
-use Rattle.ciborium_ll_decoder.specs.Decoding.{PullsTitle, RefusesLonger, view, failures_of, IsSteady, PullsHeader}
+use Rattle.ciborium_ll_decoder.specs.Decoding.{PullsTitle, RefusesTitleWhole, view, failures_of, IsSteady, DecoderPullAnswer}
 use Rattle.ciborium_ll_decoder.specs.Decoding.{ReadsAll, ReadsMinor, HoldsAffix, ReadsAffix, ReadsBytes, RefusesTitle}
 use Rattle.ciborium_ll_decoder.specs.Decoding.{strict_of}
 use Rattle.ciborium_ll_text.proofs.Lists.{length_zero}
@@ -18,7 +18,7 @@ use Rattle.ciborium_ll_grammar.specs.declared.hdr.Minor.{Minor}
 use Rattle.ciborium_ll_grammar.specs.declared.hdr.Minor.TheVariants as m
 use Rattle.ciborium_ll_grammar.specs.declared.hdr.Header.{Header}
 use Rattle.ciborium_ll_grammar.specs.Title.{IsTitle, IsStrictTitle, affix_len, IsRefused, IsNeverOpen, IsReserved}
-use Rattle.ciborium_ll_grammar.specs.Parts.{longer_parts, minor_affix, minor_code, parts_bytes}
+use Rattle.ciborium_ll_grammar.specs.Parts.{refused_when_strict, minor_affix, minor_code, parts_bytes}
 
 -- ---- a title that was read
 
@@ -79,7 +79,7 @@ module _ {R E : Type 0} (source : Ghosts R E) where
   -- and refused, as its header has a shorter one
   pub title_refused : (old new : Decoder R) (title : List ℕ) (header : Header) → IsTitle title header
       → old.waiting ≡ None → IsTrue old.strict → (IsStrictTitle title header → ⊥) → TitleRead old title new
-      → RefusesLonger source old old.offset new
+      → RefusesTitleWhole source old old.offset new
   title_refused old new title header is_title none strict refused read = search
 
   -- of what was read this byte is refused
@@ -106,7 +106,7 @@ module _ {R E : Type 0} (source : Ghosts R E) where
   -- the affix of a first byte was not read
   affix_unread : (old between new : Decoder R) (x : ℕ) (error : Error E) → old.waiting ≡ None
       → ReadsAll source old (x ∷ []) between → (IsSteady source old → IsSteady source between)
-      → ReadsMinor source x between (Err error) new → PullsHeader source old (Err error) new
+      → ReadsMinor source x between (Err error) new → DecoderPullAnswer source old (Err error) new
   affix_unread old between new x (e.Io fault) none first steady affix =
       let before = view_none old.waiting (source.ahead old.reader) none in
       let after = view_none new.waiting (source.ahead new.reader) affix.none_waits in
@@ -135,7 +135,7 @@ module _ {R E : Type 0} (source : Ghosts R E) where
       (old between new : Decoder R) (read : List ℕ) → answer ≡ Err error → old.waiting ≡ None
       → ReadsAll source old read between → (IsSteady source old → IsSteady source between) → length read ≡ 1
       → ReadsMinor source (get_or read 0 0) between (Err error) new
-      → MatchResult answer P (λ error. PullsHeader source old (Err error) new)
+      → MatchResult answer P (λ error. DecoderPullAnswer source old (Err error) new)
   affix_stopped P answer error old between new read is none first steady one affix =
       rw is (affix_unread old between new (get_or read 0 0) error none (rw (one_byte read one) at first) steady affix)
 
@@ -144,7 +144,7 @@ module _ {R E : Type 0} (source : Ghosts R E) where
   -- an affix that was read is taken, but by a strict decoder where a smaller form holds its number
   pub affix_taken : (first : ℕ) (old new : Decoder R) (minor : Minor) (answer : Option Minor)
       → HoldsAffix source first old minor new
-      → answer ≡ (if strict_of new && longer_parts (first / 32) minor then None else Some minor)
+      → answer ≡ (if strict_of new && refused_when_strict (first / 32) minor then None else Some minor)
       → ReadsMinor source first old (Ok answer) new
   affix_taken first old new minor answer holds is = grind arith
 

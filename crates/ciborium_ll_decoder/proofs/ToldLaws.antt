@@ -1,4 +1,4 @@
--- What is left of bytes that are told, where some of them are read.
+-- The bytes that are left of told bytes after some of them are read.
 use Rattle.std.proofs.Common.{◌≡◌, ℕ, ◌≤◌, List, ◌∷◌, ◌++◌, take, drop, Option, Some, sym, ap, arith}
 use Rattle.std.specs.Io.KnownBytes.{Consumes}
 use Rattle.ciborium_ll_decoder.specs.Decoding.{next_read}

@@ -9,8 +9,8 @@ use Rattle.ciborium_ll_decoder.specs.declared.dec.Error.TheVariants as e
 use Rattle.ciborium_ll_grammar.specs.Strings.{Kind, Text, IsWritable}
 use Rattle.ciborium_ll_decoder.specs.Decoding.{IsSteady, ReadsAll, ReadsBytes}
 use Rattle.ciborium_ll_decoder.specs.Finishing.{EndsBody, StopsReading}
-use Rattle.ciborium_ll_decoder.proofs.DecodingLaws.{Passes-none}
-use Rattle.ciborium_ll_decoder.proofs.BodyLaws.{writable_nil, Passes-read}
+use Rattle.ciborium_ll_decoder.proofs.DecodingLaws.{ReadsPast-none}
+use Rattle.ciborium_ll_decoder.proofs.BodyLaws.{writable_nil, ReadsPast-read}
 use Rattle.ciborium_ll_text.specs.Text.{IsCharacters, IsFront}
 use Rattle.ciborium_ll_text.proofs.FrontLaws.{IsStuck-nil}
 
@@ -45,7 +45,7 @@ module _ {R E : Type 0} (source : Reader R E) (kind : Kind) (len room place : �
       stuck = IsStuck-nil;
       sound = writable_nil kind;
       within = omega arith;
-      passed = Passes-none source old;
+      passed = ReadsPast-none source old;
     };
     count = count;
     filled = omega (arith, all, held);
@@ -63,7 +63,7 @@ module _ {R E : Type 0} (source : Reader R E) (kind : Kind) (len room place : �
         → (IsSteady source old → IsSteady source new)
         → EndsBody source kind [] len room place old (Err (e.Syntax place)) new
     damaged_ends held unsound reads steady =
-        let passed = Passes-read source old old new [] read (Passes-none source old) reads steady in
+        let passed = ReadsPast-read source old old new [] read (ReadsPast-none source old) reads steady in
         let textual : kind ≡ Text = grind arith in
         let no_text : IsCharacters read → ⊥ = grind arith in
         at_once (length read) (e.Syntax place) new all held (refl, search inl)

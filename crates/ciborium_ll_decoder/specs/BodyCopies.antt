@@ -1,5 +1,5 @@
--- A body copied from a decoder to a writer: what was read and written, over any reader and writer. Each relation leads
--- from the old two sides of the copy to the new ones.
+-- The copy of a body from a decoder to a writer, over any reader and writer. Each relation leads from the two sides of
+-- the copy before a call to the two sides after it.
 use Rattle.std.specs.Prelude.{◌≡◌, ℕ, ◌+◌, ◌-◌, ◌<◌, ◌≤◌, min, List, [], ◌++◌, length, Result, Ok, Err}
 use Rattle.ciborium_ll_io.specs.declared.io.Read.{Ghosts as Reader}
 use Rattle.ciborium_ll_io.specs.declared.io.Write.{Ghosts as Writer}
@@ -13,41 +13,41 @@ use Rattle.ciborium_ll_decoder.specs.declared.dec.Error.{Error}
 use Rattle.ciborium_ll_decoder.specs.declared.seg.Body.{Body}
 use Rattle.ciborium_ll_decoder.specs.declared.seg.Parser.{Ghosts as Parser}
 use Rattle.ciborium_ll_decoder.specs.declared.seg.Segments.{Segments}
-use Rattle.ciborium_ll_decoder.specs.Decoding.{MovesOn, Passes}
+use Rattle.ciborium_ll_decoder.specs.Decoding.{MovesOn, ReadsPast}
 use Rattle.ciborium_ll_decoder.specs.Finishing.{ReadsRest, StopsRest}
 use Rattle.ciborium_ll_decoder.specs.Segments.{progress_of, string_decoder, string_reference, string_strict}
 
--- the decoder that a copy reads from, and the writer that it writes to
+-- The decoder that a copy reads from, and the writer that it writes to.
 pub record Sides (R W : Type 0) : Type 0 where
   pub decoder : Decoder R
   pub writer : W
 
 module _ {R W : Type 0} where
-  -- a decoder, and a writer
+  -- A decoder and a writer, as the two sides of a copy.
   abbrev pub sides : Decoder R → W → Sides R W
   sides decoder writer = record { decoder = decoder; writer = writer }
 
 -- ---- one body
 
 module _ {R E W F : Type 0} (source : Reader R E) (sink : Writer W F) (kind : Kind) where
-  -- a body of so many bytes was read whole and written
+  -- The copy read a body of `len` bytes whole, and wrote it.
   pub record BodyWritten (len : ℕ) (old new : Sides R W) : Type 0 where
     pub ends : ReadsRest source kind [] len old.decoder new.decoder
     pub written : WritesAll sink old.writer ends.read new.writer
 
-  -- its read was stopped, through a buffer of so much room, and all that was handed out of it was written
+  -- The read of the body stopped, through a buffer of `room` bytes. The copy wrote all of the body that was handed out.
   pub record BodyUnread (len room place : ℕ) (old : Sides R W) (error : Error E) (new : Sides R W) : Type 0 where
     pub ends : StopsRest source kind [] len room place old.decoder error new.decoder
     pub written : WritesAll sink old.writer ends.part.front new.writer
 
-  -- the writer failed at a chunk, which came through a buffer of so much room. Of a text up to three bytes were read
-  -- behind it, with which no further text begins
+  -- The writer failed at a chunk, which came through a buffer of `room` bytes. If the body is a text, up to three bytes
+  -- after the chunk were read, with which no further text begins.
   pub record BodyUnwritten (len room : ℕ) (old new : Sides R W) : Type 0 where
     pub front : List ℕ
     pub chunk : List ℕ
     pub kept : List ℕ
     pub between : W
-    pub passed : Passes source old.decoder (front ++ (chunk ++ kept)) new.decoder
+    pub passed : ReadsPast source old.decoder (front ++ (chunk ++ kept)) new.decoder
     pub within : length front < len
     pub filled : length chunk + length kept ≡ min room (len - length front)
     pub few : length kept ≤ most_kept kind
@@ -56,16 +56,16 @@ module _ {R E W F : Type 0} (source : Reader R E) (sink : Writer W F) (kind : Ki
     pub written : WritesAll sink old.writer front between
     pub stopped : WritesFront sink between chunk new.writer
 
-  -- the copy of a body of so many bytes through a buffer of so much room, at this place, which is that of its title:
-  -- all that was read and handed out of it was written, or the writer failed at a chunk
+  -- The copy of a body of `len` bytes through a buffer of `room` bytes. `place` is the place of the body's title. The
+  -- copy wrote all that was read and handed out, or the writer failed at a chunk.
   abbrev pub CopiesBody : ℕ → ℕ → ℕ → Sides R W → Result (Unit {0}) (RecodeError E F) → Sides R W → Type 0
   CopiesBody len room place old (Ok done) new = BodyWritten len old new
   CopiesBody len room place old (Err (r.Read error)) new = BodyUnread len room place old error new
   CopiesBody len room place old (Err (r.Write fault)) new = BodyUnwritten len room old new
 
 module _ {R E W F P : Type 0} {parser : Parser P} (source : Reader R E) (sink : Writer W F) where
-  -- what `copy` of a string does with the body that `advance` gave last, and what it keeps; the writer stays on its
-  -- slice
+  -- `copy` of a string copies the body that `advance` gave last, and the string goes on as before. The writer stays on
+  -- its slice.
   pub record CopiesSegment (body : Body) (room : ℕ) (old : Segments R P parser) (writer : W)
       (result : Result (Unit {0}) (RecodeError E F)) (new : Segments R P parser) (writer' : W) : Type 0 where
     pub copied : CopiesBody source sink parser.kind body.length room body.place (sides (string_decoder old) writer)

@@ -1,4 +1,4 @@
--- What the calls on a segment do, which gives its body chunk by chunk.
+-- The calls on a segment, which gives its body chunk by chunk.
 use Rattle.std.specs.Prelude.{◌≡◌, ℕ, ◌+◌, ◌-◌, ◌<◌, ◌≤◌, ◌⊎◌, min, Bool, true, false, List, [], ◌++◌, length, take}
 use Rattle.std.specs.Prelude.{Option, Some, None, Result, Ok, Err, IfOk, IfSome}
 use Rattle.std.specs.Borrow.{Bor, GName}
@@ -19,7 +19,8 @@ use Rattle.ciborium_ll_decoder.specs.Kept.{kept_bytes}
 use Rattle.ciborium_ll_decoder.specs.Progress.{opens_of}
 use Rattle.ciborium_ll_decoder.specs.Segments.{AdvancesTo}
 
--- what is handed out, and what is kept: of a text the longest front that is text and the rest, of bytes all and none
+-- A segment hands out the front of the bytes, and keeps the rest. The front of a text is the longest front that is
+-- text. A byte string has no rest. For example, `61 c3` of a text has the front `61` and the rest `c3`.
 abbrev pub IsSplit : Kind → List ℕ → List ℕ → List ℕ → Type 0
 IsSplit Bytes bytes front rest = (front ≡ bytes) × (rest ≡ [])
 IsSplit Text bytes front rest = IsFront bytes front rest
@@ -27,44 +28,45 @@ IsSplit Text bytes front rest = IsFront bytes front rest
 -- ---- what a segment is to its callers
 
 module _ {R P : Type 0} {parser : Parser P} where
-  -- the decoder that the segment holds
+  -- The decoder that the segment holds.
   abbrev pub segment_decoder : Segment R P parser → Decoder R
   segment_decoder s = s.decoder.now
 
-  -- the reference by which it holds its decoder
+  -- The reference by which the segment holds its decoder.
   abbrev pub segment_reference : Segment R P parser → GName
   segment_reference s = s.decoder.ghost_name
 
-  -- how many bytes of the body were not handed out: the unread and the kept ones
+  -- How many bytes of the body were not handed out: the unread and the kept bytes.
   abbrev pub left_of : Segment R P parser → ℕ
   left_of s = s.unread + length (kept_bytes s.kept)
 
-  -- nothing of the body was read
+  -- Nothing of the body was read.
   pub record IsWhole (body : Body) (s : Segment R P parser) : Type 0 where
     pub unread : s.unread ≡ body.length
     pub place : s.place ≡ body.place
     pub kept : kept_bytes s.kept ≡ []
     pub sound : s.damaged ≡ false
 
-  -- the segment is as it was, but for its decoder
-  pub record IsSame (old new : Segment R P parser) : Type 0 where
+  -- The segment is as it was, except for its decoder.
+  pub record KeepsSegment (old new : Segment R P parser) : Type 0 where
     pub unread : new.unread ≡ old.unread
     pub place : new.place ≡ old.place
     pub kept : new.kept ≡ old.kept
     pub damaged : new.damaged ≡ old.damaged
 
-  -- how many bytes are read into so much room: kept ones come first, and of the rest as many as there are
+  -- How many bytes are read into `room` bytes. The kept bytes come first, and then as many unread bytes as there are
+  -- and as fit.
   abbrev pub read_count : ℕ → Segment R P parser → ℕ
   read_count room s = let size = min room (left_of s) in size - min size (length (kept_bytes s.kept))
 
 module _ {R E : Type 0} (source : Ghosts R E) where
-  -- a read behind bytes that stand in front of a slice
+  -- A read into a slice, after the bytes `front` at its beginning.
   pub record ReadsBehind (front : List ℕ) (old : Decoder R) (filled : List ℕ) (new : Decoder R) : Type 0 where
     pub read : List ℕ
     pub reads : ReadsAll source old read new
     pub whole : filled ≡ front ++ read
 
-  -- bytes are read behind a front, up to the end of a slice
+  -- The read of bytes after a front, up to the end of a slice, by its answer.
   abbrev pub FillsBehind : List ℕ → Decoder R → Result (Unit {0}) (Error E) → List ℕ → Decoder R → Type 0
   FillsBehind front old (Ok done) filled new = ReadsBehind front old filled new
   FillsBehind front old (Err (e.Io fault)) filled new = ReadFails source old (length filled - length front) new
@@ -74,19 +76,19 @@ module _ {R E : Type 0} (source : Ghosts R E) where
   FillsBehind front old (Err e.Waiting) filled new = ⊥
 
 module _ {R E P : Type 0} {parser : Parser P} (source : Ghosts R E) where
-  -- what is to come of the body: the kept bytes, and as much of it as is told
+  -- The bytes that are to come of the body: the kept bytes, and then as many unread bytes as the reader tells.
   abbrev pub rest : Segment R P parser → Option (List ℕ)
   rest s = prepend_known (kept_bytes s.kept) (option_map (take s.unread) (source.ahead s.decoder.now.reader))
 
-  -- the body has ended: nothing was unread or kept, and nothing changed
+  -- The body has ended: no byte was unread or kept, and nothing changed.
   pub record SegmentEnds (old new : Segment R P parser) : Type 0 where
     pub none_unread : old.unread ≡ 0
     pub none_kept : kept_bytes old.kept ≡ []
     pub sound : old.damaged ≡ false
-    pub same : IsSame old new
+    pub same : KeepsSegment old new
     pub decoder : new.decoder.now ≡ old.decoder.now
 
-  -- a read of the count of bytes
+  -- A read of `read_count` bytes.
   pub record ReadsOn (room : ℕ) (old : Segment R P parser) (read : List ℕ) (new : Segment R P parser) : Type 0 where
     pub some_unread : 0 < old.unread
     pub sound : old.damaged ≡ false
@@ -95,14 +97,14 @@ module _ {R E P : Type 0} {parser : Parser P} (source : Ghosts R E) where
     pub unread : new.unread + length read ≡ old.unread
     pub place : new.place ≡ old.place
 
-  -- a chunk: of the bytes kept and read what can be handed out, and what can't is kept
+  -- The segment hands out a chunk of the kept bytes and the bytes that were read, and keeps the rest of them.
   pub record GivesChunk (room : ℕ) (old : Segment R P parser) (chunk : List ℕ) (new : Segment R P parser) : Type 0 where
     pub read : List ℕ
     pub reads : ReadsOn room old read new
     pub split : IsSplit parser.kind (kept_bytes old.kept ++ read) chunk (kept_bytes new.kept)
     pub still_sound : new.damaged ≡ false
 
-  -- bytes were kept, and the body has ended
+  -- Bytes were kept, and the body has ended.
   pub record EndsInCharacter (old new : Segment R P parser) : Type 0 where
     pub none_unread : old.unread ≡ 0
     pub some_kept : 0 < length (kept_bytes old.kept)
@@ -110,7 +112,7 @@ module _ {R E P : Type 0} {parser : Parser P} (source : Ghosts R E) where
     pub unread : new.unread ≡ old.unread
     pub decoder : new.decoder.now ≡ old.decoder.now
 
-  -- more than three bytes would have to be kept
+  -- The segment would have to keep more than three bytes.
   pub record KeepsTooMuch (room : ℕ) (old new : Segment R P parser) : Type 0 where
     pub read : List ℕ
     pub reads : ReadsOn room old read new
@@ -119,14 +121,14 @@ module _ {R E P : Type 0} {parser : Parser P} (source : Ghosts R E) where
     pub split : IsSplit parser.kind (kept_bytes old.kept ++ read) front left
     pub too_much : 3 < length left
 
-  -- the damage was found before
+  -- The damage was found before.
   pub record StaysDamaged (old new : Segment R P parser) : Type 0 where
     pub damaged-before : old.damaged ≡ true
-    pub same : IsSame old new
+    pub same : KeepsSegment old new
     pub decoder : new.decoder.now ≡ old.decoder.now
 
-  -- the body is no text: it was damaged before, bytes are kept at its end, or there are more than three to keep; the
-  -- place is the segment's, and nothing is kept
+  -- The body is no text: it was damaged before, or bytes are kept at its end, or more than three bytes would have to be
+  -- kept. The place is the segment's, and nothing is kept.
   pub record FindsDamage (room : ℕ) (old : Segment R P parser) (at : ℕ) (new : Segment R P parser) : Type 0 where
     pub place : at ≡ old.place
     pub same_place : new.place ≡ old.place
@@ -134,43 +136,43 @@ module _ {R E P : Type 0} {parser : Parser P} (source : Ghosts R E) where
     pub cause : StaysDamaged old new ⊎ (EndsInCharacter old new ⊎ KeepsTooMuch room old new)
     pub none_kept : StaysDamaged old new ⊎ (kept_bytes new.kept ≡ [])
 
-  -- the reader failed, and the segment is as it was
+  -- The reader failed, and the segment is as it was.
   pub record ChunkFails (room : ℕ) (old new : Segment R P parser) : Type 0 where
     pub some_unread : 0 < old.unread
     pub sound : old.damaged ≡ false
     pub fails : ReadFails source old.decoder.now (read_count room old) new.decoder.now
-    pub same : IsSame old new
+    pub same : KeepsSegment old new
 
-  -- the offset can't take the read, and the segment is as it was
+  -- The offset can't take the read, and the segment is as it was.
   pub record ChunkPasses (room : ℕ) (old new : Segment R P parser) : Type 0 where
     pub some_unread : 0 < old.unread
     pub sound : old.damaged ≡ false
     pub full : offset_limit ≤ old.decoder.now.offset + read_count room old
     pub untouched : IsUntouched old.decoder.now new.decoder.now
-    pub same : IsSame old new
+    pub same : KeepsSegment old new
 
-  -- what `pull` of a segment does into so much room, by its answer
-  abbrev pub PullsChunk : ℕ → Segment R P parser → Result (Option (Bor (List ℕ))) (Error E) → Segment R P parser
+  -- `pull` of a segment into `room` bytes, by its answer.
+  abbrev pub SegmentPullAnswer : ℕ → Segment R P parser → Result (Option (Bor (List ℕ))) (Error E) → Segment R P parser
       → Type 0
-  PullsChunk room old (Ok None) new = SegmentEnds old new
-  PullsChunk room old (Ok (Some chunk)) new = GivesChunk room old chunk.now new
-  PullsChunk room old (Err (e.Io fault)) new = ChunkFails room old new
-  PullsChunk room old (Err (e.Syntax place)) new = FindsDamage room old place new
-  PullsChunk room old (Err e.TooLong) new = ChunkPasses room old new
-  PullsChunk room old (Err e.Waiting) new = ⊥
+  SegmentPullAnswer room old (Ok None) new = SegmentEnds old new
+  SegmentPullAnswer room old (Ok (Some chunk)) new = GivesChunk room old chunk.now new
+  SegmentPullAnswer room old (Err (e.Io fault)) new = ChunkFails room old new
+  SegmentPullAnswer room old (Err (e.Syntax place)) new = FindsDamage room old place new
+  SegmentPullAnswer room old (Err e.TooLong) new = ChunkPasses room old new
+  SegmentPullAnswer room old (Err e.Waiting) new = ⊥
 
-  -- what `pull` of a segment does, and what it keeps. Before it the body was to go on with the chunk, and then with what
-  -- is to come behind it
-  pub record IsPulled (room : ℕ) (old : Segment R P parser) (result : Result (Option (Bor (List ℕ))) (Error E))
+  -- `pull` of a segment, and the facts that it keeps. The bytes that were to come of the body are the chunk and then
+  -- the bytes that are still to come.
+  pub record SegmentPull (room : ℕ) (old : Segment R P parser) (result : Result (Option (Bor (List ℕ))) (Error E))
       (new : Segment R P parser) : Type 0 where
-    pub chunk : PullsChunk room old result new
+    pub chunk : SegmentPullAnswer room old result new
     pub left : IfOk result (λ chunk. IfSome chunk (λ c. length c.now + left_of new ≡ left_of old))
     pub rest_due : IfOk result (λ chunk. IfSome chunk (λ c. Consumes (rest old) (rest new) c.now))
     pub same_reference : segment_reference new ≡ segment_reference old
     pub moves_on : MovesOn source (segment_decoder old) (segment_decoder new)
 
 module _ {R E : Type 0} (source : Ghosts R E) (kind : Kind) (strict : Bool) where
-  -- `advance` gave this answer and left this decoder, whose offset rose by one at least for each further open
+  -- `advance` gave this answer and left this decoder. The offset rose by at least one for each further open.
   pub record GoesOnTo (progress : Progress) (old : Decoder R) (result : Result (Option Body) (Error E))
       (new : Decoder R) : Type 0 where
     pub after : Progress
@@ -179,14 +181,14 @@ module _ {R E : Type 0} (source : Ghosts R E) (kind : Kind) (strict : Bool) wher
     pub moves_on : MovesOn source old new
 
 module _ {R E P : Type 0} {parser : Parser P} (source : Ghosts R E) (kind : Kind) (strict : Bool) where
-  -- a segment is whole, and holds the decoder as `advance` left it
+  -- The segment is whole, and holds the decoder as `advance` left it.
   pub record LendsWhole (progress : Progress) (old : Decoder R) (segment : Segment R P parser) : Type 0 where
     pub body : Body
     pub goes_on : GoesOnTo source kind strict progress old (Ok (Some body)) segment.decoder.now
     pub whole : IsWhole body segment
 
-  -- what `pull` of a string does: it answers as `advance` does, with a whole segment for a body
-  abbrev pub PullsSegment : Progress → Decoder R → Result (Option (Segment R P parser)) (Error E) → Type 0
-  PullsSegment progress old (Ok (Some segment)) = LendsWhole progress old segment
-  PullsSegment progress old (Ok None) = (new : Decoder R) × GoesOnTo source kind strict progress old (Ok None) new
-  PullsSegment progress old (Err error) = (new : Decoder R) × GoesOnTo source kind strict progress old (Err error) new
+  -- `pull` of a string answers as `advance` does, with a whole segment in place of a body.
+  abbrev pub SegmentsPull : Progress → Decoder R → Result (Option (Segment R P parser)) (Error E) → Type 0
+  SegmentsPull progress old (Ok (Some segment)) = LendsWhole progress old segment
+  SegmentsPull progress old (Ok None) = (new : Decoder R) × GoesOnTo source kind strict progress old (Ok None) new
+  SegmentsPull progress old (Err error) = (new : Decoder R) × GoesOnTo source kind strict progress old (Err error) new

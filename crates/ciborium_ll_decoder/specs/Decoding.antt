@@ -1,7 +1,7 @@
--- What the calls of a decoder do: one relation for each call, by its answer.
+-- The calls of a decoder: one relation for each call, by its answer.
 --
--- Bytes are spoken of where the reader tells them: `Consumes` says nothing of bytes that are not told. All else holds
--- over any reader.
+-- A relation speaks of bytes if the reader tells them: `Consumes` says nothing about bytes that are not told. All the
+-- rest holds over any reader.
 use Rattle.std.specs.Prelude.{◌≡◌, ℕ, ◌+◌, ◌<◌, ◌≤◌, ◌^◌, List, [], ◌∷◌, ◌++◌, length, take, Bool, true, false}
 use Rattle.std.specs.Prelude.{Option, Some, None, Result, Ok, Err, ◌⊎◌, IfSome, IsSome, IsTrue, ◌%◌, ◌/◌, ◌-◌}
 use Rattle.std.specs.Prelude.{IfOk, IsErrOf, MatchResult}
@@ -15,19 +15,19 @@ use Rattle.ciborium_ll_decoder.specs.declared.dec.Error.{Error}
 use Rattle.ciborium_ll_decoder.specs.declared.dec.Error.TheVariants as e
 use Rattle.ciborium_ll_grammar.specs.Title.{IsTitle, IsStrictTitle, IsRefused, IsReserved, IsCutTitle, affix_len}
 use Rattle.ciborium_ll_grammar.specs.Title.{shortest_title, title_len}
-use Rattle.ciborium_ll_grammar.specs.Parts.{IsMinor, IsParts, longer_parts, minor_code, minor_affix}
+use Rattle.ciborium_ll_grammar.specs.Parts.{IsMinor, IsParts, refused_when_strict, minor_code, minor_affix}
 use Rattle.ciborium_ll_grammar.specs.Parts.{title_bytes}
 
--- offsets are below this one: at most usize::MAX
+-- Every offset is below this number, so it is at most `usize::MAX`.
 abbrev pub offset_limit : ℕ
 offset_limit = 2 ^ 64
 
--- the title of a waiting header, and then the bytes ahead
+-- The shortest title of a waiting header, and then the bytes ahead.
 abbrev pub behind_waiting : Option Header → Option (List ℕ) → Option (List ℕ)
 behind_waiting None ahead = ahead
 behind_waiting (Some header) ahead = prepend_known (shortest_title header) ahead
 
--- as a reader, a decoder tells its bytes only while no header waits
+-- As a reader, a decoder tells its bytes only while no header waits.
 abbrev pub told_unless_waiting : Option Header → Option (List ℕ) → Option (List ℕ)
 told_unless_waiting None ahead = ahead
 told_unless_waiting (Some header) ahead = None
@@ -35,42 +35,42 @@ told_unless_waiting (Some header) ahead = None
 -- ---- what a decoder is to its callers
 
 module _ {R : Type 0} where
-  -- the reader that the decoder reads
+  -- The reader that the decoder reads.
   abbrev pub reader_of : Decoder R → R
   reader_of d = d.reader
 
-  -- how many bytes of titles and bodies were consumed, counted from its start
+  -- How many bytes of titles and bodies were consumed, counted from the decoder's start.
   abbrev pub offset_of : Decoder R → ℕ
   offset_of d = d.offset
 
-  -- the header that waits, if one does
+  -- The header that waits, if one does.
   abbrev pub waiting_of : Decoder R → Option Header
   waiting_of d = d.waiting
 
-  -- a header waits
+  -- A header waits.
   abbrev pub IsWaiting : Decoder R → Type 0
   IsWaiting d = IsSome d.waiting
 
-  -- whether the decoder takes strict titles alone
+  -- Whether the decoder takes strict titles alone.
   abbrev pub strict_of : Decoder R → Bool
   strict_of d = d.strict
 
-  -- this holds where the decoder is strict and no header waits
+  -- `Holds` is true if the decoder is strict and no header waits.
   abbrev pub Strictly : Decoder R → Type 0 → Type 0
   Strictly d Holds = IsTrue d.strict → d.waiting ≡ None → Holds
 
-  -- how many reads the decoder refused by itself
+  -- How many reads the decoder refused by itself.
   abbrev pub refusals_of : Decoder R → ℕ
   refusals_of d = d.refusals.count
 
-  -- the decoder refused the read, and nothing changed but its count of refusals
+  -- The decoder refused the read, and nothing changed except its count of refusals.
   pub record IsUntouched (old new : Decoder R) : Type 0 where
     pub reader : new.reader ≡ old.reader
     pub offset : new.offset ≡ old.offset
     pub waiting : new.waiting ≡ old.waiting
     pub mode : new.strict ≡ old.strict
 
-  -- nothing was pulled yet
+  -- The decoder is strict or not, as given, and nothing was pulled yet.
   pub record IsFreshAs (strict : Bool) (r : R) (start : ℕ) (d : Decoder R) : Type 0 where
     pub mode : d.strict ≡ strict
     pub reader : d.reader ≡ r
@@ -78,42 +78,43 @@ module _ {R : Type 0} where
     pub none_waits : d.waiting ≡ None
     pub refusals : d.refusals.count ≡ 0
 
-  -- nothing was pulled yet, and the decoder isn't strict
+  -- Nothing was pulled yet, and the decoder isn't strict.
   abbrev pub IsFresh : R → ℕ → Decoder R → Type 0
   IsFresh r start d = IsFreshAs false r start d
 
 module _ {E : Type 0} where
-  -- the errors by which a decoder refuses a read, `Waiting` and `TooLong`, are counted, and no others
+  -- A decoder refuses a read by `Waiting` and `TooLong`. It counts these errors, and no others.
   abbrev pub CountsRefusal : Error E → ℕ → ℕ → Type 0
   CountsRefusal e.Waiting old new = new ≡ old + 1
   CountsRefusal e.TooLong old new = new ≡ old + 1
   CountsRefusal (e.Io fault) old new = new ≡ old
   CountsRefusal (e.Syntax place) old new = new ≡ old
 
--- how many bytes a pull asks for next, behind those that it read: one, or the affix that the first announces
+-- How many bytes a pull asks for after the bytes that it read: one, or the affix that the first byte announces. After
+-- `19` it asks for two bytes.
 abbrev pub next_read : List ℕ → ℕ
 next_read [] = 1
 next_read (byte ∷ more) = affix_len (byte % 32)
 
--- the list begins with these bytes
+-- The list begins with these bytes.
 abbrev pub Begins : List ℕ → List ℕ → Type 0
 Begins front all = (rest : List ℕ) × (all ≡ front ++ rest)
 
 module _ {R E : Type 0} (source : Ghosts R E) where
-  -- the bytes that are due: the shortest title of a waiting header, and then what the reader has ahead
+  -- The bytes that are due: the shortest title of a waiting header, and then the bytes that the reader has ahead.
   abbrev pub view : Decoder R → Option (List ℕ)
   view d = behind_waiting d.waiting (source.ahead d.reader)
 
-  -- how often its reader failed
+  -- How often the decoder's reader failed.
   abbrev pub failures_of : Decoder R → ℕ
   failures_of d = source.failures d.reader
 
-  -- its reader fails only where bytes are missing
+  -- The decoder's reader fails only if bytes are missing.
   abbrev pub IsSteady : Decoder R → Type 0
   IsSteady d = IsTrue (source.steady d.reader)
 
-  -- what a call keeps that reads, whatever it answers: a steady reader stays steady, a strict decoder strict and
-  -- another one not, the decoder refused nothing by itself, and its offset never falls
+  -- A call that reads keeps a steady reader steady, and the decoder as strict as it was, whatever it answers. The
+  -- decoder refused nothing by itself, and its offset never falls.
   pub record MovesOn (old new : Decoder R) : Type 0 where
     pub steady : IsSteady old → IsSteady new
     pub mode : strict_of new ≡ strict_of old
@@ -122,7 +123,8 @@ module _ {R E : Type 0} (source : Ghosts R E) where
 
   -- ---- pull
 
-  -- `pull` gave a header: the view began with a title of it, which is gone, and the offset rose by its length
+  -- `pull` gave a header. The view began with a title of it, which is consumed, and the offset rose by the title's
+  -- length.
   pub record PullsTitle (old : Decoder R) (header : Header) (new : Decoder R) : Type 0 where
     pub title : List ℕ
     pub is_title : IsTitle title header
@@ -130,14 +132,14 @@ module _ {R E : Type 0} (source : Ghosts R E) where
     pub offset : new.offset ≡ old.offset + length title
     pub none_waits : new.waiting ≡ None
     pub failures : failures_of new ≡ failures_of old
-    -- a header that waited is the one given, and nothing was read
+    -- The call gave a header that waited, and read nothing.
     pub waited : IfSome old.waiting (λ kept. (kept ≡ header) × (title ≡ shortest_title header)
         × (new.reader ≡ old.reader))
     pub mode : new.strict ≡ old.strict
-    -- a strict decoder takes a strict title alone; a header that waited is given as it was pushed
+    -- A strict decoder takes a strict title alone. It gives a header that waited as it was pushed.
     pub strict : IsTrue old.strict → old.waiting ≡ None → IsStrictTitle title header
 
-  -- `pull` refused a first byte, which is gone; the place is that of the title's start
+  -- `pull` refused a first byte, for example `1c`, and consumed it. The place is the offset of the title's start.
   pub record RefusesTitle (old : Decoder R) (at : ℕ) (new : Decoder R) : Type 0 where
     pub byte : ℕ
     pub refused : IsRefused byte
@@ -148,8 +150,8 @@ module _ {R E : Type 0} (source : Ghosts R E) where
     pub none_waits : new.waiting ≡ None
     pub failures : failures_of new ≡ failures_of old
 
-  -- a strict decoder refused a whole title, which is gone; the place is that of its start
-  pub record RefusesLonger (old : Decoder R) (at : ℕ) (new : Decoder R) : Type 0 where
+  -- A strict decoder refused a whole title, for example `18 05`, and consumed it. The place is the offset of its start.
+  pub record RefusesTitleWhole (old : Decoder R) (at : ℕ) (new : Decoder R) : Type 0 where
     pub strict : IsTrue old.strict
     pub header : Header
     pub title : List ℕ
@@ -162,8 +164,8 @@ module _ {R E : Type 0} (source : Ghosts R E) where
     pub none_waits : new.waiting ≡ None
     pub failures : failures_of new ≡ failures_of old
 
-  -- the reader failed behind the bytes `read`, which are none or a first byte
-  pub record StopsInTitle (old new : Decoder R) : Type 0 where
+  -- The reader failed after the bytes `read`, which are none or a first byte.
+  pub record FailsAtTitle (old new : Decoder R) : Type 0 where
     pub read : List ℕ
     pub within_first : length read ≤ 1
     pub began : IfSome (view old) (Begins read)
@@ -172,11 +174,11 @@ module _ {R E : Type 0} (source : Ghosts R E) where
     pub none_waited : old.waiting ≡ None
     pub none_waits : new.waiting ≡ None
     pub failures : failures_of new ≡ failures_of old + 1
-    -- a steady reader fails only inside a title, of which the first byte was read where there is one
+    -- A steady reader fails only inside a title. The first byte of the title was read if the reader had it.
     pub steady : IsSteady old → Consumes (view old) (view new) read
         × IfSome (view old) (λ due. IsCutTitle due × (read ≡ take 1 due))
 
-  -- the offset can't take the read behind the bytes `read`, which are none or a first byte
+  -- The offset can't take the read after the bytes `read`, which are none or a first byte.
   pub record PassesOffset (old new : Decoder R) : Type 0 where
     pub read : List ℕ
     pub within_first : length read ≤ 1
@@ -188,37 +190,37 @@ module _ {R E : Type 0} (source : Ghosts R E) where
     pub none_waits : new.waiting ≡ None
     pub failures : failures_of new ≡ failures_of old
 
-  -- what `pull` does, by its answer
-  abbrev pub PullsHeader : Decoder R → Result Header (Error E) → Decoder R → Type 0
-  PullsHeader old (Ok header) new = PullsTitle old header new
-  PullsHeader old (Err (e.Io fault)) new = StopsInTitle old new
-  PullsHeader old (Err (e.Syntax place)) new = RefusesTitle old place new ⊎ RefusesLonger old place new
-  PullsHeader old (Err e.TooLong) new = PassesOffset old new
-  PullsHeader old (Err e.Waiting) new = ⊥
+  -- `pull`, by its answer.
+  abbrev pub DecoderPullAnswer : Decoder R → Result Header (Error E) → Decoder R → Type 0
+  DecoderPullAnswer old (Ok header) new = PullsTitle old header new
+  DecoderPullAnswer old (Err (e.Io fault)) new = FailsAtTitle old new
+  DecoderPullAnswer old (Err (e.Syntax place)) new = RefusesTitle old place new ⊎ RefusesTitleWhole old place new
+  DecoderPullAnswer old (Err e.TooLong) new = PassesOffset old new
+  DecoderPullAnswer old (Err e.Waiting) new = ⊥
 
-  -- what `pull` does: its answer, and what it keeps
-  pub record Pulls (old : Decoder R) (result : Result Header (Error E)) (new : Decoder R) : Type 0 where
-    pub header : PullsHeader old result new
-    -- the header may be pushed back
+  -- `pull`, and the facts that it keeps.
+  pub record DecoderPull (old : Decoder R) (result : Result Header (Error E)) (new : Decoder R) : Type 0 where
+    pub header : DecoderPullAnswer old result new
+    -- The caller may push the header back.
     pub covered : IfOk result (λ header. title_len header ≤ new.offset)
-    -- where the offset can't rise, nothing is read
+    -- If the offset can't rise, nothing is read.
     pub full : old.waiting ≡ None → old.offset ≡ offset_limit - 1 → IsErrOf result e.TooLong
     pub moves_on : MovesOn old new
 
-  -- what `pull_title` does: it answers as `pull` does, with a title of the header in its parts
-  pub record PullsParts (old : Decoder R) (result : Result (Header × Title) (Error E)) (new : Decoder R) : Type 0 where
-    pub header : MatchResult result (λ pulled. PullsTitle old pulled.0 new) (λ error. PullsHeader old (Err error) new)
+  -- `pull_title` answers as `pull` does, with a title of the header in its parts.
+  pub record DecoderPullTitle (old : Decoder R) (result : Result (Header × Title) (Error E)) (new : Decoder R) : Type 0 where
+    pub header : MatchResult result (λ pulled. PullsTitle old pulled.0 new) (λ error. DecoderPullAnswer old (Err error) new)
     pub parts : IfOk result (λ pulled. IsParts pulled.1)
     pub title : IfOk result (λ pulled. IsTitle (title_bytes pulled.1) pulled.0)
     pub moves_on : MovesOn old new
 
-  -- these bytes were consumed, by calls that all succeeded
-  pub record Passes (old : Decoder R) (bytes : List ℕ) (new : Decoder R) : Type 0 where
+  -- Calls that all succeeded consumed these bytes.
+  pub record ReadsPast (old : Decoder R) (bytes : List ℕ) (new : Decoder R) : Type 0 where
     pub consumed : Consumes (view old) (view new) bytes
     pub offset : new.offset ≡ old.offset + length bytes
-    -- without a call nothing changed; behind one no header waits
+    -- Without a call nothing changed. After a call no header waits.
     pub waiting : ((bytes ≡ []) × (new ≡ old)) ⊎ (new.waiting ≡ None)
-    -- the title of a header that waited went first
+    -- The title of a header that waited went first.
     pub waited : IfSome old.waiting (λ header. (new ≡ old) ⊎ Begins (shortest_title header) bytes)
     pub failures : failures_of new ≡ failures_of old
     pub steady : IsSteady old → IsSteady new
@@ -226,7 +228,8 @@ module _ {R E : Type 0} (source : Ghosts R E) where
 
   -- ---- push
 
-  -- what `push` does: the header waits in front of what was due, and the offset fell by its shortest title
+  -- `push` of a header: it waits before the bytes that were due, and the offset fell by the length of its shortest
+  -- title.
   pub record TakesBack (old : Decoder R) (header : Header) (new : Decoder R) : Type 0 where
     pub waits : new.waiting ≡ Some header
     pub due : view new ≡ prepend_known (shortest_title header) (view old)
@@ -237,31 +240,31 @@ module _ {R E : Type 0} (source : Ghosts R E) where
 
   -- ---- pull, push of what it gave, and pull again
 
-  -- what these three calls left, one after the other
+  -- `pull`, `push` of the header that it gave, and `pull` again, one after the other.
   pub record PullsTwice (old : Decoder R) (header : Header) (new : Decoder R) : Type 0 where
     pub pulled : Decoder R
     pub pushed : Decoder R
     pub first : PullsTitle old header pulled
     pub back : TakesBack pulled header pushed
     pub second : PullsTitle pushed header new
-    -- the second pull undid the push
+    -- The second pull undid the push.
     pub reader : new.reader ≡ pulled.reader
     pub offset : new.offset ≡ pulled.offset
     pub none_waits : new.waiting ≡ None
 
-  -- `pull`, `push` of what it gave, and `pull` again, by the last answer
+  -- `pull`, `push` of the header that it gave, and `pull` again, by the last answer.
   abbrev pub PullsAgain : Decoder R → Result Header (Error E) → Decoder R → Type 0
   PullsAgain old (Ok header) new = PullsTwice old header new
-  PullsAgain old (Err error) new = PullsHeader old (Err error) new
+  PullsAgain old (Err error) new = DecoderPullAnswer old (Err error) new
 
-  -- what `pull_again` does: its answer, and what it keeps
+  -- `pull_again`, and the facts that it keeps.
   pub record PullsBack (old : Decoder R) (result : Result Header (Error E)) (new : Decoder R) : Type 0 where
     pub again : PullsAgain old result new
     pub moves_on : MovesOn old new
 
   -- ---- read_exact
 
-  -- all bytes asked for were read
+  -- The decoder read all bytes that the caller asked for.
   pub record ReadsAll (old : Decoder R) (read : List ℕ) (new : Decoder R) : Type 0 where
     pub bytes : Consumes (source.ahead old.reader) (source.ahead new.reader) read
     pub offset : new.offset ≡ old.offset + length read
@@ -270,19 +273,19 @@ module _ {R E : Type 0} (source : Ghosts R E) where
     pub failures : failures_of new ≡ failures_of old
     pub mode : new.strict ≡ old.strict
 
-  -- the reader failed
+  -- The reader failed.
   pub record ReadFails (old : Decoder R) (count : ℕ) (new : Decoder R) : Type 0 where
     pub offset : new.offset ≡ old.offset
     pub fitted : old.offset + count < offset_limit
     pub none_waited : old.waiting ≡ None
     pub none_waits : new.waiting ≡ None
     pub failures : failures_of new ≡ failures_of old + 1
-    -- a steady reader fails only where bytes are missing, and keeps what there is
+    -- A steady reader fails only if bytes are missing, and keeps the bytes that there are.
     pub steady : IsSteady old → (source.ahead new.reader ≡ source.ahead old.reader)
         × IfSome (source.ahead old.reader) (λ bytes. length bytes < count)
 
-  -- what `read_exact` does, by its answer: a read of as many bytes as the list has, which holds them where the answer
-  -- is Ok; the reader failed; or a refusal, which leaves the decoder untouched
+  -- `read_exact`, by its answer: a read of as many bytes as the list has. If the answer is `Ok`, the list holds the
+  -- bytes. Otherwise the reader failed, or a refusal left the decoder untouched.
   abbrev pub ReadsBytes : Decoder R → Result (Unit {0}) (Error E) → List ℕ → Decoder R → Type 0
   ReadsBytes old (Ok done) bytes new = ReadsAll old bytes new
   ReadsBytes old (Err (e.Io fault)) bytes new = ReadFails old (length bytes) new
@@ -291,7 +294,7 @@ module _ {R E : Type 0} (source : Ghosts R E) where
       × IsUntouched old new
   ReadsBytes old (Err (e.Syntax place)) bytes new = ⊥
 
-  -- what `read_exact` does: its answer, and what it keeps. A refusal is counted
+  -- `read_exact`, and the facts that it keeps. The decoder counts a refusal.
   pub record Reads (old : Decoder R) (result : Result (Unit {0}) (Error E)) (bytes : List ℕ) (new : Decoder R) :
       Type 0 where
     pub read : ReadsBytes old result bytes new
@@ -302,25 +305,25 @@ module _ {R E : Type 0} (source : Ghosts R E) where
 
   -- ---- the affix of a title, inside `pull`
 
-  -- the affix that a first byte announces was read, and it is that of this minor
+  -- The decoder read the affix that a first byte announces, and it is the affix of this minor.
   pub record HoldsAffix (first : ℕ) (old : Decoder R) (read : Minor) (new : Decoder R) : Type 0 where
     pub is_minor : IsMinor read
     pub code : first % 32 ≡ minor_code read
     pub all : ReadsAll old (minor_affix read) new
 
-  -- the affix was read, and no strict decoder refuses its number
+  -- The decoder read the affix. If the decoder is strict, it takes the number.
   pub record ReadsAffix (first : ℕ) (old : Decoder R) (read : Minor) (new : Decoder R) : Type 0 where
     pub holds : HoldsAffix first old read new
-    pub taken : IsTrue old.strict → longer_parts (first / 32) read ≡ false
+    pub taken : IsTrue old.strict → refused_when_strict (first / 32) read ≡ false
 
-  -- the affix was read, and a strict decoder refused its number
+  -- The decoder read the affix, is strict, and refused its number.
   pub record RefusesAffix (first : ℕ) (old new : Decoder R) : Type 0 where
     pub read : Minor
     pub holds : HoldsAffix first old read new
     pub strict : IsTrue old.strict
-    pub longer : longer_parts (first / 32) read ≡ true
+    pub longer : refused_when_strict (first / 32) read ≡ true
 
-  -- the read of an affix, by its answer
+  -- The read of an affix, by its answer.
   abbrev pub ReadsMinor : ℕ → Decoder R → Result (Option Minor) (Error E) → Decoder R → Type 0
   ReadsMinor first old (Ok (Some read)) new = ReadsAffix first old read new
   ReadsMinor first old (Ok None) new = (IsReserved (first % 32) × (new ≡ old)) ⊎ RefusesAffix first old new

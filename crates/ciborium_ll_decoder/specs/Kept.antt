@@ -1,9 +1,9 @@
--- The bytes of a text that may begin a character, which a segment keeps.
+-- The bytes of a text that may begin a character. A segment keeps them.
 use Rattle.std.specs.Prelude.{ℕ, List, [], ◌∷◌}
 use Rattle.ciborium_ll_decoder.specs.declared.seg.Kept.{Kept}
 use Rattle.ciborium_ll_decoder.specs.declared.seg.Kept.TheVariants as k
 
--- the kept bytes, in order
+-- The kept bytes, in order.
 abbrev pub kept_bytes : Kept → List ℕ
 kept_bytes k.Nothing = []
 kept_bytes (k.One first) = first ∷ []

@@ -1,5 +1,5 @@
--- What `skip_bytes` and `skip_text` do: a string is read to its end, behind its header. The old decoder stands behind
--- that header, and the bytes of the string are those of the header's shortest title and then those that are consumed.
+-- `skip_bytes` and `skip_text` read a string to its end, after its header. The old decoder is after that header. The
+-- bytes of the string are those of the header's shortest title, and then those that are consumed.
 use Rattle.std.specs.Prelude.{◌≡◌, ℕ, ◌-◌, ◌⊎◌, Bool, List, [], ◌∷◌, ◌++◌, Option, Some, None, Result, Ok, Err}
 use Rattle.ciborium_ll_io.specs.declared.io.Read.{Ghosts}
 use Rattle.ciborium_ll_decoder.specs.declared.dec.Decoder.{Decoder}
@@ -10,52 +10,52 @@ use Rattle.ciborium_ll_grammar.specs.Strings.{Kind, kind_header, IsString}
 use Rattle.ciborium_ll_grammar.specs.Elements.{AreWritable}
 use Rattle.ciborium_ll_grammar.specs.Faults.{IsInside, IsRefusedIn}
 use Rattle.ciborium_ll_grammar.specs.Items.{AreTakenStrings}
-use Rattle.ciborium_ll_decoder.specs.Decoding.{IsSteady, MovesOn, Passes, PullsHeader, PullsTitle}
+use Rattle.ciborium_ll_decoder.specs.Decoding.{IsSteady, MovesOn, ReadsPast, DecoderPullAnswer, PullsTitle}
 use Rattle.ciborium_ll_decoder.specs.Finishing.{EndsBody}
 use Rattle.ciborium_ll_decoder.specs.Segments.{PullsOther}
 
--- behind an open these strings stand, and then its break: any strings, or where only the shortest spelling is taken
--- strings of a definite length alone, each under a strict title (RFC 7049, 2.2.2 and 3.9)
+-- After an open these strings stand, and then its break. If only the shortest spelling is taken, the strings have a
+-- definite length, each under a strict title (RFC 7049, 2.2.2 and 3.9).
 abbrev pub IsTakenBehind : Bool → Kind → Option ℕ → List ℕ → List (List ℕ) → Type 0
 IsTakenBehind strict kind (Some len) behind bodies = Unit {0}
 IsTakenBehind strict kind None behind bodies =
     (strings : List ℕ) × (behind ≡ strings ++ 0xff ∷ []) × AreTakenStrings strict kind strings bodies
 
 module _ {R E : Type 0} (source : Ghosts R E) (kind : Kind) where
-  -- all of the string was read: the bytes behind its header make one string, and its bodies are sound; of a strict
-  -- decoder it is in its shortest spelling (RFC 7049, 2.2.2 and 3.9)
+  -- The decoder read all of the string: the bytes after its header make one string, and its bodies are sound. A strict
+  -- decoder read it in its shortest spelling (RFC 7049, 2.2.2 and 3.9).
   pub record SkipsWhole (len : Option ℕ) (old new : Decoder R) : Type 0 where
     pub behind : List ℕ
     pub bodies : List (List ℕ)
     pub is_string : IsString kind (shortest_title (kind_header kind len) ++ behind) bodies
     pub taken : IsTakenBehind old.strict kind len behind bodies
     pub sound : AreWritable kind bodies
-    pub passed : Passes source old behind new
+    pub passed : ReadsPast source old behind new
 
-  -- a beginning of a string of indefinite length was read, behind its open: further opens, and whole strings; by a
-  -- strict decoder strings of a definite length alone, each under a strict title (RFC 7049, 2.2.2 and 3.9)
+  -- The decoder read a beginning of a string of indefinite length, after its open: further opens, and whole strings. A
+  -- strict decoder read strings of a definite length alone, each under a strict title (RFC 7049, 2.2.2 and 3.9).
   pub record SkipsInside (old between : Decoder R) : Type 0 where
     pub behind : List ℕ
     pub bodies : List (List ℕ)
     pub inside : IsInside kind (shortest_title (kind_header kind None) ++ behind) bodies
     pub taken : AreTakenStrings old.strict kind behind bodies
     pub sound : AreWritable kind bodies
-    pub passed : Passes source old behind between
+    pub passed : ReadsPast source old behind between
 
-  -- there `pull` failed, where a title is due (RFC 7049, 2.2.2)
+  -- After that beginning a title is due, and `pull` failed (RFC 7049, 2.2.2).
   pub record MeetsNoTitle (old : Decoder R) (error : Error E) (new : Decoder R) : Type 0 where
     pub between : Decoder R
     pub part : SkipsInside old between
-    pub fails : PullsHeader source between (Err error) new
+    pub fails : DecoderPullAnswer source between (Err error) new
 
-  -- there a title came that may not stand within the string, at this offset (RFC 7049, 2.2.2)
+  -- After that beginning a title came at this offset that may not stand within the string (RFC 7049, 2.2.2).
   pub record MeetsOther (old : Decoder R) (at : ℕ) (new : Decoder R) : Type 0 where
     pub between : Decoder R
     pub part : SkipsInside old between
     pub other : PullsOther source (IsRefusedIn between.strict kind) between at new
 
-  -- there the title of a segment came, and the read of its body failed: its place is the offset of that title (RFC
-  -- 7049, 2.2.2)
+  -- After that beginning the title of a segment came, and the read of its body failed. The body's place is the offset
+  -- of that title (RFC 7049, 2.2.2).
   pub record MeetsBody (room : ℕ) (old : Decoder R) (error : Error E) (new : Decoder R) : Type 0 where
     pub between : Decoder R
     pub part : SkipsInside old between
@@ -65,7 +65,7 @@ module _ {R E : Type 0} (source : Ghosts R E) (kind : Kind) where
     pub steady : IsSteady source old → IsSteady source titled
     pub ends : EndsBody source kind [] len room between.offset titled (Err error) new
 
-  -- how the read of a string of indefinite length fails (RFC 7049, 2.2.2)
+  -- The read of a string of indefinite length fails in one of these ways (RFC 7049, 2.2.2).
   abbrev pub StopsInside : ℕ → Decoder R → Error E → Decoder R → Type 0
   StopsInside room old (e.Io fault) new = MeetsNoTitle old (e.Io fault) new ⊎ MeetsBody room old (e.Io fault) new
   StopsInside room old (e.Syntax at) new = MeetsNoTitle old (e.Syntax at) new ⊎
@@ -73,15 +73,15 @@ module _ {R E : Type 0} (source : Ghosts R E) (kind : Kind) where
   StopsInside room old e.TooLong new = MeetsNoTitle old e.TooLong new ⊎ MeetsBody room old e.TooLong new
   StopsInside room old e.Waiting new = ⊥
 
-  -- a string of this length is read to its end, through a buffer of so much room. The place of a lone body is where the
-  -- header's shortest title would begin
+  -- The decoder reads a string of this length to its end, through a buffer of `room` bytes. The place of a lone body is
+  -- the offset at which the header's shortest title would begin.
   abbrev pub SkipsString : Option ℕ → ℕ → Decoder R → Result (Unit {0}) (Error E) → Decoder R → Type 0
   SkipsString len room old (Ok done) new = SkipsWhole len old new
   SkipsString None room old (Err error) new = StopsInside room old error new
   SkipsString (Some len) room old (Err error) new =
       EndsBody source kind [] len room (old.offset - title_len (kind_header kind (Some len))) old (Err error) new
 
-  -- the same, and what both keep
+  -- `skip_bytes` and `skip_text`, and the facts that they keep.
   pub record SkipsOver (len : Option ℕ) (room : ℕ) (old : Decoder R) (result : Result (Unit {0}) (Error E))
       (new : Decoder R) : Type 0 where
     pub skipped : SkipsString len room old result new

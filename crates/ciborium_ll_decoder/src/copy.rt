@@ -1,10 +1,11 @@
-//! The body of a string copied to a writer, chunk by chunk.
+//! The body of a string, copied to a writer chunk by chunk.
 
 ghost use Rattle.std.specs.Prelude.{◌≡◌, ◌≤◌, None, length};
 ghost use Rattle.ciborium_ll_decoder.specs.BodyCopies.{CopiesBody, CopiesSegment, sides};
 ghost use Rattle.ciborium_ll_decoder.specs.Chunks.{IsWhole, segment_decoder, segment_reference};
 ghost use Rattle.ciborium_ll_decoder.specs.Decoding.{MovesOn, waiting_of};
 ghost use Rattle.ciborium_ll_decoder.specs.Segments.{string_decoder};
+ghost use Rattle.ciborium_ll_grammar.specs.declared.limits.TheConstants.{LEAST_BUFFER};
 
 use crate::dec::{Decoder, Error};
 use crate::seg::{Body, Chunked, Segment, Segments};
@@ -30,17 +31,23 @@ impl<E, F> From<Error<E>> for RecodeError<E, F> {
 }
 
 impl<'r, R: Read, P: Chunked> Segments<'r, R, P> {
-    /// Writes the body that [`Segments::advance`] gave last to a writer, without its title: each chunk as soon as it is
-    /// handed out, by pulls through `buffer`, which has four bytes at least.
+    /// Writes the body that [`Segments::advance`] gave last to a writer, without its title.
     ///
-    /// `Ok` says that the whole body was read and written, and that it is UTF-8 where it is of a text: the decoder is
-    /// then behind it, and just the bytes of the body were consumed and written. `Read` carries the decoder's error,
-    /// one of those of [`Segments::finish`]. `Write` carries the writer's error. What was read before an error is
-    /// consumed, and the chunks before it are written: of a `Read` just what was handed out of the body by then; of a
-    /// `Write` a front, and a beginning of the chunk behind it, at which the writer failed, once. Front and chunk were
-    /// then consumed, one byte at least, and of a text up to three bytes behind them.
+    /// The body goes through `buffer`, which has four bytes at least. Each chunk is written as soon as it is handed
+    /// out.
     ///
-    /// The string goes on as before, and the writer stays on its slice.
+    /// `Ok` means that the whole body was read and written, and that the body of a text is UTF-8. Exactly the bytes of
+    /// the body were consumed and written.
+    ///
+    /// # Errors
+    ///
+    /// - `Read`, with an error of [`Segments::finish`]. Exactly the chunks that were handed out by then are written.
+    /// - `Write`, with the writer's error. A front of the body is written, and a beginning of the next chunk, at which
+    ///   the writer failed, once. The front, the chunk and, of a text, up to three bytes after them were consumed: at
+    ///   least one byte.
+    ///
+    /// Bytes that were read before an error are consumed. The string goes on as before, and the writer stays on its
+    /// slice.
     #[inline(always)]
     pub fn copy<W: Write>(
         &mut self,
@@ -48,7 +55,7 @@ impl<'r, R: Read, P: Chunked> Segments<'r, R, P> {
         writer: &mut W,
         buffer: &mut [u8],
     ) -> Result<(), RecodeError<R::Error, W::Error>>
-        requires room { 4 ≤ length buffer.old }
+        requires room { LEAST_BUFFER ≤ length buffer.old }
         requires none_waits { waiting_of (string_decoder self.old) ≡ None }
         ensures { CopiesSegment R.Read W.Write body (length buffer.old) self.old writer.old result self.new
             writer.new }
@@ -58,9 +65,11 @@ impl<'r, R: Read, P: Chunked> Segments<'r, R, P> {
     }
 }
 
-/// Writes the body of a string of a definite length to a writer, without its title, as [`Segments::copy`] writes that
-/// of a segment, through `buffer` of four bytes at least, and answers as that does. It pushes no header back, and names
-/// the place that it is given. Users copy elements, or the bodies of a string.
+/// Writes the body of a string of a definite length to a writer, without its title, as [`Segments::copy`] writes the
+/// body of a segment.
+///
+/// `buffer` has four bytes at least. The answers are those of [`Segments::copy`]. The call pushes no header back, and
+/// names the place that the caller gives it. Users copy elements, or the bodies of a string.
 #[inline(always)]
 pub fn copy_body<R: Read, W: Write, P: Chunked>(
     decoder: &mut Decoder<R>,
@@ -68,7 +77,7 @@ pub fn copy_body<R: Read, W: Write, P: Chunked>(
     writer: &mut W,
     buffer: &mut [u8],
 ) -> Result<(), RecodeError<R::Error, W::Error>>
-    requires room { 4 ≤ length buffer.old }
+    requires room { LEAST_BUFFER ≤ length buffer.old }
     requires none_waits { waiting_of decoder.old ≡ None }
     ensures copied { CopiesBody R.Read W.Write P.kind body.length (length buffer.old) body.place
         (sides decoder.old writer.old) result (sides decoder.new writer.new) }
@@ -87,7 +96,7 @@ fn copy_chunks<R: Read, W: Write, P: Chunked>(
     writer: &mut W,
     buffer: &mut [u8],
 ) -> Result<(), RecodeError<R::Error, W::Error>>
-    requires room { 4 ≤ length buffer.old }
+    requires room { LEAST_BUFFER ≤ length buffer.old }
     requires whole { IsWhole body segment.old }
     ensures copied { CopiesBody R.Read W.Write P.kind body.length (length buffer.old) body.place
         (sides (segment_decoder segment.old) writer.old) result (sides (segment_decoder segment.new) writer.new) }

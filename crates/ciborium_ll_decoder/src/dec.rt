@@ -1,10 +1,11 @@
-//! The decoder: headers out of a reader.
+//! The decoder: it reads headers from a reader.
 
 ghost use Rattle.std.specs.Prelude.{◌≡◌, ◌+◌, ◌≤◌, ◌<◌, ◌^◌};
 ghost use Rattle.ciborium_ll_grammar.specs.Title.{waiting_len};
 
 use ciborium_ll_grammar::hdr::table::{Affix, row_of};
 use ciborium_ll_grammar::hdr::{Header, Minor, Title, shortest};
+use ciborium_ll_grammar::spelling::Spelling;
 use ciborium_ll_io::io::{Failures, Read};
 
 /// Why a decoder failed.
@@ -12,12 +13,14 @@ use ciborium_ll_io::io::{Failures, Read};
 pub enum Error<T> {
     /// The reader failed, and this is its error.
     Io(T),
-    /// The bytes at this offset are no CBOR that could stand there. Of a body that is no text it is the offset of its
-    /// title, or, where a whole string's title is longer than its shortest one, of the byte from which the shortest
-    /// would reach the body.
+    /// The bytes at this offset are no CBOR that may stand there.
+    ///
+    /// It is the offset of the title at fault, or of the title of a body that is no text. A whole string's title may be
+    /// longer than the shortest title. If the body of that string is no text, the offset is that of the byte from which
+    /// the shortest title would reach the body. For example, `78 01 ff` has the length 1 in two bytes, and its place is
+    /// 1: the shortest title `61` would begin there.
     Syntax(usize),
-    /// The offset would pass `usize::MAX`, or so many opens of a string of indefinite length stand within one another
-    /// that they can't be counted.
+    /// The offset would pass `usize::MAX`, or a string has more opens within one another than a `usize` counts.
     TooLong,
     /// A header waits, so the decoder gives no bytes as a reader.
     Waiting,
@@ -35,10 +38,10 @@ impl<T> From<T> for Error<T> {
 
 /// Reads headers, and counts the bytes that it consumed.
 ///
-/// A header that was pulled may be pushed back. It then waits, and is the next one to be pulled.
+/// A caller may push back a header that it pulled. The header then waits, and the next pull gives it.
 ///
-/// Each call that reads moves the decoder on, whatever it answers: the offset never falls, a steady reader stays
-/// steady, and a strict decoder strict. `Io` comes only where the reader failed in that call, and it then failed once.
+/// Each call that reads moves the decoder on, whatever it answers. The offset never falls, a steady reader stays
+/// steady, and a strict decoder stays strict. `Io` comes only if the reader failed in that call, once.
 #[derive(Drop)]
 pub struct Decoder<R> {
     reader: R,
@@ -54,7 +57,7 @@ impl<R: Read> From<R> for Decoder<R> {
 
     ghost from_gives = { λ reader decoder. IsFresh reader 0 decoder };
 
-    /// A decoder at the offset 0.
+    /// Makes a decoder at the offset 0.
     fn from(reader: R) -> Decoder<R> {
         Decoder::with_offset(reader, 0)
     }
@@ -64,54 +67,61 @@ impl<R: Read> Decoder<R> {
     ghost use Rattle.std.specs.Prelude.{replicate, ℕ, ◌<◌, ◌^◌, ◌%◌, IsTrue, true, ◌↔◌, None, Some};
     ghost use Rattle.std.specs.Prelude.{Err, IfOk, MatchResult, IsErrOf, ◌/◌, ◌&&◌, if◌then◌else◌};
     ghost use Rattle.ciborium_ll_grammar.specs.Title.{title_len, IsTitle};
-    ghost use Rattle.ciborium_ll_grammar.specs.Parts.{IsParts, longer_parts, title_bytes};
+    ghost use Rattle.ciborium_ll_grammar.specs.Parts.{IsParts, refused_when_strict, title_bytes};
+    ghost use Rattle.ciborium_ll_grammar.specs.Spellings.{is_shortest};
     ghost use Rattle.ciborium_ll_grammar.specs.TitleRows.{IsAffix};
     ghost use Rattle.ciborium_ll_decoder.specs.Decoding.{HoldsAffix, IsFresh, IsFreshAs, IsWaiting, MovesOn};
-    ghost use Rattle.ciborium_ll_decoder.specs.Decoding.{Pulls, PullsHeader, PullsTitle, ReadsAll, ReadsBytes};
+    ghost use Rattle.ciborium_ll_decoder.specs.Decoding.{DecoderPull, DecoderPullAnswer, PullsTitle, ReadsAll, ReadsBytes};
     ghost use Rattle.ciborium_ll_decoder.specs.Decoding.{ReadsMinor, TakesBack, offset_of};
     ghost use Rattle.ciborium_ll_decoder.specs.Decoding.{reader_of, refusals_of, strict_of, waiting_of};
 
-    /// A decoder that counts from this offset, in bytes. No header waits, and it isn't strict.
+    /// Makes a decoder that counts from this offset, in bytes. No header waits, and the decoder isn't strict.
     pub fn with_offset(reader: R, offset: usize) -> Decoder<R>
         ensures { IsFresh reader offset result }
+    {
+        Decoder::with_spelling(reader, Spelling::Any, offset)
+    }
+
+    /// Makes a strict decoder at the offset 0, on which no header waits.
+    ///
+    /// It takes each header by its shortest title alone (RFC 7049, 3.9), no simple value from 24 to 31 (2.3), and no
+    /// string of indefinite length within another string (2.2.2).
+    ///
+    /// [`Decoder::pull`] answers `Syntax` for any other title, and a string does for an open within an open. The offset
+    /// is that of the title's start, and all of the title is consumed. A header that was pushed back is given as it was
+    /// pushed.
+    pub fn strict(reader: R) -> Decoder<R>
+        ensures { IsFreshAs true reader 0 result }
+    {
+        Decoder::with_spelling(reader, Spelling::Shortest, 0)
+    }
+
+    /// Makes a decoder that takes titles of this spelling, and counts from this offset, in bytes. No header waits.
+    ///
+    /// With `Shortest` the decoder is strict, as that of [`Decoder::strict`]. With `Any` it isn't, as that of
+    /// [`Decoder::with_offset`]. For example, a strict decoder that begins at the offset 100 answers `Syntax(100)` for
+    /// the bytes `18 01`.
+    pub fn with_spelling(reader: R, spelling: Spelling, offset: usize) -> Decoder<R>
+        ensures { IsFreshAs (is_shortest spelling) reader offset result }
     {
         Decoder {
             reader,
             offset,
             waiting: None,
-            strict: false,
+            strict: spelling.is_shortest(),
             refusals: Failures::new(),
         }
     }
 
-    /// A strict decoder at the offset 0, on which no header waits. It takes each header by its shortest title alone
-    /// (RFC 7049, 3.9), no simple value from 24 to 31 (2.3), and no string of indefinite length within another one
-    /// (2.2.2).
-    ///
-    /// Its [`Decoder::pull`] answers `Syntax` for any other title, and its strings for an open behind one that isn't
-    /// closed: with the offset of that title's start, and all of the title is consumed. A header that was pushed back
-    /// is given as it was pushed.
-    pub fn strict(reader: R) -> Decoder<R>
-        ensures { IsFreshAs true reader 0 result }
-    {
-        Decoder {
-            reader,
-            offset: 0,
-            waiting: None,
-            strict: true,
-            refusals: Failures::new(),
-        }
-    }
-
-    /// The reader. A waiting header is given up.
+    /// Returns the reader, and gives up a waiting header.
     pub fn into_inner(self) -> R
         ensures { result ≡ reader_of self }
     {
         self.reader
     }
 
-    /// How many bytes were consumed, counted from the offset at the start. A waiting header is not consumed. The
-    /// decoder stays as it is.
+    /// Returns the offset at the start plus the number of bytes that were consumed. A waiting header is not consumed.
+    /// The decoder stays as it is.
     pub fn offset(&mut self) -> usize
         ensures value { result ≡ offset_of self.old }
         ensures same { self.new ≡ self.old }
@@ -119,32 +129,44 @@ impl<R: Read> Decoder<R> {
         self.offset
     }
 
-    /// Whether a header waits.
+    /// Returns whether a header waits.
     pub fn is_waiting(&self) -> bool
         ensures { IsTrue result ↔ IsWaiting self.now }
     {
         self.waiting.is_some()
     }
 
-    /// Whether the decoder is strict.
+    /// Returns which titles the decoder takes: `Shortest` if it is strict, and otherwise `Any`.
+    pub fn spelling(&self) -> Spelling
+        ensures { is_shortest result ≡ strict_of self.now }
+    {
+        Spelling::shortest_if(self.strict)
+    }
+
+    /// Returns whether the decoder is strict.
     pub(crate) fn is_strict(&self) -> bool
         ensures { result ≡ strict_of self.now }
     {
         self.strict
     }
 
-    /// Takes the next header (RFC 7049, 2.1 to 2.3): the waiting one, or else one title from the reader. `Ok` says that
-    /// what was due began with a title of that header, and that just this title is gone; so the header may be pushed
-    /// back.
+    /// Takes the next header (RFC 7049, 2.1 to 2.3): the waiting header, or otherwise one title from the reader.
     ///
-    /// The errors are `Syntax` with the offset of the title's start, for one of the 27 first bytes with which no title
-    /// begins, and that byte is consumed; `Io` where the reader failed; and `TooLong` where the offset can't take the
-    /// next read. After the last two a first byte that was read stays consumed, and no more; of `Io` this is said over
-    /// a steady reader, and over any other one that no more than a byte is. Over a steady reader `Io` says that the
-    /// bytes end before a title or inside it.
+    /// `Ok` means that a title of that header was due, and that exactly this title is consumed. So the caller may give
+    /// the header back to [`Decoder::push`].
     ///
-    /// A strict decoder answers `Syntax` also for a title that isn't the shortest of its header, and for a simple value
-    /// below 32 in two bytes. All of that title is then consumed. See [`Decoder::push`] and [`Decoder::strict`].
+    /// # Errors
+    ///
+    /// - `Syntax(offset)`, the offset of the title's start: the first byte is one of the 27 bytes with which no title
+    ///   begins, and is consumed. A strict decoder also refuses a title that isn't the shortest of its header, and a
+    ///   simple value below 32 in two bytes, and consumes all of that title. See [`Decoder::strict`].
+    /// - `Io`: the reader failed. Over a steady reader the bytes end before a title or inside it.
+    /// - `TooLong`: the offset can't take the next read.
+    ///
+    /// After `TooLong`, and after `Io` over a steady reader, a first byte that was read stays consumed, and no more.
+    /// After `Io` over another reader at most one byte is consumed.
+    ///
+    /// # Examples
     ///
     /// ```rust
     /// let sum = match decoder.pull()? {
@@ -156,9 +178,9 @@ impl<R: Read> Decoder<R> {
     /// ```
     #[inline(always)]
     pub fn pull(&mut self) -> Result<Header, Error<R::Error>>
-        ensures { Pulls R.Read self.old result self.new }
+        ensures { DecoderPull R.Read self.old result self.new }
     {
-        // No call here takes `&mut self`: so in a loop over a slice the decoder's fields stay in registers.
+        // No call here takes `&mut self`, so the decoder's fields stay in registers in a loop over a slice.
         if let Some(header) = self.waiting {
             self.waiting = None;
             self.offset += header.title_len();
@@ -168,12 +190,12 @@ impl<R: Read> Decoder<R> {
         Ok(header)
     }
 
-    /// Takes the next header, and a title of it in its parts: the one that was read, or of a waiting header the
-    /// shortest.
+    /// Takes the next header, and returns it with a title of it in parts: the title that was read, or the shortest
+    /// title of a waiting header.
     #[inline(always)]
     pub(crate) fn pull_title(&mut self) -> Result<(Header, Title), Error<R::Error>>
         ensures header { MatchResult result (λ pulled. PullsTitle R.Read self.old pulled.0 self.new)
-            (λ error. PullsHeader R.Read self.old (Err error) self.new) }
+            (λ error. DecoderPullAnswer R.Read self.old (Err error) self.new) }
         ensures parts { IfOk result (λ pulled. IsParts pulled.1) }
         ensures title { IfOk result (λ pulled. IsTitle (title_bytes pulled.1) pulled.0) }
         ensures full { waiting_of self.old ≡ None → offset_of self.old ≡ usize.MAX → IsErrOf result Error.TooLong }
@@ -185,12 +207,12 @@ impl<R: Read> Decoder<R> {
         self.title()
     }
 
-    /// Reads the next title, and gives the header that it means, too.
+    /// Reads the next title, and returns the header that it means and its parts.
     #[inline(always)]
     fn title(&mut self) -> Result<(Header, Title), Error<R::Error>>
         requires none_waits { waiting_of self.old ≡ None }
         ensures header { MatchResult result (λ pulled. PullsTitle R.Read self.old pulled.0 self.new)
-            (λ error. PullsHeader R.Read self.old (Err error) self.new) }
+            (λ error. DecoderPullAnswer R.Read self.old (Err error) self.new) }
         ensures parts { IfOk result (λ pulled. IsParts pulled.1) }
         ensures title { IfOk result (λ pulled. IsTitle (title_bytes pulled.1) pulled.0) }
         ensures covered { IfOk result (λ pulled. title_len pulled.0 ≤ offset_of self.new) }
@@ -214,7 +236,8 @@ impl<R: Read> Decoder<R> {
         }
     }
 
-    /// Takes the header that waits, and its shortest title. It is kept apart from the path of a title that is read.
+    /// Takes the header that waits, and returns it with its shortest title. This call is kept apart from the path of a
+    /// title that is read.
     #[cold]
     #[inline(never)]
     fn pull_waiting(&mut self, header: Header) -> (Header, Title)
@@ -229,11 +252,15 @@ impl<R: Read> Decoder<R> {
         (header, shortest(header))
     }
 
-    /// Gives a header back, to be given by the next [`Decoder::pull`]. The offset falls by the length of its shortest
-    /// title, [`Header::title_len`], and the header waits in front of what was due. The reader is left alone.
+    /// Takes a header back, and gives it at the next [`Decoder::pull`].
     ///
-    /// No header may wait, and the offset has to cover that title. Both are so behind the [`Decoder::pull`] that gave
-    /// the header; [`Decoder::is_waiting`] and [`Decoder::offset`] test them.
+    /// The offset falls by the length of the header's shortest title, [`Header::title_len`]. The header waits before
+    /// the bytes that were due. The reader is left alone.
+    ///
+    /// No header may wait, and the offset has to cover that title. Both hold after the [`Decoder::pull`] that gave the
+    /// header. [`Decoder::is_waiting`] and [`Decoder::offset`] test them.
+    ///
+    /// # Examples
     ///
     /// ```rust
     /// let header = decoder.pull()?;
@@ -249,8 +276,8 @@ impl<R: Read> Decoder<R> {
         self.waiting = Some(item);
     }
 
-    /// Reads the affix that a first byte announces: nothing for a reserved minor, nor for a number that a strict
-    /// decoder refuses there.
+    /// Reads the affix that a first byte announces. The answer is `None` for a reserved minor, and for a number that a
+    /// strict decoder refuses there.
     #[inline(always)]
     fn minor(&mut self, affix: Affix, first: u8) -> Result<Option<Minor>, Error<R::Error>>
         requires affix { IsAffix affix (first % 32) }
@@ -276,7 +303,7 @@ impl<R: Read> Decoder<R> {
         Ok(self.taken(minor, first))
     }
 
-    /// The minor of an affix of one byte.
+    /// Reads an affix of one byte, and returns its minor.
     #[inline(always)]
     fn one(&mut self) -> Result<Minor, Error<R::Error>>
         requires { waiting_of self.old ≡ None }
@@ -289,7 +316,7 @@ impl<R: Read> Decoder<R> {
         Ok(Minor::One(u64::from(u8::from_be_bytes(bytes))))
     }
 
-    /// The minor of an affix of two bytes.
+    /// Reads an affix of two bytes, and returns its minor.
     #[inline(always)]
     fn two(&mut self) -> Result<Minor, Error<R::Error>>
         requires { waiting_of self.old ≡ None }
@@ -302,7 +329,7 @@ impl<R: Read> Decoder<R> {
         Ok(Minor::Two(u64::from(u16::from_be_bytes(bytes))))
     }
 
-    /// The minor of an affix of four bytes.
+    /// Reads an affix of four bytes, and returns its minor.
     #[inline(always)]
     fn four(&mut self) -> Result<Minor, Error<R::Error>>
         requires { waiting_of self.old ≡ None }
@@ -315,7 +342,7 @@ impl<R: Read> Decoder<R> {
         Ok(Minor::Four(u64::from(u32::from_be_bytes(bytes))))
     }
 
-    /// The minor of an affix of eight bytes.
+    /// Reads an affix of eight bytes, and returns its minor.
     #[inline(always)]
     fn eight(&mut self) -> Result<Minor, Error<R::Error>>
         requires { waiting_of self.old ≡ None }
@@ -328,20 +355,19 @@ impl<R: Read> Decoder<R> {
         Ok(Minor::Eight(u64::from_be_bytes(bytes)))
     }
 
-    /// The affix behind a first byte, or nothing where a strict decoder refuses it.
+    /// Returns the minor, or `None` if a strict decoder refuses it after the first byte.
     #[inline(always)]
     fn taken(&self, minor: Minor, first: u8) -> Option<Minor>
-        ensures taken { result ≡ (if strict_of self.now && longer_parts (first / 32) minor then None else Some minor) }
+        ensures taken { result ≡ (if strict_of self.now && refused_when_strict (first / 32) minor then None else Some minor) }
     {
-        if self.strict && minor.is_longer(first / 32) {
+        if self.strict && minor.is_refused_when_strict(first / 32) {
             None
         } else {
             Some(minor)
         }
     }
 
-    /// Reads an affix of so many bytes. Each affix has an array of its own here, which is cleared only where it is
-    /// read.
+    /// Reads an affix of `N` bytes. Each affix has its own array here, which is cleared only if the affix is read.
     #[inline(always)]
     fn affix<const N: usize>(&mut self) -> Result<[u8; N], Error<R::Error>>
         requires { waiting_of self.old ≡ None }
@@ -387,10 +413,15 @@ impl<R: Read> Read for Decoder<R> {
 
     ghost steady_is_told = { λ _ h. Prim.search rules };
 
-    /// Reads the bytes of a body, behind the header that was pulled. The offset rises by their number.
+    /// Reads the bytes of a body, after the header that was pulled. The offset rises by their number.
     ///
-    /// The errors are `Waiting` where a header waits, then `TooLong` where the offset would pass `usize::MAX`, and
-    /// `Io` where the reader failed. None of them moves the offset.
+    /// # Errors
+    ///
+    /// No error moves the offset.
+    ///
+    /// - `Waiting`: a header waits. It comes before the other errors.
+    /// - `TooLong`: the offset would pass `usize::MAX`.
+    /// - `Io`: the reader failed.
     fn read_exact(&mut self, data: &mut [u8]) -> Result<(), Error<R::Error>>
         // The trait's.
         ensures bytes { OnOk result (Consumes (told_unless_waiting (waiting_of self.old) (R.ahead (reader_of self.old)))

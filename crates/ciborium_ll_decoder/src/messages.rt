@@ -1,4 +1,4 @@
-//! What the errors of a decoder and of a copy say to a person.
+//! The messages that a person reads for the errors of a decoder and of a copy.
 
 ghost use Rattle.ciborium_ll_decoder.specs.ErrorTexts.{error_text, recode_error_text};
 

@@ -1,4 +1,4 @@
-//! Strings, lent piece by piece (RFC 7049, 2.2.2).
+//! Strings, which a decoder lends piece by piece (RFC 7049, 2.2.2).
 
 ghost use Rattle.std.specs.Prelude.{◌≡◌, ◌≤◌, ◌<◌, ◌+◌, ◌^◌, ◌⊎◌, length, take, drop, true, IfOk, IfSome, IfNone, []};
 ghost use Rattle.std.specs.Prelude.{None, Some, IsTrue};
@@ -9,6 +9,7 @@ ghost use Rattle.ciborium_ll_grammar.specs.Strings.{Kind, kind_header, Bytes as 
 ghost use Rattle.ciborium_ll_decoder.specs.Kept.{kept_bytes};
 ghost use Rattle.ciborium_ll_decoder.specs.Progress.{opens_of};
 ghost use Rattle.ciborium_ll_text.specs.Text.{IsStuck};
+ghost use Rattle.ciborium_ll_grammar.specs.declared.limits.TheConstants.{MOST_KEPT};
 
 mod chunked;
 mod strings;
@@ -21,16 +22,16 @@ use ciborium_ll_io::io::Read;
 use ciborium_ll_text::state::{State, text_front, text_of};
 use std::marker::PhantomData;
 
-/// A kind of string: which headers begin one.
+/// A kind of string: it tells which headers begin one.
 pub trait Parser: Sized {
     ghost kind: { Kind };
 
-    /// The length in a header of the kind, or `Some(None)` for the indefinite form.
+    /// Returns the length in a header of the kind, or `Some(None)` for the indefinite form.
     fn length(header: Header) -> Option<Option<usize>>
         ensures of_kind { IfSome result (λ length. header ≡ kind_header kind length) }
         ensures other { IfNone result ((header ≡ Break) ⊎ IsMisplaced kind header) };
 
-    /// The header of the kind with this length, or of the indefinite form.
+    /// Returns the header of the kind with this length, or of the indefinite form.
     fn header(length: Option<usize>) -> Header
         ensures { result ≡ kind_header kind length };
 }
@@ -80,14 +81,14 @@ impl Parser for Text {
 pub struct Body {
     /// How many bytes the body has.
     pub length: usize,
-    /// The offset before the title was pulled, which a damage of the body names.
+    /// The offset before the title was pulled. The error of a damaged body names it.
     pub place: usize,
 }
 
 /// How far the titles of a string were read.
 #[derive(Clone, Copy)]
 pub(crate) enum Progress {
-    /// A title is due, and so many opens aren't closed.
+    /// A title is due, and this many opens aren't closed.
     Open(usize),
     /// The string has ended.
     Ended,
@@ -99,8 +100,8 @@ pub(crate) enum Progress {
 
 /// The segments of a string: its one body, or the bodies between an open and its break, to any depth.
 ///
-/// [`Segments::advance`], [`Segments::finish`] and [`Segments::copy`] move the decoder on, as its own calls do, and no
-/// call answers `Waiting`.
+/// [`Segments::advance`], [`Segments::finish`] and [`Segments::copy`] move the decoder on, as its own calls do. No call
+/// answers `Waiting`.
 #[derive(Drop)]
 pub struct Segments<'r, R, P: Parser> {
     pub(crate) decoder: &'r mut Decoder<R>,
@@ -118,10 +119,10 @@ impl<'r, R: Read, P: Parser> Segments<'r, R, P> {
     ghost use Rattle.std.specs.Borrow.{sem};
     ghost use Rattle.ciborium_ll_decoder.specs.Segments.{GivesAgain, IsAtBeginning, StepsOver};
     ghost use Rattle.ciborium_ll_decoder.specs.Segments.{progress_of, string_decoder, string_reference, string_strict};
-    ghost use Rattle.ciborium_ll_decoder.specs.Chunks.{IsWhole, PullsSegment, segment_decoder};
-    ghost use Rattle.ciborium_ll_decoder.specs.Lend.{IsAdvanced, lends_segment, pulls_segment};
+    ghost use Rattle.ciborium_ll_decoder.specs.Chunks.{IsWhole, SegmentsPull, segment_decoder};
+    ghost use Rattle.ciborium_ll_decoder.specs.Lend.{SegmentsAdvance, lends_segment, pulls_segment};
 
-    /// The segments of the string whose header waits.
+    /// Makes the segments of the string whose header waits.
     pub(crate) fn new(decoder: &'r mut Decoder<R>) -> Segments<'r, R, P>
         ensures lent { string_decoder result ≡ decoder.old }
         ensures fresh { IsAtBeginning result }
@@ -137,22 +138,26 @@ impl<'r, R: Read, P: Parser> Segments<'r, R, P> {
         }
     }
 
-    /// Goes on to the next segment, past opens and breaks, and gives its body's length and place.
+    /// Moves to the next segment, and returns the length of its body and the offset of its title.
     ///
-    /// Behind opens and breaks that don't close the string came a title of the kind, with this length and at this
-    /// place. `None` says that the string has ended, by the break that closes the first open or before, and stays. The
-    /// errors are `Syntax` with the offset of a title that may not stand there or is none, which stays; `Io` where the
-    /// reader failed, and `TooLong` where the offset can't take the next read: the opens so far stay counted, and the
-    /// next call reads on; and `TooLong` for an open that can't be counted, which stays. An answer that stays reads
-    /// nothing.
+    /// The call passes over opens, and over breaks that don't close the string. `None` means that the string has ended,
+    /// by the break that closes the first open or before this call. This answer stays: later calls give it again, and
+    /// read nothing.
     ///
-    /// A strict decoder's string answers `Syntax` also for a title that its [`Decoder::pull`] refuses, and for an open
-    /// behind one that isn't closed. That title is then consumed. So no title leads on to a segment but the first open.
+    /// # Errors
     ///
-    /// The opens that aren't closed rise by no more than the offset does.
+    /// - `Syntax(offset)`, which stays: at this offset the bytes are no title, or a title that may not stand there.
+    /// - `Io` if the reader failed, `TooLong` if the offset can't take the next read: the opens so far stay counted,
+    ///   and the next call reads on.
+    /// - `TooLong` for an open that can't be counted, which stays.
+    ///
+    /// A strict decoder's string answers `Syntax` also for a title that [`Decoder::pull`] refuses, and for an open
+    /// within an open. It consumes that title. So it passes over the first open alone.
+    ///
+    /// The number of opens that aren't closed rises by no more than the offset does.
     #[inline(always)]
     pub fn advance(&mut self) -> Result<Option<Body>, Error<R::Error>>
-        ensures { IsAdvanced R.Read P.kind self.old result self.new }
+        ensures { SegmentsAdvance R.Read P.kind self.old result self.new }
     {
         'titles: while let Progress::Open(opens) = self.progress {
             if let Some(body) = self.step(opens)? {
@@ -166,10 +171,10 @@ impl<'r, R: Read, P: Parser> Segments<'r, R, P> {
         }
     }
 
-    /// The segment of a body that [`Segments::advance`] gave last. It lends the decoder on: nothing of the body is read
-    /// yet, and once the segment is gone the string has the decoder that the segment left.
+    /// Makes a segment of a body that [`Segments::advance`] gave last, and reads nothing of it yet.
     ///
-    /// A body that was not given by the last [`Segments::advance`] makes a segment of so many bytes all the same.
+    /// The segment lends the decoder on. After the segment is gone, the string has the decoder that the segment left. A
+    /// body that the last [`Segments::advance`] did not give makes a segment of that body's length all the same.
     pub fn segment(&mut self, body: Body) -> Segment<'_, R, P>
         requires { waiting_of (string_decoder self.old) ≡ None }
         ensures* lends { sem 𝓛 (lends_segment R.row P.row self.entry result) }
@@ -187,11 +192,14 @@ impl<'r, R: Read, P: Parser> Segments<'r, R, P> {
         }
     }
 
-    /// The next segment of the string. The answers are those of [`Segments::advance`], with a whole segment for a body.
-    /// Who has to know what the loan leaves takes [`Segments::advance`], and then [`Segments::finish`] or
-    /// [`Segments::copy`].
+    /// Moves to the next segment of the string, and returns it.
     ///
-    /// A segment that is dropped early leaves the rest of its body in the reader, where the next call reads on.
+    /// The answers are those of [`Segments::advance`], with a whole segment for a body. A caller that has to know the
+    /// decoder that the loan leaves calls [`Segments::advance`], and then [`Segments::finish`] or [`Segments::copy`].
+    ///
+    /// A segment that is dropped early leaves the rest of its body in the reader. The next call reads on there.
+    ///
+    /// # Examples
     ///
     /// ```rust
     /// let mut segments = decoder.text(len);
@@ -202,7 +210,7 @@ impl<'r, R: Read, P: Parser> Segments<'r, R, P> {
     /// ```
     pub fn pull(&mut self) -> Result<Option<Segment<'_, R, P>>, Error<R::Error>>
         ensures* lends { sem 𝓛 (pulls_segment R.row P.row R.Read self.entry result) }
-        ensures pulls { PullsSegment R.Read P.kind (string_strict self.old) (progress_of self.old)
+        ensures pulls { SegmentsPull R.Read P.kind (string_strict self.old) (progress_of self.old)
             (string_decoder self.old) result }
         ensures stays { GivesAgain (progress_of self.old) result }
     {
@@ -213,7 +221,7 @@ impl<'r, R: Read, P: Parser> Segments<'r, R, P> {
         }
     }
 
-    /// Pulls one title, with so many opens that aren't closed.
+    /// Pulls one title, with this many opens that aren't closed.
     #[inline(always)]
     fn step(&mut self, opens: usize) -> Result<Option<Body>, Error<R::Error>>
         requires { progress_of self.old ≡ Open opens }
@@ -241,8 +249,8 @@ impl<'r, R: Read, P: Parser> Segments<'r, R, P> {
         found
     }
 
-    /// What the header of a title at this place says to a string with so many opens that aren't closed: how far the
-    /// string then is, and the body that was found.
+    /// Takes the header of a title at this place, for a string with this many opens that aren't closed. Returns how far
+    /// the string then is, and the body that was found.
     #[inline(always)]
     fn found_by(
         header: Header,
@@ -295,7 +303,7 @@ pub(crate) enum Kept {
 impl Kept {
     ghost use Rattle.ciborium_ll_decoder.specs.Kept.{kept_bytes};
 
-    /// How many bytes are kept.
+    /// Returns how many bytes are kept.
     fn len(self) -> usize
         ensures { result ≡ length (kept_bytes self) }
     {
@@ -307,7 +315,7 @@ impl Kept {
         }
     }
 
-    /// Writes the kept bytes to the front of a slice.
+    /// Writes the kept bytes to the beginning of a slice.
     fn put(self, buffer: &mut [u8])
         requires { length (kept_bytes self) ≤ length buffer.old }
         ensures { take (length (kept_bytes self)) buffer.new ≡ kept_bytes self }
@@ -330,7 +338,7 @@ impl Kept {
     /// Keeps bytes, if they are at most three.
     fn keep(bytes: &[u8]) -> Option<Kept>
         ensures some { IfSome result (λ kept. kept_bytes kept ≡ bytes.now) }
-        ensures none { IfNone result (3 < length bytes.now) }
+        ensures none { IfNone result (MOST_KEPT < length bytes.now) }
     {
         match bytes {
             [] => Some(Kept::Nothing),
@@ -344,8 +352,8 @@ impl Kept {
 
 /// One segment of a string, which lends the decoder until it is dropped.
 ///
-/// It holds the bytes of its body that were not read yet, and of a text up to three that were read and may begin a
-/// character.
+/// It counts the bytes of its body that were not read yet. A segment of a text also keeps up to three bytes that were
+/// read and may begin a character.
 #[derive(Drop)]
 pub struct Segment<'r, R, P: Parser> {
     decoder: &'r mut Decoder<R>,
@@ -366,7 +374,7 @@ impl<'r, R: Read, P: Parser> Segment<'r, R, P> {
     ghost use Rattle.ciborium_ll_decoder.specs.Chunks.{IsWhole, left_of, segment_decoder, segment_reference};
     ghost use Rattle.ciborium_ll_decoder.specs.Decoding.{waiting_of};
 
-    /// The segment of a body that is next in the decoder's reader.
+    /// Makes a segment of a body that is next in the decoder's reader.
     pub(crate) fn new(decoder: &'r mut Decoder<R>, body: Body) -> Segment<'r, R, P>
         requires { waiting_of decoder.old ≡ None }
         ensures lent { segment_decoder result ≡ decoder.old }
@@ -384,8 +392,8 @@ impl<'r, R: Read, P: Parser> Segment<'r, R, P> {
         }
     }
 
-    /// How many bytes of the body were not handed out: those that were not read, and those that are kept. After a
-    /// damage those that were not read alone.
+    /// Returns how many bytes of the body were not handed out: the unread and the kept bytes, or after a damage the
+    /// unread bytes alone.
     pub fn left(&self) -> usize
         ensures { result ≡ left_of self.now }
     {
@@ -394,18 +402,21 @@ impl<'r, R: Read, P: Parser> Segment<'r, R, P> {
 }
 
 impl<'r, R: Read> Segment<'r, R, Bytes> {
-    ghost use Rattle.ciborium_ll_decoder.specs.Chunks.{IsPulled};
+    ghost use Rattle.ciborium_ll_decoder.specs.Chunks.{SegmentPull};
 
     /// Reads the next bytes of the body, as many as there are and the buffer holds.
     ///
-    /// [`Segment::left`] falls by the chunk's length, and what was to come of the body is the chunk and what is to come
-    /// now. `None` says that the body has ended: it was read and handed out whole, and nothing changes. An empty buffer
-    /// gives an empty chunk while bytes are left. The errors are `Io` where the reader failed, and `TooLong` where the
-    /// offset would pass `usize::MAX`; both leave the segment as it was.
+    /// `None` means that the body has ended: it was read and handed out whole, and nothing changes. An empty buffer
+    /// gives an empty chunk while bytes are left. [`Segment::left`] falls by the chunk's length. The bytes that were to
+    /// come of the body are the chunk and then the bytes that are still to come.
     ///
-    /// A segment of bytes keeps nothing back, so a whole one never comes to a `Syntax`.
+    /// # Errors
+    ///
+    /// - `Io` if the reader failed, `TooLong` if the offset would pass `usize::MAX`: the segment stays as it was.
+    ///
+    /// A segment of bytes keeps nothing back, so a whole segment never comes to a `Syntax`.
     pub fn pull<'a>(&mut self, buffer: &'a mut [u8]) -> Result<Option<&'a [u8]>, Error<R::Error>>
-        ensures { IsPulled R.Read (length buffer.old) self.old result self.new }
+        ensures { SegmentPull R.Read (length buffer.old) self.old result self.new }
     {
         if self.damaged {
             return Err(Error::Syntax(self.place));
@@ -424,22 +435,27 @@ impl<'r, R: Read> Segment<'r, R, Bytes> {
 impl<'r, R: Read> Segment<'r, R, Text> {
     ghost use Rattle.std.specs.Io.KnownBytes.{Consumes};
     ghost use Rattle.ciborium_ll_decoder.specs.Decoding.{MovesOn, ReadsBytes};
-    ghost use Rattle.ciborium_ll_decoder.specs.Chunks.{FillsBehind, IsPulled, IsSame, PullsChunk, left_of, rest};
+    ghost use Rattle.ciborium_ll_decoder.specs.Chunks.{FillsBehind, SegmentPull, KeepsSegment, SegmentPullAnswer, left_of, rest};
     ghost use Rattle.ciborium_ll_decoder.specs.Chunks.{segment_decoder, segment_reference};
 
     /// Reads the next bytes of the body, as many as there are and the buffer holds, and hands out the longest front of
-    /// them that is text. Up to three bytes behind it are kept. They may begin a character; where they don't, or where
-    /// the body ends with them, a later call answers `Syntax`.
+    /// them that is text.
     ///
-    /// [`Segment::left`] falls by the chunk's length, and what was to come of the body is the chunk and what is to come
-    /// now. `None` says that the body has ended: it was read and handed out whole, and nothing changes. A buffer of
-    /// fewer than four bytes may give an empty chunk while bytes are left. The errors are `Syntax` with the segment's
-    /// place where the body is no text, which stays and reads nothing: behind the longest front that is text stand more
-    /// than three bytes, or some are kept and the body has ended; `Io` where the reader failed, and `TooLong` where the
-    /// offset would pass `usize::MAX`: both leave the segment as it was. A damaged end can give a chunk first, and its
-    /// error on the next call.
+    /// The segment keeps up to three bytes after this front, which may begin a character. If they don't, or if the body
+    /// ends with them, a later call answers `Syntax`.
+    ///
+    /// `None` means that the body has ended: it was read and handed out whole, and nothing changes. A buffer of fewer
+    /// than four bytes may give an empty chunk while bytes are left. [`Segment::left`] falls by the chunk's length. The
+    /// bytes that were to come of the body are the chunk and then the bytes that are still to come.
+    ///
+    /// # Errors
+    ///
+    /// - `Syntax`, with the segment's place: the body is no text. More than three bytes stand after the longest front
+    ///   that is text, or some are kept and the body has ended. The error stays, and later calls read nothing. A body
+    ///   with a damaged end can give a chunk first, and its error on the next call.
+    /// - `Io` if the reader failed, `TooLong` if the offset would pass `usize::MAX`: the segment stays as it was.
     pub fn pull<'a>(&mut self, buffer: &'a mut [u8]) -> Result<Option<&'a str>, Error<R::Error>>
-        ensures { IsPulled R.Read (length buffer.old) self.old result self.new }
+        ensures { SegmentPull R.Read (length buffer.old) self.old result self.new }
     {
         match self.pull_front(buffer)? {
             Some(front) => Ok(Some(text_of(front))),
@@ -447,13 +463,13 @@ impl<'r, R: Read> Segment<'r, R, Text> {
         }
     }
 
-    /// What `pull` hands out, as bytes. The state has read them as text already: whoever needs no `&str` is spared the
-    /// second reading, which makes one.
+    /// Does what `pull` does, and hands out bytes. The state has read them as text already. So a caller that needs no
+    /// `&str` is spared the second reading, which makes one.
     pub(crate) fn pull_front<'a>(
         &mut self,
         buffer: &'a mut [u8],
     ) -> Result<Option<&'a [u8]>, Error<R::Error>>
-        ensures chunk { PullsChunk R.Read (length buffer.old) self.old result self.new }
+        ensures chunk { SegmentPullAnswer R.Read (length buffer.old) self.old result self.new }
         ensures left { IfOk result (λ chunk. IfSome chunk (λ c. length c.now + left_of self.new ≡ left_of self.old)) }
         ensures rest { IfOk result (λ chunk. IfSome chunk
             (λ c. Consumes (rest R.Read self.old) (rest R.Read self.new) c.now)) }
@@ -489,23 +505,23 @@ impl<'r, R: Read> Segment<'r, R, Text> {
         }
     }
 
-    /// Reads no bytes, where none fit behind the kept ones. It is a call of the reader all the same.
+    /// Reads no bytes, if none fit after the kept bytes. It is a call of the reader all the same.
     fn read_nothing(&mut self) -> Result<(), Error<R::Error>>
         ensures read { ReadsBytes R.Read (segment_decoder self.old) result [] (segment_decoder self.new) }
         ensures same_reference { segment_reference self.new ≡ segment_reference self.old }
-        ensures same { IsSame self.old self.new }
+        ensures same { KeepsSegment self.old self.new }
         ensures moves_on { MovesOn R.Read (segment_decoder self.old) (segment_decoder self.new) }
     {
         self.decoder.read(&mut [])
     }
 
-    /// Reads behind the kept bytes, which it writes to the front.
+    /// Writes the kept bytes to the beginning of a slice, and reads bytes into the rest of it.
     fn fill(&mut self, filled: &mut [u8]) -> Result<(), Error<R::Error>>
         requires { length (kept_bytes self.old.kept) ≤ length filled.old }
         ensures filled { FillsBehind R.Read (kept_bytes self.old.kept) (segment_decoder self.old) result filled.new
             (segment_decoder self.new) }
         ensures same_reference { segment_reference self.new ≡ segment_reference self.old }
-        ensures same { IsSame self.old self.new }
+        ensures same { KeepsSegment self.old self.new }
         ensures moves_on { MovesOn R.Read (segment_decoder self.old) (segment_decoder self.new) }
     {
         let kept = self.kept.len();
@@ -513,7 +529,7 @@ impl<'r, R: Read> Segment<'r, R, Text> {
         self.decoder.read(&mut filled[kept..])
     }
 
-    /// The body is no text: nothing is kept any more, and the error stays.
+    /// Marks the body as no text: the segment gives up the kept bytes, and the error stays.
     fn damage(&mut self) -> Error<R::Error>
         ensures error { result ≡ Error.Syntax self.old.place }
         ensures kept { kept_bytes self.new.kept ≡ [] }

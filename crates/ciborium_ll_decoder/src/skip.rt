@@ -1,4 +1,4 @@
-//! Strings read to their end (RFC 7049, 2.1 and 2.2.2).
+//! Strings that are read to their end (RFC 7049, 2.1 and 2.2.2).
 
 ghost use Rattle.std.specs.Prelude.{◌≡◌, ◌≤◌, ℕ, Option, None, length};
 ghost use Rattle.ciborium_ll_decoder.specs.declared.dec.Decoder.{Decoder as AnyDecoder};
@@ -8,30 +8,38 @@ ghost use Rattle.ciborium_ll_grammar.specs.Strings.{Bytes as byte_strings, Text 
 ghost use Rattle.ciborium_ll_decoder.specs.Decoding.{MovesOn, TakesBack, offset_of, strict_of, waiting_of};
 ghost use Rattle.ciborium_ll_decoder.specs.Segments.{IsAtBeginning, string_decoder, string_reference, string_strict};
 ghost use Rattle.ciborium_ll_decoder.specs.Skipping.{SkipsOver, SkipsString};
+ghost use Rattle.ciborium_ll_grammar.specs.declared.limits.TheConstants.{LEAST_BUFFER};
 
 use crate::dec::{Decoder, Error};
 use crate::seg::{Bytes, Chunked, Segments, Text, finish_body};
 use ciborium_ll_io::io::Read;
 
-/// Reads a byte string to its end, behind its header with this length, which was just pulled.
-///
-/// `Ok` says that one whole string was there, and the decoder is behind it: just the rest of the string was consumed,
-/// and of a strict decoder only strings of a definite length stood behind its open, each under a strict title. `Syntax`
-/// names the offset of a title that is none or may not stand within the string. `Io` says that the reader failed,
-/// `TooLong` that the offset can't take the next read. In a string of indefinite length an error stands behind a
-/// beginning of it: there `pull` failed, a title came that may not stand there, or the read of a body failed. In one of
-/// a definite length its body failed as `Segment::finish` fails, with the place where the header's shortest title would
-/// begin. The read of a body that `Io` or `TooLong` stops was to fill `buffer`, behind the bytes that are kept, or to
-/// take all that is left of the body. What was read before an error is consumed.
+/// Reads a byte string to its end, after its header with this length, which was pulled last.
 ///
 /// The conditions are those of [`Decoder::bytes`], and `buffer` has four bytes at least. The decoder moves on as
-/// [`Decoder`] says, and `Waiting` never comes.
+/// [`Decoder`] says.
+///
+/// `Ok` means that one whole string was there, and that exactly its rest is consumed. After an open a strict decoder
+/// read only strings of a definite length, each under a strict title.
+///
+/// # Errors
+///
+/// - `Syntax(offset)`: at this offset the bytes are no title, or a title that may not stand within the string.
+/// - `Io`: the reader failed.
+/// - `TooLong`: the offset can't take the next read.
+///
+/// `Waiting` never comes. Bytes that were read before an error are consumed. In a string of indefinite length they are
+/// a beginning of it. Then `pull` failed, a title came that may not stand there, or the read of a body failed. A string
+/// of definite length fails as `Segment::finish` does, with the place at which the header's shortest title would begin.
+///
+/// The read of a body that `Io` or `TooLong` stops was to fill `buffer`, after the kept bytes, or to take all that is
+/// left of the body.
 pub fn skip_bytes<R: Read>(
     decoder: &mut Decoder<R>,
     len: Option<usize>,
     buffer: &mut [u8],
 ) -> Result<(), Error<R::Error>>
-    requires room { 4 ≤ length buffer.old }
+    requires room { LEAST_BUFFER ≤ length buffer.old }
     requires none_waits { waiting_of decoder.old ≡ None }
     requires covered { title_len (Header.Bytes len) ≤ offset_of decoder.old }
     ensures { SkipsOver R.Read byte_strings len (length buffer.old) decoder.old result decoder.new }
@@ -42,19 +50,22 @@ pub fn skip_bytes<R: Read>(
     }
 }
 
-/// Reads a text string to its end, behind its header with this length, which was just pulled.
+/// Reads a text string to its end, after its header with this length, which was pulled last.
 ///
 /// The conditions are those of [`Decoder::text`], and `buffer` has four bytes at least. The answers are those of
-/// [`skip_bytes`], with each body of the text UTF-8, and `Syntax` also where a body is no text by itself. It then names
-/// the offset of that body's title; where the body is the whole string, the byte from which the header's shortest title
-/// would reach the body. The last read of that body filled `buffer`, behind the bytes that were kept, or took all that
-/// was left of the body, if anything was.
+/// [`skip_bytes`], and `Ok` means also that each body of the text is UTF-8.
+///
+/// # Errors
+///
+/// - `Syntax(offset)` also if a body is no text by itself, at the place that [`Error::Syntax`] names. The last read of
+///   that body filled `buffer`, after the kept bytes, or took all that was left of the body, if anything was.
+/// - The other errors of [`skip_bytes`].
 pub fn skip_text<R: Read>(
     decoder: &mut Decoder<R>,
     len: Option<usize>,
     buffer: &mut [u8],
 ) -> Result<(), Error<R::Error>>
-    requires room { 4 ≤ length buffer.old }
+    requires room { LEAST_BUFFER ≤ length buffer.old }
     requires none_waits { waiting_of decoder.old ≡ None }
     requires covered { title_len (Header.Text len) ≤ offset_of decoder.old }
     ensures { SkipsOver R.Read text_strings len (length buffer.old) decoder.old result decoder.new }
@@ -65,12 +76,12 @@ pub fn skip_text<R: Read>(
     }
 }
 
-/// Reads the segments of a string that was just begun, each to its end.
+/// Reads the segments of a string, each to its end. No title of the string was read before.
 fn skip_segments<R: Read, P: Chunked>(
     segments: &mut Segments<'_, R, P>,
     buffer: &mut [u8],
 ) -> Result<(), Error<R::Error>>
-    requires room { 4 ≤ length buffer.old }
+    requires room { LEAST_BUFFER ≤ length buffer.old }
     requires fresh { IsAtBeginning segments.old }
     ensures skipped { (opened : AnyDecoder R) (len : Option ℕ) → IsInRange (kind_header P.kind len)
         → waiting_of opened ≡ None → TakesBack R.Read opened (kind_header P.kind len) (string_decoder segments.old)

@@ -1,5 +1,5 @@
--- Writes in two steps, in the words of the contracts of the steps. The check finds by them what a function of such
--- calls ensures, in whichever form its body stands.
+-- Writes in two steps, in the words of the contracts of the steps. By these lemmas the check finds the clauses of a
+-- function that makes these calls, whatever the form of its body.
 use Rattle.std.proofs.Common.{◌≡◌, ℕ, ◌+◌, ◌<◌, ◌≤◌, max, List, [], ◌∷◌, ◌++◌, length, append-nil, sym, ◌∙◌, arith}
 use Rattle.std.proofs.Common.{Option, None, Some, Result, Ok, Err, IsErr, IfSome, OnOk}
 use Rattle.std.specs.Io.KnownBytes.{Appends}

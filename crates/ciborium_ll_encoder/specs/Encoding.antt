@@ -1,4 +1,4 @@
--- What the calls of an encoder do to its writer, by their answers: what a write of some bytes does is handed on.
+-- The effect of an encoder's calls on its writer, by their answers. This file re-exports the effect of a write.
 use Rattle.std.specs.Prelude.{◌≡◌, ℕ, ◌<◌, ◌⊎◌, List, length, Option, Result}
 use Rattle.ciborium_ll_io.specs.declared.io.Write.{Ghosts}
 use Rattle.ciborium_ll_grammar.specs.declared.hdr.Header.{Header}
@@ -9,46 +9,46 @@ use Rattle.ciborium_ll_grammar.specs.Strings.{Kind, Text}
 use Rattle.ciborium_ll_grammar.specs.Elements.{Mark, spelling, pieces}
 use Rattle.ciborium_ll_grammar.specs.Values.{value_limit, ArePieces, IsWritten, HasFewestSegments}
 
--- the writer that the encoder writes to
+-- The writer of the encoder.
 abbrev pub writer_of : {W : Type 0} → Encoder W → W
 writer_of encoder = encoder.writer
 
 module _ {W F : Type 0} (sink : Ghosts W F) where
-  -- a title was written, or a beginning of it, by the answer; the writer stays on its slice
+  -- A title was written, or a beginning of it, by the answer. The writer stays on its slice.
   pub record WritesTitle {T : Type 0} (bytes : List ℕ) (old : W) (result : Result T F) (new : W) : Type 0 where
     pub title : WritesBytes sink old result bytes new
     pub target : sink.target new ≡ sink.target old
 
-  -- what `push` of a header does: its shortest title is written, which no other title of it is as short as (RFC 7049,
-  -- 3.9)
-  pub record Pushes {T : Type 0} (header : Header) (old : W) (result : Result T F) (new : W) : Type 0 where
+  -- The effect of `push`: the header's shortest title is written. Every other title of the header is longer (RFC 7049,
+  -- 3.9).
+  pub record EncoderPush {T : Type 0} (header : Header) (old : W) (result : Result T F) (new : W) : Type 0 where
     pub title : WritesBytes sink old result (shortest_title header) new
     pub shortest : (other : List ℕ) → IsTitle other header
         → (other ≡ shortest_title header) ⊎ (length (shortest_title header) < length other)
     pub target : sink.target new ≡ sink.target old
 
-  -- the same of the pieces of a value that is longer than the limit
+  -- The pieces of a value that is longer than the limit were written, or a beginning of them, by the answer.
   pub record WritesPieces {T : Type 0} (kind : Kind) (limit : ℕ) (value : List ℕ) (old : W) (result : Result T F)
       (new : W) : Type 0 where
     pub members : List (List ℕ)
     pub are_pieces : ArePieces kind limit value members
     pub bytes : WritesBytes sink old result (spelling (pieces kind members)) new
 
-  -- the spelling of a value, in segments of at most as many bytes as are asked for, was written, or a beginning of it,
-  -- by the answer
+  -- The spelling of a value was written, or a beginning of it, by the answer. Its segments have at most the requested
+  -- number of bytes.
   pub record WritesValue {T : Type 0} (kind : Kind) (segment : Option ℕ) (value : List ℕ) (old : W)
       (result : Result T F) (new : W) : Type 0 where
     pub marks : List Mark
     pub written : IsWritten kind (value_limit kind segment value) value marks
     pub bytes : WritesBytes sink old result (spelling marks) new
 
-  -- what `bytes` and `text` do with a value; the writer stays on its slice
+  -- The effect of `bytes` and `text`. The writer stays on its slice.
   pub record WritesString {T : Type 0} (kind : Kind) (segment : Option ℕ) (bytes : List ℕ) (old : W)
       (result : Result T F) (new : W) : Type 0 where
     pub value : WritesValue kind segment bytes old result new
     pub target : sink.target new ≡ sink.target old
 
-  -- a text was written whole, in as few segments as the limit allows
+  -- A text was written whole, in as few segments as the limit allows.
   pub record WritesFewest (limit : ℕ) (text : List ℕ) (old new : W) : Type 0 where
     pub marks : List Mark
     pub written : IsWritten Text limit text marks

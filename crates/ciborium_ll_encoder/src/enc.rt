@@ -1,8 +1,8 @@
-//! The encoder: headers and values into a writer.
+//! The encoder, which writes headers and values into a writer.
 
 ghost use Rattle.std.specs.Prelude.{◌≡◌};
 ghost use Rattle.ciborium_ll_grammar.specs.Parts.{IsMinor, IsParts, minor_affix, title_bytes};
-ghost use Rattle.ciborium_ll_encoder.specs.Encoding.{Pushes, WritesBytes, WritesTitle, writer_of};
+ghost use Rattle.ciborium_ll_encoder.specs.Encoding.{EncoderPush, WritesBytes, WritesTitle, writer_of};
 
 mod values;
 
@@ -11,10 +11,10 @@ use ciborium_ll_io::io::Write;
 
 /// Writes headers, each as its shortest title, and values of bytes and of text.
 ///
-/// As a writer it passes on to the writer that it holds, which takes the bytes of bodies.
+/// As a writer, it passes the bytes of bodies on to the writer that it holds.
 ///
-/// Where a call that writes fails, a beginning of what it writes was appended, the writer failed once, and a room that
-/// it tells was smaller than that. No call takes the writer off its slice.
+/// If a call fails, the writer has failed once, with a beginning of the call's bytes appended. A room that the writer
+/// tells was too small for them. No call takes the writer off its slice.
 #[derive(Drop)]
 pub struct Encoder<W> {
     writer: W,
@@ -23,7 +23,7 @@ pub struct Encoder<W> {
 impl<W: Write> From<W> for Encoder<W> {
     ghost from_gives = { λ writer encoder. writer_of encoder ≡ writer };
 
-    /// An encoder that appends to what was written.
+    /// Returns an encoder that appends to the bytes written.
     fn from(writer: W) -> Encoder<W> {
         Encoder { writer }
     }
@@ -42,37 +42,48 @@ impl<W: Write> Write for Encoder<W> {
 
     ghost target = { λ encoder. W.target encoder.writer };
 
-    /// Appends the bytes of a body. The error is the writer's.
+    /// Appends the bytes of a body.
+    ///
+    /// # Errors
+    ///
+    /// - `W::Error`: the writer failed.
     fn write_all(&mut self, data: &[u8]) -> Result<(), W::Error> {
         self.writer.write_all(data)
     }
 
-    /// Flushes the writer. The error is the writer's.
+    /// Flushes the writer.
+    ///
+    /// # Errors
+    ///
+    /// - `W::Error`: the writer failed.
     fn flush(&mut self) -> Result<(), W::Error> {
         self.writer.flush()
     }
 }
 
 impl<W: Write> Encoder<W> {
-    /// The writer.
+    /// Returns the writer.
     pub fn into_inner(self) -> W
         ensures { result ≡ writer_of self }
     {
         self.writer
     }
 
-    /// Writes the shortest title of a header (RFC 7049, 3.9), as its first byte and its affix. Every other title of the
-    /// header is longer.
+    /// Writes the shortest title of a header (RFC 7049, 3.9), as its first byte and its affix.
     ///
-    /// The error is the writer's. A beginning of the title was then written.
+    /// Every other title of the header is longer.
+    ///
+    /// # Errors
+    ///
+    /// - `W::Error`: the writer failed, with a beginning of the title written.
     #[inline(always)]
     pub fn push(&mut self, header: Header) -> Result<(), W::Error>
-        ensures { Pushes W.Write header (writer_of self.old) result (writer_of self.new) }
+        ensures { EncoderPush W.Write header (writer_of self.old) result (writer_of self.new) }
     {
         push_title(self, shortest(header))
     }
 
-    /// Writes the bytes behind a first byte.
+    /// Writes the affix of a title.
     #[inline(always)]
     fn affix(&mut self, minor: Minor) -> Result<(), W::Error>
         requires { IsMinor minor }
@@ -90,6 +101,10 @@ impl<W: Write> Encoder<W> {
 }
 
 /// Writes a title, as its first byte and its affix.
+///
+/// # Errors
+///
+/// - `W::Error`: the writer failed, with a beginning of the title written.
 #[inline(always)]
 #[tactic(auto, using(crate::proofs::Writes::behind_byte, crate::proofs::Writes::byte_unwritten))]
 pub fn push_title<W: Write>(encoder: &mut Encoder<W>, title: Title) -> Result<(), W::Error>

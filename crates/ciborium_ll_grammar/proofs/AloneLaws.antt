@@ -1,4 +1,4 @@
--- Titles of one byte: what minor 31 means.
+-- Titles of one byte: the meaning of the minor 31.
 use Rattle.std.specs.Prelude.{is_none}
 use Rattle.std.proofs.Common.{◌≡◌, ℕ, ◌<◌, Bool, true, false, List, length, None, arith}
 use Rattle.ciborium_ll_grammar.specs.declared.hdr.Header.{Header}

@@ -1,4 +1,4 @@
--- Elements begin no other one; their spelling is an element again, and no longer.
+-- No element begins another element. The spelling of elements is elements again, and no longer.
 use Rattle.std.proofs.Common.{◌≡◌, ℕ, ◌≤◌, List, [], ◌∷◌, ◌++◌, length, Option, None, refl, sym, ap, ◌∙◌, append_assoc}
 use Rattle.std.proofs.Common.{inl, inr, arith}
 use Rattle.std.proofs.lemmas.List.{append-nil, length-append}

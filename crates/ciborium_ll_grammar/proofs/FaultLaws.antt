@@ -1,11 +1,11 @@
--- At a fault what is due can't come, or is refused where only the shortest spelling is taken.
+-- At a fault, the part that is due cannot come, or a decoder refuses it because only the shortest spelling is taken.
 use Rattle.std.proofs.Common.{◌≡◌, ℕ, ◌<◌, ◌⊎◌, Bool, true, false, List, ◌++◌, length, None, refl, [], ◌∷◌}
 use Rattle.std.proofs.Common.{append_assoc, length-append, arith, inl, inr}
 use Rattle.ciborium_ll_grammar.specs.declared.hdr.Header.{Header}
 use Rattle.ciborium_ll_grammar.specs.Title.{IsTitle}
 use Rattle.ciborium_ll_grammar.specs.Strings.{Kind, Bytes, Text, kind_header, IsMisplaced}
 use Rattle.std.specs.List.{AllByRecursion}
-use Rattle.ciborium_ll_grammar.specs.Elements.{Mark, spelling, IsElement, IsRun, done, next, IsMeant}
+use Rattle.ciborium_ll_grammar.specs.Elements.{Mark, spelling, IsElement, IsRun, done, next, IsNoSmallSimple}
 use Rattle.ciborium_ll_grammar.specs.Faults.{Point, Due, In, BodyDue, Reaches, due, inside, body, body_inside, Answer}
 use Rattle.ciborium_ll_grammar.specs.Faults.{IsAtTitle, IsRefusedIn, FirstFault}
 use Rattle.ciborium_ll_grammar.specs.Items.{IsTakenTitle}
@@ -13,11 +13,11 @@ use Rattle.ciborium_ll_grammar.proofs.ElementLaws.{one_element, least_element, l
 use Rattle.ciborium_ll_grammar.proofs.HaltLaws.{IsBad, Halt, halt_cut, halt_refused, halt_misplaced, halt_bad, opens_of}
 use Rattle.ciborium_ll_grammar.proofs.HaltLaws.{Stop, stop_cut, stop_refused, stop_bad, element_stops, element_inside}
 
-pub meant_left : (ms ns : List Mark) → AllByRecursion IsMeant (ms ++ ns) → AllByRecursion IsMeant ms
+pub meant_left : (ms ns : List Mark) → AllByRecursion IsNoSmallSimple (ms ++ ns) → AllByRecursion IsNoSmallSimple ms
 meant_left [] ns p = tt
 meant_left (m ∷ ms) ns p = (p.0, meant_left ms ns p.1)
 
-pub meant_right : (ms ns : List Mark) → AllByRecursion IsMeant (ms ++ ns) → AllByRecursion IsMeant ns
+pub meant_right : (ms ns : List Mark) → AllByRecursion IsNoSmallSimple (ms ++ ns) → AllByRecursion IsNoSmallSimple ns
 meant_right [] ns p = p
 meant_right (m ∷ ms) ns p = meant_right ms ns p.1
 
@@ -33,11 +33,11 @@ pub record Follows (run : List ℕ) (all : List Mark) (x : List ℕ) : Type 0 wh
   pub ok : IsElement word marks
   pub rest : List ℕ
   pub is : x ≡ word ++ rest
-  pub spelled : run ≡ spelling all → AllByRecursion IsMeant all → (word ≡ spelling marks) × AllByRecursion IsMeant marks
+  pub spelled : run ≡ spelling all → AllByRecursion IsNoSmallSimple all → (word ≡ spelling marks) × AllByRecursion IsNoSmallSimple marks
 
 follow : {run : List ℕ} {all : List Mark} {x : List ℕ} (word : List ℕ) (marks : List Mark) → IsElement word marks
-    → (rest : List ℕ) → x ≡ word ++ rest → (run ≡ spelling all → AllByRecursion IsMeant all
-    → (word ≡ spelling marks) × AllByRecursion IsMeant marks) → Follows run all x
+    → (rest : List ℕ) → x ≡ word ++ rest → (run ≡ spelling all → AllByRecursion IsNoSmallSimple all
+    → (word ≡ spelling marks) × AllByRecursion IsNoSmallSimple marks) → Follows run all x
 follow word marks ok rest is spelled =
     record { word = word; marks = marks; ok = ok; rest = rest; is = is; spelled = spelled }
 

@@ -14,5 +14,6 @@ pub mod StrictFaultLaws
 pub mod StringLaws
 pub mod TightLaws
 pub mod TitleLaws
+pub mod TitleKinds
 pub mod TitleRowLaws
 pub mod ValueLaws

@@ -1,4 +1,4 @@
--- Opens that aren't closed, counted, as a loop over titles goes through them.
+-- Opens that are not closed, counted, as a loop over titles counts them.
 use Rattle.std.specs.Prelude.{ℕ, zero, suc, List, ◌++◌, None}
 use Rattle.ciborium_ll_grammar.specs.Title.{IsTitle}
 use Rattle.ciborium_ll_grammar.specs.Strings.{Kind, kind_header, AreStrings}

@@ -1,20 +1,20 @@
--- What is its own shortest spelling: how it goes on.
+-- Bytes that are their own shortest spelling, and the bytes that continue them.
 use Rattle.std.proofs.Common.{◌≡◌, ℕ, List, [], ◌∷◌, ◌++◌, refl, ◌∙◌, append-nil}
 use Rattle.std.specs.List.{AllByRecursion}
 use Rattle.ciborium_ll_grammar.specs.Strings.{Kind}
-use Rattle.ciborium_ll_grammar.specs.Elements.{Mark, Close, pieces, open_marks, spelling, IsMeant, IsStrictSpelling}
+use Rattle.ciborium_ll_grammar.specs.Elements.{Mark, Close, pieces, open_marks, spelling, IsNoSmallSimple, IsStrictSpelling}
 use Rattle.ciborium_ll_grammar.proofs.ElementLaws.{spelling-append}
 
-pub meant_append : (ms ns : List Mark) → AllByRecursion IsMeant ms → AllByRecursion IsMeant ns
-    → AllByRecursion IsMeant (ms ++ ns)
+pub meant_append : (ms ns : List Mark) → AllByRecursion IsNoSmallSimple ms → AllByRecursion IsNoSmallSimple ns
+    → AllByRecursion IsNoSmallSimple (ms ++ ns)
 meant_append [] ns p q = q
 meant_append (m ∷ ms) ns p q = (p.0, meant_append ms ns p.1 q)
 
-pub pieces_meant : (k : Kind) (bs : List (List ℕ)) → AllByRecursion IsMeant (pieces k bs)
+pub pieces_meant : (k : Kind) (bs : List (List ℕ)) → AllByRecursion IsNoSmallSimple (pieces k bs)
 pieces_meant k [] = tt
 pieces_meant k (b ∷ bs) = (tt, pieces_meant k bs)
 
-pub open_meant : (k : Kind) (bs : List (List ℕ)) → AllByRecursion IsMeant (open_marks k bs)
+pub open_meant : (k : Kind) (bs : List (List ℕ)) → AllByRecursion IsNoSmallSimple (open_marks k bs)
 open_meant k bs = (tt, meant_append (pieces k bs) (Close ∷ []) (pieces_meant k bs) (tt, tt))
 
 pub spelled_none : IsStrictSpelling [] [] []
@@ -26,7 +26,7 @@ spelled_alone bytes marks s = s.same ∙ append-nil (spelling marks)
 
 -- marks more
 pub spelled_then : (bytes : List ℕ) (marks : List Mark) (more : List ℕ) (others : List Mark)
-    → IsStrictSpelling bytes marks [] → more ≡ spelling others → AllByRecursion IsMeant others
+    → IsStrictSpelling bytes marks [] → more ≡ spelling others → AllByRecursion IsNoSmallSimple others
     → IsStrictSpelling (bytes ++ more) (marks ++ others) []
 spelled_then bytes marks more others s e meant = record {
   same = simp (append-nil, spelling-append) (cc (spelled_alone bytes marks s));

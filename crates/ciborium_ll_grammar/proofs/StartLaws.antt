@@ -1,4 +1,4 @@
--- What the parts of a title tell of the item that it begins.
+-- The parts of a title give its role within an item.
 use Rattle.std.proofs.Common.{◌≡◌, ℕ, ◌<◌, arith}
 use Rattle.ciborium_ll_grammar.specs.declared.hdr.Header.{Header}
 use Rattle.ciborium_ll_grammar.specs.declared.hdr.Minor.{Minor}

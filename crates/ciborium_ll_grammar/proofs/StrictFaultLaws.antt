@@ -8,9 +8,9 @@ use Rattle.ciborium_ll_grammar.specs.Title.{IsTitle, IsSmallSimple, IsStrictTitl
 use Rattle.ciborium_ll_grammar.specs.Strings.{Kind, kind_header, IsString, AreStrings, none, more}
 use Rattle.ciborium_ll_grammar.specs.Strings.IsString.{definite, indefinite}
 use Rattle.ciborium_ll_grammar.specs.Elements.{Mark, Whole, Open, pieces, spelling, IsElement, plain, string, IsRun}
-use Rattle.ciborium_ll_grammar.specs.Elements.{IsMeant, IsStrictSpelling, IsStrictRun}
+use Rattle.ciborium_ll_grammar.specs.Elements.{IsNoSmallSimple, IsStrictSpelling, IsStrictRun}
 use Rattle.ciborium_ll_grammar.specs.Faults.{Point, Due, In, BodyDue, IsAtTitle, IsInside, opened, deeper, Reaches, due}
-use Rattle.ciborium_ll_grammar.specs.Faults.{inside, body, body_inside, due_title, RunInFront, HasFault}
+use Rattle.ciborium_ll_grammar.specs.Faults.{inside, body, body_inside, due_title, BeginsWithElements, HasFault}
 use Rattle.ciborium_ll_text.proofs.Lists.{same_front}
 use Rattle.ciborium_ll_grammar.proofs.TitleLaws.{one_title, shortest_no_longer, IsTitle-shortest}
 use Rattle.ciborium_ll_grammar.proofs.StringLaws.{same_string, not_break, break_title}
@@ -41,7 +41,7 @@ string_first k y b p s = tight_title y _ p (omega (arith, ap length s, length-ap
 -- ---- where an element is due
 
 -- a title in front of the same bytes as a strict element is a strict one
-element_begins : (w : List ℕ) (ms : List Mark) → IsElement w ms → w ≡ spelling ms → AllByRecursion IsMeant ms
+element_begins : (w : List ℕ) (ms : List Mark) → IsElement w ms → w ≡ spelling ms → AllByRecursion IsNoSmallSimple ms
     → (t r q : List ℕ) (x : Header) → IsTitle t x → t ++ r ≡ w ++ q → IsStrictTitle t x
 element_begins w ms (plain y p f) s m t r q x c e = same_strictly t w r q x y c p (simp append-nil at s) m.0 e
 element_begins w ms (string k (definite {title = y} {body = b} p) f) s m t r q x c e =
@@ -166,7 +166,7 @@ strictly_stuck n u ms at reach spelled s (long {t} x r d p untaken g) w v ns run
 strictly_stuck n u ms at reach spelled s (nested {k} {t} r on p g) w v ns run e =
     (title_strictly n u ms (In k) reach tt (spelled_alone u ms spelled) t r _ p w v ns run (rw g at e)).1 refl
 
-refused_none : (strict : Bool) (n : ℕ) (x : List ℕ) (r : RunInFront strict n x) (f : HasFault strict n x)
+refused_none : (strict : Bool) (n : ℕ) (x : List ℕ) (r : BeginsWithElements strict n x) (f : HasFault strict n x)
     → Refuses strict f.point f.ahead → ⊥
 refused_none false n x r f refuses = none_refused f.point f.ahead refuses
 refused_none true n x r f refuses =
@@ -175,7 +175,7 @@ refused_none true n x r f refuses =
     (record { run = r.run; same = spelled_alone r.elements r.marks run; meant = run.meant }) (sym f.is ∙ r.is)
 
 -- where a run of n elements stands in front, there is no fault
-pub no_fault : (strict : Bool) (n : ℕ) (x : List ℕ) → RunInFront strict n x → HasFault strict n x → ⊥
+pub no_fault : (strict : Bool) (n : ℕ) (x : List ℕ) → BeginsWithElements strict n x → HasFault strict n x → ⊥
 no_fault strict n x r f =
     let from : f.before ++ f.ahead ≡ r.elements ++ r.rest = sym f.is ∙ r.is in
     grind (arith, stuck_or_refused, reach_stuck, refused_none strict n x r f)

@@ -1,4 +1,4 @@
--- No title begins another one, and the shortest is strictly shorter.
+-- No title begins another title, and the shortest title is strictly shorter than the others of its header.
 use Rattle.std.proofs.Common.{◌≡◌, ℕ, ◌<◌, ◌≤◌, ◌^◌, ◌⊎◌, List, [], ◌∷◌, ◌++◌, length, Some, None, refl, sym, arith}
 use Rattle.std.proofs.lemmas.Nat.{from_be_bytes-to_be_bytes_2, from_be_bytes-to_be_bytes_4, from_be_bytes-to_be_bytes_8}
 use Rattle.ciborium_ll_grammar.specs.declared.hdr.Header.{Header}

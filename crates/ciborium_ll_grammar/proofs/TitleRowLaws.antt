@@ -1,4 +1,4 @@
--- The table says of each first byte what the definition of titles says.
+-- The table agrees with the definition of titles on each first byte.
 use Rattle.std.proofs.Common.{◌≡◌, ℕ, ◌/◌, ◌%◌, ◌<◌, Bool, true, not, ◌&&◌, ◌||◌, eqb, ltb, leb, get_or, refl, arith}
 use Rattle.std.proofs.lemmas.Bool.{agree_below_at, and_parts}
 use Rattle.ciborium_ll_grammar.specs.declared.hdr.table.Row.{Row}

@@ -1,5 +1,5 @@
--- Elements, the marks that they leave, and the marks' shortest spelling. An *element* is what a copy takes as one: a
--- title that begins no string, or a whole string.
+-- Elements, the marks that they leave, and the marks' shortest spelling. An *element* is the unit of a copy: a title
+-- that begins no string, or a whole string. `83` and `43 01 02 03` are one element each.
 use Rattle.std.specs.Prelude.{◌≡◌, ℕ, zero, suc, List, [], ◌∷◌, ◌++◌, length, Some, None}
 use Rattle.std.specs.List.{AllByRecursion}
 use Rattle.ciborium_ll_grammar.specs.declared.hdr.Header.{Header}
@@ -7,18 +7,18 @@ use Rattle.ciborium_ll_grammar.specs.declared.hdr.Header.TheVariants as h
 use Rattle.ciborium_ll_grammar.specs.Title.{IsTitle, IsSmallSimple, shortest_title}
 use Rattle.ciborium_ll_grammar.specs.Strings.{Kind, kind_header, IsString, definite, indefinite, IsWritable}
 
--- each body may be written by itself: any of bytes, and of a text those that are UTF-8 (RFC 7049, 2.2.2)
+-- A copy may write each body by itself: any bytes, or for a text UTF-8 (RFC 7049, 2.2.2).
 abbrev pub AreWritable : Kind → List (List ℕ) → Type 0
 AreWritable kind bodies = AllByRecursion (IsWritable kind) bodies
 
--- a header that begins no string (RFC 7049, 2.1)
+-- The header begins no string (RFC 7049, 2.1).
 abbrev pub IsPlain : Header → Type 0
 IsPlain (h.Bytes len) = ⊥
 IsPlain (h.Text len) = ⊥
 IsPlain header = Unit {0}
 
--- what an element leaves: a header that begins no string, or a string of a definite length, or the parts of one that
--- isn't: its open, a piece for each body and its close (RFC 7049, 2.2.2)
+-- The trace of an element: a header that begins no string, or a whole string of a definite length. A string of
+-- indefinite length leaves an open, a piece for each body, and a close (RFC 7049, 2.2.2).
 pub data Mark : Type 0 where
   Plain : Header → Mark
   Whole : Kind → List ℕ → Mark
@@ -26,11 +26,11 @@ pub data Mark : Type 0 where
   Piece : Kind → List ℕ → Mark
   Close : Mark
 
--- a body behind its shortest title (RFC 7049, 2.1 and 3.9)
+-- The shortest title of a body, and the body (RFC 7049, 2.1 and 3.9).
 abbrev pub body_spelling : Kind → List ℕ → List ℕ
 body_spelling kind body = shortest_title (kind_header kind (Some (length body))) ++ body
 
--- the shortest bytes of a mark (RFC 7049, 2.1, 2.2.2 and 3.9)
+-- The shortest bytes of a mark (RFC 7049, 2.1, 2.2.2 and 3.9).
 abbrev pub mark_spelling : Mark → List ℕ
 mark_spelling (Plain header) = shortest_title header
 mark_spelling (Whole kind body) = body_spelling kind body
@@ -38,35 +38,35 @@ mark_spelling (Open kind) = shortest_title (kind_header kind None)
 mark_spelling (Piece kind body) = body_spelling kind body
 mark_spelling Close = 0xff ∷ []
 
--- the shortest bytes of marks, one behind the other
+-- The shortest bytes of marks, joined.
 abbrev pub spelling : List Mark → List ℕ
 spelling [] = []
 spelling (mark ∷ marks) = mark_spelling mark ++ spelling marks
 
--- a piece for each body (RFC 7049, 2.2.2)
+-- A piece for each body (RFC 7049, 2.2.2).
 abbrev pub pieces : Kind → List (List ℕ) → List Mark
 pieces kind [] = []
 pieces kind (body ∷ bodies) = Piece kind body ∷ pieces kind bodies
 
--- the marks of a string of indefinite length (RFC 7049, 2.2.2)
+-- The marks of a string of indefinite length (RFC 7049, 2.2.2).
 abbrev pub open_marks : Kind → List (List ℕ) → List Mark
 open_marks kind bodies = Open kind ∷ (pieces kind bodies ++ Close ∷ [])
 
--- the marks of a string, by its form (RFC 7049, 2.2.2)
+-- The marks of a string, by its form (RFC 7049, 2.2.2).
 abbrev pub string_marks : {kind : Kind} {bytes : List ℕ} {bodies : List (List ℕ)} → IsString kind bytes bodies
     → List Mark
 string_marks {kind = kind} (definite {body = body} is_title) = Whole kind body ∷ []
 string_marks {kind = kind} (indefinite {bodies = bodies} is_title strings) = open_marks kind bodies
 
--- the bytes are an element, and leave these marks: a title that begins no string, or a string whose bodies may be
--- written (RFC 7049, 2.1 and 2.2.2). Opens inside a string leave no mark
+-- The bytes are an element with these marks: a title that begins no string, or a string whose bodies a copy may write
+-- (RFC 7049, 2.1 and 2.2.2). Opens inside a string leave no mark.
 pub data IsElement : List ℕ → List Mark → Type 0 where
   plain : {title : List ℕ} (header : Header) → IsTitle title header → IsPlain header
       → IsElement title (Plain header ∷ [])
   string : {bytes : List ℕ} {bodies : List (List ℕ)} (kind : Kind) (is_string : IsString kind bytes bodies)
       → AreWritable kind bodies → IsElement bytes (string_marks is_string)
 
--- the bytes are this many elements, joined, with these marks
+-- The bytes are this many elements, joined, with these marks.
 pub data IsRun : ℕ → List ℕ → List Mark → Type 0 where
   done : IsRun zero [] []
   next : {count : ℕ} {first rest : List ℕ} {marks others : List Mark} → IsElement first marks → IsRun count rest others
@@ -74,20 +74,20 @@ pub data IsRun : ℕ → List ℕ → List Mark → Type 0 where
 
 -- ---- the elements of a strict decoder
 
--- the mark is no small simple value in two bytes (RFC 7049, 2.3)
-abbrev pub IsMeant : Mark → Type 0
-IsMeant (Plain header) = IsSmallSimple header → ⊥
-IsMeant mark = Unit {0}
+-- The mark is no simple value from 24 to 31 (RFC 7049, 2.3).
+abbrev pub IsNoSmallSimple : Mark → Type 0
+IsNoSmallSimple (Plain header) = IsSmallSimple header → ⊥
+IsNoSmallSimple mark = Unit {0}
 
--- the bytes are the marks' shortest spelling, with more behind it, and no mark is a small simple value (RFC 7049, 2.3
--- and 3.9)
+-- The bytes are the marks' shortest spelling and then `more`, and no mark is a simple value from 24 to 31 (RFC 7049,
+-- 2.3 and 3.9).
 pub record IsStrictSpelling (bytes : List ℕ) (marks : List Mark) (more : List ℕ) : Type 0 where
   pub same : bytes ≡ spelling marks ++ more
-  pub meant : AllByRecursion IsMeant marks
+  pub meant : AllByRecursion IsNoSmallSimple marks
 
--- so many elements in their shortest spelling, and none a small simple value. Each title is then the shortest of its
--- header, and no string of indefinite length stands inside another (RFC 7049, 2.2.2, 2.3 and 3.9)
+-- The bytes are `count` elements in their shortest spelling, without a simple value from 24 to 31. So each title is the
+-- shortest of its header, and no string of indefinite length is inside another (RFC 7049, 2.2.2, 2.3 and 3.9).
 pub record IsStrictRun (count : ℕ) (bytes : List ℕ) (marks : List Mark) : Type 0 where
   pub run : IsRun count bytes marks
   pub same : bytes ≡ spelling marks
-  pub meant : AllByRecursion IsMeant marks
+  pub meant : AllByRecursion IsNoSmallSimple marks

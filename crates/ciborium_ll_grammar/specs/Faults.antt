@@ -1,5 +1,5 @@
--- How far a copy of elements comes in bytes, what is due there, and the first fault, which stops it. Where only the
--- shortest spelling is taken (`strict`), a few more things are faults, and none of them stands before the first one.
+-- The way of a copy through elements in bytes, the part due at each point, and the first fault, which stops the copy.
+-- If only the shortest spelling is taken (`strict`), a few more things are faults, none of them before the first fault.
 use Rattle.std.specs.Prelude.{◌≡◌, ℕ, ◌+◌, ◌-◌, ◌<◌, ◌≤◌, ◌⊎◌, Bool, true, min, List, [], ◌∷◌, ◌++◌, length, take}
 use Rattle.std.specs.Prelude.{Some, None}
 use Rattle.ciborium_ll_grammar.specs.declared.hdr.Header.{Header}
@@ -11,8 +11,8 @@ use Rattle.ciborium_ll_grammar.specs.Items.{IsTakenTitle}
 
 -- ---- how far a copy comes
 
--- The bytes are within a string that isn't closed: opens of the kind, each with strings behind it, and none closed.
--- The bodies are those so far (RFC 7049, 2.2.2)
+-- The bytes are within strings that are not closed: opens of the kind, each with strings after it. The bodies are the
+-- bodies so far (RFC 7049, 2.2.2).
 pub data IsInside (kind : Kind) : List ℕ → List (List ℕ) → Type 0 where
   opened : {title strings : List ℕ} {bodies : List (List ℕ)} → IsTitle title (kind_header kind None)
       → AreStrings kind strings bodies
@@ -21,15 +21,14 @@ pub data IsInside (kind : Kind) : List ℕ → List (List ℕ) → Type 0 where
       → IsInside kind inner others
       → IsInside kind (outer ++ inner) (bodies ++ others)
 
--- a point in elements, by what is due there: an element; within a string of the kind a further one or its end; or a
--- body of so many bytes, to whose fault this offset is given
+-- A point in elements, by the part due there: an element; within a string of the kind, a further string or its end; or
+-- a body of this length. The last number is the place of the body's fault.
 pub data Point : Type 0 where
   Due : Point
   In : Kind → Point
   BodyDue : Kind → ℕ → ℕ → Point
 
--- `Reaches count bytes marks point`: the bytes are a part of so many elements, which left the marks, and lead to the
--- point
+-- `Reaches count bytes marks point`: the bytes are a part of `count` elements, left the marks, and lead to the point.
 pub data Reaches (count : ℕ) : List ℕ → List Mark → Point → Type 0 where
   due : {before : ℕ} {bytes : List ℕ} {marks : List Mark} → before < count → IsRun before bytes marks
       → Reaches count bytes marks Due
@@ -37,7 +36,7 @@ pub data Reaches (count : ℕ) : List ℕ → List Mark → Point → Type 0 whe
       → before < count
       → IsRun before bytes marks → IsInside kind opens bodies → AreWritable kind bodies
       → Reaches count (bytes ++ opens) (marks ++ Open kind ∷ pieces kind bodies) (In kind)
-  -- the offset is the end of the title less the length of the shortest one: late, where the title is a longer one
+  -- The place is the end of the title less the length of the shortest title: late, if the title is a longer one.
   body : {bytes title : List ℕ} {marks : List Mark} {len : ℕ} (kind : Kind) → Reaches count bytes marks Due
       → IsTitle title (kind_header kind (Some len))
       → Reaches count (bytes ++ title) marks (BodyDue kind len
@@ -48,59 +47,59 @@ pub data Reaches (count : ℕ) : List ℕ → List Mark → Point → Type 0 whe
 
 -- ---- the first fault
 
--- a title is due
+-- A title is due.
 abbrev pub IsAtTitle : Point → Type 0
 IsAtTitle Due = Unit {0}
 IsAtTitle (In kind) = Unit {0}
 IsAtTitle (BodyDue kind len start) = ⊥
 
--- a header that a decoder refuses within a string of the kind: a strict one a further open too
+-- A decoder refuses this header within a string of the kind. A strict decoder refuses a further open too.
 abbrev pub IsRefusedIn : Bool → Kind → Header → Type 0
 IsRefusedIn strict kind header = IsMisplaced kind header ⊎ ((strict ≡ true) × (header ≡ kind_header kind None))
 
--- the bytes end too early, or what stands at this offset is none of the grammar
+-- The bytes end too early, or the bytes at this offset are not of the grammar.
 pub data Answer : Type 0 where
   Short : Answer
   Syntax : ℕ → Answer
 
--- what is written of a body under way: the spelling of the marks, the shortest title of a string of this length, and a
--- front of its body
+-- The bytes that a copy has written within a body: the spelling of the marks, the shortest title of a string of this
+-- length, and a front of the body.
 abbrev pub with_front : List Mark → Kind → ℕ → List ℕ → List ℕ
 with_front marks kind len front = spelling marks ++ (shortest_title (kind_header kind (Some len)) ++ front)
 
--- `FirstFault strict before marks point ahead answer written consumed`: behind the bytes before, which left the marks,
--- the bytes ahead are at fault at this point. The answer, what is written in all, and how many bytes ahead are
--- consumed (RFC 7049, 2.1, 2.2.2, 2.3 and 3.9)
+-- `FirstFault strict before marks point ahead answer written consumed`: the bytes before left the marks, and the bytes
+-- ahead are at fault at this point. `written` is everything written, and `consumed` counts the bytes ahead that are
+-- consumed (RFC 7049, 2.1, 2.2.2, 2.3 and 3.9).
 pub data FirstFault (strict : Bool) (before : List ℕ) (marks : List Mark) :
     Point → List ℕ → Answer → List ℕ → ℕ → Type 0 where
-  -- a title is due, and the bytes end before it or within it
+  -- A title is due, and the bytes end before it or within it.
   CutTitle : {point : Point} {ahead : List ℕ} → IsAtTitle point → IsCutTitle ahead
       → FirstFault strict before marks point ahead Short (spelling marks) (min 1 (length ahead))
-  -- a title is due, and a byte comes with which none begins
+  -- A title is due, and no title begins with the byte that comes.
   NoTitle : {point : Point} {ahead : List ℕ} → IsAtTitle point → BeginsRefused ahead
       → FirstFault strict before marks point ahead (Syntax (length before)) (spelling marks) 1
-  -- a title is due, and one comes that isn't the shortest, or a small simple value, where none such is taken
+  -- A title is due, only strict titles are taken, and the title is not the shortest or is a simple value from 24 to 31.
   LongTitle : {point : Point} {title ahead : List ℕ} (header : Header) (rest : List ℕ) → IsAtTitle point
       → IsTitle title header → (IsTakenTitle strict title header → ⊥) → ahead ≡ title ++ rest
       → FirstFault strict before marks point ahead (Syntax (length before)) (spelling marks) (length title)
-  -- within a string a title comes that may not stand there
+  -- A title comes that may not stand within this string.
   OtherTitle : {kind : Kind} {title ahead : List ℕ} (header : Header) (rest : List ℕ) → IsTitle title header
       → IsRefusedIn strict kind header
       → ahead ≡ title ++ rest
       → FirstFault strict before marks (In kind) ahead (Syntax (length before)) (spelling marks) (length title)
-  -- the whole body of a text is no text; what is written of it was consumed
+  -- The whole body of a text is there, and is not UTF-8. The copy consumed the bytes that it writes.
   DamagedText : {len start consumed : ℕ} {ahead : List ℕ} (front rest : List ℕ) → len ≤ length ahead
       → (IsCharacters (take len ahead) → ⊥)
       → take len ahead ≡ front ++ rest → IsCharacters front → length front ≤ consumed → consumed ≤ len
       → FirstFault strict before marks (BodyDue Text len start) ahead (Syntax start) (with_front marks Text len front)
       consumed
-  -- the bytes end within a body
+  -- The bytes end within a body.
   CutBody : {kind : Kind} {len start consumed : ℕ} {ahead : List ℕ} (front rest : List ℕ) → length ahead < len
       → ahead ≡ front ++ rest
       → IsWritable kind front → length front ≤ consumed → consumed ≤ length front + most_kept kind → consumed
       ≤ length ahead
       → FirstFault strict before marks (BodyDue kind len start) ahead Short (with_front marks kind len front) consumed
-  -- the bytes end within the body of a text, and no text begins as they do; what is written of it was consumed
+  -- The bytes end within the body of a text, and no text begins with them. The copy consumed the bytes that it writes.
   CutDamagedText : {len start consumed : ℕ} {ahead : List ℕ} (front rest : List ℕ) → length ahead < len
       → BeginsNoText ahead
       → ahead ≡ front ++ rest → IsCharacters front → length front ≤ consumed → consumed ≤ length ahead
@@ -109,8 +108,8 @@ pub data FirstFault (strict : Bool) (before : List ℕ) (marks : List Mark) :
 
 -- ---- both over whole lists
 
--- so many elements stand in front of the bytes: where only the shortest spelling is taken, in that
-pub record RunInFront (strict : Bool) (count : ℕ) (bytes : List ℕ) : Type 0 where
+-- The bytes begin with `count` elements, in their shortest spelling if only this is taken.
+pub record BeginsWithElements (strict : Bool) (count : ℕ) (bytes : List ℕ) : Type 0 where
   pub elements : List ℕ
   pub marks : List Mark
   pub rest : List ℕ
@@ -118,14 +117,15 @@ pub record RunInFront (strict : Bool) (count : ℕ) (bytes : List ℕ) : Type 0 
   pub is : bytes ≡ elements ++ rest
   pub spelled : strict ≡ true → IsStrictSpelling elements marks []
 
--- the title of a body that is due, in its shortest spelling, which alone is taken where `strict` holds
+-- The shortest title of a body that is due, which alone is taken if `strict` is true.
 abbrev pub due_title : Point → List ℕ
 due_title Due = []
 due_title (In kind) = []
 due_title (BodyDue kind len start) = shortest_title (kind_header kind (Some len))
 
--- a fault stops a copy of so many elements. What stands before it is spelled as they are. By the laws `run_or_fault`
--- and `no_fault` some bytes have so many elements in front (`RunInFront`) or such a fault, never both
+-- A fault stops a copy of `count` elements. If `strict` is true, everything before it is in its shortest spelling. By
+-- the laws `run_or_fault` and `no_fault`, any bytes begin with `count` elements (`BeginsWithElements`) or have a fault, never
+-- both.
 pub record HasFault (strict : Bool) (count : ℕ) (bytes : List ℕ) : Type 0 where
   pub before : List ℕ
   pub marks : List Mark

@@ -1,5 +1,5 @@
--- Whole items (RFC 7049, 2.1 to 2.4), with tags, arrays and maps nested to a depth at most: any, or those in their
--- shortest spelling alone.
+-- Whole items (RFC 7049, 2.1 to 2.4), with tags, arrays and maps nested to a limited depth: in any spelling, or in the
+-- shortest alone.
 use Rattle.std.specs.Prelude.{◌≡◌, ℕ, zero, suc, ◌*◌, Bool, true, false, List, [], ◌∷◌, ◌++◌, length, Some, None}
 use Rattle.ciborium_ll_grammar.specs.declared.hdr.Header.{Header}
 use Rattle.ciborium_ll_grammar.specs.declared.hdr.Header.TheVariants as h
@@ -9,20 +9,20 @@ use Rattle.ciborium_ll_grammar.specs.Strings.{Kind, Bytes, Text, AreStrings, IsW
 use Rattle.ciborium_ll_grammar.specs.Elements.{AreWritable}
 use Rattle.ciborium_ll_grammar.specs.StrictElements.{AreFlat}
 
--- where only the shortest spelling is taken, a title is a strict one (RFC 7049, 2.3 and 3.9); else it is any
+-- The title is strict, if only the shortest spelling is taken (RFC 7049, 2.3 and 3.9).
 abbrev pub IsTakenTitle : Bool → List ℕ → Header → Type 0
 IsTakenTitle true title header = IsStrictTitle title header
 IsTakenTitle false title header = Unit {0}
 
--- where only the shortest spelling is taken, these strings within an open are of a definite length, each under such a
--- title (RFC 7049, 2.2.2 and 3.9); else they are any
+-- If only the shortest spelling is taken, these strings within an open have definite lengths and strict titles (RFC
+-- 7049, 2.2.2 and 3.9).
 abbrev pub AreTakenStrings : Bool → Kind → List ℕ → List (List ℕ) → Type 0
 AreTakenStrings true kind strings bodies = AreFlat kind strings bodies
 AreTakenStrings false kind strings bodies = Unit {0}
 
 mutual
-  -- `Completes strict depth header rest`: behind a title of the header, the rest completes an item: nothing, a body,
-  -- one item, so many items or pairs, or any number of items or pairs and a break (RFC 7049, 2.1 to 2.4)
+  -- `Completes strict depth header rest`: after a title of the header, the rest completes an item. It is nothing, a
+  -- body, one item, the counted items or pairs, or any number of items or pairs and a break (RFC 7049, 2.1 to 2.4).
   pub data Completes (strict : Bool) : ℕ → Header → List ℕ → Type 0 where
     positive : {depth number : ℕ} → Completes strict depth (h.Positive number) []
     negative : {depth number : ℕ} → Completes strict depth (h.Negative number) []
@@ -47,14 +47,14 @@ mutual
     open_pairs : {depth : ℕ} {items : List ℕ} (count : ℕ) → AreItems strict depth (2 * count) items
         → Completes strict (suc depth) (h.Map None) (items ++ 0xff ∷ [])
 
-  -- `AreItems strict depth count bytes`: the bytes are so many items, joined (RFC 7049, 2.1)
+  -- `AreItems strict depth count bytes`: the bytes are `count` items, joined (RFC 7049, 2.1).
   pub data AreItems (strict : Bool) : ℕ → ℕ → List ℕ → Type 0 where
     no_items : {depth : ℕ} → AreItems strict depth zero []
     more_items : {depth count : ℕ} {title rest others : List ℕ} {header : Header} → IsTitle title header
         → IsTakenTitle strict title header → Completes strict depth header rest
         → AreItems strict depth count others → AreItems strict depth (suc count) (title ++ (rest ++ others))
 
--- the bytes are one item (RFC 7049, 2.1 to 2.4), with tags, arrays and maps nested at most so deep, and where `strict`
--- holds in its shortest spelling (3.9). Strings take no depth
+-- The bytes are one item (RFC 7049, 2.1 to 2.4), with tags, arrays and maps nested at most `depth` deep, and if
+-- `strict` is true, in its shortest spelling (3.9). Strings take no depth.
 abbrev pub IsItem : Bool → ℕ → List ℕ → Type 0
 IsItem strict depth bytes = AreItems strict depth (suc zero) bytes

@@ -3,6 +3,7 @@ pub mod Faults
 pub mod Items
 pub mod Parts
 pub mod Shortening
+pub mod Spellings
 pub mod Starts
 pub mod StrictElements
 pub mod Strings

@@ -1,5 +1,5 @@
--- A title in the parts in which the code handles it: a major type, and a minor with its number. A law of `proofs/` says
--- that such parts are a title.
+-- A title in the parts that the code uses: a major type, and a minor with its number. By a law of `proofs/`, these
+-- parts are a title.
 use Rattle.std.specs.Prelude.{ℕ, ◌<◌, List, [], ◌∷◌, Option, Some, None, Bool, false, if◌then◌else◌}
 use Rattle.std.specs.Prelude.{nat_lt, ◌==◌}
 use Rattle.ciborium_ll_grammar.specs.declared.hdr.Minor.{Minor}
@@ -7,7 +7,7 @@ use Rattle.ciborium_ll_grammar.specs.declared.hdr.Minor.TheVariants as m
 use Rattle.ciborium_ll_grammar.specs.declared.hdr.Title.{Title}
 use Rattle.ciborium_ll_grammar.specs.Title.{Small, One, Two, Four, Eight, size_limit, byte_of, minor_of, affix_of}
 
--- the minor as it stands in the first byte, as `minor_of` has it (RFC 7049, 2.1)
+-- The minor in the lower five bits of the first byte, as `minor_of` defines it (RFC 7049, 2.1).
 abbrev pub minor_code : Minor → ℕ
 minor_code (m.Small n) = minor_of Small n
 minor_code (m.One n) = minor_of One n
@@ -16,7 +16,7 @@ minor_code (m.Four n) = minor_of Four n
 minor_code (m.Eight n) = minor_of Eight n
 minor_code m.Open = 31
 
--- the bytes behind a first byte, as `affix_of` has them (RFC 7049, 2.1)
+-- The bytes of the affix, as `affix_of` defines them (RFC 7049, 2.1).
 abbrev pub minor_affix : Minor → List ℕ
 minor_affix (m.Small n) = affix_of Small n
 minor_affix (m.One n) = affix_of One n
@@ -25,7 +25,7 @@ minor_affix (m.Four n) = affix_of Four n
 minor_affix (m.Eight n) = affix_of Eight n
 minor_affix m.Open = []
 
--- the number that a minor and its affix hold, which minor 31 has none of (RFC 7049, 2.1)
+-- The number that a minor and its affix hold, or `None` for the minor 31 (RFC 7049, 2.1).
 abbrev pub minor_number : Minor → Option ℕ
 minor_number (m.Small n) = Some n
 minor_number (m.One n) = Some n
@@ -34,7 +34,7 @@ minor_number (m.Four n) = Some n
 minor_number (m.Eight n) = Some n
 minor_number m.Open = None
 
--- its number fits where it stands, by `size_limit` (RFC 7049, 2.1)
+-- The minor's number is below the `size_limit` of its size (RFC 7049, 2.1).
 abbrev pub IsMinor : Minor → Type 0
 IsMinor (m.Small n) = n < size_limit Small
 IsMinor (m.One n) = n < size_limit One
@@ -43,29 +43,29 @@ IsMinor (m.Four n) = n < size_limit Four
 IsMinor (m.Eight n) = n < size_limit Eight
 IsMinor m.Open = Unit {0}
 
--- the first byte of a title in parts (RFC 7049, 2.1)
+-- The first byte of a title in parts (RFC 7049, 2.1).
 abbrev pub parts_first : ℕ → Minor → ℕ
 parts_first major minor = byte_of major (minor_code minor)
 
--- the bytes of a title in parts (RFC 7049, 2.1)
+-- The bytes of a title in parts: the first byte and the affix (RFC 7049, 2.1).
 abbrev pub parts_bytes : ℕ → Minor → List ℕ
 parts_bytes major minor = parts_first major minor ∷ minor_affix minor
 
--- the bytes of a title (RFC 7049, 2.1)
+-- The bytes of a title (RFC 7049, 2.1).
 abbrev pub title_bytes : Title → List ℕ
 title_bytes t = parts_bytes t.major t.minor
 
--- the parts are those of some title: the number fits, and the major type is below 8 (RFC 7049, 2.1)
+-- The parts are the parts of a title: the major type is below 8, and the number fits (RFC 7049, 2.1).
 pub record IsParts (t : Title) : Type 0 where
   pub major : t.major < 8
   pub minor : IsMinor t.minor
 
--- a smaller form holds the number, or it is a simple value below 32 in two bytes (RFC 7049, 2.3 and 3.9). By a lemma
--- these are the parts of the titles that aren't strict
-abbrev pub longer_parts : ℕ → Minor → Bool
-longer_parts major (m.Small n) = false
-longer_parts major (m.One n) = nat_lt n (if major == 7 then 32 else 24)
-longer_parts major (m.Two n) = if major == 7 then false else nat_lt n (size_limit One)
-longer_parts major (m.Four n) = if major == 7 then false else nat_lt n (size_limit Two)
-longer_parts major (m.Eight n) = if major == 7 then false else nat_lt n (size_limit Four)
-longer_parts major m.Open = false
+-- A smaller form holds the number, or the minor is a simple value below 32 in two bytes (RFC 7049, 2.3 and 3.9). By a
+-- lemma, these are exactly the parts of the titles that are not strict.
+abbrev pub refused_when_strict : ℕ → Minor → Bool
+refused_when_strict major (m.Small n) = false
+refused_when_strict major (m.One n) = nat_lt n (if major == 7 then 32 else 24)
+refused_when_strict major (m.Two n) = if major == 7 then false else nat_lt n (size_limit One)
+refused_when_strict major (m.Four n) = if major == 7 then false else nat_lt n (size_limit Two)
+refused_when_strict major (m.Eight n) = if major == 7 then false else nat_lt n (size_limit Four)
+refused_when_strict major m.Open = false

@@ -1,13 +1,13 @@
--- What a copy takes and what it writes, on whole lists: elements, each title of which becomes its shortest one, and the
--- strings within an open that are joined in one. Of the other definitions it has `IsCharacters` alone, which says what
--- UTF-8 is. Major types are numbers from 0 to 7, as a first byte has them (RFC 7049, 2.1). By the law `shortened_run`
--- these are the runs of elements and their spelling.
+-- The bytes that a copy takes and writes, on whole lists. Each title becomes its shortest title. A string of indefinite
+-- length inside another loses its open and break. `IsCharacters`, which defines UTF-8, is the only other definition
+-- used here. Major types are numbers from 0 to 7, as in a first byte (RFC 7049, 2.1). By the law `shortened_run`, these
+-- are the runs of elements and their spelling.
 use Rattle.std.specs.Prelude.{◌≡◌, ℕ, zero, suc, ◌+◌, ◌*◌, ◌<◌, ◌≤◌, ◌^◌, ◌⊎◌, Bool, true, false, List, [], ◌∷◌, ◌++◌}
 use Rattle.std.specs.Prelude.{length}
 use Rattle.std.specs.Int.{to_be_bytes, w8, w16, w32, w64}
 use Rattle.ciborium_ll_text.specs.Text.{IsCharacters}
 
--- the number that the lower five bits of a first byte say, with the bytes behind it (RFC 7049, 2.1)
+-- The number that the lower five bits of a first byte and the affix give (RFC 7049, 2.1).
 pub data SaysNumber : ℕ → List ℕ → ℕ → Type 0 where
   small : {n : ℕ} → n < 24 → SaysNumber n [] n
   one : {n : ℕ} → n < 2 ^ 8 → SaysNumber 24 (to_be_bytes w8 n) n
@@ -15,8 +15,8 @@ pub data SaysNumber : ℕ → List ℕ → ℕ → Type 0 where
   four : {n : ℕ} → n < 2 ^ 32 → SaysNumber 26 (to_be_bytes w32 n) n
   eight : {n : ℕ} → n < 2 ^ 64 → SaysNumber 27 (to_be_bytes w64 n) n
 
--- a title of the major type with the number: any, or where `shortest` holds the one with the fewest bytes (RFC 7049,
--- 2.1 and 3.9)
+-- The bytes are a title of the major type with the number. If `shortest` is true, no title of the two has fewer bytes
+-- (RFC 7049, 2.1 and 3.9).
 pub record IsNumberTitle (shortest : Bool) (major n : ℕ) (title : List ℕ) : Type 0 where
   pub minor : ℕ
   pub affix : List ℕ
@@ -25,20 +25,20 @@ pub record IsNumberTitle (shortest : Bool) (major n : ℕ) (title : List ℕ) : 
   pub fewest : shortest ≡ true → (minor : ℕ) (other : List ℕ) → SaysNumber minor other n
       → length affix ≤ length other
 
--- what the body of a string may be: any bytes, or of a text UTF-8 (RFC 7049, 2.1)
+-- The body of a string may be these bytes: any bytes, or UTF-8 for a text (RFC 7049, 2.1).
 pub data IsBody : ℕ → List ℕ → Type 0 where
   bytes : {body : List ℕ} → IsBody 2 body
   text : {body : List ℕ} → IsCharacters body → IsBody 3 body
 
--- a string of a definite length, and the same body under its shortest title. A strict decoder takes that title alone
--- (RFC 7049, 2.1 and 3.9)
+-- A string of a definite length, and the same body after its shortest title. A strict decoder takes this title alone
+-- (RFC 7049, 2.1 and 3.9).
 pub data ShortensString (strict : Bool) (major : ℕ) : List ℕ → List ℕ → Type 0 where
   titled : {title shortest body : List ℕ} → IsNumberTitle strict major (length body) title
       → IsNumberTitle true major (length body) shortest → IsBody major body
       → ShortensString strict major (title ++ body) (shortest ++ body)
 
--- strings within an open, joined, and what is written of them. Of one that is an open itself, which a strict decoder
--- refuses, that is what is written of those within it (RFC 7049, 2.2.2)
+-- Strings within an open, joined, and the copy of them. The copy of a string of indefinite length is the copy of the
+-- strings within it. A strict decoder refuses it (RFC 7049, 2.2.2).
 pub data ShortensStrings (strict : Bool) (major : ℕ) : List ℕ → List ℕ → Type 0 where
   no_more : ShortensStrings strict major [] []
   definite_more : {first rest written more : List ℕ} → ShortensString strict major first written
@@ -47,9 +47,9 @@ pub data ShortensStrings (strict : Bool) (major : ℕ) : List ℕ → List ℕ �
       → ShortensStrings strict major rest more
       → ShortensStrings strict major (((32 * major + 31) ∷ (within ++ 0xff ∷ [])) ++ rest) (written ++ more)
 
--- an element, and what is written of it (RFC 7049, 2.1 to 2.3): a title of an integer, an array, a map or a tag; of a
--- simple value, of which a strict decoder refuses 24 to 31; a float; an open array or map, or a break; and a string, of
--- a definite length or an open one
+-- An element, and its copy (RFC 7049, 2.1 to 2.3). The element is the title of an integer, array, map or tag, a simple
+-- value (a strict decoder refuses 24 to 31), or a float. Or it is an open array, an open map or a break. Or it is a
+-- string of a definite or an indefinite length.
 pub data ShortensElement (strict : Bool) : List ℕ → List ℕ → Type 0 where
   number : {major n : ℕ} {title shortest : List ℕ} → (major < 2) ⊎ ((3 < major) × (major < 7))
       → IsNumberTitle strict major n title → IsNumberTitle true major n shortest
@@ -65,8 +65,8 @@ pub data ShortensElement (strict : Bool) : List ℕ → List ℕ → Type 0 wher
   parts : {major : ℕ} {strings written : List ℕ} → IsBody major [] → ShortensStrings strict major strings written
       → ShortensElement strict ((32 * major + 31) ∷ (strings ++ 0xff ∷ [])) ((32 * major + 31) ∷ (written ++ 0xff ∷ []))
 
--- `Shortens strict count bytes written rest`: the bytes begin with so many elements, of which this is written, and the
--- rest follows
+-- `Shortens strict count bytes written rest`: the bytes begin with `count` elements, whose copy is `written`, and then
+-- have `rest`.
 pub data Shortens (strict : Bool) : ℕ → List ℕ → List ℕ → List ℕ → Type 0 where
   done : {rest : List ℕ} → Shortens strict zero rest [] rest
   next : {count : ℕ} {element bytes written more rest : List ℕ} → ShortensElement strict element written

@@ -1,11 +1,11 @@
--- What a title begins within an item.
+-- The role of a title within an item.
 use Rattle.ciborium_ll_grammar.specs.declared.hdr.Header.{Header}
 use Rattle.ciborium_ll_grammar.specs.declared.hdr.Header.TheVariants as h
 use Rattle.ciborium_ll_grammar.specs.declared.hdr.start.Start.{Start}
 use Rattle.ciborium_ll_grammar.specs.declared.hdr.start.Start.TheVariants as s
 
--- what a title of the header begins: a value, a string with its length, a tag, an array or a map, which items follow (a
--- *nest*), or the end of an indefinite form (RFC 7049, 2.1 to 2.4)
+-- The role of a title of the header: a value, a string with its length, a *nest* or the end of an indefinite form. A
+-- nest is a tag, an array or a map, which items follow (RFC 7049, 2.1 to 2.4).
 abbrev pub start_of : Header → Start
 start_of (h.Positive number) = s.Value
 start_of (h.Negative number) = s.Value

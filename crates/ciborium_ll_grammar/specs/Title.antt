@@ -1,6 +1,7 @@
--- Titles (RFC 7049, 2.1 to 2.3), and the headers that they mean. An item begins with a *title*: a first byte, and 0, 1,
--- 2, 4 or 8 bytes behind it, the *affix*. A *header* is what a title means. A body may follow, which is no part of the
--- title. A number here has no range. `IsInRange header` says that a header's numbers are those of its Rust type.
+-- Titles (RFC 7049, 2.1 to 2.3), and the headers that they mean. An item begins with a *title*: a first byte and its
+-- *affix* of 0, 1, 2, 4 or 8 bytes. `19 01 00` is the title of the number 256, and its affix is `01 00`. A *header* is
+-- the meaning of a title. A body may follow, which is no part of the title. Numbers here have no range. `IsInRange
+-- header` says that a header's numbers fit their Rust types.
 use Rattle.std.specs.Prelude.{◌≡◌, ℕ, ◌+◌, ◌*◌, ◌/◌, ◌%◌, ◌<◌, ◌≤◌, ◌^◌, ◌⊎◌, List, [], ◌∷◌, length, Option, Some}
 use Rattle.std.specs.Prelude.{None, IfSome, if◌then◌else◌, nat_lt, ◌==◌}
 use Rattle.std.specs.List.{AllByRecursion}
@@ -10,11 +11,11 @@ use Rattle.ciborium_ll_grammar.specs.declared.hdr.Header.TheVariants as h
 use Rattle.ciborium_ll_grammar.specs.declared.hdr.Float.{Float}
 use Rattle.ciborium_ll_grammar.specs.declared.hdr.Float.TheVariants as f
 
--- the eight major types, of which the upper three bits of a first byte give one (RFC 7049, 2.1)
+-- The eight major types. The upper three bits of a first byte give the major type (RFC 7049, 2.1).
 pub data Major : Type 0 where
   Unsigned Negative ByteString TextString Array Map Tag Other : Major
 
--- the number of a major type, from 0 to 7 (RFC 7049, 2.1)
+-- The number of a major type, from 0 to 7 (RFC 7049, 2.1).
 abbrev pub major_code : Major → ℕ
 major_code Unsigned = 0
 major_code Negative = 1
@@ -25,20 +26,20 @@ major_code Map = 5
 major_code Tag = 6
 major_code Other = 7
 
--- a first byte by its two numbers, 32 * major + minor: the major type in the upper three bits, and the minor in the
--- lower five (RFC 7049, 2.1)
+-- The first byte 32 * major + minor: the major type in the upper three bits, the minor in the lower five (RFC 7049,
+-- 2.1).
 abbrev pub byte_of : ℕ → ℕ → ℕ
 byte_of major minor = 32 * major + minor
 
--- the first byte of a major type and a minor (RFC 7049, 2.1)
+-- The first byte of a major type and a minor (RFC 7049, 2.1).
 abbrev pub first_byte : Major → ℕ → ℕ
 first_byte major minor = byte_of (major_code major) minor
 
--- where the number of a title stands: in the minor itself, or in the 1, 2, 4 or 8 bytes behind it (RFC 7049, 2.1)
+-- The place of a title's number: the minor itself, or an affix of 1, 2, 4 or 8 bytes (RFC 7049, 2.1).
 pub data Size : Type 0 where
   Small One Two Four Eight : Size
 
--- the numbers of a size are below this one: 24, 2^8, 2^16, 2^32 and 2^64 (RFC 7049, 2.1)
+-- The numbers of a size are below this limit: 24, 2^8, 2^16, 2^32 or 2^64 (RFC 7049, 2.1).
 abbrev pub size_limit : Size → ℕ
 size_limit Small = 24
 size_limit One = 2 ^ 8
@@ -46,7 +47,7 @@ size_limit Two = 2 ^ 16
 size_limit Four = 2 ^ 32
 size_limit Eight = 2 ^ 64
 
--- the minor of a size (RFC 7049, 2.1): the number itself, or 24, 25, 26 or 27, which say how many bytes follow
+-- The minor of a size: the number itself, or 24 to 27 for an affix of 1, 2, 4 or 8 bytes (RFC 7049, 2.1).
 abbrev pub minor_of : Size → ℕ → ℕ
 minor_of Small n = n
 minor_of One n = 24
@@ -54,7 +55,7 @@ minor_of Two n = 25
 minor_of Four n = 26
 minor_of Eight n = 27
 
--- the affix: the bytes behind the first one, the most significant first (RFC 7049, 2.1)
+-- The affix of a size: the number, the most significant byte first (RFC 7049, 2.1).
 abbrev pub affix_of : Size → ℕ → List ℕ
 affix_of Small n = []
 affix_of One n = to_be_bytes w8 n
@@ -62,11 +63,12 @@ affix_of Two n = to_be_bytes w16 n
 affix_of Four n = to_be_bytes w32 n
 affix_of Eight n = to_be_bytes w64 n
 
--- a first byte and its affix (RFC 7049, 2.1)
+-- The title of a number under a major type: the first byte and its affix (RFC 7049, 2.1).
 abbrev pub numbered_title : Major → Size → ℕ → List ℕ
 numbered_title major size n = first_byte major (minor_of size n) ∷ affix_of size n
 
--- major type 7: simple values for the sizes small and one, floats of 16, 32 and 64 bits for the others (RFC 7049, 2.3)
+-- The header of a number under the major type 7: a simple value in the sizes small and one, otherwise a float of 16, 32
+-- or 64 bits (RFC 7049, 2.3).
 abbrev pub other_header : Size → ℕ → Header
 other_header Small n = h.Simple n
 other_header One n = h.Simple n
@@ -74,7 +76,7 @@ other_header Two n = h.Float (f.Half n)
 other_header Four n = h.Float (f.Single n)
 other_header Eight n = h.Float (f.Double n)
 
--- what a number says under each major type (RFC 7049, 2.1, 2.3 and 2.4)
+-- The header of a number under each major type (RFC 7049, 2.1, 2.3 and 2.4).
 abbrev pub numbered_header : Major → Size → ℕ → Header
 numbered_header Unsigned size n = h.Positive n
 numbered_header Negative size n = h.Negative n
@@ -85,8 +87,8 @@ numbered_header Map size n = h.Map (Some n)
 numbered_header Tag size n = h.Tag n
 numbered_header Other size n = other_header size n
 
--- what the minor 31 says: the four indefinite forms and the break, or nothing under the major types 0, 1 and 6 (RFC
--- 7049, 2.2)
+-- The header of the minor 31: the four indefinite forms and the break. The major types 0, 1 and 6 have none (RFC 7049,
+-- 2.2).
 abbrev pub open_header : Major → Option Header
 open_header Unsigned = None
 open_header Negative = None
@@ -97,8 +99,8 @@ open_header Map = Some (h.Map None)
 open_header Tag = None
 open_header Other = Some h.Break
 
--- the bytes are a title of the header: a first byte with its number, or a first byte of minor 31 alone (RFC 7049, 2.1
--- to 2.4)
+-- The bytes are a title of the header: a first byte with its number, or a first byte of minor 31 alone (RFC 7049, 2.1
+-- to 2.4). `01`, `18 01` and `19 00 01` are titles of the integer 1.
 pub data IsTitle : List ℕ → Header → Type 0 where
   numbered : (major : Major) (size : Size) (n : ℕ) → n < size_limit size
       → IsTitle (numbered_title major size n) (numbered_header major size n)
@@ -107,29 +109,29 @@ pub data IsTitle : List ℕ → Header → Type 0 where
 
 -- ---- the shortest title
 
--- the smallest size that holds the number (RFC 7049, 3.9)
+-- The smallest size that holds the number (RFC 7049, 3.9).
 abbrev pub least_size : ℕ → Size
 least_size n =
     if nat_lt n 24 then Small else (if nat_lt n (2 ^ 8) then One else
     (if nat_lt n (2 ^ 16) then Two else (if nat_lt n (2 ^ 32) then Four else Eight)))
 
--- a number under a major type, in the smallest size that holds it (RFC 7049, 3.9)
+-- The title of a number under a major type, in the smallest size that holds it (RFC 7049, 3.9).
 abbrev pub shortest_numbered : Major → ℕ → List ℕ
 shortest_numbered major n = numbered_title major (least_size n) n
 
--- a length in the smallest size, or the indefinite form (RFC 7049, 2.2 and 3.9)
+-- The title of a length in the smallest size, or of the indefinite form for `None` (RFC 7049, 2.2 and 3.9).
 abbrev pub shortest_with_length : Major → Option ℕ → List ℕ
 shortest_with_length major (Some n) = shortest_numbered major n
 shortest_with_length major None = first_byte major 31 ∷ []
 
--- a float has one title alone (RFC 7049, 2.3)
+-- The only title of a float (RFC 7049, 2.3).
 abbrev pub float_title : Float → List ℕ
 float_title (f.Half n) = numbered_title Other Two n
 float_title (f.Single n) = numbered_title Other Four n
 float_title (f.Double n) = numbered_title Other Eight n
 
--- the title of a header that is shorter than every other one, as the law `shortest_titles` says: by the smallest size,
--- of an indefinite form the first byte of minor 31, of a float its one title (RFC 7049, 3.9)
+-- The title of a header that is shorter than its other titles, as the law `shortest_titles` says (RFC 7049, 3.9).
+-- Numbers have the smallest size, indefinite forms the first byte of minor 31, and floats their only title.
 abbrev pub shortest_title : Header → List ℕ
 shortest_title (h.Positive n) = shortest_numbered Unsigned n
 shortest_title (h.Negative n) = shortest_numbered Negative n
@@ -142,35 +144,35 @@ shortest_title (h.Text len) = shortest_with_length TextString len
 shortest_title (h.Array len) = shortest_with_length Array len
 shortest_title (h.Map len) = shortest_with_length Map len
 
--- how many bytes a header's shortest title has
+-- The number of bytes of a header's shortest title.
 abbrev pub title_len : Header → ℕ
 title_len header = length (shortest_title header)
 
--- a simple value to which RFC 7049, 2.3, gives no meaning: 24 to 31, in two bytes
+-- A simple value from 24 to 31, which takes two bytes. RFC 7049, 2.3, gives it no meaning.
 abbrev pub IsSmallSimple : Header → Type 0
 IsSmallSimple (h.Simple n) = (24 ≤ n) × (n < 32)
 IsSmallSimple header = ⊥
 
--- a title that a strict decoder takes: the shortest one of its header (RFC 7049, 3.9), and of no small simple value
--- (2.3)
+-- A strict decoder takes this title: the shortest of its header (RFC 7049, 3.9), and of no simple value from 24 to 31
+-- (2.3).
 pub record IsStrictTitle (title : List ℕ) (header : Header) : Type 0 where
   pub shortest : title ≡ shortest_title header
   pub meant : IsSmallSimple header → ⊥
 
--- the length of the title of a waiting header, and 0 where none waits
+-- The length of the waiting header's shortest title, or 0 if no header waits.
 abbrev pub waiting_len : Option Header → ℕ
 waiting_len None = 0
 waiting_len (Some header) = title_len header
 
 -- ---- the numbers of a header are in the ranges of their types
 
--- a float's bits fit its width (RFC 7049, 2.3)
+-- The float's bits fit its width (RFC 7049, 2.3).
 abbrev pub IsFloatInRange : Float → Type 0
 IsFloatInRange (f.Half n) = n < 2 ^ 16
 IsFloatInRange (f.Single n) = n < 2 ^ 32
 IsFloatInRange (f.Double n) = n < 2 ^ 64
 
--- each number fits its Rust type: 64 bits, and 8 for a simple value (RFC 7049, 2.1 and 2.3)
+-- Each number fits its Rust type: 8 bits for a simple value, otherwise 64 (RFC 7049, 2.1 and 2.3).
 abbrev pub IsInRange : Header → Type 0
 IsInRange (h.Positive n) = n < 2 ^ 64
 IsInRange (h.Negative n) = n < 2 ^ 64
@@ -185,45 +187,45 @@ IsInRange (h.Map len) = IfSome len (λ n. n < 2 ^ 64)
 
 -- ---- bytes in front of which no title stands
 
--- a reserved minor (RFC 7049, 2.1): 28, 29 or 30
+-- The minor is reserved: 28, 29 or 30 (RFC 7049, 2.1).
 abbrev pub IsReserved : ℕ → Type 0
 IsReserved minor = (28 ≤ minor) × (minor ≤ 30)
 
--- the minor 31 under a major type that has no indefinite form (RFC 7049, 2.2): 0, 1 or 6
+-- The major type has no indefinite form: 0, 1 or 6 (RFC 7049, 2.2).
 abbrev pub IsNeverOpen : ℕ → Type 0
 IsNeverOpen major = (major ≡ 0) ⊎ ((major ≡ 1) ⊎ (major ≡ 6))
 
--- no title has this major type and minor: the minor is reserved, or 31 under a major type that has no indefinite form
--- (RFC 7049, 2.1 and 2.2)
+-- No title has this major type and minor: the minor is reserved, or it is 31 and the major type has no indefinite form
+-- (RFC 7049, 2.1 and 2.2).
 abbrev pub NamesNoTitle : ℕ → ℕ → Type 0
 NamesNoTitle major minor = IsReserved minor ⊎ ((minor ≡ 31) × IsNeverOpen major)
 
--- the first bytes with which no title begins, by their major type and minor: 27 of the 256 (RFC 7049, 2.1 and 2.2). By
--- the law `refused_first_bytes` they are those of the list `refused_bytes`
+-- No title begins with this byte, by its major type and minor: 27 of the 256 bytes (RFC 7049, 2.1 and 2.2). By the law
+-- `refused_first_bytes`, these are the `refused_bytes`.
 abbrev pub IsRefused : ℕ → Type 0
 IsRefused byte = NamesNoTitle (byte / 32) (byte % 32)
 
--- the bytes begin with one of those
+-- The list begins with a refused byte.
 abbrev pub BeginsRefused : List ℕ → Type 0
 BeginsRefused [] = ⊥
 BeginsRefused (byte ∷ rest) = IsRefused byte
 
--- how many bytes of affix a minor announces (RFC 7049, 2.1)
+-- The number of bytes of the affix that a minor announces (RFC 7049, 2.1).
 abbrev pub affix_len : ℕ → ℕ
 affix_len minor = if minor == 24 then 1 else (if minor == 25 then 2 else
     (if minor == 26 then 4 else (if minor == 27 then 8 else 0)))
 
--- the bytes end inside a title: they are none, or fewer follow the first byte than it announces. By the law
--- `cut_titles` just these, of lists of bytes, are made a title by one byte or more
+-- The bytes end before a title or within it: there are none, or fewer follow the first byte than it announces. By the
+-- law `cut_titles`, one or more further bytes complete exactly these lists of bytes to a title.
 abbrev pub IsCutTitle : List ℕ → Type 0
 IsCutTitle [] = Unit {0}
 IsCutTitle (byte ∷ rest) = length rest < affix_len (byte % 32)
 
--- each element is a byte: below 256
+-- Each element of the list is a byte: below 256.
 abbrev pub AreBytes : List ℕ → Type 0
 AreBytes bytes = AllByRecursion (λ byte. byte < 256) bytes
 
--- the 27 refused bytes, in order (RFC 7049, 2.1 and 2.2)
+-- The 27 refused bytes, in order (RFC 7049, 2.1 and 2.2).
 abbrev pub refused_bytes : List ℕ
 refused_bytes =
     0x1c ∷ 0x1d ∷ 0x1e ∷ 0x1f ∷ 0x3c ∷ 0x3d ∷ 0x3e ∷ 0x3f ∷ 0x5c ∷ 0x5d ∷ 0x5e ∷ 0x7c ∷ 0x7d ∷ 0x7e ∷ 0x9c ∷ 0x9d ∷

@@ -5,7 +5,7 @@ ghost use Rattle.ciborium_ll_grammar.specs.Title.{IsInRange, IsTitle, IsNeverOpe
 ghost use Rattle.ciborium_ll_grammar.specs.Title.{least_size, minor_of, affix_of, shortest_title};
 ghost use Rattle.ciborium_ll_grammar.specs.Title.{title_len, shortest_with_length, major_code};
 ghost use Rattle.ciborium_ll_grammar.specs.Parts.{IsMinor, IsParts, minor_affix, minor_code};
-ghost use Rattle.ciborium_ll_grammar.specs.Parts.{minor_number, longer_parts, parts_bytes};
+ghost use Rattle.ciborium_ll_grammar.specs.Parts.{minor_number, refused_when_strict, parts_bytes};
 ghost use Rattle.ciborium_ll_grammar.specs.Parts.{parts_first, title_bytes};
 ghost use Rattle.ciborium_ll_grammar.specs.Elements.{IsPlain};
 ghost use Rattle.ciborium_ll_grammar.specs.TitleRows.{IsTitleKind};
@@ -16,20 +16,20 @@ pub mod table;
 pub use self::start::Start;
 use crate::hdr::table::TitleKind;
 
-/// A float by its width and its raw bits (RFC 7049, 2.3).
+/// A float, as its width and its raw bits (RFC 7049, 2.3).
 ///
-/// Two floats are equal where width and bits are: a NaN equals itself, and the zeros of both signs differ.
+/// Floats are equal if widths and bits are equal: a NaN equals itself, and +0.0 differs from -0.0.
 #[derive(Clone, Copy, Debug, PartialEq, Eq)]
 pub enum Float {
-    /// The bits of a float of 16 bits.
+    /// The 16 bits of a half-precision float.
     Half(u16),
-    /// The bits of a float of 32 bits.
+    /// The 32 bits of a single-precision float.
     Single(u32),
-    /// The bits of a float of 64 bits.
+    /// The 64 bits of a double-precision float.
     Double(u64),
 }
 
-/// What a title means (RFC 7049, 2.1 to 2.3). The body of an item is no part of it.
+/// The meaning of a title (RFC 7049, 2.1 to 2.3), without a body.
 ///
 /// A length or a count of `None` is the indefinite form, which a `Break` ends.
 #[derive(Clone, Copy, Debug, PartialEq, Eq)]
@@ -38,17 +38,17 @@ pub enum Header {
     Positive(u64),
     /// The negative integer -1 - n.
     Negative(u64),
-    /// A float, as raw bits with their width.
+    /// A float, as its width and its raw bits.
     Float(Float),
     /// A simple value.
     Simple(u8),
-    /// A tag, for the item behind it.
+    /// A tag for the item that follows.
     Tag(u64),
     /// The end of an indefinite string, array or map.
     Break,
-    /// A byte string of this many bytes.
+    /// A byte string with a body of this many bytes.
     Bytes(Option<usize>),
-    /// A text string of this many bytes.
+    /// A text string with a body of this many bytes.
     Text(Option<usize>),
     /// An array of this many items.
     Array(Option<usize>),
@@ -58,25 +58,25 @@ pub enum Header {
 
 /// The lower five bits of a first byte, with the number that they hold or announce.
 ///
-/// Each variant has its number as a `u64`, so that a `Minor` is a variant and one number, whichever the variant is.
+/// Each number is a `u64`, so a `Minor` is a variant and at most one number.
 #[derive(Clone, Copy)]
 pub enum Minor {
     /// The number itself, below 24.
     Small(u64),
-    /// A number in one byte behind.
+    /// A number in one byte after the first.
     One(u64),
-    /// A number in two bytes behind.
+    /// A number in two bytes after the first.
     Two(u64),
-    /// A number in four bytes behind.
+    /// A number in four bytes after the first.
     Four(u64),
-    /// A number in eight bytes behind.
+    /// A number in eight bytes after the first.
     Eight(u64),
     /// No number: an indefinite form or a break.
     Open,
 }
 
 impl Minor {
-    /// The number, where there is one.
+    /// Returns the number, or `None` for `Open`.
     pub(crate) fn number(self) -> Option<u64>
         ensures { result ≡ minor_number self }
     {
@@ -88,7 +88,7 @@ impl Minor {
         }
     }
 
-    /// The length that the number is, or the indefinite form.
+    /// Returns the number as a length, or `None` for the indefinite form.
     #[inline(always)]
     pub fn length(self) -> Option<usize>
         ensures { result ≡ minor_number self }
@@ -99,7 +99,7 @@ impl Minor {
         }
     }
 
-    /// The smallest form that holds a number.
+    /// Returns the smallest form that holds a number.
     fn holding(number: u64) -> Minor
         ensures minor { IsMinor result }
         ensures code { minor_code result ≡ minor_of (least_size number) number }
@@ -118,7 +118,7 @@ impl Minor {
         }
     }
 
-    /// The smallest form that holds a length, or the indefinite form.
+    /// Returns the smallest form that holds a length, or the indefinite form for `None`.
     fn holding_length(length: Option<usize>) -> Minor
         ensures minor { IsMinor result }
         ensures bytes { (major : Major) → parts_bytes (major_code major) result ≡ shortest_with_length major length }
@@ -129,7 +129,7 @@ impl Minor {
         }
     }
 
-    /// The minor as it stands in the first byte.
+    /// Returns the lower five bits of the first byte, from 0 to 31.
     pub fn code(self) -> u8
         requires { IsMinor self }
         ensures value { result ≡ minor_code self }
@@ -145,10 +145,11 @@ impl Minor {
         }
     }
 
-    /// Whether a strict decoder refuses it under a major type: a smaller form holds the number, or it is a simple value
-    /// below 32 in two bytes.
-    pub fn is_longer(self, major: u8) -> bool
-        ensures { result ≡ longer_parts major self }
+    /// Tells if a strict decoder refuses this minor under a major type (RFC 7049, 2.3 and 3.9).
+    ///
+    /// It refuses a number that a smaller form holds, and a simple value below 32 in two bytes.
+    pub fn is_refused_when_strict(self, major: u8) -> bool
+        ensures { result ≡ refused_when_strict major self }
     {
         if major == 7 {
             return match self {
@@ -165,8 +166,7 @@ impl Minor {
         }
     }
 
-    /// The smallest form of what this one means under the major type 7: a simple value is a number, and a float and
-    /// the break stay.
+    /// Returns the smallest form of the same meaning under the major type 7. Floats and the break keep their form.
     #[inline(always)]
     fn shortest_other(self) -> Minor
         requires { IsMinor self }
@@ -180,7 +180,7 @@ impl Minor {
         }
     }
 
-    /// The smallest form of what this one means under the other major types, where it holds a number.
+    /// Returns the smallest form of the same meaning under a major type below 7.
     #[inline(always)]
     fn shortest_number(self) -> Minor
         requires { IsMinor self }
@@ -194,7 +194,7 @@ impl Minor {
         }
     }
 
-    /// How many bytes stand behind the first one.
+    /// Returns the number of bytes of the affix.
     fn affix_len(self) -> usize
         ensures { result ≡ length (minor_affix self) }
     {
@@ -208,7 +208,7 @@ impl Minor {
     }
 }
 
-/// What a title begins (RFC 7049, 2.1 and 2.2).
+/// The element that a title begins (RFC 7049, 2.1 and 2.2): a string, or the title alone.
 #[derive(Clone, Copy)]
 pub enum Element {
     /// A byte string of this many bytes, or of indefinite length.
@@ -229,7 +229,7 @@ pub struct Title {
 }
 
 impl Title {
-    /// The first byte.
+    /// Returns the first byte.
     pub fn first_byte(self) -> u8
         requires { IsParts self }
         ensures { result ≡ parts_first self.major self.minor }
@@ -237,7 +237,9 @@ impl Title {
         self.major * 32 + self.minor.code()
     }
 
-    /// What the title means, which is of this kind, or nothing for the minor 31 where it has no meaning.
+    /// Returns the header that the title means. `kind` is the title's kind.
+    ///
+    /// `None` means that the minor is 31 and the major type has no indefinite form (RFC 7049, 2.2).
     #[inline(always)]
     pub fn header(self, kind: TitleKind) -> Option<Header>
         requires parts { IsParts self }
@@ -257,13 +259,13 @@ impl Title {
             TitleKind::Map => Header::Map(Some(n as usize)),
             TitleKind::Tag => Header::Tag(n),
             TitleKind::Other => other_header(self.minor),
-            // A first byte with which no title begins announces no number. As an arm that is never taken this one
-            // needs no look at the kind.
+            // A refused first byte has no number, so no title takes this arm. It has the body of the arm above, so it
+            // needs no test.
             TitleKind::Refused => other_header(self.minor),
         })
     }
 
-    /// What the title begins, whichever header it means. It is told by the parts alone, so a copy need not make the
+    /// Tells if the title begins a string, with kind and length. It looks at the parts alone, so a copy makes no
     /// header.
     #[inline(always)]
     pub fn element(self) -> Element
@@ -282,8 +284,9 @@ impl Title {
         }
     }
 
-    /// The shortest title of the header that this one means. It is made of the parts alone, so a copy need not tell
-    /// the kinds of headers apart. A float keeps its width.
+    /// Returns the shortest title of the header that this title means (RFC 7049, 3.9). A float keeps its width.
+    ///
+    /// It looks at the parts alone, so a copy does not tell the kinds of headers apart.
     #[inline(always)]
     pub fn shortest(self) -> Title
         requires { IsParts self }
@@ -303,7 +306,7 @@ impl Title {
     }
 }
 
-/// What the minor 31 means in a title of this kind.
+/// Returns the meaning of the minor 31 in a title of this kind, if it has one.
 #[inline(always)]
 fn open_header(kind: TitleKind) -> Option<Header>
     ensures some { IfSome result (λ header. (major : ℕ) → IsTitleKind kind major 31
@@ -320,7 +323,7 @@ fn open_header(kind: TitleKind) -> Option<Header>
     }
 }
 
-/// What a minor means under the major type 7.
+/// Returns the header that a minor means under the major type 7.
 #[inline(always)]
 fn other_header(minor: Minor) -> Header
     requires { IsMinor minor }
@@ -336,7 +339,7 @@ fn other_header(minor: Minor) -> Header
 }
 
 impl Header {
-    /// The length in bytes of the header's shortest title, from 1 to 9.
+    /// Returns the length in bytes of the header's shortest title, from 1 to 9.
     #[inline(always)]
     pub fn title_len(&self) -> usize
         ensures value { result ≡ title_len self.now }
@@ -348,7 +351,7 @@ impl Header {
     }
 }
 
-/// The shortest title of a header, in its parts.
+/// Returns the shortest title of a header, in its parts (RFC 7049, 3.9).
 #[inline(always)]
 pub fn shortest(header: Header) -> Title
     ensures parts { IsParts result }

@@ -1,6 +1,10 @@
-//! What bytes mean in CBOR (RFC 7049, 2.1 to 2.3): headers and titles, strings, elements, items and faults.
+// SPDX-License-Identifier: Apache-2.0
+//! The meaning of bytes in CBOR (RFC 7049, 2.1 to 2.3): headers and titles, strings, elements, items and faults.
 //!
-//! It reads and writes nothing. This crate is a part of `ciborium_ll`, which hands on what users name.
+//! This crate reads and writes nothing. It is a part of `ciborium_ll`, which exports the names that users need.
 #![tactic(auto)]
 
 pub mod hdr;
+pub mod limits;
+pub mod spelling;
+pub mod titles;

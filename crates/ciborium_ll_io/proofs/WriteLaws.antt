@@ -1,4 +1,4 @@
--- A write behind a write, and what is told of one.
+-- A write after a write, and the facts that are told of a write.
 use Rattle.std.proofs.Common.{◌≡◌, ℕ, ◌+◌, ◌≤◌, ◌<◌, List, ◌++◌, length, Option, Some, Result, Ok, Err, IfSome, IsErr}
 use Rattle.std.proofs.Common.{OnOk, OnErr, arith, length-append}
 use Rattle.std.proofs.Math.Seq.{take-append-add}

@@ -1,15 +1,15 @@
--- What a writer that keeps no bytes tells.
+-- The facts that a `Discard` tells.
 use Rattle.std.specs.Prelude.{ℕ, List, Option, Some}
 use Rattle.ciborium_ll_io.specs.declared.io.discard.Discard.{Discard}
 
--- what it took so far
+-- The bytes that it took so far.
 abbrev pub discard_taken : Discard → Option (List ℕ)
 discard_taken w = Some w.taken.bytes
 
--- how many bytes more it takes
+-- The number of further bytes that it takes.
 abbrev pub discard_room : Discard → Option ℕ
 discard_room w = Some w.room
 
--- how many writes were refused
+-- The number of writes that it refused.
 abbrev pub discard_failures : Discard → ℕ
 discard_failures w = w.failures.count

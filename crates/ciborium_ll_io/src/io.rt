@@ -1,7 +1,7 @@
-//! Readers and writers, with what they tell.
+//! Readers and writers, and the facts that they tell.
 //!
-//! A contract speaks of bytes where a reader or a writer tells them, and of failures always. What is told
-//! costs nothing at run time.
+//! A contract speaks of bytes if a reader or a writer tells them, and of failures always. Telling costs nothing at run
+//! time.
 
 ghost use Rattle.std.specs.Prelude.{◌≡◌, ℕ, ◌+◌, ◌<◌, List, Bool, length, IsTrue, IsSome, IfSome, OnOk, OnErr};
 ghost use Rattle.std.specs.declared.option.Option.{Option};
@@ -18,31 +18,32 @@ pub use self::discard::Discard;
 pub use self::failures::Failures;
 pub use self::slices::{EndOfFile, OutOfSpace, SliceReader, SliceWriter, copy_chunk};
 
-/// A source of bytes. Each call that fails raises `failures` by one, and no other does.
+/// A source of bytes. Each call that fails raises `failures` by one, and no other call does.
 pub trait Read {
     /// Why a read failed.
     type Error;
 
-    /// The bytes to come, where the reader tells them.
+    /// The bytes to come, if the reader tells them.
     ghost ahead: { Self → Option (List ℕ) };
 
-    /// Whether it fails only where bytes are missing, and then keeps them.
+    /// A steady reader fails only if bytes are missing, and then keeps the bytes that there are.
     ghost steady: { Self → Bool };
 
-    /// How many calls failed so far.
+    /// The number of calls that failed so far.
     ghost failures: { Self → ℕ };
 
-    /// Fills the whole of `data` with the next bytes, or fails. On `Ok` just these bytes are gone. A steady reader
-    /// fails only where they are missing, and keeps what there is.
+    /// Fills the whole of `data` with the next bytes. After `Ok` exactly these bytes are consumed.
     ///
-    /// After a failure the contents of `data` are open, and nothing is known of the bytes to come unless the
-    /// reader is steady.
+    /// # Errors
+    ///
+    /// - `Self::Error`: the read failed. The contents of `data` are then unknown, and so are the bytes to come, unless
+    ///   the reader is steady. A steady reader fails only if too few bytes are left, and keeps them.
     fn read_exact(&mut self, data: &mut [u8]) -> Result<(), Self::Error>
         ensures bytes { OnOk result (Consumes (ahead self.old) (ahead self.new) «data».new) }
         ensures ok { OnOk result (failures self.new ≡ failures self.old) }
         ensures err { OnErr result (failures self.new ≡ failures self.old + 1) }
 
-        // What a steady reader owes.
+        // The duties of a steady reader.
         ensures stays_steady { IsTrue (steady self.old) → IsTrue (steady self.new) }
         ensures kept { OnErr result (IsTrue (steady self.old) → ahead self.new ≡ ahead self.old) }
         ensures missing { OnErr result (IsTrue (steady self.old)
@@ -52,32 +53,39 @@ pub trait Read {
     ghost steady_is_told: { (reader : Self) → IsTrue (steady reader) → IsSome (ahead reader) };
 }
 
-/// A sink of bytes. Each call that fails raises `failures` by one, and no other does.
+/// A sink of bytes. Each call that fails raises `failures` by one, and no other call does.
 pub trait Write {
     /// Why a write failed.
     type Error;
 
-    /// The bytes so far, where the writer tells them.
+    /// The bytes so far, if the writer tells them.
     ghost written: { Self → Option (List ℕ) };
 
-    /// How many more bytes are sure to fit, where the writer tells it.
+    /// The number of further bytes that are sure to fit, if the writer tells it.
     ghost room: { Self → Option ℕ };
 
-    /// How many calls failed so far.
+    /// The number of calls that failed so far.
     ghost failures: { Self → ℕ };
 
-    /// What a flush that succeeds does to the writer, as it was before and as it is behind. Of a slice and of a `Discard`
-    /// the bytes written are the same; of a writer of std they are where that tells them, and of a buffered one nothing
-    /// is kept back any more besides; an `Encoder` says what its writer says.
+    /// The effect of a flush that succeeds, on the writer before and after it.
+    ///
+    /// A `SliceWriter` and a `Discard` leave the bytes written as they are. So does an adapter over a writer of std, if
+    /// that writer tells its bytes. A `BufferedWriter` then keeps nothing back. An `Encoder` has the effect of its
+    /// writer.
     ghost flushed: { Self → Self → Type 0 };
 
-    /// The lent slice that it writes into, where the writer tells it. No call changes it. A `SliceWriter` tells it, and
-    /// an `Encoder` what its writer tells; others tell none. So who lent the slice knows that the writer is still on
-    /// it, whatever generic call had that writer.
+    /// The lent slice that the writer writes into, if the writer tells it. No call changes it.
+    ///
+    /// A `SliceWriter` tells its slice, and an `Encoder` the slice of its writer. The others tell none. So the lender
+    /// of a slice knows that the writer is still on the slice, even after a generic call had that writer.
     ghost target: { Self → Option Target };
 
-    /// Appends the whole of `data`, or fails with a beginning of it appended. It does not fail where the room is
-    /// told and covers `data`.
+    /// Appends the whole of `data`.
+    ///
+    /// # Errors
+    ///
+    /// - `Self::Error`: the write failed, with a beginning of `data` appended. It does not fail if the writer tells a
+    ///   room of at least `data.len()` bytes.
     fn write_all(&mut self, data: &[u8]) -> Result<(), Self::Error>
         ensures bytes { OnOk result (Appends (written self.old) (written self.new) «data».now) }
         ensures fills { OnOk result (Shrinks (room self.old) (room self.new) (length «data».now)) }
@@ -90,8 +98,14 @@ pub trait Write {
 
         ensures target { target self.new ≡ target self.old };
 
-    /// Passes on what was kept back, if anything was. A writer that tells its room keeps nothing back: its bytes and
-    /// its room stay as they are. What an `Ok` means the writer says itself (`flushed`).
+    /// Passes on the bytes that the writer kept back.
+    ///
+    /// A writer that tells its room keeps nothing back: its bytes and its room stay as they are. `flushed` is the
+    /// meaning of `Ok` for each writer.
+    ///
+    /// # Errors
+    ///
+    /// - `Self::Error`: the flush failed.
     fn flush(&mut self) -> Result<(), Self::Error>
         ensures bytes { IsSome (room self.old) → written self.new ≡ written self.old }
         ensures room { IsSome (room self.old) → room self.new ≡ room self.old }

@@ -1,6 +1,7 @@
-//! Readers and writers of bytes, what they tell of themselves, and those over slices.
+// SPDX-License-Identifier: Apache-2.0
+//! Readers and writers of bytes, the facts that they tell, and a reader and a writer over slices.
 //!
-//! This crate is a part of `ciborium_ll`, whose module `io` hands it on.
+//! This crate is a part of `ciborium_ll`, whose module `io` exports it.
 #![tactic(auto)]
 
 pub mod io;

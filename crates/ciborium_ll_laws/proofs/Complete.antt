@@ -1,4 +1,4 @@
--- Either n elements stand in front, or a fault stops them.
+-- Bytes begin with n elements, or a fault stops them.
 use Rattle.std.proofs.Common.{◌≡◌, ℕ, zero, suc, ◌%◌, ◌<◌, ◌≤◌, ◌⊎◌, Bool, true, List, [], ◌∷◌}
 use Rattle.std.proofs.Common.{◌++◌, length, take, drop, Some, None, refl, sym, ap, ◌∙◌, append_assoc, arith}
 use Rattle.std.proofs.Common.{inl, inr}
@@ -16,7 +16,7 @@ use Rattle.ciborium_ll_grammar.specs.Elements.{IsPlain, plain, string, IsRun, do
 use Rattle.ciborium_ll_grammar.specs.Items.{IsTakenTitle}
 use Rattle.ciborium_ll_grammar.specs.Faults.{Point, In, BodyDue, Reaches, due, inside, body, body_inside}
 use Rattle.ciborium_ll_grammar.specs.Faults.{IsAtTitle, Answer, FirstFault, due_title, CutTitle, NoTitle, LongTitle}
-use Rattle.ciborium_ll_grammar.specs.Faults.{OtherTitle, DamagedText, CutBody, RunInFront, HasFault}
+use Rattle.ciborium_ll_grammar.specs.Faults.{OtherTitle, DamagedText, CutBody, BeginsWithElements, HasFault}
 use Rattle.ciborium_ll_grammar.proofs.OpenStrings.{IsInsideAt, one_open}
 use Rattle.ciborium_ll_grammar.proofs.AffixLaws.{AreBytes-take, title_or_refused}
 use Rattle.ciborium_ll_grammar.proofs.TitleLaws.{shortest_or_longer}
@@ -123,7 +123,7 @@ module _ (strict : Bool) (n : ℕ) where
 
   -- what one step over a title comes to: a run, a fault, or fewer bytes ahead
   data Step (u s : List ℕ) : Type 0 where
-    whole : RunInFront strict n (u ++ s) → Step u s
+    whole : BeginsWithElements strict n (u ++ s) → Step u s
     fails : HasFault strict n (u ++ s) → Step u s
     goes : (t rest : List ℕ) → Going (u ++ t) → s ≡ t ++ rest → 0 < length t → Step u s
 
@@ -246,7 +246,7 @@ module _ (strict : Bool) (n : ℕ) where
 
   -- all steps, by the bytes that are ahead
   all_steps : (fuel : ℕ) {u : List ℕ} (s : List ℕ) → length s < fuel → Going u → AreBytes s
-      → RunInFront strict n (u ++ s) ⊎ HasFault strict n (u ++ s)
+      → BeginsWithElements strict n (u ++ s) ⊎ HasFault strict n (u ++ s)
   all_steps zero s l g f = absurd (omega arith)
   all_steps (suc fuel) {u = u} s l g f =
       elim (step g s f) [
@@ -259,6 +259,6 @@ module _ (strict : Bool) (n : ℕ) where
       ]
 
 -- in any bytes a run of n elements stands in front, or a fault stops it
-pub complete : (strict : Bool) (n : ℕ) (x : List ℕ) → AreBytes x → RunInFront strict n x ⊎ HasFault strict n x
+pub complete : (strict : Bool) (n : ℕ) (x : List ℕ) → AreBytes x → BeginsWithElements strict n x ⊎ HasFault strict n x
 complete strict n x f =
     all_steps strict n (suc (length x)) x (omega arith) (between 0 [] (omega arith) done (λ on. spelled_none)) f

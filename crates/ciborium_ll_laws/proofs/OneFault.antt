@@ -1,4 +1,4 @@
--- The faults in one list of bytes are all at one place, where any spelling is taken.
+-- The faults of the same bytes are all at one place, if any spelling is taken.
 use Rattle.std.proofs.Common.{arith, [], ◌≡◌, ℕ, ◌-◌, ◌<◌, ◌⊎◌, false, List, ◌∷◌, ◌++◌, length, Some, None, refl, sym}
 use Rattle.std.proofs.Common.{ap, ◌∙◌, append_assoc, inl, inr}
 use Rattle.std.proofs.lemmas.Bool.{cases_order}

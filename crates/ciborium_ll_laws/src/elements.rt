@@ -3,14 +3,14 @@
 ghost use Rattle.std.specs.Prelude.{◌≡◌, ◌≤◌, ℕ, ◌++◌, List, length};
 ghost use Rattle.ciborium_ll_grammar.specs.Elements.{Mark, IsElement, IsRun, spelling};
 
-/// No element begins another one, nor has two lists of marks.
+/// No element begins another element, and no element has two lists of marks.
 pub fn one_element()
     ensures { (element other rest more : List ℕ) (marks others : List Mark) → IsElement element marks
         → IsElement other others
         → element ++ rest ≡ other ++ more → (element ≡ other) × (marks ≡ others) × (rest ≡ more) }
 {}
 
-/// At most one run of as many elements stands in front, with one list of marks.
+/// Bytes begin with at most one run of `count` elements, which has one list of marks.
 pub fn one_run()
     ensures { (count : ℕ) (run other rest more : List ℕ) (marks others : List Mark) → IsRun count run marks
         → IsRun count other others

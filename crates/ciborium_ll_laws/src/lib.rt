@@ -1,7 +1,8 @@
+// SPDX-License-Identifier: Apache-2.0
 //! The laws of texts, titles, strings, elements, runs, faults and items: empty functions, whose contracts are the laws.
 //!
-//! They are about the definitions alone, so no code needs them. This crate is a part of `ciborium_ll`, which hands them
-//! on.
+//! The laws are about the definitions alone, so no code needs them. This crate is a part of `ciborium_ll`, which hands
+//! them on.
 #![tactic(auto)]
 
 mod cuts;

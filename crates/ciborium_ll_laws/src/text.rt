@@ -9,12 +9,12 @@ ghost use Rattle.ciborium_ll_text.specs.declared.state.State.TheVariants.{Betwee
 
 use simdutf8::compat;
 
-/// Characters joined are what std has as UTF-8.
+/// Bytes are joined characters exactly if std has them as UTF-8.
 pub fn same_text()
     ensures { (bytes : List ℕ) → (IsCharacters bytes ↔ IsUtf8 bytes) }
 {}
 
-/// What `simdutf8` accepts are just the texts. Of other bytes it gives the longest front that is one.
+/// `simdutf8` accepts exactly the texts. For other bytes it gives the longest front that is text.
 pub fn text_or_front(bytes: &[u8]) -> Result<&str, &str>
     ensures accepted { IsOk result ↔ IsCharacters bytes.now }
     ensures whole { IfOk result (λ text. text.now ≡ bytes.now) }
@@ -29,17 +29,17 @@ pub fn text_or_front(bytes: &[u8]) -> Result<&str, &str>
     }
 }
 
-/// Texts joined are a text.
+/// Two texts joined are a text.
 pub fn joined_texts()
     ensures { (text other : List ℕ) → IsCharacters text → IsCharacters other → IsCharacters (text ++ other) }
 {}
 
-/// What follows a text in a text is one.
+/// If a text and the bytes after it are a text, these bytes are a text.
 pub fn rest_of_text()
     ensures { (text rest : List ℕ) → IsCharacters text → IsCharacters (text ++ rest) → IsCharacters rest }
 {}
 
-/// Bytes have just one longest front that is text, which is the one that std finds.
+/// Bytes have exactly one longest front that is text. It is the front that std finds.
 pub fn one_front()
     ensures exists { (bytes : List ℕ) → (front : List ℕ) × (rest : List ℕ) × IsFront bytes front rest }
     ensures one { (bytes front rest other more : List ℕ) → IsFront bytes front rest → IsFront bytes other more
@@ -47,23 +47,23 @@ pub fn one_front()
     ensures valid { (bytes : List ℕ) (n : ℕ) → IsValidUpTo bytes n → IsFront bytes (take n bytes) (drop n bytes) }
 {}
 
-/// No text begins with a front and four bytes or more that no character begins.
+/// No text begins with bytes that have more than three bytes after their longest front.
 pub fn no_text_begins()
     ensures { (bytes front rest more : List ℕ) → IsFront bytes front rest → 3 < length rest
         → IsCharacters (bytes ++ more) → ⊥ }
 {}
 
-/// Bytes with a rest behind their front are no text.
+/// Bytes with a rest after their longest front are no text.
 pub fn no_rest_of_text()
     ensures { (bytes front rest : List ℕ) → IsFront bytes front rest → IsCharacters bytes → rest ≡ [] }
 {}
 
-/// Bytes are text exactly where the state behind them is between two characters.
+/// Bytes are text exactly if the state after them is between two characters.
 pub fn text_by_state()
     ensures { (bytes : List ℕ) → (IsCharacters bytes ↔ (after Between bytes ≡ Between)) }
 {}
 
-/// The state behind bytes is a damage exactly where no text begins with them.
+/// The state after bytes is a damage exactly if no text begins with them.
 pub fn damage_by_state()
     ensures none { (bytes more : List ℕ) → after Between bytes ≡ Damaged → IsCharacters (bytes ++ more) → ⊥ }
     ensures some { (bytes : List ℕ) → after Between bytes ≢ Damaged → (more : List ℕ) × IsCharacters (bytes ++ more) }

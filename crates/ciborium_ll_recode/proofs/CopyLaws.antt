@@ -1,5 +1,5 @@
--- The copy of one element, by its parts: how it goes on, and where it stops. A body is copied to an encoder, which
--- passes it on to its writer.
+-- The copy of one element, by its parts: how it goes on, and at which points it stops. The copy gives a body to an
+-- encoder, which passes it on to its writer.
 use Rattle.std.proofs.Common.{◌≡◌, ℕ, suc, ◌+◌, ◌-◌, ◌<◌, ◌≤◌, List, [], ◌∷◌, ◌++◌, length, Some, None, Result, Ok, Err}
 use Rattle.std.proofs.Common.{refl, sym, ap, subst, ◌∙◌, ◌⊎◌, inl, inr, arith, append_assoc, append-nil, length-append}
 use Rattle.std.specs.List.{AllByRecursion}
@@ -15,7 +15,7 @@ use Rattle.ciborium_ll_grammar.specs.Title.{IsTitle, IsStrictTitle, shortest_tit
 use Rattle.ciborium_ll_grammar.specs.Strings.{Kind, kind_header, none}
 use Rattle.ciborium_ll_grammar.specs.Strings.IsString.{definite}
 use Rattle.ciborium_ll_grammar.specs.Elements.{IsPlain, Mark, Plain, Whole, Open, Close, mark_spelling, spelling}
-use Rattle.ciborium_ll_grammar.specs.Elements.{pieces, IsElement, plain, string, IsRun, done, IsMeant, IsStrictSpelling}
+use Rattle.ciborium_ll_grammar.specs.Elements.{pieces, IsElement, plain, string, IsRun, done, IsNoSmallSimple, IsStrictSpelling}
 use Rattle.ciborium_ll_grammar.specs.Faults.{Point, Due, In, BodyDue, Reaches, due, inside, opened, body, IsAtTitle}
 use Rattle.ciborium_ll_grammar.specs.Faults.{due_title, with_front}
 use Rattle.ciborium_ll_grammar.proofs.TitleLaws.{shortest_no_longer, shortest_some}
@@ -26,10 +26,10 @@ use Rattle.ciborium_ll_decoder.specs.declared.dec.Decoder.{Decoder}
 use Rattle.ciborium_ll_decoder.specs.declared.dec.Error.{Error}
 use Rattle.ciborium_ll_decoder.specs.declared.copy.RecodeError.{RecodeError}
 use Rattle.ciborium_ll_decoder.specs.declared.copy.RecodeError.TheVariants as r
-use Rattle.ciborium_ll_decoder.specs.Decoding.{Passes, Strictly, IsSteady, PullsHeader, PullsTitle}
+use Rattle.ciborium_ll_decoder.specs.Decoding.{ReadsPast, Strictly, IsSteady, DecoderPullAnswer, PullsTitle}
 use Rattle.ciborium_ll_decoder.specs.BodyCopies.{CopiesBody, Sides, sides}
 use Rattle.ciborium_ll_decoder.proofs.BodyLaws.{sound_body}
-use Rattle.ciborium_ll_decoder.proofs.DecodingLaws.{Passes-none, Passes-pulled, Passes-then, passes_settled}
+use Rattle.ciborium_ll_decoder.proofs.DecodingLaws.{ReadsPast-none, ReadsPast-pulled, ReadsPast-then, passes_settled}
 use Rattle.ciborium_ll_decoder.proofs.NestLaws.{alone_bytes, open_alone, title_some}
 use Rattle.ciborium_ll_decoder.proofs.SegmentLaws.{sound_none}
 use Rattle.ciborium_ll_recode.specs.Recoding.{WritesHeader, NextWrite, Alone, Titled, Chunk, Copied, CopiesRun}
@@ -54,7 +54,7 @@ run_settled count old new bytes marks run way some = grind (arith, element_some,
 
 -- behind none one waits just where one waited
 pub run_still : {R E : Type 0} (source : Reader R E) (count : ℕ) (old new : Decoder R) (bytes : List ℕ)
-    (marks : List Mark) → IsRun count bytes marks → Passes source old bytes new
+    (marks : List Mark) → IsRun count bytes marks → ReadsPast source old bytes new
     → count ≡ 0 → new.waiting ≡ old.waiting
 run_still source count old new bytes marks run passed is = grind (arith, shortest_some, length-append {A = ℕ})
 
@@ -145,7 +145,7 @@ module _ {R E W F : Type 0} (source : Reader R E) (sink : Writer W F) where
   -- no title was pulled
   pub title_stops : {count : ℕ} (room : ℕ) {old now : Sides R W} {bytes : List ℕ} {marks : List Mark} {point : Point}
       → StandsAt count old bytes marks point now → IsAtTitle point → due_title point ≡ [] → (new : Decoder R)
-      (error : Error E) → PullsHeader source now.decoder (Err error) new
+      (error : Error E) → DecoderPullAnswer source now.decoder (Err error) new
       → StopsCopy source sink count room old (r.Read error) (sides new now.writer)
   title_stops room stands at_title alone new error fails =
       let strict = rw alone at stands.strict in
@@ -158,7 +158,7 @@ module _ {R E W F : Type 0} (source : Reader R E) (sink : Writer W F) where
       → WritesHeader {E = E} sink now.writer (Err error) header after
       → StopsCopy source sink count room old error (sides now.decoder after)
   header_stops {old = old} {now} {bytes} header (r.Write fault) after next copied fails =
-      let passed : Passes source old.decoder (bytes ++ []) now.decoder = rw append-nil copied.passed in
+      let passed : ReadsPast source old.decoder (bytes ++ []) now.decoder = rw append-nil copied.passed in
       search
   header_stops header (r.Read error) after next copied fails = absurd fails
 
@@ -174,7 +174,7 @@ module _ {R E W F : Type 0} (source : Reader R E) (sink : Writer W F) where
       → CopiesBody source sink k len room (old.decoder.offset + start) (sides between.decoder titled) (Err error) new
       → StopsCopy source sink count room old error new
   body_stops {count} room {old} {between} {bytes} {marks} {k} {len} {start} stands title new (r.Write fault) stops =
-      let passed = Passes-then source old.decoder between.decoder new.decoder bytes _ stands.copied.passed
+      let passed = ReadsPast-then source old.decoder between.decoder new.decoder bytes _ stands.copied.passed
       stops.passed in
       let next : NextWrite count room bytes _ _ _ = Chunk marks k len start stops.front stops.chunk stops.kept
       stands.reach stops.sound stops.within stops.filled stops.few in
@@ -191,7 +191,7 @@ module _ {R E W F : Type 0} (source : Reader R E) (sink : Writer W F) where
       → (IsSteady source old.decoder → IsSteady source new)
       → Copied source sink old (bytes ++ pulled.title) marks (sides new now.writer)
   copied_pulled {old} {now} {bytes} {header = header} {new} copied pulled steady =
-      let passed = Passes-pulled source old.decoder now.decoder new bytes header pulled copied.passed steady in
+      let passed = ReadsPast-pulled source old.decoder now.decoder new bytes header pulled copied.passed steady in
       search
 
   -- of a strict decoder it is a strict title
@@ -213,7 +213,7 @@ module _ {R E W F : Type 0} (source : Reader R E) (sink : Writer W F) where
     stands_due =
         record { reach = due behind.due behind.run; copied = rw append-nil at behind.copied; strict = behind.strict }
 
-    pub pull_stops : (room : ℕ) (new : Decoder R) (error : Error E) → PullsHeader source now.decoder (Err error) new
+    pub pull_stops : (room : ℕ) (new : Decoder R) (error : Error E) → DecoderPullAnswer source now.decoder (Err error) new
         → StopsCopy source sink count room old (r.Read error) (sides new now.writer)
     pull_stops room new error fails = title_stops room stands_due tt refl new error fails
 
@@ -233,7 +233,7 @@ module _ {R E W F : Type 0} (source : Reader R E) (sink : Writer W F) where
   added : {before : ℕ} {old new : Sides R W} {bytes : List ℕ} {marks : List Mark} (w : List ℕ) (ms : List Mark)
       → IsRun before bytes marks → Strictly old.decoder (IsStrictSpelling bytes marks []) → IsElement w ms
       → Copied source sink old (bytes ++ w) (marks ++ ms) new
-      → Strictly old.decoder ((w ≡ spelling ms) × AllByRecursion IsMeant ms)
+      → Strictly old.decoder ((w ≡ spelling ms) × AllByRecursion IsNoSmallSimple ms)
       → CopiesRun source sink (suc before) old new
   added {before} {bytes = bytes} {marks} w ms run strict element copied same = record {
     bytes = bytes ++ w;
@@ -278,7 +278,7 @@ module _ {R E W F : Type 0} (source : Reader R E) (sink : Writer W F) where
       definite_goes_on only place at titled wrote new (Ok unit) whole =
           let b = whole.ends.read in
           let lengths : len ≡ length b = sym whole.ends.all in
-          let passed = rw append_assoc at (Passes-then source old.decoder now.decoder new.decoder
+          let passed = rw append_assoc at (ReadsPast-then source old.decoder now.decoder new.decoder
           (behind.bytes ++ title) b behind.copied.passed whole.ends.passed) in
           let written = mark_then behind.marks (Whole k b) behind.copied.written
           (writes_then (rw lengths at wrote) whole.written) in
@@ -357,7 +357,7 @@ module _ {R E W F : Type 0} (source : Reader R E) (sink : Writer W F) where
 
   -- no element
   pub run_none : (start : Sides R W) → CopiesRun source sink 0 start start
-  run_none start = search (done, Passes-none source start.decoder, Appends-nil, Shrinks-zero, spelled_none)
+  run_none start = search (done, ReadsPast-none source start.decoder, Appends-nil, Shrinks-zero, spelled_none)
 
   -- behind all elements
   pub copies_all : (count : ℕ) (old new : Sides R W) → CopiesRun source sink count old new

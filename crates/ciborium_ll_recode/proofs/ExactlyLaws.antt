@@ -1,11 +1,11 @@
--- When a copy succeeds, and what it then wrote and left, in the words of `Shortens`.
+-- The condition under which a copy succeeds, and the bytes that it wrote and left, in terms of `Shortens`.
 use Rattle.std.proofs.Common.{◌≡◌, ◌≤◌, ◌⊎◌, ℕ, inl, inr, Bool, true, false, List, ◌++◌, length, Some, None, Result, Ok}
 use Rattle.std.proofs.Common.{Err, IsOk, sym, ap, ◌∙◌, arith}
 use Rattle.ciborium_ll_io.specs.declared.io.Read.{Ghosts as Reader}
 use Rattle.ciborium_ll_io.specs.declared.io.Write.{Ghosts as Writer}
 use Rattle.ciborium_ll_decoder.specs.declared.copy.RecodeError.{RecodeError}
 use Rattle.ciborium_ll_grammar.specs.Elements.{spelling}
-use Rattle.ciborium_ll_grammar.specs.Faults.{RunInFront}
+use Rattle.ciborium_ll_grammar.specs.Faults.{BeginsWithElements}
 use Rattle.ciborium_ll_decoder.specs.BodyCopies.{Sides}
 use Rattle.ciborium_ll_recode.specs.Recoding.{CopiesElements}
 use Rattle.ciborium_ll_recode.specs.RecodingTold.{IsTold, IsReady, CopiesFront, RecodesTold}
@@ -23,7 +23,7 @@ module _ {R E W F : Type 0} {strict : Bool} (source : Reader R E) (sink : Writer
       let ahead = view_none old.decoder.waiting (source.ahead old.decoder.reader) alone.none_waits ∙ alone.due-told in
       let none = λ (on : strict ≡ true). alone.none_waits in
       let told : IsTold source sink strict old due written = search in
-      let enough : ((front : RunInFront false count due) × (length (spelling front.marks) ≤ alone.room))
+      let enough : ((front : BeginsWithElements false count due) × (length (spelling front.marks) ≤ alone.room))
       ⊎ (length due ≤ alone.room) = elim alone.enough [
         | inl copy ↦ (
             let front = shortened_front false count due copy.0 copy.1 copy.2 in

@@ -1,4 +1,4 @@
--- A copy of elements where bytes are told, whichever side fails: how far it came, and what stopped it there.
+-- A copy of elements if bytes are told, whichever side fails: how far it came, and the stop there.
 use Rattle.std.proofs.Common.{◌≡◌, ℕ, Bool, ◌+◌, ◌-◌, ◌≤◌, List, [], ◌∷◌, ◌++◌, length, take, drop, Some, refl, sym, ap}
 use Rattle.std.proofs.Common.{true, subst, ◌^◌, max, None, Result, Ok, Err, ◌∙◌, inl, inr, arith, append_assoc}
 use Rattle.std.proofs.Common.{length-append}
@@ -26,7 +26,7 @@ use Rattle.ciborium_ll_grammar.specs.Elements.{Mark, spelling, IsStrictSpelling}
 use Rattle.ciborium_ll_grammar.specs.Items.{IsTakenTitle}
 use Rattle.ciborium_ll_grammar.specs.Faults.{Point, BodyDue, IsRefusedIn, Reaches, due_title, with_front, Answer}
 use Rattle.ciborium_ll_grammar.specs.Faults.{Syntax, FirstFault, NoTitle, LongTitle, OtherTitle, DamagedText}
-use Rattle.ciborium_ll_grammar.specs.Faults.{CutDamagedText, HasFault, RunInFront}
+use Rattle.ciborium_ll_grammar.specs.Faults.{CutDamagedText, HasFault, BeginsWithElements}
 use Rattle.ciborium_ll_decoder.specs.Decoding.{Begins, view, Strictly, offset_limit, next_read}
 use Rattle.ciborium_ll_decoder.specs.Finishing.{IsNoText, BeginsRest}
 use Rattle.ciborium_ll_decoder.specs.BodyCopies.{Sides}
@@ -84,7 +84,7 @@ module _ {R E W F : Type 0} {strict : Bool} (source : Reader R E) (sink : Writer
     all_told new all =
         let c = came all.copied in
         let spelled = λ (on : strict ≡ true). all.strict (told.mode ∙ on) (told.none_waits on) in
-        let front : RunInFront strict count due = search in
+        let front : BeginsWithElements strict count due = search in
         record {
           front = front;
           output = c.output;

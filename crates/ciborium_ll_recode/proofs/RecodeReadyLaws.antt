@@ -1,4 +1,4 @@
--- A copy of elements where bytes are told and no side fails by itself: all elements are copied, or a fault stops it.
+-- A copy of elements if bytes are told and no side fails by itself: all elements are copied, or a fault stops the copy.
 use Rattle.std.proofs.Common.{◌≡◌, ℕ, Bool, ◌+◌, ◌^◌, ◌<◌, ◌≤◌, List, ◌++◌, length, min, max, Result, Ok, Err, IsOk}
 use Rattle.std.proofs.Common.{◌↔◌, refl, sym, ap, subst, ◌∙◌, inl, inr, arith, length-append}
 use Rattle.std.proofs.lemmas.List.{length-take}
@@ -8,7 +8,7 @@ use Rattle.ciborium_ll_decoder.specs.declared.dec.Error.TheVariants as e
 use Rattle.ciborium_ll_decoder.specs.declared.copy.RecodeError.{RecodeError}
 use Rattle.ciborium_ll_decoder.specs.declared.copy.RecodeError.TheVariants as r
 use Rattle.ciborium_ll_grammar.specs.Elements.{spelling}
-use Rattle.ciborium_ll_grammar.specs.Faults.{Short, FirstFault, CutTitle, CutBody, RunInFront}
+use Rattle.ciborium_ll_grammar.specs.Faults.{Short, FirstFault, CutTitle, CutBody, BeginsWithElements}
 use Rattle.ciborium_ll_decoder.specs.Decoding.{view, IsSteady}
 use Rattle.ciborium_ll_decoder.specs.BodyCopies.{Sides}
 use Rattle.ciborium_ll_recode.specs.Recoding.{CopiesElements, StopsAtTitle, StopsInBody, StopsCopy, StopsWriting}
@@ -101,7 +101,7 @@ module _ {R E W F : Type 0} {strict : Bool} (source : Reader R E) (sink : Writer
 
     exactly_told : (new : Sides R W) (result : Result (Unit {0}) (RecodeError E F))
         → RecodesTold source sink strict count due written old.decoder result new
-        → IsOk result ↔ RunInFront strict count due
+        → IsOk result ↔ BeginsWithElements strict count due
     exactly_told new (Ok unit) told = (λ ok. told.front, λ front. refl)
     exactly_told new (Err (r.Read (e.Io fault))) told =
         (λ ok. absurd cc, λ front. absurd (no_fault strict count due front told.fault))
@@ -113,5 +113,5 @@ module _ {R E W F : Type 0} {strict : Bool} (source : Reader R E) (sink : Writer
 
     pub recode_exactly : (new : Sides R W) (result : Result (Unit {0}) (RecodeError E F))
         → CopiesElements source sink count room old result new
-        → IsOk result ↔ RunInFront strict count due
+        → IsOk result ↔ BeginsWithElements strict count due
     recode_exactly new result copied = exactly_told new result (recode_told new result copied)

@@ -1,4 +1,4 @@
--- A copy of elements writes no more than was read, nor than the spelling of those that stand in front.
+-- A copy of elements writes no more than was read, and no more than the spelling of the elements at the beginning.
 use Rattle.std.proofs.Common.{◌≡◌, ℕ, ◌+◌, ◌≤◌, List, [], ◌∷◌, ◌++◌, length, take, drop, min, Some, None, sym, ap}
 use Rattle.std.proofs.Common.{false, subst, ◌∙◌, inl, inr, arith, append_assoc, append-nil, length-append}
 use Rattle.std.proofs.lemmas.Bool.{cases_lt}
@@ -9,7 +9,7 @@ use Rattle.ciborium_ll_grammar.specs.Strings.IsString.{definite, indefinite}
 use Rattle.ciborium_ll_grammar.specs.Elements.{Mark, Whole, Open, pieces, spelling, IsElement, IsPlain, plain, string}
 use Rattle.ciborium_ll_grammar.specs.Elements.{IsRun, done, next}
 use Rattle.ciborium_ll_grammar.specs.Faults.{Point, Due, In, BodyDue, due_title, IsInside, opened, deeper, Reaches, due}
-use Rattle.ciborium_ll_grammar.specs.Faults.{inside, body, body_inside, RunInFront}
+use Rattle.ciborium_ll_grammar.specs.Faults.{inside, body, body_inside, BeginsWithElements}
 use Rattle.ciborium_ll_grammar.proofs.TitleLaws.{one_title, shortest_no_longer}
 use Rattle.ciborium_ll_grammar.proofs.StringLaws.{mixed, fronts, title_not_break, string_not_break, one_string}
 use Rattle.ciborium_ll_grammar.proofs.ElementLaws.{not_plain, string_fronts, one_element, pieces-append}
@@ -227,7 +227,7 @@ next_shorter {before = before} {read = read} next_write =
 
 -- and within the spelling of the elements, where they stand in front
 pub next_spelled : {count room : ℕ} {before read whole next due : List ℕ} (rest : List ℕ)
-    → NextWrite count room before read whole next → (front : RunInFront false count due)
+    → NextWrite count room before read whole next → (front : BeginsWithElements false count due)
     → due ≡ (before ++ read) ++ rest
     → length whole + length next ≤ length (spelling front.marks)
 next_spelled {before = before} {read = read} rest next_write front is =

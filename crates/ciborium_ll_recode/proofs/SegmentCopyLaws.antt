@@ -1,4 +1,4 @@
--- The copy of a string's segments, behind its open.
+-- The copy of a string's segments, after its open.
 use Rattle.std.proofs.Common.{◌≡◌, ℕ, List, [], ◌∷◌, ◌++◌, length, Bool, Option, Some, None, Result, Ok, Err, refl, sym}
 use Rattle.std.proofs.Common.{ap, subst, ◌∙◌, inl, inr, arith, append_assoc, length-append, ◌≤◌, ◌+◌}
 use Rattle.std.proofs.KnownBytes.{Appends-nil}
@@ -25,7 +25,7 @@ use Rattle.ciborium_ll_decoder.specs.declared.seg.Progress.TheVariants as p
 use Rattle.ciborium_ll_decoder.specs.BodyCopies.{BodyWritten, CopiesBody, Sides, sides}
 use Rattle.ciborium_ll_decoder.specs.Decoding.{IsSteady, offset_limit}
 use Rattle.ciborium_ll_decoder.specs.Segments.{AdvancesTo}
-use Rattle.ciborium_ll_decoder.proofs.DecodingLaws.{Passes-then}
+use Rattle.ciborium_ll_decoder.proofs.DecodingLaws.{ReadsPast-then}
 use Rattle.ciborium_ll_decoder.proofs.NestLaws.{alone_bytes, title_some}
 use Rattle.ciborium_ll_decoder.proofs.SegmentLaws.{AdvancesAmong, IsAmong, StringSoFar, advances_among, opens_counted}
 use Rattle.ciborium_ll_decoder.proofs.SegmentLaws.{other_inside, piece_spelled, segment_added, so_far_opened, some_open}
@@ -68,7 +68,7 @@ module _ {R E W F : Type 0} (source : Reader R E) (sink : Writer W F) (k : Kind)
           (outer.marks ++ Open k ∷ pieces k so_far.bodies) (In k) (sides between now.writer)
       stands_inside {left} {between} among =
           let front = shortest_title (kind_header k None) in
-          let passed = rw append_assoc at (Passes-then source old.decoder opened.decoder between (outer.bytes ++ front)
+          let passed = rw append_assoc at (ReadsPast-then source old.decoder opened.decoder between (outer.bytes ++ front)
           among.strings outer.copied.passed among.passed) in
           let written = rw append_assoc at (marks_then source sink (outer.marks ++ Open k ∷ []) (pieces k so_far.bodies)
           outer.copied.written so_far.written) in

@@ -1,4 +1,4 @@
--- From elements and their marks to what `Shortens` says: their spelling is written.
+-- From elements and their marks to `Shortens`: the marks' spelling is written.
 use Rattle.std.proofs.Common.{◌≡◌, ℕ, suc, ◌+◌, ◌*◌, ◌<◌, ◌≤◌, ◌⊎◌, inl, inr, Bool, true, false, List, [], ◌∷◌, ◌++◌}
 use Rattle.std.proofs.Common.{length, Some, None, refl, ap, ◌∙◌, arith, append-nil, append_assoc}
 use Rattle.ciborium_ll_grammar.specs.declared.hdr.Header.{Header}
@@ -16,7 +16,7 @@ use Rattle.ciborium_ll_grammar.specs.StrictElements.{AreFlat, none as no_flat, m
 use Rattle.ciborium_ll_grammar.specs.StrictElements.{plain as strict_plain, whole as strict_whole}
 use Rattle.ciborium_ll_grammar.specs.StrictElements.{parts as strict_parts, AreStrictElements, done as strict_done}
 use Rattle.ciborium_ll_grammar.specs.StrictElements.{next as strict_next}
-use Rattle.ciborium_ll_grammar.specs.Faults.{RunInFront}
+use Rattle.ciborium_ll_grammar.specs.Faults.{BeginsWithElements}
 use Rattle.ciborium_ll_grammar.specs.Shortening.{IsBody, bytes, text, ShortensString, titled, ShortensStrings, no_more}
 use Rattle.ciborium_ll_grammar.specs.Shortening.{definite_more, open_more, ShortensElement, number, simple, float}
 use Rattle.ciborium_ll_grammar.specs.Shortening.{alone, whole, parts, Shortens, done as shortens_done}
@@ -177,7 +177,7 @@ strict_elements n w ms (strict_next {count = m} {first = x} {rest = y} {marks = 
 
 -- ---- in front of bytes
 
-pub front_shortened : (strict : Bool) (count : ℕ) (due : List ℕ) (front : RunInFront strict count due)
+pub front_shortened : (strict : Bool) (count : ℕ) (due : List ℕ) (front : BeginsWithElements strict count due)
     → Shortens strict count due (spelling front.marks) front.rest
 front_shortened false count due front = rw front.is (any_run count front.elements front.marks front.run front.rest)
 front_shortened true count due front =

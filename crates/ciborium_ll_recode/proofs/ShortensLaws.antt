@@ -1,4 +1,4 @@
--- From what `Shortens` says to elements and their marks: what is written is their spelling.
+-- From `Shortens` to elements and their marks: the bytes that are written are the marks' spelling.
 use Rattle.std.proofs.Common.{◌≡◌, ℕ, zero, suc, ◌+◌, ◌<◌, ◌≤◌, ◌⊎◌, ◌↔◌, inl, inr, Bool, true, false, List, [], ◌∷◌}
 use Rattle.std.proofs.Common.{◌++◌, length, Some, None, refl, sym, ap, ◌∙◌, arith, append-nil, append_assoc}
 use Rattle.std.proofs.Common.{length-append}
@@ -13,7 +13,7 @@ use Rattle.ciborium_ll_grammar.specs.Strings.{Kind, Bytes, Text, kind_header, Ar
 use Rattle.ciborium_ll_grammar.specs.Strings.IsString.{definite, indefinite}
 use Rattle.ciborium_ll_grammar.specs.Elements.{AreWritable, IsPlain, Mark, Plain, Whole, pieces, open_marks, spelling}
 use Rattle.ciborium_ll_grammar.specs.Elements.{IsStrictSpelling, IsElement, plain, string, done, next}
-use Rattle.ciborium_ll_grammar.specs.Faults.{RunInFront}
+use Rattle.ciborium_ll_grammar.specs.Faults.{BeginsWithElements}
 use Rattle.ciborium_ll_grammar.specs.Shortening.{IsNumberTitle, IsBody, ShortensString, titled, ShortensStrings}
 use Rattle.ciborium_ll_grammar.specs.Shortening.{no_more, definite_more, open_more, ShortensElement, number, simple}
 use Rattle.ciborium_ll_grammar.specs.Shortening.{float, alone, whole, parts, Shortens, done as shortens_done}
@@ -213,7 +213,7 @@ element_marked b w written (parts {major = major} {strings = x} {written = y} ki
 -- elements in front, with what `Shortens` says of them
 abbrev pub SpellsFront : Bool → ℕ → List ℕ → List ℕ → List ℕ → Type 0
 SpellsFront strict count due written rest =
-    (front : RunInFront strict count due) × (written ≡ spelling front.marks) × (rest ≡ front.rest)
+    (front : BeginsWithElements strict count due) × (written ≡ spelling front.marks) × (rest ≡ front.rest)
 
 -- so many elements stand in front, what is written is their spelling, and the rest is what follows
 pub shortened_front : (strict : Bool) (count : ℕ) (due written rest : List ℕ) → Shortens strict count due written rest

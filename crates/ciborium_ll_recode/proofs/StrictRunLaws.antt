@@ -1,14 +1,14 @@
--- Elements that are their own spelling are those whose titles are all strict, with no open inside another one.
+-- Elements that are their own spelling are those whose titles are all strict, with no open inside another open.
 use Rattle.std.proofs.Common.{[], ◌≡◌, ℕ, ◌≤◌, ◌↔◌, true, false, List, ◌++◌, length, Some, None, refl, sym, ap, subst}
 use Rattle.std.proofs.Common.{◌∙◌, arith, append-nil, length-append}
 use Rattle.std.specs.List.{AllByRecursion}
 use Rattle.ciborium_ll_grammar.specs.Title.{shortest_title}
 use Rattle.ciborium_ll_grammar.specs.Strings.{Kind, kind_header, AreStrings, none as no_strings, more as more_strings}
 use Rattle.ciborium_ll_grammar.specs.Strings.IsString.{definite, indefinite}
-use Rattle.ciborium_ll_grammar.specs.Elements.{Mark, IsMeant, pieces, spelling, body_spelling, IsElement, IsRun, string}
+use Rattle.ciborium_ll_grammar.specs.Elements.{Mark, IsNoSmallSimple, pieces, spelling, body_spelling, IsElement, IsRun, string}
 use Rattle.ciborium_ll_grammar.specs.Elements.{IsStrictRun, plain as plain_element, done as run_done, next as run_next}
 use Rattle.ciborium_ll_grammar.specs.Elements.{IsStrictSpelling}
-use Rattle.ciborium_ll_grammar.specs.Faults.{RunInFront}
+use Rattle.ciborium_ll_grammar.specs.Faults.{BeginsWithElements}
 use Rattle.ciborium_ll_grammar.specs.StrictElements.{AreFlat, none, more, IsStrictElement, plain, whole, parts}
 use Rattle.ciborium_ll_grammar.specs.StrictElements.{AreStrictElements, done, next}
 use Rattle.ciborium_ll_grammar.proofs.TitleLaws.{shortest_no_longer}
@@ -21,7 +21,7 @@ use Rattle.ciborium_ll_grammar.proofs.FaultLaws.{meant_left, meant_right}
 
 -- ---- from the spelling to the titles
 
-strict_element : (w : List ℕ) (ms : List Mark) → IsElement w ms → w ≡ spelling ms → AllByRecursion IsMeant ms
+strict_element : (w : List ℕ) (ms : List Mark) → IsElement w ms → w ≡ spelling ms → AllByRecursion IsNoSmallSimple ms
     → IsStrictElement w ms
 strict_element w ms (plain_element header p q) same meant =
     plain header p (record { shortest = same ∙ append-nil (shortest_title header); meant = meant.0 }) q
@@ -34,7 +34,7 @@ strict_element w ms (string k (indefinite {title = t} {strings = y} {bodies = bs
     let n = shortest_no_longer t header p in
     parts k p (flat k y bs q (omega (arith, ap length (same ∙ open_spelled k bs), n, length-append {A = ℕ}))) sound
 
-strict_elements : (n : ℕ) (w : List ℕ) (ms : List Mark) → IsRun n w ms → w ≡ spelling ms → AllByRecursion IsMeant ms
+strict_elements : (n : ℕ) (w : List ℕ) (ms : List Mark) → IsRun n w ms → w ≡ spelling ms → AllByRecursion IsNoSmallSimple ms
     → AreStrictElements n w ms
 strict_elements n w ms run_done same meant = done
 strict_elements n w ms (run_next {count = m} {first = y} {rest = z} {marks = ns} {others = os} e run) same meant =
@@ -55,7 +55,7 @@ flat_spelled k (more {body = b} {rest = y} p s f) =
     )
 
 element_spelled : {w : List ℕ} {ms : List Mark} → IsStrictElement w ms
-    → IsElement w ms × (w ≡ spelling ms) × AllByRecursion IsMeant ms
+    → IsElement w ms × (w ≡ spelling ms) × AllByRecursion IsNoSmallSimple ms
 element_spelled (plain header p s q) =
     (plain_element header p q, s.shortest ∙ sym (append-nil (shortest_title header)), (s.meant, tt))
 element_spelled (whole {body = b} k p s sound) = (
@@ -90,15 +90,15 @@ titles count bytes marks = (
 )
 
 -- a strict run in front is the one run in front
-pub unchanged : (count : ℕ) (bytes : List ℕ) (front : RunInFront false count bytes) → RunInFront true count bytes
-    ↔ ((spelling front.marks ≡ front.elements) × AllByRecursion IsMeant front.marks)
+pub unchanged : (count : ℕ) (bytes : List ℕ) (front : BeginsWithElements false count bytes) → BeginsWithElements true count bytes
+    ↔ ((spelling front.marks ≡ front.elements) × AllByRecursion IsNoSmallSimple front.marks)
 unchanged count bytes front = (
   λ strict. (
       let spelled = strict.spelled refl in
       let one = one_run count front.elements front.marks front.run strict.elements front.rest strict.rest strict.marks
       strict.run (sym front.is ∙ strict.is) in (
         ap spelling one.1 ∙ sym (spelled_alone strict.elements strict.marks spelled) ∙ sym one.0,
-        subst (λ (z : List Mark). AllByRecursion IsMeant z) (sym one.1) spelled.meant,
+        subst (λ (z : List Mark). AllByRecursion IsNoSmallSimple z) (sym one.1) spelled.meant,
       )
       ),
   λ same. (
@@ -110,6 +110,6 @@ unchanged count bytes front = (
       ),
 )
 
-pub as_long : (count : ℕ) (bytes : List ℕ) (front : RunInFront false count bytes)
+pub as_long : (count : ℕ) (bytes : List ℕ) (front : BeginsWithElements false count bytes)
     → length front.elements ≤ length (spelling front.marks) → spelling front.marks ≡ front.elements
 as_long count bytes front long = sym (tight_run count front.elements front.marks front.run long)

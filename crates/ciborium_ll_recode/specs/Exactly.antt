@@ -1,4 +1,5 @@
--- When a copy of elements succeeds, and what it then wrote and left, in the words of `Shortens` alone.
+-- The condition under which a copy of elements succeeds, and the bytes that it wrote and left, in terms of `Shortens`
+-- alone.
 use Rattle.std.specs.Prelude.{◌≡◌, ℕ, ◌+◌, ◌<◌, ◌≤◌, ◌^◌, ◌⊎◌, ◌↔◌, Bool, false, List, [], ◌++◌, length, Some, None}
 use Rattle.std.specs.Prelude.{Result, IsOk, IsTrue}
 use Rattle.ciborium_ll_io.specs.declared.io.Read.{Ghosts as Reader}
@@ -8,9 +9,9 @@ use Rattle.ciborium_ll_decoder.specs.declared.dec.Decoder.{Decoder}
 use Rattle.ciborium_ll_decoder.specs.declared.copy.RecodeError.{RecodeError}
 
 module _ {R E W F : Type 0} (source : Reader R E) (sink : Writer W F) where
-  -- only the bytes can stop a copy: no header waits, the reader gives the bytes that it tells, and the offset fits
-  -- them, with 8 and with the buffer's length to spare. The writer has room for what is written of the elements where
-  -- that many are next, else for as many bytes as are due
+  -- Only the bytes can stop a copy. No header waits, the reader gives the bytes that it tells, and the offset fits
+  -- them, with 8 and with the buffer's length to spare. The writer has room for the copy of `count` elements if that
+  -- many are next, and otherwise for as many bytes as are due.
   pub record OnlyBytesStop (strict : Bool) (count room-in : ℕ) (decoder : Decoder R) (writer : W)
       (due written : List ℕ) : Type 0 where
     pub mode : decoder.strict ≡ strict
@@ -25,8 +26,8 @@ module _ {R E W F : Type 0} (source : Reader R E) (sink : Writer W F) where
     pub fits-title : decoder.offset + length due + 8 < 2 ^ 64
     pub fits-chunk : decoder.offset + length due + room-in < 2 ^ 64
 
-  -- `Ok` comes just where so many elements are next. Then just what is written of them was appended, and just what
-  -- follows is ahead; and what was written is copied as it is
+  -- `Ok` comes exactly if `count` elements are next. Exactly their copy was then appended, and exactly the bytes that
+  -- follow are ahead. A copy of the copy is the same bytes.
   pub record CopiesExactly (strict : Bool) (count : ℕ) (due written : List ℕ)
       (result : Result (Unit {0}) (RecodeError E F)) (decoder : Decoder R) (writer : W) : Type 0 where
     pub just : IsOk result ↔ ((copy : List ℕ) × (rest : List ℕ) × Shortens strict count due copy rest)

@@ -1,6 +1,6 @@
--- Elements copied from a decoder to a writer: what was read and written, over any reader and writer. Bytes are spoken
--- of where they are told. Each relation leads from the old two sides of the copy to the new ones. The copy of a body is
--- handed on.
+-- The copy of elements from a decoder to a writer, over any reader and writer. The relations speak of bytes that are
+-- told, and lead from the two sides of the copy before a call to the two sides after it. This file hands on the copy of
+-- a body.
 use Rattle.std.specs.Prelude.{◌≡◌, ℕ, suc, ◌+◌, ◌-◌, ◌<◌, ◌≤◌, ◌⊎◌, min, List, [], ◌∷◌, ◌++◌, length, Some, None}
 use Rattle.std.specs.Prelude.{Result, Ok, Err}
 use Rattle.ciborium_ll_io.specs.declared.io.Read.{Ghosts as Reader}
@@ -16,7 +16,7 @@ use Rattle.ciborium_ll_grammar.specs.Strings.{Kind, kind_header, IsWritable, mos
 use Rattle.ciborium_ll_grammar.specs.Elements.{Mark, Open, mark_spelling, pieces, open_marks, spelling, IsElement}
 use Rattle.ciborium_ll_grammar.specs.Elements.{IsRun, IsStrictSpelling}
 use Rattle.ciborium_ll_grammar.specs.Faults.{Point, In, BodyDue, Reaches, IsAtTitle, IsRefusedIn, with_front}
-use Rattle.ciborium_ll_decoder.specs.Decoding.{offset_limit, MovesOn, Strictly, Passes, PullsHeader, PullsTitle}
+use Rattle.ciborium_ll_decoder.specs.Decoding.{offset_limit, MovesOn, Strictly, ReadsPast, DecoderPullAnswer, PullsTitle}
 use Rattle.ciborium_ll_decoder.specs.Segments.{PullsOther}
 use Rattle.ciborium_ll_decoder.specs.BodyCopies.{Sides, sides}
 pub use Rattle.ciborium_ll_decoder.specs.BodyCopies.{BodyWritten, BodyUnread, BodyUnwritten}
@@ -26,7 +26,7 @@ use Rattle.ciborium_ll_io.specs.Writes.{WritesAll, WritesFront}
 -- ---- one header
 
 module _ {E W F : Type 0} (sink : Writer W F) where
-  -- the write of a header, by its answer
+  -- The write of a header, by its answer.
   abbrev pub WritesHeader : W → Result (Unit {0}) (RecodeError E F) → Header → W → Type 0
   WritesHeader writer (Ok done) header writer' = WritesAll sink writer (shortest_title header) writer'
   WritesHeader writer (Err (r.Write fault)) header writer' = WritesFront sink writer (shortest_title header) writer'
@@ -34,52 +34,51 @@ module _ {E W F : Type 0} (sink : Writer W F) where
 
 -- ---- elements
 
--- `NextWrite count room before read whole next`: of a copy of so many elements, through a buffer of so much room, the
--- bytes before were read, and these of a body behind them; what they became is written whole, and this title or this
--- chunk is to be written next
+-- `NextWrite count room before read whole next`: a copy of `count` elements goes through a buffer of `room` bytes. It
+-- read the bytes `before`, and then the bytes `read` of a body. It wrote the bytes `whole` for them, and the title or
+-- chunk `next` is to be written next.
 pub data NextWrite (count room : ℕ) : List ℕ → List ℕ → List ℕ → List ℕ → Type 0 where
-  -- a title with no body, which is the last mark: of an element, of the open of a string, or of its break
+  -- A title without a body, which is the last mark: that of an element, of the open of a string, or of its break.
   Alone : {before : List ℕ} (marks : List Mark) (mark : Mark) (header : Header)
       → mark_spelling mark ≡ shortest_title header
       → IsRun count before (marks ++ mark ∷ []) ⊎
       ((point : Point) × Reaches count before (marks ++ mark ∷ []) point × IsAtTitle point)
       → NextWrite count room before [] (spelling marks) (shortest_title header)
-  -- the title of a body
+  -- The title of a body.
   Titled : {before : List ℕ} (marks : List Mark) (kind : Kind) (len start : ℕ)
       → Reaches count before marks (BodyDue kind len start)
       → NextWrite count room before [] (spelling marks) (shortest_title (kind_header kind (Some len)))
-  -- a chunk of a body, behind its title and a front of it. As many bytes are read behind the front as the buffer holds,
-  -- or as the body has; of a text up to three of them are kept for the next chunk
+  -- A chunk of a body, after its title and a front of it. The copy reads as many bytes after the front as the buffer
+  -- holds, or as the body has. It keeps up to three of them for the next chunk if the body is a text.
   Chunk : {before : List ℕ} (marks : List Mark) (kind : Kind) (len start : ℕ) (front chunk kept : List ℕ)
       → Reaches count before marks (BodyDue kind len start) → IsWritable kind (front ++ chunk) → length front < len
       → length chunk + length kept ≡ min room (len - length front) → length kept ≤ most_kept kind
       → NextWrite count room before (front ++ (chunk ++ kept)) (with_front marks kind len front) chunk
 
 module _ {R E W F : Type 0} (source : Reader R E) (sink : Writer W F) where
-  -- the bytes were read, and the spelling of the marks was written
+  -- The copy read the bytes, and wrote the spelling of the marks.
   pub record Copied (old : Sides R W) (bytes : List ℕ) (marks : List Mark) (new : Sides R W) : Type 0 where
-    pub passed : Passes source old.decoder bytes new.decoder
+    pub passed : ReadsPast source old.decoder bytes new.decoder
     pub written : WritesAll sink old.writer (spelling marks) new.writer
 
-  -- so many elements were copied
+  -- A copy of `count` elements.
   pub record CopiesRun (count : ℕ) (old new : Sides R W) : Type 0 where
     pub bytes : List ℕ
     pub marks : List Mark
     pub run : IsRun count bytes marks
     pub copied : Copied old bytes marks new
-    -- what a strict decoder reads is written again
+    -- A strict decoder's bytes are written again as they are.
     pub strict : Strictly old.decoder (IsStrictSpelling bytes marks [])
 
-  -- all elements were copied. What was written are the same elements again, with the same marks, and no longer. Behind
-  -- an element no header waits
+  -- A copy of all elements. It wrote the same elements again, with the same marks, and no longer.
   pub record CopiesAll (count : ℕ) (old new : Sides R W) : Type 0 where
     pub elements : CopiesRun count old new
     pub again : IsRun count (spelling elements.marks) elements.marks
     pub shorter : length (spelling elements.marks) ≤ length elements.bytes
-    -- behind an element no header waits
+    -- After an element no header waits.
     pub settled : 0 < count → new.decoder.waiting ≡ None
 
-  -- a copy came to where a title is due, and there `pull` failed
+  -- A title is due, and `pull` failed there.
   pub record StopsAtTitle (count : ℕ) (old : Sides R W) (error : Error E) (new : Sides R W) : Type 0 where
     pub bytes : List ℕ
     pub marks : List Mark
@@ -88,10 +87,10 @@ module _ {R E W F : Type 0} (source : Reader R E) (sink : Writer W F) where
     pub at_title : IsAtTitle point
     pub between : Decoder R
     pub copied : Copied old bytes marks (sides between new.writer)
-    pub fails : PullsHeader source between (Err error) new.decoder
+    pub fails : DecoderPullAnswer source between (Err error) new.decoder
     pub strict : Strictly old.decoder (IsStrictSpelling bytes marks [])
 
-  -- a title came that may not stand within its string
+  -- A title came that may not stand within its string.
   pub record StopsAtOther (count : ℕ) (old : Sides R W) (at : ℕ) (new : Sides R W) : Type 0 where
     pub bytes : List ℕ
     pub marks : List Mark
@@ -102,7 +101,7 @@ module _ {R E W F : Type 0} (source : Reader R E) (sink : Writer W F) where
     pub other : PullsOther source (IsRefusedIn between.strict kind) between at new.decoder
     pub strict : Strictly old.decoder (IsStrictSpelling bytes marks [])
 
-  -- there are more opens than can be counted, and as many bytes at least; the offset is then the greatest number
+  -- There are more opens than can be counted, and at least as many bytes. The offset is then the greatest number.
   pub record StopsTooDeep (count : ℕ) (old new : Sides R W) : Type 0 where
     pub bytes : List ℕ
     pub marks : List Mark
@@ -113,7 +112,7 @@ module _ {R E W F : Type 0} (source : Reader R E) (sink : Writer W F) where
     pub pulled : PullsTitle source between (kind_header kind None) new.decoder
     pub full : offset_limit ≤ new.decoder.offset + 1
 
-  -- the title of a body was written, and the copy of the body failed
+  -- The copy wrote the title of a body, and failed at the body.
   pub record StopsInBody (count room : ℕ) (old : Sides R W) (error : Error E) (new : Sides R W) : Type 0 where
     pub bytes : List ℕ
     pub marks : List Mark
@@ -130,11 +129,11 @@ module _ {R E W F : Type 0} (source : Reader R E) (sink : Writer W F) where
     pub strict : Strictly old.decoder
         (IsStrictSpelling bytes marks (shortest_title (kind_header kind (Some len))))
 
-  -- the writer failed at one title or one chunk. All before it was written, and of that a beginning at most
+  -- The writer failed at one title or one chunk. Everything before it was written, and at most a beginning of it.
   pub record StopsWriting (count room : ℕ) (old new : Sides R W) : Type 0 where
     pub bytes : List ℕ
     pub read : List ℕ
-    pub passed : Passes source old.decoder (bytes ++ read) new.decoder
+    pub passed : ReadsPast source old.decoder (bytes ++ read) new.decoder
     pub whole : List ℕ
     pub next : List ℕ
     pub next_write : NextWrite count room bytes read whole next
@@ -142,7 +141,7 @@ module _ {R E W F : Type 0} (source : Reader R E) (sink : Writer W F) where
     pub written : WritesAll sink old.writer whole between
     pub fails : WritesFront sink between next new.writer
 
-  -- the copy of elements, of which there are to be so many, through a buffer of so much room: an error
+  -- The copy of `count` elements through a buffer of `room` bytes stops with this error.
   abbrev pub StopsCopy : ℕ → ℕ → Sides R W → RecodeError E F → Sides R W → Type 0
   StopsCopy count room old (r.Read (e.Io fault)) new =
       StopsAtTitle count old (e.Io fault) new ⊎ StopsInBody count room old (e.Io fault) new
@@ -154,14 +153,14 @@ module _ {R E W F : Type 0} (source : Reader R E) (sink : Writer W F) where
   StopsCopy count room old (r.Read e.Waiting) new = ⊥
   StopsCopy count room old (r.Write fault) new = StopsWriting count room old new
 
-  -- what `recode` does with so many elements, by its answer: all were copied, or one of the stops
+  -- `recode` of `count` elements, by its answer: it copied all of them, or stopped.
   abbrev pub CopiesElements : ℕ → ℕ → Sides R W → Result (Unit {0}) (RecodeError E F) → Sides R W → Type 0
   CopiesElements count room old (Ok done) new = CopiesAll count old new
   CopiesElements count room old (Err error) new = StopsCopy count room old error new
 
   -- ---- the parts of the copy: each goes on from any copy that came so far
 
-  -- so many elements were copied and one is due; of that the bytes of a title were read
+  -- After a copy of `before` elements a further one is due, and the bytes of its title were read.
   pub record IsBehind (count before : ℕ) (title : List ℕ) (old now : Sides R W) : Type 0 where
     pub bytes : List ℕ
     pub marks : List Mark
@@ -170,23 +169,23 @@ module _ {R E W F : Type 0} (source : Reader R E) (sink : Writer W F) where
     pub copied : Copied old (bytes ++ title) marks now
     pub strict : Strictly old.decoder (IsStrictSpelling bytes marks [])
 
-  -- one element more, or an error that stops the whole copy
+  -- One element more is copied, or an error stops the copy.
   abbrev pub GoesOn : ℕ → ℕ → ℕ → Sides R W → Result (Unit {0}) (RecodeError E F) → Sides R W → Type 0
   GoesOn count before room old (Ok done) new = CopiesRun (suc before) old new
   GoesOn count before room old (Err error) new = StopsCopy count room old error new
 
-  -- the copy of an element, which goes on from any copy that came so far
+  -- The copy of an element, which goes on from any copy that came so far.
   abbrev pub CopiesElement : ℕ → Sides R W → Result (Unit {0}) (RecodeError E F) → Sides R W → Type 0
   CopiesElement room now result new = (count before : ℕ) (old : Sides R W) → IsBehind count before [] old now
       → GoesOn count before room old result new
 
-  -- the copy of an element behind its title
+  -- The copy of an element after its title.
   abbrev pub CopiesBehind : Header → ℕ → Sides R W → Result (Unit {0}) (RecodeError E F) → Sides R W → Type 0
   CopiesBehind header room now result new = (count before : ℕ) (old : Sides R W) (title : List ℕ)
       → IsTitle title header → Strictly old.decoder (IsStrictTitle title header) → IsBehind count before title old now
       → GoesOn count before room old result new
 
-  -- the segments of a string of indefinite length and its break were read, and the open and the pieces written
+  -- The copy read the segments of a string of indefinite length and its break, and wrote the open and the pieces.
   pub record ReadsString (before : ℕ) (kind : Kind) (old new : Sides R W) : Type 0 where
     pub bytes : List ℕ
     pub marks : List Mark
@@ -197,12 +196,12 @@ module _ {R E W F : Type 0} (source : Reader R E) (sink : Writer W F) where
     pub copied : Copied old (bytes ++ element) (marks ++ Open kind ∷ pieces kind bodies) new
     pub strict : Strictly old.decoder (IsStrictSpelling (bytes ++ element) (marks ++ open_marks kind bodies) [])
 
-  -- a string up to its last break, or an error that stops the whole copy
+  -- The copy comes to the last break of a string, or an error stops it.
   abbrev pub GoesOnWithin : ℕ → ℕ → Kind → ℕ → Sides R W → Result (Unit {0}) (RecodeError E F) → Sides R W → Type 0
   GoesOnWithin count before kind room old (Ok done) new = ReadsString before kind old new
   GoesOnWithin count before kind room old (Err error) new = StopsCopy count room old error new
 
-  -- so many elements were copied, and the open of a string was read and written
+  -- After a copy of `before` elements the open of a string was read and written.
   pub record IsWithin (count before : ℕ) (kind : Kind) (old now : Sides R W) : Type 0 where
     pub bytes : List ℕ
     pub marks : List Mark
@@ -211,22 +210,21 @@ module _ {R E W F : Type 0} (source : Reader R E) (sink : Writer W F) where
     pub copied : Copied old (bytes ++ shortest_title (kind_header kind None)) (marks ++ Open kind ∷ []) now
     pub strict : Strictly old.decoder (IsStrictSpelling bytes marks [])
 
-  -- the copy of the segments of a string behind its open
+  -- The copy of the segments of a string after its open.
   abbrev pub CopiesSegments : Kind → ℕ → Sides R W → Result (Unit {0}) (RecodeError E F) → Sides R W → Type 0
   CopiesSegments kind room now result new = (count before : ℕ) (old : Sides R W) → IsWithin count before kind old now
       → GoesOnWithin count before kind room old result new
 
   -- ---- the calls, with what they keep
 
-  -- what `copy_element` does: it goes on from any copy that came so far, and the writer stays on its slice
+  -- `copy_element` goes on from any copy that came so far. The writer stays on its slice.
   pub record CopiesOne (room : ℕ) (old : Sides R W) (result : Result (Unit {0}) (RecodeError E F)) (new : Sides R W) :
       Type 0 where
     pub copied : CopiesElement room old result new
     pub moves_on : MovesOn source old.decoder new.decoder
     pub target : sink.target new.writer ≡ sink.target old.writer
 
-  -- what `recode` does with so many elements through a buffer of so much room, whatever fails; the writer stays on its
-  -- slice
+  -- `recode` of `count` elements through a buffer of `room` bytes, whatever fails. The writer stays on its slice.
   pub record Recodes (count room : ℕ) (old : Sides R W) (result : Result (Unit {0}) (RecodeError E F))
       (new : Sides R W) : Type 0 where
     pub copied : CopiesElements count room old result new

@@ -1,4 +1,4 @@
--- What a copy of elements means where the bytes are told: whatever fails, and where no side fails by itself. A strict
+-- The meaning of a copy of elements if the bytes are told: whatever fails, and if no side fails by itself. A strict
 -- decoder takes elements in their shortest spelling alone.
 use Rattle.std.specs.Prelude.{◌≡◌, ℕ, Bool, true, false, ◌+◌, ◌<◌, ◌≤◌, ◌⊎◌, min, max, List, ◌++◌, length, drop, None}
 use Rattle.std.specs.Prelude.{Some, Result, Ok, Err}
@@ -10,15 +10,15 @@ use Rattle.ciborium_ll_decoder.specs.declared.copy.RecodeError.{RecodeError}
 use Rattle.ciborium_ll_decoder.specs.declared.copy.RecodeError.TheVariants as r
 use Rattle.ciborium_ll_grammar.specs.Strings.{IsWritable, most_kept}
 use Rattle.ciborium_ll_grammar.specs.Elements.{Mark, spelling, IsRun}
-use Rattle.ciborium_ll_grammar.specs.Faults.{Point, Due, In, BodyDue, Reaches, Answer, Short, Syntax, RunInFront}
+use Rattle.ciborium_ll_grammar.specs.Faults.{Point, Due, In, BodyDue, Reaches, Answer, Short, Syntax, BeginsWithElements}
 use Rattle.ciborium_ll_grammar.specs.Faults.{HasFault, with_front}
 use Rattle.ciborium_ll_decoder.specs.Decoding.{offset_limit, Begins, view, IsSteady}
 use Rattle.ciborium_ll_recode.specs.Recoding.{NextWrite}
 use Rattle.ciborium_ll_decoder.specs.BodyCopies.{Sides}
 
--- `StopsAt marks point ahead written consumed`: behind the marks a side failed at this point, with these bytes ahead.
--- What is written in all, of a body under way its shortest title and a front of it, and how many bytes ahead are
--- consumed: of a title the first one at most, of a text up to three more than are written
+-- `StopsAt marks point ahead written consumed`: after the marks a side failed at this point, with these bytes ahead.
+-- `written` is everything that is written: for a body under way its shortest title and a front of it. `consumed` counts
+-- the bytes ahead that are consumed: at most the first one of a title, and up to three more than are written of a text.
 abbrev pub StopsAt : List Mark → Point → List ℕ → List ℕ → ℕ → Type 0
 StopsAt marks Due ahead written consumed = (written ≡ spelling marks) × (consumed ≤ min 1 (length ahead))
 StopsAt marks (In kind) ahead written consumed = (written ≡ spelling marks) × (consumed ≤ min 1 (length ahead))
@@ -27,8 +27,8 @@ StopsAt marks (BodyDue kind len start) ahead written consumed =
     × IsWritable kind front × (length front ≤ consumed) × (consumed ≤ length front + most_kept kind)
     × (consumed ≤ min len (length ahead))
 
--- a copy of so many elements stops there, since no more can be read: behind a part of them. What is written of it in
--- all
+-- A copy of `count` elements stops after a part of them, since no more can be read. `written` is everything that is
+-- written of that part.
 pub record StopInReading (count : ℕ) (bytes : List ℕ) : Type 0 where
   pub before : List ℕ
   pub marks : List Mark
@@ -40,9 +40,9 @@ pub record StopInReading (count : ℕ) (bytes : List ℕ) : Type 0 where
   pub consumed : ℕ
   pub stops : StopsAt marks point ahead written consumed
 
--- a copy of so many elements, through a buffer of so much room, stops there, since no more can be written: behind all of
--- them or a part, at one title or one chunk. All before it is written, and of that a beginning; what was read and not
--- written yet is of the body that the chunk is from
+-- The writer stops a copy of `count` elements through a buffer of `room` bytes, after all of them or a part, at one
+-- title or one chunk. Everything before that is written, and a beginning of it. The bytes that were read and are not
+-- written are of the chunk's body.
 pub record StopInWriting (count room : ℕ) (bytes : List ℕ) : Type 0 where
   pub before : List ℕ
   pub read : List ℕ
@@ -55,44 +55,44 @@ pub record StopInWriting (count room : ℕ) (bytes : List ℕ) : Type 0 where
   pub begun : (part : List ℕ) × (written ≡ whole ++ part) × Begins part next
 
 module _ {R E W F : Type 0} (source : Reader R E) (sink : Writer W F) where
-  -- the bytes that are due are told, and those that were written. The decoder is strict or not, as given; a header
-  -- that waits on a strict one was never read, so none may
+  -- The bytes that are due and those that were written are told. The decoder is strict or not, as given. No header may
+  -- wait on a strict decoder, which never read that header itself.
   pub record IsTold (strict : Bool) (now : Sides R W) (due written : List ℕ) : Type 0 where
     pub mode : now.decoder.strict ≡ strict
     pub due-told : view source now.decoder ≡ Some due
     pub written-told : sink.written now.writer ≡ Some written
     pub none_waits : strict ≡ true → now.decoder.waiting ≡ None
 
-  -- the reader gives the bytes that it tells, and the offset fits what is due, with 8 and with the buffer's length to
-  -- spare. The writer has room for the spelling of the elements where that many stand in front, else for as many bytes
-  -- as are due
+  -- The reader gives the bytes that it tells, and the offset fits the bytes that are due, with 8 and with the buffer's
+  -- length to spare. The writer has room for the elements' spelling if that many are next, and otherwise for as many
+  -- bytes as are due.
   pub record IsReady (strict : Bool) (count room-in : ℕ) (now : Sides R W)
       (due written : List ℕ) : Type 0 where
     pub steady : IsSteady source now.decoder
     pub told : IsTold strict now due written
     pub room : ℕ
     pub room-told : sink.room now.writer ≡ Some room
-    -- for the spelling of the elements where they stand in front, else for as many bytes as are due
-    pub enough : ((front : RunInFront false count due) × (length (spelling front.marks) ≤ room)) ⊎ (length due ≤ room)
+    -- Room for the spelling of the elements if they are next, and otherwise for as many bytes as are due.
+    pub enough : ((front : BeginsWithElements false count due) × (length (spelling front.marks) ≤ room)) ⊎ (length due ≤ room)
     pub fits-title : now.decoder.offset + length due + 8 < offset_limit
     pub fits-chunk : now.decoder.offset + length due + room-in < offset_limit
 
   -- ---- from the old decoder to both sides: of the old writer it is said what was written
 
-  -- that many elements stood in front of what was due: just their shortest spelling was written and just what follows
-  -- them is left. The spelling is the same elements again, so a copy of it changes nothing
+  -- The bytes that were due began with `count` elements. Exactly their shortest spelling was written, and exactly the
+  -- bytes that follow are left. The spelling is the same elements again, so a copy of it changes nothing.
   pub record CopiesFront (strict : Bool) (count : ℕ) (due written : List ℕ) (old : Decoder R)
       (new : Sides R W) : Type 0 where
-    pub front : RunInFront strict count due
+    pub front : BeginsWithElements strict count due
     pub output : sink.written new.writer ≡ Some (written ++ spelling front.marks)
     pub again : IsRun count (spelling front.marks) front.marks
     pub left : view source new.decoder ≡ Some front.rest
     pub offset : new.decoder.offset ≡ old.offset + length front.elements
-    -- behind an element no header waits; behind none one waits just where one waited
+    -- After an element no header waits. Without an element a header waits exactly if one waited before.
     pub settled : 0 < count → new.decoder.waiting ≡ None
     pub still : count ≡ 0 → new.decoder.waiting ≡ old.waiting
 
-  -- a fault was met: the answer, what was written up to it and what is consumed are its own
+  -- The copy met a fault. The answer, the bytes that were written and those that are consumed are the fault's own.
   pub record MeetsFault (strict : Bool) (count : ℕ) (due written : List ℕ) (answer : Answer) (old : Decoder R)
       (new : Sides R W) : Type 0 where
     pub fault : HasFault strict count due
@@ -101,8 +101,8 @@ module _ {R E W F : Type 0} (source : Reader R E) (sink : Writer W F) where
     pub left : view source new.decoder ≡ Some (drop fault.consumed fault.ahead)
     pub offset : new.decoder.offset ≡ old.offset + length fault.before + fault.consumed
 
-  -- what `recode` then does: all elements are copied, or the first fault stops it, with what is written, what is left
-  -- and the offset
+  -- `recode` if no side fails by itself: it copies all elements, or the first fault stops it. The relation says which
+  -- bytes are written and left, and the offset.
   abbrev pub RecodesTold : Bool → ℕ → List ℕ → List ℕ → Decoder R → Result (Unit {0}) (RecodeError E F) → Sides R W
       → Type 0
   RecodesTold strict count due written old (Ok done) new = CopiesFront strict count due written old new
@@ -116,13 +116,13 @@ module _ {R E W F : Type 0} (source : Reader R E) (sink : Writer W F) where
 
   -- ---- where a side may fail by itself
 
-  -- the reader failed, or the offset is full
+  -- The reader failed, or the offset is full.
   pub record StopsShort (count : ℕ) (due written : List ℕ) (old : Decoder R) (new : Sides R W) : Type 0 where
     pub stop : StopInReading count due
     pub output : sink.written new.writer ≡ Some (written ++ stop.written)
     pub offset : new.decoder.offset ≡ old.offset + length stop.before + stop.consumed
 
-  -- the writer failed
+  -- The writer failed.
   pub record StopsUnwritten (count room-in : ℕ) (due written : List ℕ) (old : Decoder R) (new : Sides R W) :
       Type 0 where
     pub stop : StopInWriting count room-in due
@@ -130,7 +130,7 @@ module _ {R E W F : Type 0} (source : Reader R E) (sink : Writer W F) where
     pub left : view source new.decoder ≡ Some stop.rest
     pub offset : new.decoder.offset ≡ old.offset + length stop.before + length stop.read
 
-  -- `recode` through a buffer of so much room, whatever fails: `Ok` and `Syntax` mean the same as where nothing does
+  -- `recode` through a buffer of `room-in` bytes, whatever fails. `Ok` and `Syntax` mean the same as if nothing failed.
   abbrev pub RecodesAnyhow : Bool → ℕ → ℕ → List ℕ → List ℕ → Decoder R → Result (Unit {0}) (RecodeError E F)
       → Sides R W → Type 0
   RecodesAnyhow strict count room-in due written old (Ok done) new = CopiesFront strict count due written old new

@@ -5,12 +5,13 @@ ghost use Rattle.ciborium_ll_grammar.specs.Title.{title_len};
 ghost use Rattle.ciborium_ll_grammar.specs.Strings.{kind_header};
 ghost use Rattle.ciborium_ll_decoder.specs.Decoding.{MovesOn, offset_of, waiting_of};
 ghost use Rattle.ciborium_ll_encoder.specs.Encoding.{writer_of};
-ghost use Rattle.ciborium_ll_grammar.specs.Faults.{RunInFront};
+ghost use Rattle.ciborium_ll_grammar.specs.Faults.{BeginsWithElements};
 ghost use Rattle.ciborium_ll_recode.specs.Exactly.{CopiesExactly, OnlyBytesStop};
 ghost use Rattle.ciborium_ll_recode.specs.RecodingTold.{IsReady, IsTold, RecodesAnyhow, RecodesTold};
 ghost use Rattle.ciborium_ll_recode.specs.Recoding.{CopiesBehind, CopiesOne, Recodes};
 ghost use Rattle.ciborium_ll_recode.specs.Recoding.{CopiesSegments, WritesHeader};
 ghost use Rattle.ciborium_ll_recode.specs.Sides.{sides_of};
+ghost use Rattle.ciborium_ll_grammar.specs.declared.limits.TheConstants.{LEAST_BUFFER};
 
 mod strict;
 
@@ -38,7 +39,7 @@ fn write_header<E, W: Write>(
         .map_err(|fault| RecodeError::Write(fault))
 }
 
-/// Copies a string of a definite length, behind its header.
+/// Copies a string of a definite length, after its header.
 #[inline(always)]
 fn copy_definite<R: Read, W: Write, P: Chunked>(
     decoder: &mut Decoder<R>,
@@ -46,7 +47,7 @@ fn copy_definite<R: Read, W: Write, P: Chunked>(
     len: usize,
     buffer: &mut [u8],
 ) -> Result<(), RecodeError<R::Error, W::Error>>
-    requires room { 4 ≤ length buffer.old }
+    requires room { LEAST_BUFFER ≤ length buffer.old }
     requires none_waits { waiting_of decoder.old ≡ None }
     requires covered { title_len (kind_header P.kind (Some len)) ≤ offset_of decoder.old }
     ensures copied { CopiesBehind R.Read W.Write (kind_header P.kind (Some len)) (length buffer.old)
@@ -55,7 +56,7 @@ fn copy_definite<R: Read, W: Write, P: Chunked>(
     ensures target { W.target (writer_of encoder.new) ≡ W.target (writer_of encoder.old) }
 {
     write_header::<R::Error, W>(encoder, P::header(Some(len)))?;
-    // What `advance` would answer for the header pushed back, which counts as its shortest title.
+    // `advance` would give this body for the header pushed back, which counts as its shortest title.
     let body = Body {
         length: len,
         place: decoder.offset() - P::header(Some(len)).title_len(),
@@ -63,13 +64,13 @@ fn copy_definite<R: Read, W: Write, P: Chunked>(
     copy_body::<R, Encoder<W>, P>(decoder, body, encoder, buffer)
 }
 
-/// Copies a string of indefinite length, behind its open.
+/// Copies a string of indefinite length, after its open.
 fn copy_indefinite<R: Read, W: Write, P: Chunked>(
     decoder: &mut Decoder<R>,
     encoder: &mut Encoder<W>,
     buffer: &mut [u8],
 ) -> Result<(), RecodeError<R::Error, W::Error>>
-    requires room { 4 ≤ length buffer.old }
+    requires room { LEAST_BUFFER ≤ length buffer.old }
     requires none_waits { waiting_of decoder.old ≡ None }
     ensures copied { CopiesBehind R.Read W.Write (kind_header P.kind None) (length buffer.old)
         (sides_of decoder.old encoder.old) result (sides_of decoder.new encoder.new) }
@@ -87,7 +88,7 @@ fn copy_segments<R: Read, W: Write, P: Chunked>(
     encoder: &mut Encoder<W>,
     buffer: &mut [u8],
 ) -> Result<(), RecodeError<R::Error, W::Error>>
-    requires room { 4 ≤ length buffer.old }
+    requires room { LEAST_BUFFER ≤ length buffer.old }
     requires none_waits { waiting_of decoder.old ≡ None }
     ensures copied { CopiesSegments R.Read W.Write P.kind (length buffer.old)
         (sides_of decoder.old encoder.old) result (sides_of decoder.new encoder.new) }
@@ -102,7 +103,7 @@ fn copy_segments<R: Read, W: Write, P: Chunked>(
     Ok(())
 }
 
-/// Copies a string, behind its header with this length.
+/// Copies a string, after its header with this length.
 #[inline(always)]
 fn copy_string<R: Read, W: Write, P: Chunked>(
     decoder: &mut Decoder<R>,
@@ -110,7 +111,7 @@ fn copy_string<R: Read, W: Write, P: Chunked>(
     len: Option<usize>,
     buffer: &mut [u8],
 ) -> Result<(), RecodeError<R::Error, W::Error>>
-    requires room { 4 ≤ length buffer.old }
+    requires room { LEAST_BUFFER ≤ length buffer.old }
     requires none_waits { waiting_of decoder.old ≡ None }
     requires covered { title_len (kind_header P.kind len) ≤ offset_of decoder.old }
     ensures copied { CopiesBehind R.Read W.Write (kind_header P.kind len) (length buffer.old)
@@ -124,14 +125,17 @@ fn copy_string<R: Read, W: Write, P: Chunked>(
     }
 }
 
-/// Copies one element, as [`recode`] copies each of its elements, and answers as that does. `buffer` has four bytes at
-/// least. It is for whoever counts them: its contract speaks of the elements before it, too. Users copy by [`recode`].
+/// Copies one element as [`recode`] copies each of its elements, with the same answers. `buffer` has four bytes at
+/// least.
+///
+/// The call serves a caller that counts elements: its contract speaks of the elements before this one, too. Users call
+/// [`recode`].
 pub fn copy_element<R: Read, W: Write>(
     decoder: &mut Decoder<R>,
     encoder: &mut Encoder<W>,
     buffer: &mut [u8],
 ) -> Result<(), RecodeError<R::Error, W::Error>>
-    requires room { 4 ≤ length buffer.old }
+    requires room { LEAST_BUFFER ≤ length buffer.old }
     ensures { CopiesOne R.Read W.Write (length buffer.old) (sides_of decoder.old encoder.old) result
         (sides_of decoder.new encoder.new) }
 {
@@ -139,7 +143,7 @@ pub fn copy_element<R: Read, W: Write>(
     match title.element() {
         Element::Bytes(len) => copy_string::<R, W, Bytes>(decoder, encoder, len, buffer),
         Element::Text(len) => copy_string::<R, W, Text>(decoder, encoder, len, buffer),
-        // What `push` of the header would write, without a look at which header it is.
+        // `push` of the header would write the same bytes. This call needs no look at the kind of header.
         Element::Plain => {
             push_title(encoder, title.shortest()).map_err(|fault| RecodeError::Write(fault))
         }
@@ -149,32 +153,42 @@ pub fn copy_element<R: Read, W: Write>(
 /// Copies `count` elements, each in its shortest spelling. An element is a header that begins no string, or a whole
 /// string (RFC 7049, 2.1 and 2.2).
 ///
-/// Every title becomes the shortest one of its header. The bodies of a string of indefinite length stay the segments
+/// Every title becomes the shortest title of its header. The bodies of a string of indefinite length stay the segments
 /// that they were, in one string: strings within it lose their opens and breaks. Bodies go through `buffer`, which has
-/// four bytes at least, each chunk as soon as it is read, and each body of a text is UTF-8 by itself. `Ok` says that so
-/// many elements were read, and that their spelling, which is no longer, was written.
+/// four bytes at least, each chunk as soon as it is read. `Ok` means that `count` elements were read, each body of a
+/// text UTF-8 by itself, and that their spelling, which is no longer, was written.
 ///
-/// `Read` carries the decoder's error. `Syntax` names the offset of a title that is none or may not stand there; of a
-/// body that is no text the offset of its title, or, where a whole string's title is longer than its shortest one, of
-/// the byte from which the shortest would reach the body. `Io` says that the reader failed where a title was due or
-/// within a body, `TooLong` that the offset can't take the next read, or that the opens can't be counted. `Write`
-/// carries the writer's error. The titles and chunks before the error are written, and of a `Write` a beginning of the
-/// title or of the chunk that was due next.
+/// A strict decoder gives elements in their shortest spelling alone, without a string of indefinite length inside
+/// another string. The copy writes them as they are. [`strict_len`] is a strict copy that keeps nothing.
 ///
-/// A strict decoder gives elements in their shortest spelling alone, with no string of indefinite length inside
-/// another, and they are written as they are. [`strict_len`] is such a copy that keeps nothing.
+/// # Errors
 ///
-/// Where the reader is steady, the offset fits, no header waits on a strict decoder, and the writer has room for the
-/// spelling of the elements where that many are next, else for all that is due: `Ok` comes exactly where that many are
-/// next, of a strict decoder in their shortest spelling. Just that spelling was then appended, and what follows is
-/// left. Else the first fault was met, with its place, and of a strict decoder a title that it refuses is one.
+/// - `Read` with `Syntax(offset)`: the bytes are no title, a title that may not stand there, or a body that is no text,
+///   at the place that [`Error::Syntax`] names.
+/// - `Read` with `Io`: the reader failed at a title or within a body.
+/// - `Read` with `TooLong`: the offset can't take the next read, or the opens can't be counted.
+/// - `Write`: the writer failed. A beginning of the title or of the chunk that was due next is written.
 ///
-/// Where bytes are told on both sides, `Ok` and `Syntax` mean the same whatever fails: after `Io` and `TooLong` a part
-/// of the elements was read and written, and after `Write` a beginning of that. Where a body of a text is cut and is no
-/// text either, the answer is `Io` or `Syntax`, by what the buffer held.
+/// The titles and chunks before an error are written.
+///
+/// # Conditions for success
+///
+/// Suppose that the reader is steady, that the offset fits, and that no header waits on a strict decoder. Suppose that
+/// the writer has room for the spelling of the elements if that many are next, and otherwise for as many bytes as are
+/// due.
+///
+/// `Ok` then comes exactly if that many elements are next, for a strict decoder in their shortest spelling. Exactly
+/// that spelling was appended, and exactly the bytes that follow are left. Otherwise the copy met the first fault, with
+/// its place. A title that a strict decoder refuses is a fault.
+///
+/// If bytes are told on both sides, `Ok` and `Syntax` mean the same whatever fails. After `Io` and `TooLong` a part of
+/// the elements was read and written, and after `Write` a beginning of that part was written. If a body of a text is
+/// cut off and is no text either, the answer is `Io` or `Syntax`, by the bytes that the buffer held.
 ///
 /// Whatever the answer, the decoder moves on as [`Decoder`] says, `Waiting` never comes, and the writer stays on its
 /// slice.
+///
+/// # Examples
 ///
 /// ```rust
 /// let mut buffer = [0; 64];
@@ -188,22 +202,22 @@ pub fn recode<R: Read, W: Write>(
     count: usize,
     buffer: &mut [u8],
 ) -> Result<(), RecodeError<R::Error, W::Error>>
-    requires room { 4 ≤ length buffer.old }
-    ensures copied { Recodes R.Read W.Write count (length buffer.old) (sides_of decoder.old encoder.old) result
-        (sides_of decoder.new encoder.new) }
-    ensures told { (strict : Bool) (due written : List ℕ)
-        → IsReady R.Read W.Write strict count (length buffer.old) (sides_of decoder.old encoder.old) due written
-        → RecodesTold R.Read W.Write strict count due written decoder.old result
-        (sides_of decoder.new encoder.new) }
+    requires room { LEAST_BUFFER ≤ length buffer.old }
     ensures exactly { (strict : Bool) (due written : List ℕ)
         → OnlyBytesStop R.Read W.Write strict count (length buffer.old) decoder.old (writer_of encoder.old) due written
         → CopiesExactly R.Read W.Write strict count due written result decoder.new (writer_of encoder.new) }
     ensures front { (strict : Bool) (due written : List ℕ)
         → IsReady R.Read W.Write strict count (length buffer.old) (sides_of decoder.old encoder.old) due written
-        → (IsOk result ↔ RunInFront strict count due) }
+        → (IsOk result ↔ BeginsWithElements strict count due) }
+    ensures told { (strict : Bool) (due written : List ℕ)
+        → IsReady R.Read W.Write strict count (length buffer.old) (sides_of decoder.old encoder.old) due written
+        → RecodesTold R.Read W.Write strict count due written decoder.old result
+        (sides_of decoder.new encoder.new) }
     ensures anyhow { (strict : Bool) (due written : List ℕ)
         → IsTold R.Read W.Write strict (sides_of decoder.old encoder.old) due written
         → RecodesAnyhow R.Read W.Write strict count (length buffer.old) due written decoder.old result
+        (sides_of decoder.new encoder.new) }
+    ensures copied { Recodes R.Read W.Write count (length buffer.old) (sides_of decoder.old encoder.old) result
         (sides_of decoder.new encoder.new) }
 {
     'elements: for _copied in 0..count {

@@ -1,4 +1,4 @@
--- Lemmas on the part of a slice that is held, and on what is told of it.
+-- Lemmas on the part of a slice that is held, and on the facts that are told of it.
 use Rattle.std.proofs.Common.{◌≡◌, ℕ, ◌+◌, ◌-◌, ◌≤◌, ◌<◌, List, [], ◌++◌, Result, OnErr, length, length-take-le}
 use Rattle.std.proofs.Common.{length-append, take, drop, slice_range, refl, sym, ap, subst, ◌∙◌, append-nil}
 use Rattle.std.proofs.Common.{append_assoc, arith, take-append-drop}

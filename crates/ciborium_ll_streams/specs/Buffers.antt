@@ -1,4 +1,4 @@
--- What a reader and a writer with a lent slice hold, tell, and keep aside.
+-- The bytes that a reader and a writer with a lent slice hold, the facts that they tell, and the fault that they keep.
 use Rattle.std.specs.Prelude.{◌≡◌, ℕ, ◌+◌, ◌-◌, ◌<◌, ◌≤◌, Bool, false, List, [], ◌++◌, None, length, slice_range}
 use Rattle.std.specs.declared.option.Option.{Option}
 use Rattle.std.specs.Io.KnownBytes.{append_known, prepend_known}
@@ -8,94 +8,94 @@ use Rattle.ciborium_ll_streams.specs.declared.streams.ReadFault.{ReadFault}
 use Rattle.ciborium_ll_streams.specs.declared.streams.WriteFault.{WriteFault}
 use Rattle.ciborium_ll_streams.specs.declared.window.Window.{Window}
 
--- the bytes that wait in a part of a lent slice
+-- The bytes that wait in a part of a lent slice.
 abbrev pub held : Window → List ℕ
 held w = slice_range w.space.now w.start w.end
 
--- how many bytes that slice has
+-- The number of bytes of the lent slice.
 abbrev pub window_capacity : Window → ℕ
 window_capacity w = length w.space.now
 
--- how many bytes more it has room for, behind those that wait
+-- The number of bytes that fit after the bytes that wait.
 abbrev pub window_room : Window → ℕ
 window_room w = length w.space.now - w.end
 
 module _ {T : Type 0} where
-  -- the reader within, as it is now
+  -- The inner reader.
   abbrev pub buffered_source : BufferedReader T → T
   buffered_source r = r.source
 
-  -- what was read ahead and not handed out
+  -- The bytes that were read ahead and that no caller got.
   abbrev pub buffered_read_ahead : BufferedReader T → List ℕ
   buffered_read_ahead r = held r.window
 
-  -- how many bytes the lent slice of a reader has
+  -- The number of bytes of a reader's lent slice.
   abbrev pub buffered_read_capacity : BufferedReader T → ℕ
   buffered_read_capacity r = window_capacity r.window
 
-  -- the bytes to come: those that were read ahead, and then those of the reader within, where it tells them
+  -- The bytes to come: the bytes read ahead, and then the bytes of the inner reader, if it tells them.
   abbrev pub buffered_ahead : (T → Option (List ℕ)) → BufferedReader T → Option (List ℕ)
   buffered_ahead remaining r = prepend_known (held r.window) (remaining r.source)
 
-  -- the fault of the last read that failed, where one is kept
+  -- The fault of the last read that failed, if the reader keeps it.
   abbrev pub buffered_read_fault : BufferedReader T → Option ReadFault
   buffered_read_fault r = r.fault
 
-  -- the reader is never steady
+  -- The reader is never steady.
   abbrev pub buffered_steady : BufferedReader T → Bool
   buffered_steady r = false
 
-  -- how many reads failed so far
+  -- The number of reads that failed so far.
   abbrev pub buffered_read_failures : BufferedReader T → ℕ
   buffered_read_failures r = r.failures.count
 
-  -- the writer within, as it is now
+  -- The inner writer.
   abbrev pub buffered_sink : BufferedWriter T → T
   buffered_sink w = w.sink
 
-  -- what was kept back and not passed on
+  -- The bytes that were kept back and not passed on.
   abbrev pub buffered_kept_back : BufferedWriter T → List ℕ
   buffered_kept_back w = held w.window
 
-  -- how many bytes the lent slice of a writer has
+  -- The number of bytes of a writer's lent slice.
   abbrev pub buffered_capacity : BufferedWriter T → ℕ
   buffered_capacity w = window_capacity w.window
 
-  -- how many bytes more it has room for, behind those that were kept back
+  -- The number of bytes that fit after the bytes kept back.
   abbrev pub buffered_space : BufferedWriter T → ℕ
   buffered_space w = window_room w.window
 
-  -- the bytes so far: those of the writer within, where it tells them, and then those that were kept back
+  -- The bytes so far: the bytes of the inner writer, if it tells them, and then the bytes kept back.
   abbrev pub buffered_written : (T → Option (List ℕ)) → BufferedWriter T → Option (List ℕ)
   buffered_written contents w = append_known (contents w.sink) (held w.window)
 
-  -- the fault of the last write or flush that failed, where one is kept
+  -- The fault of the last write or flush that failed, if the writer keeps it.
   abbrev pub buffered_write_fault : BufferedWriter T → Option WriteFault
   buffered_write_fault w = w.fault
 
-  -- no room is told
+  -- The writer tells no room.
   abbrev pub buffered_room : BufferedWriter T → Option ℕ
   buffered_room w = None
 
-  -- how many writes and flushes failed so far
+  -- The number of writes and flushes that failed so far.
   abbrev pub buffered_write_failures : BufferedWriter T → ℕ
   buffered_write_failures w = w.failures.count
 
-  -- the bytes were kept back behind those that were kept back before, which takes as much of the space, and the writer
-  -- within was left as it was
+  -- The bytes were kept back after the bytes kept back before, and took their length of the space. The inner writer is
+  -- as it was.
   pub record KeepsBack (old : BufferedWriter T) (bytes : List ℕ) (new : BufferedWriter T) : Type 0 where
     pub sink : buffered_sink new ≡ buffered_sink old
     pub kept_back : buffered_kept_back new ≡ buffered_kept_back old ++ bytes
     pub space : buffered_space old ≡ buffered_space new + length bytes
 
-  -- these bytes alone are kept back where the whole slice has room for them, else none are; the rest of the slice is
-  -- space
+  -- Only these bytes are kept back if the whole slice has room for them, and no bytes otherwise. The rest of the slice
+  -- is space.
   pub record KeepsAlone (bytes : List ℕ) (new : BufferedWriter T) : Type 0 where
     pub within : length bytes ≤ buffered_capacity new → buffered_kept_back new ≡ bytes
     pub beyond : buffered_capacity new < length bytes → buffered_kept_back new ≡ []
     pub space : buffered_capacity new ≡ buffered_space new + length (buffered_kept_back new)
 
-  -- of what was kept back a front is gone, and the rest is kept back still; there is no less space
+  -- A front of the bytes kept back is gone, and the rest is still kept back. There is no less space.
   pub record KeepsRest (old new : BufferedWriter T) : Type 0 where
     pub rest : (front : List ℕ) × (buffered_kept_back old ≡ front ++ buffered_kept_back new)
     pub space : buffered_space old ≤ buffered_space new

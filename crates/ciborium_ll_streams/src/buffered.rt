@@ -1,7 +1,7 @@
-//! A reader and a writer over those of std that move many bytes at a time, and whose errors are small.
+//! A reader and a writer over std's that move many bytes at a time, and whose errors are small.
 //!
-//! An `io::Error` has many bytes, and each function that hands one on clears and copies them. So a fault is kept aside
-//! here, and the call answers only that there is one. What the lent slice holds is moved without a call of std.
+//! An `io::Error` has many bytes, and each function that returns one clears and copies them. So these types keep a
+//! fault aside, and a call answers only that there is a fault. Bytes within the lent slice move without a call of std.
 
 ghost use Rattle.std.specs.Prelude.{◌≡◌, ◌+◌, ◌≤◌, ◌<◌, ◌++◌, None, Some, IsTrue, IsOk, IsSome};
 ghost use Rattle.std.specs.Prelude.{IfSome, IfOk, OnOk, OnErr, [], length, take};
@@ -14,14 +14,14 @@ use crate::window::Window;
 use ciborium_ll_io::io::{Failures, Read, Write};
 use std::io;
 
-/// A call failed, and the `BufferedReader` or `BufferedWriter` keeps why.
+/// A call failed. The `BufferedReader` or `BufferedWriter` keeps the fault.
 #[derive(Debug, Drop)]
 pub struct FaultKept;
 
 /// Reads from a reader of std, and reads ahead into a slice that the caller lends.
 ///
-/// It tells the bytes that this reader tells, and is never steady. A slice of some 8 KiB serves well. With an empty
-/// one each read is the reader's own.
+/// It tells the bytes that the inner reader tells, and is never steady. A slice of some 8 KiB serves well. If the slice
+/// is empty, each read calls the inner reader.
 #[derive(Drop)]
 pub struct BufferedReader<'a, T> {
     source: T,
@@ -34,7 +34,7 @@ impl<'a, T: io::Read> BufferedReader<'a, T> {
     ghost use Rattle.ciborium_ll_streams.specs.Buffers.{buffered_ahead, buffered_read_ahead, buffered_read_failures};
     ghost use Rattle.ciborium_ll_streams.specs.Buffers.{buffered_read_capacity, buffered_read_fault, buffered_source};
 
-    /// A reader of all that is left within. Nothing is read yet.
+    /// Returns a reader of all bytes that are left in `source`. It reads nothing yet.
     pub fn new(source: T, buffer: &'a mut [u8]) -> BufferedReader<'a, T>
         ensures source { buffered_source result ≡ source }
         ensures read_ahead { buffered_read_ahead result ≡ [] }
@@ -51,14 +51,14 @@ impl<'a, T: io::Read> BufferedReader<'a, T> {
         }
     }
 
-    /// The bytes that were read ahead and not handed out.
+    /// Returns the bytes that it read ahead and did not give to a caller.
     pub fn buffer(&self) -> &[u8]
         ensures { result.now ≡ buffered_read_ahead self.now }
     {
         self.window.held()
     }
 
-    /// Why the last call that failed did so, where one failed. It is kept no longer.
+    /// Returns the fault of the last call that failed, and keeps it no longer. `None` means that it keeps no fault.
     pub fn take_fault(&mut self) -> Option<ReadFault>
         ensures fault { result ≡ buffered_read_fault self.old }
         ensures none { buffered_read_fault self.new ≡ None }
@@ -71,8 +71,10 @@ impl<'a, T: io::Read> BufferedReader<'a, T> {
         self.fault.take()
     }
 
-    /// The reader within as the last call left it, the bytes that were read ahead and not handed out, and why the last
-    /// call that failed did so. No more bytes are read ahead than the slice has.
+    /// Returns the inner reader as the last call left it, the bytes read ahead, and the fault of the last call that
+    /// failed.
+    ///
+    /// No caller got the bytes read ahead. They are at most as many as the slice has bytes.
     pub fn into_parts(self) -> (T, &'a [u8], Option<ReadFault>)
         ensures source { result.0 ≡ buffered_source self.entry }
         ensures read_ahead { result.1.now ≡ buffered_read_ahead self.entry }
@@ -88,7 +90,7 @@ impl<'a, T: io::Read> BufferedReader<'a, T> {
         (source, window.into_held(), fault)
     }
 
-    /// Fills `data` by calls of the reader within.
+    /// Fills `data` by calls of the inner reader.
     #[cold]
     #[inline(never)]
     fn read_on(&mut self, data: &mut [u8]) -> Result<(), FaultKept>
@@ -111,7 +113,7 @@ impl<'a, T: io::Read> BufferedReader<'a, T> {
         Ok(())
     }
 
-    /// Fills a front of `data`, by at most one call of the reader within.
+    /// Fills a front of `data` by at most one call of the inner reader, and returns its length.
     fn read_part(&mut self, data: &mut [u8]) -> Result<usize, FaultKept>
         requires { 0 < length «data».old }
         ensures bound { IfOk result (λ n. (0 < n) × (n ≤ length «data».new)) }
@@ -143,7 +145,7 @@ impl<'a, T: io::Read> BufferedReader<'a, T> {
         Ok(count)
     }
 
-    /// Fills a front of `data` by one call of the reader within, where nothing was read ahead.
+    /// Fills a front of `data` by one call of the inner reader, if nothing was read ahead, and returns its length.
     fn read_past(&mut self, data: &mut [u8]) -> Result<usize, FaultKept>
         requires some { 0 < length «data».old }
         requires none_ahead { buffered_read_ahead self.old ≡ [] }
@@ -168,7 +170,7 @@ impl<'a, T: io::Read> BufferedReader<'a, T> {
         }
     }
 
-    /// Keeps a fault, and hands out that one is kept.
+    /// Keeps a fault, and returns the error that says so.
     fn failed(&mut self, fault: ReadFault) -> FaultKept
         ensures kept { buffered_read_fault self.new ≡ Some fault }
         ensures ahead { buffered_ahead T.remaining self.new ≡ buffered_ahead T.remaining self.old }
@@ -196,12 +198,13 @@ impl<'a, T: io::Read> Read for BufferedReader<'a, T> {
 
     ghost steady_is_told = { λ _ h. Prim.search rules };
 
-    /// Fills the whole of `data` from the front of what was read ahead, else by as many single calls of `read` as that
-    /// takes.
+    /// Fills the whole of `data` from the bytes read ahead. If they are too few, it calls `read` as often as needed.
     ///
-    /// After an error the fault is kept: `End` where a call moved no byte, behind which none that is told is left, and
-    /// `Failed` where a call failed. The bytes that came before it then stand at the front of `data`, and are fewer
-    /// than `data` has room for.
+    /// # Errors
+    ///
+    /// - `FaultKept`: a call failed (the fault is `Failed`), or it gave no byte (`End`). After `End`, no byte is left
+    ///   if the inner reader tells its bytes. The bytes before the fault are at the front of `data`, and do not fill
+    ///   it.
     #[inline(always)]
     fn read_exact(&mut self, data: &mut [u8]) -> Result<(), FaultKept>
         // The trait's.
@@ -237,9 +240,9 @@ impl<'a, T: io::Read> Read for BufferedReader<'a, T> {
 
 /// Writes to a writer of std, and keeps bytes back in a slice that the caller lends.
 ///
-/// It tells the bytes that this writer tells, and then those that it keeps back, and no room. A slice of some 8 KiB
-/// serves well. With an empty one each write is the writer's own. What is kept back is passed on where the slice has
-/// no room for more, and by `flush`; nothing is passed on when the writer is dropped.
+/// It tells the bytes of the inner writer and then the bytes that it keeps back, and no room. A slice of some 8 KiB
+/// serves well. If the slice is empty, each write calls the inner writer. `flush` passes the kept bytes on, and so does
+/// a write for which the slice has no room. Dropping the writer passes nothing on.
 #[derive(Drop)]
 pub struct BufferedWriter<'a, T> {
     sink: T,
@@ -253,7 +256,7 @@ impl<'a, T: io::Write> BufferedWriter<'a, T> {
     ghost use Rattle.ciborium_ll_streams.specs.Buffers.{buffered_sink, buffered_space, buffered_write_failures};
     ghost use Rattle.ciborium_ll_streams.specs.Buffers.{buffered_write_fault, buffered_written};
 
-    /// A writer behind all that was written within. Nothing is kept back yet, and the whole slice is space.
+    /// Returns a writer that appends to the bytes of `sink`. It keeps nothing back yet, and the whole slice is space.
     pub fn new(sink: T, buffer: &'a mut [u8]) -> BufferedWriter<'a, T>
         ensures sink { buffered_sink result ≡ sink }
         ensures kept_back { buffered_kept_back result ≡ [] }
@@ -271,14 +274,14 @@ impl<'a, T: io::Write> BufferedWriter<'a, T> {
         }
     }
 
-    /// The bytes that were kept back and not passed on.
+    /// Returns the bytes that it keeps back.
     pub fn buffer(&self) -> &[u8]
         ensures { result.now ≡ buffered_kept_back self.now }
     {
         self.window.held()
     }
 
-    /// Why the last call that failed did so, where one failed. It is kept no longer.
+    /// Returns the fault of the last call that failed, and keeps it no longer. `None` means that it keeps no fault.
     pub fn take_fault(&mut self) -> Option<WriteFault>
         ensures fault { result ≡ buffered_write_fault self.old }
         ensures none { buffered_write_fault self.new ≡ None }
@@ -292,8 +295,8 @@ impl<'a, T: io::Write> BufferedWriter<'a, T> {
         self.fault.take()
     }
 
-    /// The writer within as the last call left it, the bytes that were kept back and not passed on, and why the last
-    /// call that failed did so.
+    /// Returns the inner writer as the last call left it, the bytes kept back, and the fault of the last call that
+    /// failed.
     pub fn into_parts(self) -> (T, &'a [u8], Option<WriteFault>)
         ensures sink { result.0 ≡ buffered_sink self.entry }
         ensures kept_back { result.1.now ≡ buffered_kept_back self.entry }
@@ -336,7 +339,7 @@ impl<'a, T: io::Write> BufferedWriter<'a, T> {
         }
     }
 
-    /// Writes what was kept back. What a failure leaves unwritten stays.
+    /// Writes the bytes kept back. After a failure, the bytes that it did not write stay.
     fn send(&mut self) -> Result<(), FaultKept>
         ensures bytes { Keeps (buffered_written T.contents self.old) (buffered_written T.contents self.new) }
         ensures empty { OnOk result (buffered_kept_back self.new ≡ []) }
@@ -359,7 +362,7 @@ impl<'a, T: io::Write> BufferedWriter<'a, T> {
         }
     }
 
-    /// Keeps a fault, and hands out that one is kept.
+    /// Keeps a fault, and returns the error that says so.
     fn failed(&mut self, fault: WriteFault) -> FaultKept
         ensures kept { buffered_write_fault self.new ≡ Some fault }
         ensures written { buffered_written T.contents self.new ≡ buffered_written T.contents self.old }
@@ -393,13 +396,17 @@ impl<'a, T: io::Write> Write for BufferedWriter<'a, T> {
 
     ghost target = { λ _. None };
 
-    /// Keeps the whole of `data` back, by no call of the writer within, where the slice has space for it behind what it
-    /// holds. Else it writes what was kept back first, and then keeps `data` back where the whole slice has room for
-    /// it, or writes it.
+    /// Appends the whole of `data`.
     ///
-    /// After an error the fault is kept: `Zero` where a call moved no byte, and `Failed` where a call failed. A
-    /// beginning of `data` was then written, and not the whole of it. What was kept back before is lost by no failure:
-    /// what could not be written is kept back still.
+    /// If the slice has space for `data`, the writer keeps it back, without a call of the inner writer. Otherwise it
+    /// first writes the bytes kept back. Then it keeps `data` back if the whole slice has room for it, and writes it if
+    /// not.
+    ///
+    /// # Errors
+    ///
+    /// - `FaultKept`: a call of the inner writer failed (the fault is `Failed`) or took no byte (`Zero`). A beginning
+    ///   of `data` is then written, but not the whole. No failure loses bytes kept back before: the unwritten rest is
+    ///   still kept back.
     #[inline(always)]
     fn write_all(&mut self, data: &[u8]) -> Result<(), FaultKept>
         // The trait's.
@@ -431,9 +438,11 @@ impl<'a, T: io::Write> Write for BufferedWriter<'a, T> {
         self.write_on(data)
     }
 
-    /// Writes what was kept back, and flushes the writer within. The whole slice is space then.
+    /// Writes the bytes kept back, and flushes the inner writer. Then the whole slice is space.
     ///
-    /// After an error the fault is kept. What could not be written is kept back still.
+    /// # Errors
+    ///
+    /// - `FaultKept`: a call of the inner writer failed, or took no byte. The unwritten bytes are still kept back.
     fn flush(&mut self) -> Result<(), FaultKept>
         // The trait's.
         ensures bytes { IsSome (buffered_room self.old)

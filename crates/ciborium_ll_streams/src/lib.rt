@@ -1,12 +1,15 @@
-//! Readers and writers of bytes over those of std.
+// SPDX-License-Identifier: Apache-2.0
+//! Readers and writers of bytes over readers and writers of std, and a writer into memory that grows.
 //!
-//! This crate is a part of `ciborium_ll`, whose module `io` hands it on.
+//! This crate is a part of `ciborium_ll`, whose module `io` exports it.
 #![tactic(auto)]
 
 mod buffered;
+pub mod memory;
 mod messages;
 mod streams;
 mod window;
 
 pub use self::buffered::{BufferedReader, BufferedWriter, FaultKept};
+pub use self::memory::{OutOfMemory, VecWriter};
 pub use self::streams::{ReadFault, StdReader, StdWriter, WriteFault};

@@ -1,4 +1,4 @@
-//! A reader and a writer over those of std.
+//! A reader and a writer over those of std, without a buffer.
 
 ghost use Rattle.std.specs.Prelude.{false, IsTrue, ◌≡◌, ◌+◌, ◌<◌, None, Err, IsErrOf, IsOk, OnOk, OnErr, length, take};
 ghost use Rattle.std.specs.Io.KnownBytes.{Appends, Consumes, IsAtEnd, Keeps};
@@ -12,9 +12,9 @@ use std::io;
 /// Why a `StdReader` or a `BufferedReader` failed.
 #[derive(Debug, Drop)]
 pub enum ReadFault {
-    /// The reader within gave no byte, although some were asked for.
+    /// The inner reader gave no byte to a read of one byte or more.
     End,
-    /// The reader within failed, and this is its error. An interrupted call fails like any other.
+    /// The inner reader failed, and this is its error. An interrupted call fails like any other call.
     Failed(io::Error),
 }
 
@@ -26,7 +26,7 @@ pub struct StdReader<T> {
 }
 
 impl<T: io::Read> StdReader<T> {
-    /// A reader of all that is left within.
+    /// Returns a reader of all bytes that are left in `source`.
     pub fn new(source: T) -> StdReader<T>
         ensures source { stream_source result ≡ source }
         ensures failures { stream_read_failures result ≡ 0 }
@@ -37,14 +37,14 @@ impl<T: io::Read> StdReader<T> {
         }
     }
 
-    /// The reader within, as the last call left it.
+    /// Returns the inner reader, as the last call left it.
     pub fn into_inner(self) -> T
         ensures { result ≡ stream_source self }
     {
         self.source
     }
 
-    /// Fails with this fault.
+    /// Counts a failure, and returns the fault as an error.
     #[cold]
     #[inline(never)]
     fn failed(&mut self, fault: ReadFault) -> Result<(), ReadFault>
@@ -68,11 +68,14 @@ impl<T: io::Read> Read for StdReader<T> {
 
     ghost steady_is_told = { λ _ h. Prim.search rules };
 
-    /// Fills the whole of `data`, by as many single calls of `read` as that takes. An empty `data` takes none.
+    /// Fills the whole of `data`, by as many calls of `read` as needed. For an empty `data` it makes no call.
     ///
-    /// The errors are `End` where a call moved no byte, behind which none that is told is left, and `Failed` where a
-    /// call failed. The bytes that the calls before it gave then stand at the front of `data`, and are fewer than
-    /// `data` has room for.
+    /// # Errors
+    ///
+    /// - `End`: a call gave no byte. If the inner reader tells its bytes, none is left.
+    /// - `Failed`: a call failed.
+    ///
+    /// The bytes of the calls before are then at the front of `data`, and do not fill it.
     fn read_exact(&mut self, data: &mut [u8]) -> Result<(), ReadFault>
         // The trait's.
         ensures bytes { OnOk result (Consumes (T.remaining (stream_source self.old))
@@ -101,9 +104,9 @@ impl<T: io::Read> Read for StdReader<T> {
 /// Why a `StdWriter` or a `BufferedWriter` failed.
 #[derive(Debug, Drop)]
 pub enum WriteFault {
-    /// The writer within took no byte, although some were given.
+    /// The inner writer took no byte of a write of one byte or more.
     Zero,
-    /// The writer within failed, and this is its error. An interrupted call fails like any other.
+    /// The inner writer failed, and this is its error. An interrupted call fails like any other call.
     Failed(io::Error),
 }
 
@@ -115,7 +118,7 @@ pub struct StdWriter<T> {
 }
 
 impl<T: io::Write> StdWriter<T> {
-    /// A writer behind all that was written within.
+    /// Returns a writer that appends to the bytes of `sink`.
     pub fn new(sink: T) -> StdWriter<T>
         ensures sink { stream_sink result ≡ sink }
         ensures failures { stream_write_failures result ≡ 0 }
@@ -126,14 +129,14 @@ impl<T: io::Write> StdWriter<T> {
         }
     }
 
-    /// The writer within, as the last call left it. It is not flushed.
+    /// Returns the inner writer, as the last call left it. It does not flush.
     pub fn into_inner(self) -> T
         ensures { result ≡ stream_sink self }
     {
         self.sink
     }
 
-    /// Fails by this fault.
+    /// Counts a failure, and returns the fault as an error.
     #[cold]
     #[inline(never)]
     fn failed(&mut self, fault: WriteFault) -> Result<(), WriteFault>
@@ -159,10 +162,14 @@ impl<T: io::Write> Write for StdWriter<T> {
 
     ghost target = { λ _. None };
 
-    /// Appends the whole of `data`, by as many single calls of `write` as that takes. An empty `data` takes none.
+    /// Appends the whole of `data`, by as many calls of `write` as needed. For an empty `data` it makes no call.
     ///
-    /// The errors are `Zero` where a call moved no byte, and `Failed` where a call failed. The bytes that the calls
-    /// before it took are then a beginning of `data`, and not the whole of it.
+    /// # Errors
+    ///
+    /// - `Zero`: a call took no byte.
+    /// - `Failed`: a call failed.
+    ///
+    /// The bytes that the calls before took are then a beginning of `data`, but not the whole.
     fn write_all(&mut self, data: &[u8]) -> Result<(), WriteFault>
         // The trait's.
         ensures bytes { OnOk result (Appends (T.contents (stream_sink self.old))
@@ -183,7 +190,11 @@ impl<T: io::Write> Write for StdWriter<T> {
         }
     }
 
-    /// Flushes the writer within. The error is `Failed`, where that failed.
+    /// Flushes the inner writer.
+    ///
+    /// # Errors
+    ///
+    /// - `Failed`: that flush failed.
     fn flush(&mut self) -> Result<(), WriteFault>
         // The trait's.
         ensures flushed { OnOk result (Keeps (T.contents (stream_sink self.old)) (T.contents (stream_sink self.new))) }
@@ -201,9 +212,12 @@ impl<T: io::Write> Write for StdWriter<T> {
     }
 }
 
-/// Writes bytes by as many single calls of `write` as that takes, and tells how many the writer took.
+/// Writes bytes by as many calls of `write` as needed, and returns the number of bytes that the writer took.
 ///
-/// The errors are `Zero` where a call moved no byte, and `Failed` where a call failed.
+/// # Errors
+///
+/// - `Zero`: a call took no byte.
+/// - `Failed`: a call failed.
 pub(super) fn write_calls<W: io::Write>(
     sink: &mut W,
     bytes: &[u8],

@@ -19,7 +19,7 @@ pub(super) struct Window<'a> {
 impl<'a> Window<'a> {
     ghost use Rattle.ciborium_ll_streams.specs.Buffers.{held, window_capacity, window_room};
 
-    /// A window that holds nothing, and has the whole slice as its space.
+    /// Returns a window that holds nothing and has the whole slice as its space.
     pub(super) fn new(space: &'a mut [u8]) -> Window<'a>
         ensures held { held result ≡ [] }
         ensures room { window_room result ≡ length space.old }
@@ -32,7 +32,7 @@ impl<'a> Window<'a> {
         }
     }
 
-    /// The bytes that are held.
+    /// Returns the bytes that it holds.
     #[inline(always)]
     pub(super) fn held(&self) -> &[u8]
         ensures { result.now ≡ held self.now }
@@ -40,7 +40,7 @@ impl<'a> Window<'a> {
         &self.space[self.start..self.end]
     }
 
-    /// The bytes that are held, of a window that is used no more.
+    /// Returns the bytes that it holds, and gives up the window.
     pub(super) fn into_held(self) -> &'a [u8]
         ensures { result.now ≡ held self.entry }
     {
@@ -48,7 +48,7 @@ impl<'a> Window<'a> {
         &space[self.start..self.end]
     }
 
-    /// How many bytes are held.
+    /// Returns the number of bytes that it holds.
     #[inline(always)]
     pub(super) fn len(&self) -> usize
         ensures { result ≡ length (held self.now) }
@@ -56,14 +56,14 @@ impl<'a> Window<'a> {
         self.end - self.start
     }
 
-    /// How many bytes the space has.
+    /// Returns the number of bytes of the space.
     pub(super) fn capacity(&self) -> usize
         ensures { result ≡ window_capacity self.now }
     {
         self.space.len()
     }
 
-    /// How many bytes fit behind those that are held.
+    /// Returns the number of bytes that fit after the bytes that it holds.
     #[inline(always)]
     pub(super) fn room(&self) -> usize
         ensures { result ≡ window_room self.now }
@@ -82,7 +82,7 @@ impl<'a> Window<'a> {
         self.skip(data.len());
     }
 
-    /// Gives up bytes at the front, which makes no more room.
+    /// Gives up `count` bytes at the front. The room stays the same.
     #[inline(always)]
     pub(super) fn skip(&mut self, count: usize)
         requires { count ≤ length (held self.old) }
@@ -93,7 +93,7 @@ impl<'a> Window<'a> {
         self.start += count;
     }
 
-    /// Puts bytes behind those that are held.
+    /// Puts bytes after the bytes that it holds.
     #[inline(always)]
     pub(super) fn put(&mut self, data: &[u8])
         requires { length «data».now ≤ window_room self.old }
@@ -106,7 +106,7 @@ impl<'a> Window<'a> {
         self.end = end;
     }
 
-    /// Moves the front to the slice's, where nothing is held.
+    /// Moves the front to the front of the slice, if the window holds nothing.
     pub(super) fn restart(&mut self)
         requires { held self.old ≡ [] }
         ensures held { held self.new ≡ [] }
@@ -117,7 +117,12 @@ impl<'a> Window<'a> {
         self.end = 0;
     }
 
-    /// Reads once, where nothing is held. It tells how many bytes there are now, none only at the end.
+    /// Reads once, if the window holds nothing, and returns the number of bytes read. After `Ok(0)` the reader has
+    /// ended.
+    ///
+    /// # Errors
+    ///
+    /// - The reader's error: the window holds nothing, and the bytes to come are the same.
     pub(super) fn fill<R: io::Read>(&mut self, from: &mut R) -> io::Result<usize>
         requires held { held self.old ≡ [] }
         requires capacity { 0 < window_capacity self.old }

@@ -1,4 +1,4 @@
--- How many bytes may end a text that has come to a state.
+-- The number of bytes that may end a text in a state.
 use Rattle.std.proofs.Common.{◌≡◌, ℕ, suc, ◌+◌, ◌≤◌, true, List, [], ◌∷◌, length, refl, subst, arith, le-leb}
 use Rattle.std.proofs.lemmas.Bool.Decides.{nat_tests}
 use Rattle.ciborium_ll_text.specs.declared.state.State.{State}

@@ -1,4 +1,4 @@
--- Longest fronts that are text, and what is stuck behind them.
+-- Longest fronts that are text, and the rests after them, which are stuck.
 use Rattle.std.proofs.lemmas.Bool.Decides.{nat_tests}
 use Rattle.std.specs.Str.{IsValidUpTo}
 use Rattle.std.proofs.Common.{◌≡◌, ℕ, ◌≤◌, List, [], ◌∷◌, ◌++◌, length, take, drop, refl, sym, ap, subst, ◌∙◌, arith}

@@ -1,4 +1,5 @@
--- Where the last character of some bytes ends: behind the longest front that is text, and at most three bytes back.
+-- The end of the last character of some bytes: it is the end of the longest front that is text, and at most three bytes
+-- back.
 use Rattle.std.proofs.Common.{◌≡◌, ℕ, zero, suc, ◌+◌, ◌-◌, ◌<◌, ◌≤◌, List, length, take, drop, get_or, refl, sym}
 use Rattle.std.proofs.Common.{ap, ◌∙◌, arith}
 use Rattle.std.proofs.lemmas.Bool.Decides.{nat_tests}

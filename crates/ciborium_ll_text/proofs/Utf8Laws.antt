@@ -1,4 +1,4 @@
--- The texts of Table 3-7 are those of std: a row is what std writes for a character.
+-- The texts of Table 3-7 are std's texts: std writes a row for each character.
 use Rattle.std.proofs.Common.{◌≡◌, ℕ, ◌+◌, ◌-◌, ◌*◌, ◌⊎◌, true, List, [], ◌∷◌, ◌++◌, refl, sym, ap}
 use Rattle.std.proofs.Common.{◌∙◌, subst, inl, inr, arith, Bool, false}
 use Rattle.std.proofs.lemmas.Bool.{and_parts}

@@ -3,31 +3,31 @@ use Rattle.std.specs.Prelude.{◌≡◌, ℕ, ◌+◌, ◌<◌, ◌≤◌, List,
 use Rattle.std.specs.List.{AllByRecursion}
 use Rattle.ciborium_ll_text.specs.Text.{IsCharacter, joined, IsCharacters}
 
--- a text of at most as many bytes as the limit
+-- The member is a text of at most `limit` bytes.
 abbrev pub IsMember : ℕ → List ℕ → Type 0
 IsMember limit member = IsCharacters member × (length member ≤ limit)
 
--- a list with an element
+-- The list has an element.
 abbrev pub IsNonempty : List ℕ → Type 0
 IsNonempty member = 0 < length member
 
--- the members joined are the text, and each is a text of at most as many bytes as the limit (RFC 7049, 2.2.2)
+-- The members joined are the text, and each is a text of at most `limit` bytes (RFC 7049, 2.2.2).
 pub record IsCut (text : List ℕ) (limit : ℕ) (members : List (List ℕ)) : Type 0 where
   pub whole : text ≡ joined members
   pub each : AllByRecursion (IsMember limit) members
 
--- the member has no room within the limit for the first character of the next one
+-- The member has no room within the limit for the first character of the next.
 abbrev pub IsFilled : ℕ → List ℕ → List ℕ → Type 0
 IsFilled limit member following = (character rest : List ℕ) → IsCharacter character → following ≡ character ++ rest
     → limit < length member + length character
 
--- each member but the last is filled
+-- Each member but the last is filled.
 abbrev pub AreFilled : ℕ → List (List ℕ) → Type 0
 AreFilled limit [] = Unit {0}
 AreFilled limit (member ∷ []) = Unit {0}
 AreFilled limit (member ∷ following ∷ members) = IsFilled limit member following × AreFilled limit (following ∷ members)
 
--- a cut into members that aren't empty, of which each but the last is filled: it has no room for the next character
+-- A cut into members that are not empty. Each but the last is filled: it has no room for the next character.
 pub record IsFullCut (text : List ℕ) (limit : ℕ) (members : List (List ℕ)) : Type 0 where
   pub cut : IsCut text limit members
   pub nonempty : AllByRecursion IsNonempty members

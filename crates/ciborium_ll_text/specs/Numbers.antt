@@ -1,9 +1,9 @@
--- How far the bytes of a text have come (Unicode, Table 3-7), as a plain number.
+-- The state of a text (Unicode, Table 3-7) as a plain number.
 use Rattle.std.specs.Prelude.{ℕ, ◌==◌, Option, Some, None, if◌then◌else◌}
 use Rattle.ciborium_ll_text.specs.declared.state.State.{State}
 use Rattle.ciborium_ll_text.specs.declared.state.State.TheVariants as s
 
--- the state that has this number
+-- The state that has this number.
 abbrev pub state_in : ℕ → Option State
 state_in text =
     if text == 0 then Some s.Between else

@@ -1,9 +1,9 @@
--- Where the entry of a state begins in a row of the table that a text's state is run by.
+-- The place of a state's entry in a row of the table by which a text's state is run.
 use Rattle.std.specs.Prelude.{ℕ}
 use Rattle.ciborium_ll_text.specs.declared.state.State.{State}
 use Rattle.ciborium_ll_text.specs.declared.state.State.TheVariants as s
 
--- which bits of a row of the table tell of this state: six for each
+-- The first of the six bits that a row of the table has for this state.
 abbrev pub shift_of : State → ℕ
 shift_of s.Between = 0
 shift_of s.OneDue = 6

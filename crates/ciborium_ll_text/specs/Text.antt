@@ -1,17 +1,17 @@
--- Text in UTF-8: characters, each of the bytes of one row of Unicode's Table 3-7, joined.
+-- Text in UTF-8: characters, joined. Each character is a row of Unicode's Table 3-7.
 use Rattle.std.specs.Prelude.{◌≡◌, ℕ, ◌≤◌, List, [], ◌∷◌, ◌++◌, length}
 use Rattle.std.specs.List.{AllByRecursion}
 
--- a byte from the lowest to the highest, both included
+-- The byte is from the lowest to the highest, both included.
 abbrev pub IsFrom : ℕ → ℕ → ℕ → Type 0
 IsFrom lowest highest byte = (lowest ≤ byte) × (byte ≤ highest)
 
--- a byte that may stand last in any character (Unicode, Table 3-7)
+-- The byte may be the last of a character of two or more bytes (Unicode, Table 3-7).
 abbrev pub IsTail : ℕ → Type 0
 IsTail byte = IsFrom 0x80 0xbf byte
 
--- the bytes of one character: the nine rows of Unicode's Table 3-7, which say which bytes may stand first, second,
--- third and fourth
+-- The bytes are one character. The nine rows of Unicode's Table 3-7 say which bytes may be its first, second, third and
+-- fourth. `c3 a4` is a character of the second row.
 pub data IsCharacter : List ℕ → Type 0 where
   row1 : {a : ℕ} → IsFrom 0x00 0x7f a → IsCharacter (a ∷ [])
   row2 : {a b : ℕ} → IsFrom 0xc2 0xdf a → IsTail b → IsCharacter (a ∷ b ∷ [])
@@ -25,27 +25,27 @@ pub data IsCharacter : List ℕ → Type 0 where
   row9 : {a b c d : ℕ} → IsFrom 0xf4 0xf4 a → IsFrom 0x80 0x8f b → IsTail c → IsTail d
       → IsCharacter (a ∷ b ∷ c ∷ d ∷ [])
 
--- the lists joined
+-- The lists, joined.
 abbrev pub joined : List (List ℕ) → List ℕ
 joined [] = []
 joined (list ∷ lists) = list ++ joined lists
 
--- the bytes are text: characters, joined (Unicode, Table 3-7). By the law `same_text` this is std's UTF-8
+-- The bytes are text: characters, joined (Unicode, Table 3-7). By the law `same_text`, this is std's UTF-8.
 pub record IsCharacters (bytes : List ℕ) : Type 0 where
   pub characters : List (List ℕ)
   pub each : AllByRecursion IsCharacter characters
   pub whole : bytes ≡ joined characters
 
--- the bytes are a front that is text and a rest, and no longer beginning of them is text
+-- The bytes are a front that is text, and a rest. No longer front of the bytes is text.
 pub record IsFront (bytes front rest : List ℕ) : Type 0 where
   pub parts : bytes ≡ front ++ rest
   pub text : IsCharacters front
   pub longest : (other more : List ℕ) → bytes ≡ other ++ more → IsCharacters other → length other ≤ length front
 
--- no beginning of the bytes is text, but for the empty one
+-- No front of the bytes but the empty one is text.
 abbrev pub IsStuck : List ℕ → Type 0
 IsStuck bytes = (front rest : List ℕ) → bytes ≡ front ++ rest → IsCharacters front → front ≡ []
 
--- no text begins with the bytes
+-- No text begins with the bytes.
 abbrev pub BeginsNoText : List ℕ → Type 0
 BeginsNoText bytes = (more : List ℕ) → IsCharacters (bytes ++ more) → ⊥

@@ -5,15 +5,15 @@ use Rattle.ciborium_ll_text.specs.declared.state.State.{State}
 use Rattle.ciborium_ll_text.specs.declared.state.State.TheVariants as s
 use Rattle.ciborium_ll_text.specs.States.{after_first}
 
--- each byte from one index on to another may follow the three before it, as `simdutf8` of the kit has it (`Step`;
--- Unicode, Table 3-7)
+-- Each byte between two indices may follow the three before it, by the definition `Step` of the kit's crate `simdutf8`
+-- (Unicode, Table 3-7).
 abbrev pub MayFollow : List ℕ → ℕ → ℕ → Type 0
 MayFollow bytes from to =
     (i : ℕ) → from ≤ i → i < to
     → Step (slice_index bytes (i - 3)) (slice_index bytes (i - 2)) (slice_index bytes (i - 1)) (slice_index bytes i)
 
--- the state behind the last three bytes of some that follow one another so: the last of them that begins a character
--- tells it, and how far it stands from the end (Unicode, Table 3-7)
+-- The state after bytes that follow one another so, from their last three. The last of the three that begins a
+-- character gives the state, with its distance from the end (Unicode, Table 3-7).
 unfoldable pub after_window : ℕ → ℕ → ℕ → State
 after_window x y z =
     if nat_lt z 0x80 then s.Between

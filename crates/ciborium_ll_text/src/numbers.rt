@@ -1,4 +1,4 @@
-//! A text's state as a plain number, for who keeps one in memory of its own.
+//! A text's state as a plain number, for a caller that keeps it in its own memory.
 
 ghost use Rattle.std.specs.Prelude.{◌≡◌, Some};
 ghost use Rattle.ciborium_ll_text.specs.Numbers.{state_in};
@@ -6,7 +6,7 @@ ghost use Rattle.ciborium_ll_text.specs.Numbers.{state_in};
 use crate::state::State;
 
 impl State {
-    /// The number of the state, below 9.
+    /// Returns the number of the state, below 9.
     pub fn number(self) -> u8
         ensures { state_in result ≡ Some self }
     {
@@ -23,7 +23,7 @@ impl State {
         }
     }
 
-    /// The state that has this number, or none where it is above 8.
+    /// Returns the state that has this number, or `None` if the number is above 8.
     pub fn of_number(number: u8) -> Option<State>
         ensures { result ≡ state_in number }
     {

@@ -1,4 +1,4 @@
-//! A text's state, run byte by byte: one look into a table and one shift for each byte.
+//! A text's state, run byte by byte: one look-up in a table and one shift for each byte.
 
 ghost use Rattle.std.specs.Prelude.{◌≡◌};
 ghost use Rattle.ciborium_ll_text.specs.Rows.{shift_of};
@@ -7,7 +7,7 @@ ghost use Rattle.ciborium_ll_text.specs.declared.state.State.{State as States};
 
 use crate::state::State;
 
-// Where the entry of each state begins in a row. It is what stands for the state in the entries.
+// The first bit of each state's entry in a row. In the entries this number stands for the state.
 const BETWEEN: u64 = 0;
 
 const ONE_DUE: u64 = 6;
@@ -29,7 +29,7 @@ const DAMAGED: u64 = 48;
 /// An entry has six bits.
 const ENTRY: u64 = 64;
 
-// A byte that is not from 80 to bf: inside a character it is a damage.
+// A byte that is not from 80 to bf. It damages a character.
 const FIRST: u64 = (DAMAGED << ONE_DUE)
     | (DAMAGED << TWO_DUE)
     | (DAMAGED << THREE_DUE)
@@ -57,7 +57,7 @@ const F4: u64 = (BEHIND_F4 << BETWEEN) | FIRST;
 
 const NONE: u64 = (DAMAGED << BETWEEN) | FIRST;
 
-// A byte from 80 to bf: one less is due. Between two characters it is a damage.
+// A byte from 80 to bf. One byte less is due. Between two characters it is a damage.
 const LATER: u64 = (DAMAGED << BETWEEN)
     | (BETWEEN << ONE_DUE)
     | (ONE_DUE << TWO_DUE)
@@ -70,7 +70,7 @@ const FROM_90: u64 = LATER | NOT_E0 | ON_ED | ON_F0 | NOT_F4;
 
 const FROM_A0: u64 = LATER | ON_E0 | NOT_ED | ON_F0 | NOT_F4;
 
-// Whether a byte goes on behind e0, ed, f0 and f4.
+// The entries of the states after e0, ed, f0 and f4: the byte continues the character (ON) or damages it (NOT).
 const ON_E0: u64 = ONE_DUE << BEHIND_E0;
 
 const ON_ED: u64 = ONE_DUE << BEHIND_ED;
@@ -87,7 +87,7 @@ const NOT_F0: u64 = DAMAGED << BEHIND_F0;
 
 const NOT_F4: u64 = DAMAGED << BEHIND_F4;
 
-/// For each byte a row: for each state the entry of the state behind the byte.
+/// A row for each byte. It has an entry for each state: the state after the byte.
 static ROWS: [u64; 256] = [
     // 00 to 7f
     ASCII, ASCII, ASCII, ASCII, ASCII, ASCII, ASCII, ASCII, ASCII, ASCII, ASCII, ASCII, ASCII,
@@ -137,19 +137,19 @@ static ROWS: [u64; 256] = [
 ];
 
 impl State {
-    /// The state behind one more byte.
+    /// Returns the state after one more byte.
     pub fn step(self, byte: u8) -> State
         ensures { result ≡ after_byte self byte }
     {
         State::at((ROWS[byte as usize] >> self.shift()) % ENTRY)
     }
 
-    /// The state behind more bytes.
+    /// Returns the state after more bytes.
     #[inline(never)]
     pub(crate) fn run_rows(self, bytes: &[u8]) -> State
         ensures { result ≡ after self bytes.now }
     {
-        // Only the last six bits of `row` are the state: those above are of other states' entries.
+        // Only the last six bits of `row` are the state. The bits above belong to other states' entries.
         let mut row = self.shift();
         for byte in bytes {
             row = ROWS[*byte as usize] >> (row % ENTRY);
@@ -157,7 +157,7 @@ impl State {
         State::at(row % ENTRY)
     }
 
-    /// Where the entry of the state begins in a row.
+    /// Returns the first bit of the state's entry in a row.
     pub(crate) fn shift(self) -> u64
         ensures { result ≡ shift_of self }
     {
@@ -174,7 +174,7 @@ impl State {
         }
     }
 
-    /// The state whose entry begins there.
+    /// Returns the state whose entry begins at this bit.
     fn at(shift: u64) -> State
         ensures { (state : States) → shift ≡ shift_of state → result ≡ state }
     {

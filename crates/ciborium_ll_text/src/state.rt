@@ -1,4 +1,4 @@
-//! How far the bytes of a text have come (Unicode, Table 3-7), and the longest front of them that is text.
+//! The state of a text after some of its bytes (Unicode, Table 3-7), and the longest front of bytes that is text.
 
 ghost use Rattle.std.specs.Prelude.{◌≡◌, ◌≢◌, ◌≤◌, length, take, drop};
 ghost use Rattle.ciborium_ll_text.specs.States.{after, may_end, IsLastEnd};
@@ -9,7 +9,7 @@ ghost use Rattle.ciborium_ll_text.specs.declared.state.State.TheVariants.{Betwee
 use crate::blocks::{LEAST_LEN, all_follow};
 use simdutf8::basic;
 
-/// Where the bytes so far end: between two characters, inside one, or where no text goes on.
+/// The state after the bytes so far: between two characters, inside a character, or damaged.
 #[derive(Clone, Copy)]
 pub enum State {
     /// Between two characters.
@@ -20,20 +20,20 @@ pub enum State {
     TwoDue,
     /// Inside a character: three bytes are due, each from 80 to bf.
     ThreeDue,
-    /// Behind e0: two bytes are due, the next one from a0 to bf.
+    /// After e0: two bytes are due, the next from a0 to bf.
     BehindE0,
-    /// Behind ed: two bytes are due, the next one from 80 to 9f.
+    /// After ed: two bytes are due, the next from 80 to 9f.
     BehindEd,
-    /// Behind f0: three bytes are due, the next one from 90 to bf.
+    /// After f0: three bytes are due, the next from 90 to bf.
     BehindF0,
-    /// Behind f4: three bytes are due, the next one from 80 to 8f.
+    /// After f4: three bytes are due, the next from 80 to 8f.
     BehindF4,
-    /// Where no text goes on.
+    /// No text begins with the bytes.
     Damaged,
 }
 
 impl State {
-    /// Whether so many bytes may end a text that has come to this state.
+    /// Tells if a text in this state may end after `left` more bytes.
     #[inline(always)]
     pub fn may_end(self, left: usize) -> bool
         ensures { result ≡ may_end self left }
@@ -47,7 +47,7 @@ impl State {
         }
     }
 
-    /// The state behind more bytes.
+    /// Returns the state after more bytes.
     #[inline(always)]
     fn run(self, bytes: &[u8]) -> State
         ensures { result ≡ after self bytes.now }
@@ -63,12 +63,13 @@ impl State {
         self.run_blocks(bytes)
     }
 
-    /// The state behind more bytes, sixteen at once. Where they don't follow one another it goes byte by byte.
+    /// Returns the state after more bytes, sixteen at once. It goes byte by byte if they do not follow one another as
+    /// in a text.
     fn run_blocks(self, bytes: &[u8]) -> State
         requires { 19 ≤ length bytes.now }
         ensures { result ≡ after self bytes.now }
     {
-        // The first three bytes stand behind the kept ones, of which the test below knows nothing.
+        // The kept bytes precede the first three. The test below does not see them.
         if bytes[0] >= 0xf0 && bytes[1] >= 0xc0 {
             return self.run_rows(bytes);
         }
@@ -84,8 +85,9 @@ impl State {
         behind_window(bytes[len - 3], bytes[len - 2], bytes[len - 1])
     }
 
-    /// Where the last character of the bytes ends. `behind` is the state behind them, and this one that behind the
-    /// first `kept` of them, in which no character ends.
+    /// Returns the end of the last character of the bytes. `behind` is the state after all of them.
+    ///
+    /// `self` is the state after the first `kept` bytes, in which no character ends.
     #[inline(always)]
     fn front_len(self, bytes: &[u8], kept: usize, behind: State) -> usize
         requires within { kept ≤ length bytes.now }
@@ -101,7 +103,8 @@ impl State {
         }
     }
 
-    /// Where the last character of the bytes ends, found byte by byte from the first new one on.
+    /// Returns the end of the last character of the bytes, by a search from the first new byte on. `self` is the state
+    /// after the first `kept` bytes, in which no character ends.
     #[cold]
     #[inline(never)]
     fn last_end(self, bytes: &[u8], kept: usize) -> usize
@@ -121,8 +124,9 @@ impl State {
         end
     }
 
-    /// Where the last character of the bytes ends, which lead to this state inside a further one: in front of the last
-    /// byte that begins a character, which is one of the last three.
+    /// Returns the end of the last character of the bytes, which lead to this state inside a further character.
+    ///
+    /// The further character begins with one of the last three bytes.
     fn cut_end(self, bytes: &[u8]) -> usize
         requires told { self ≡ after Between bytes.now }
         requires inside { (self ≢ Between) × (self ≢ Damaged) }
@@ -139,8 +143,9 @@ impl State {
     }
 }
 
-/// The state behind the last three bytes of some that follow one another as in a text: the last of the three that
-/// begins a character tells it.
+/// Returns the state after bytes that follow one another as in a text, from their last three.
+///
+/// The last of the three that begins a character gives the state.
 #[inline(always)]
 #[tactic(auto, unfolding(crate::specs::Windows::after_window))]
 fn behind_window(x: u8, y: u8, z: u8) -> State
@@ -163,7 +168,7 @@ fn behind_window(x: u8, y: u8, z: u8) -> State
     }
 }
 
-/// The bytes as a `&str`. They are text, and are read once more to make it.
+/// Returns the bytes, which are text, as a `&str`. It reads them once more.
 #[inline(always)]
 pub fn text_of(bytes: &[u8]) -> &str
     requires { IsCharacters bytes.now }
@@ -175,8 +180,9 @@ pub fn text_of(bytes: &[u8]) -> &str
     }
 }
 
-/// The longest front of the bytes that is text, and the state behind them all. `state` is that behind the first `kept`
-/// of them, in which no character ends.
+/// Returns the longest front of the bytes that is text, and the state after all bytes.
+///
+/// `state` is the state after the first `kept` bytes, in which no character ends.
 #[inline(always)]
 pub fn text_front(bytes: &[u8], kept: usize, state: State) -> (&[u8], State)
     requires within { kept ≤ length bytes.now }

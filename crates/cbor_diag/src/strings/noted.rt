@@ -1,16 +1,16 @@
-//! Bytes for contracts alone.
+//! Bytes that exist only in contracts.
 
 ghost use Rattle.std.specs.Prelude.{◌≡◌, ℕ, List, ◌++◌};
 ghost use Rattle.std.specs.Borrow.{ftrue};
 
 use std::marker::{Model, PhantomData};
 
-/// How numbers are read off a value, in contracts.
+/// How contracts read numbers off a value.
 pub(super) trait Tells<T> {
     ghost told: { T → List ℕ };
 }
 
-/// A list of numbers, of which none is kept.
+/// A list of numbers for contracts. The program keeps none of them.
 #[derive(Drop)]
 pub(super) struct Noted {
     marker: PhantomData<()>,
@@ -22,7 +22,7 @@ impl Model for Noted {
 }
 
 impl Noted {
-    /// What is read off `_value`.
+    /// Makes the list of the numbers that contracts read off `_value`.
     pub(super) fn of<T, M: Tells<T>>(_value: &T) -> Noted
         ensures { result.bytes ≡ M.told _value.now }
     {

@@ -1,4 +1,4 @@
-//! A writer of what stands between quotes, which knows what it was given.
+//! A writer that writes bytes as they stand between quotes, and tells the bytes that it got.
 
 ghost use Rattle.std.specs.Prelude.{◌≡◌, ◌∷◌, [], Some, None, false};
 ghost use Rattle.cbor_diag.specs.Quoting.{IsQuoted, failure_count, quotes_code, writer_code};
@@ -7,17 +7,17 @@ use super::noted::{Noted, Tells};
 use super::quotes::{Quotes, show_quoted};
 use ciborium_ll::io::{Failures, Write};
 
-/// What a writer tells.
+/// Reads off a writer what it tells.
 struct Told;
 
 impl<W: Write> Tells<W> for Told {
     ghost told = { λ writer. writer_code W.Write writer };
 }
 
-/// Writes bytes to another writer as they stand between quotes. Behind a failure it writes nothing more.
+/// Writes bytes to another writer as they stand between quotes. After a failure it writes nothing more.
 ///
-/// It tells what it was given, and keeps in mind what the other writer told when it was lent (`began`), so that its
-/// ghost field says what came to that one since.
+/// It tells the bytes that it got, and notes what the other writer told at the start of the loan (`began`). Its ghost
+/// field says what was written to the other writer since.
 #[derive(Drop)]
 pub(super) struct Quoted<'w, W: Write> {
     writer: &'w mut W,
@@ -31,7 +31,7 @@ pub(super) struct Quoted<'w, W: Write> {
 }
 
 impl<'w, W: Write> Quoted<'w, W> {
-    /// A writer that was given nothing.
+    /// Makes a writer that got nothing yet.
     pub(super) fn new(writer: &'w mut W, quotes: Quotes) -> Quoted<'w, W>
         ensures began { result.began.bytes ≡ writer_code W.Write writer.old }
         ensures given { result.given.bytes ≡ [] }
@@ -51,7 +51,7 @@ impl<'w, W: Write> Quoted<'w, W> {
     }
 }
 
-/// No number.
+/// Reads no number off a value.
 struct Nothing;
 
 impl Tells<()> for Nothing {
@@ -69,8 +69,8 @@ impl<'w, W: Write> Write for Quoted<'w, W> {
 
     ghost flushed = { λ _ _. Unit {0} };
 
-    // A call that is given the writer says that its target stays. So that has what no call changes: the loan, and as the
-    // bytes that stood there the kind of quotes and what the other writer told.
+    // A call that gets the writer says that its target stays the same. The target therefore has what no call changes:
+    // the loan, and as the earlier bytes the kind of quotes and what the other writer told.
     ghost target = { λ w. Some (record { loan = w.writer.ghost_name; before = quotes_code w.quotes ∷ w.began.bytes }) };
 
     fn write_all(&mut self, data: &[u8]) -> Result<(), W::Error> {
@@ -88,7 +88,7 @@ impl<'w, W: Write> Write for Quoted<'w, W> {
         }
     }
 
-    /// Does nothing. Whoever lent the writer flushes it.
+    /// Does nothing. The owner of the other writer flushes it.
     fn flush(&mut self) -> Result<(), W::Error> {
         Ok(())
     }

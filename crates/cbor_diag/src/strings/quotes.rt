@@ -1,4 +1,4 @@
-//! What stands between quotes.
+//! The text of bytes between quotes.
 
 ghost use Rattle.std.specs.Prelude.{◌≡◌, ◌<◌, true};
 ghost use Rattle.ciborium_ll.specs.Encoding.{WritesBytes};
@@ -20,7 +20,7 @@ pub(crate) enum Quotes {
 impl Quotes {
     ghost use Rattle.cbor_diag.specs.StringShows.{closing, end_text, opening};
 
-    /// What stands in front of a body.
+    /// Returns what precedes a body.
     pub(crate) fn opening(self) -> &'static [u8]
         ensures { result.now ≡ opening self }
     {
@@ -30,7 +30,7 @@ impl Quotes {
         }
     }
 
-    /// What stands behind it.
+    /// Returns what follows a body.
     pub(crate) fn closing(self) -> &'static [u8]
         ensures { result.now ≡ closing self }
     {
@@ -40,7 +40,7 @@ impl Quotes {
         }
     }
 
-    /// A string of the indefinite form that has no body (RFC 8949, 8.1).
+    /// Returns the text of a string of the indefinite form that has no body (RFC 8949, 8.1).
     pub(crate) fn none(self) -> &'static [u8]
         ensures { result.now ≡ end_text true self true }
     {
@@ -82,7 +82,7 @@ fn show_hex<W: Write>(writer: &mut W, byte: u8) -> Result<(), W::Error>
     put(writer, &[digit(byte / 16), digit(byte % 16)])
 }
 
-/// The hexadecimal digit of a number below 16.
+/// Returns the hexadecimal digit of a number below 16.
 fn digit(number: u8) -> u8
     requires { number < 16 }
     ensures { result ≡ hex_digit number }

@@ -9,17 +9,22 @@ use ciborium_ll_encoder::enc::Encoder;
 use ciborium_ll_io::io::{Read, Write};
 use ciborium_ll_recode::recode::RecodeError;
 
-/// Pulls `count` headers, and pushes each as soon as it has it. Bodies are not followed.
+/// Pulls `count` headers, and pushes each of them before it pulls the next.
 ///
-/// The errors are `RecodeError::Read` with the answer of the `pull` that failed, behind headers that were all
-/// written, and `RecodeError::Write` with the error of the `push` that failed.
+/// It copies no bodies: it reads the bytes after a string's title as the next title.
 ///
-/// Where the decoder isn't strict, the reader is steady, the writer's room covers what is due and the offset fits, the
-/// copy succeeds exactly where that many titles are next. What it wrote is then their shortest spelling, which it would
-/// copy unchanged, and what follows them is left. Else `Syntax` names the offset of the first byte with which no title
-/// begins, or `Io` says that the bytes end within a title, of which the first byte is gone.
+/// If the decoder is not strict, the reader is steady, the writer's room covers the bytes due and the offset fits, the
+/// copy succeeds exactly if `count` titles are next. It has then written their shortest spelling, which it would copy
+/// unchanged, and left the bytes after them. Otherwise it names the first fault.
 ///
 /// Whatever the answer, the decoder moves on as [`Decoder`] says, and the writer stays on its slice.
+///
+/// # Errors
+///
+/// - `RecodeError::Read`: a `pull` failed, with this error. All headers before it were written. `Syntax(offset)` is the
+///   offset of the first byte with which no title begins. `Io` means that the bytes end before or within a title, whose
+///   first byte is consumed.
+/// - `RecodeError::Write`: a `push` failed, with this error.
 pub fn copy_headers<R: Read, W: Write>(
     decoder: &mut Decoder<R>,
     encoder: &mut Encoder<W>,

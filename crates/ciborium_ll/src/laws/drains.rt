@@ -15,21 +15,21 @@ use ciborium_ll_encoder::enc::Encoder;
 use ciborium_ll_io::io::{Read, Write};
 use ciborium_ll_recode::recode::RecodeError;
 
-/// How far a drain came.
+/// The result of a drain: its calls and its end.
 #[derive(Debug, PartialEq, Eq, Drop)]
 pub struct Drained {
-    /// How many calls of `pull` succeeded, the one that answered `None` included.
+    /// The number of calls of `pull` that succeeded, including a call that answered `None`.
     pub calls: usize,
-    /// Why it ended.
+    /// Why the drain ended.
     pub end: End,
 }
 
-/// Why a drain ended that met no error.
+/// Why a drain without an error ended.
 #[derive(Debug, PartialEq, Eq, Drop)]
 pub enum End {
     /// The body had ended.
     Ended,
-    /// Each size was used, and the end of the body was not seen.
+    /// Each size was used, and no call saw the end of the body.
     OutOfSizes,
 }
 
@@ -63,36 +63,45 @@ fn drain<R: Read, W: Write, P: Chunked>(
     })
 }
 
-/// With sizes of at least so many bytes each, 4 for text and 1 for bytes at least, so many calls are enough as the
-/// body's length by that size, of text less 3, rounded up.
+/// Says how many calls are enough for a body, if each size is at least `size`.
+///
+/// For bytes this is the body's length divided by `size`, rounded up, and `size` is at least 1. For text, `size` is at
+/// least 4, and `size - 3` is the divisor. For example 10 calls with buffers of 4 bytes read a text of 10 bytes.
 pub fn enough_sizes()
     ensures { (kind : Kind) (size bytes : ℕ) (sizes : List ℕ) → most_kept kind < size
         → All (λ other. size ≤ other) sizes
         → calls_for kind size bytes < length sizes → IsEnough kind sizes bytes (calls_for kind size bytes) }
 {}
 
-/// What chunks come to that calls with buffers of these sizes gave, each of which was written. What was kept of the
-/// body and what was read of it are what was written and what is kept now. No more was written than the sizes add up
-/// to. Each buffer was filled as far as the body reaches, and no size was used once those before it had brought all.
+/// Says what the chunks of a drain add up to, if each chunk was written.
+///
+/// The bytes kept of the body before, followed by the bytes read, are the bytes written, followed by the bytes kept
+/// after. The bytes written are at most the sum of the sizes. Each buffer was filled as far as the body reaches. No
+/// size was used after the sizes before it had brought the whole body.
 pub fn drained_in_all<R: Read, W: Write, P: Chunked>()
     ensures { (sizes : List ℕ) (old new : AnySegment R P P.Parser) (writer writer' : W)
         → DrainsEach R.Read W.Write sizes old writer new writer'
         → DrainsSome R.Read W.Write sizes old writer new writer' }
 {}
 
-/// Reads a body of bytes through buffers of the sizes, one `pull` for each, and writes each chunk, until the body has
-/// ended, a call fails or the sizes are used up. Each size is that of the front of `buffer` that one `pull` gets, so
-/// none may pass its length.
+/// Reads a body of bytes by one `pull` for each size, and writes each chunk.
 ///
-/// Over any reader and writer each size gave a chunk, as `pull` does with a buffer of that size, and the whole of it
-/// was written, up to the last size or to one whose call ends the drain: the body had ended (`Ended`), the `pull`
-/// failed (`Read` with its error), or the write of its chunk did (`Write` with the writer's, and a beginning of the
-/// chunk is written). [`drained_in_all`] says what these chunks come to. The decoder moves on, and the writer stays on
-/// its slice.
+/// It ends if the body has ended, if a call fails, or after the last size. A size is the length in bytes of the front
+/// of `buffer` that one `pull` gets, so no size may be above the length of `buffer`.
 ///
-/// Where the whole body is there, and the writer has room for it, no call fails. The answer is then `Ended` exactly
-/// where the first few of the sizes add up to the body's length, and one more is there to see its end: the whole body
-/// is written, by the fewest such calls. Else the sizes are used up, and what was written is what was read.
+/// Over any reader and writer, each size gives a chunk, as `pull` does with a buffer of that size, and the whole chunk
+/// is written. This holds up to the last size, or to the size whose call ends the drain. [`drained_in_all`] says what
+/// the chunks add up to. The decoder moves on, and the writer stays on its slice.
+///
+/// If the reader is steady, the offset fits, the whole body is there and the writer has room for it, no call fails. The
+/// answer is then `Ended` exactly if the first few sizes add up to at least the body's length, and one more size
+/// follows. The whole body is then written, by the fewest calls. Otherwise all sizes are used, and every byte read is
+/// written.
+///
+/// # Errors
+///
+/// - `RecodeError::Read`: a `pull` failed, with this error.
+/// - `RecodeError::Write`: a write failed, with this error. A beginning of the chunk is written.
 pub fn drain_bytes<R: Read, W: Write>(
     segment: &mut Segment<'_, R, Bytes>,
     sizes: &[usize],
@@ -100,32 +109,31 @@ pub fn drain_bytes<R: Read, W: Write>(
     sink: &mut Encoder<W>,
 ) -> Result<Drained, RecodeError<R::Error, W::Error>>
     requires fit { All (λ size. size ≤ length buffer.old) sizes.now }
-    ensures drains { DrainsSegment R.Read W.Write sizes.now segment.old (writer_of sink.old) result segment.new
-        (writer_of sink.new) }
-    ensures told { (body written : List ℕ) → IsDrainable R.Read W.Write segment.old (writer_of sink.old) body written
-        → DrainsTold R.Read W.Write sizes.now body written segment.old result segment.new (writer_of sink.new) }
     ensures exactly { (body written : List ℕ) → IsDrainable R.Read W.Write segment.old (writer_of sink.old) body written
         → (SaysEnded result ↔ ((count : ℕ) × AddUp sizes.now (length body) count)) }
     ensures soonest { (body written : List ℕ) (count : ℕ)
         → IsDrainable R.Read W.Write segment.old (writer_of sink.old) body written
         → AddUp sizes.now (length body) count → IfOk result (λ drained. drained.calls ≤ count + 1) }
+    ensures told { (body written : List ℕ) → IsDrainable R.Read W.Write segment.old (writer_of sink.old) body written
+        → DrainsTold R.Read W.Write sizes.now body written segment.old result segment.new (writer_of sink.new) }
+    ensures drains { DrainsSegment R.Read W.Write sizes.now segment.old (writer_of sink.old) result segment.new
+        (writer_of sink.new) }
 {
     drain::<R, W, Bytes>(segment, sizes, buffer, sink)
 }
 
-/// Reads a body of text through buffers of the sizes, one `pull` for each, and writes each chunk, until the body has
-/// ended, a call fails or the sizes are used up. Each size is that of the front of `buffer` that one `pull` gets, so
-/// none may pass its length.
+/// Reads a body of text by one `pull` for each size, and writes each chunk.
 ///
-/// Over any reader and writer each size gave a chunk, as `pull` does with a buffer of that size, and the whole of it
-/// was written, up to the last size or to one whose call ends the drain: the body had ended (`Ended`), the `pull`
-/// failed (`Read` with its error), or the write of its chunk did (`Write` with the writer's, and a beginning of the
-/// chunk is written). [`drained_in_all`] says what these chunks come to. The decoder moves on, and the writer stays on
-/// its slice.
+/// The sizes, the chunks and the end of the call are as [`drain_bytes`] says.
 ///
-/// Where the whole body is there, and the writer has room for it, no call fails but for a body that is no text. Where
-/// what the sizes have above 3 each adds up to the body's length, and one more size is there, the answer is `Ended`
-/// exactly where the body is UTF-8, and then the whole body is written. So it depends on no size.
+/// If the reader is steady, the offset fits, the whole body is there and the writer has room for it, a call fails only
+/// if the body is no text. Let the sizes, less 3 each, add up to at least the body's length, and let one more size
+/// follow. The answer is then `Ended` exactly if the body is UTF-8, and the whole body is written. So the answer does
+/// not depend on the sizes.
+///
+/// # Errors
+///
+/// The errors are the errors of [`drain_bytes`]. `RecodeError::Read` also says that the body is no text.
 pub fn drain_text<R: Read, W: Write>(
     segment: &mut Segment<'_, R, Text>,
     sizes: &[usize],
@@ -133,13 +141,13 @@ pub fn drain_text<R: Read, W: Write>(
     sink: &mut Encoder<W>,
 ) -> Result<Drained, RecodeError<R::Error, W::Error>>
     requires fit { All (λ size. size ≤ length buffer.old) sizes.now }
-    ensures drains { DrainsSegment R.Read W.Write sizes.now segment.old (writer_of sink.old) result segment.new
-        (writer_of sink.new) }
-    ensures told { (body written : List ℕ) → IsDrainable R.Read W.Write segment.old (writer_of sink.old) body written
-        → DrainsTold R.Read W.Write sizes.now body written segment.old result segment.new (writer_of sink.new) }
     ensures any_sizes { (body written : List ℕ) (count : ℕ)
         → IsDrainable R.Read W.Write segment.old (writer_of sink.old) body written
         → IsEnough text_strings sizes.now (length body) count → (SaysEnded result ↔ IsCharacters body) }
+    ensures told { (body written : List ℕ) → IsDrainable R.Read W.Write segment.old (writer_of sink.old) body written
+        → DrainsTold R.Read W.Write sizes.now body written segment.old result segment.new (writer_of sink.new) }
+    ensures drains { DrainsSegment R.Read W.Write sizes.now segment.old (writer_of sink.old) result segment.new
+        (writer_of sink.new) }
 {
     drain::<R, W, Text>(segment, sizes, buffer, sink)
 }

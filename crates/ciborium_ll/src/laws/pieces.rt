@@ -1,4 +1,4 @@
-//! Headers and values written one by one.
+//! Headers and values, written one by one.
 
 ghost use Rattle.std.specs.Prelude.{◌≡◌, ◌≤◌, ◌∷◌, ◌++◌, [], ℕ, false, List, length};
 ghost use Rattle.std.specs.List.{All};
@@ -9,6 +9,7 @@ ghost use Rattle.ciborium_ll_recode.specs.Recoding.{Recodes};
 ghost use Rattle.ciborium_ll_recode.specs.Sides.{sides_of};
 ghost use Rattle.ciborium_ll_recode.specs.RecodingTold.{IsReady};
 ghost use Rattle.ciborium_ll.specs.Pieces.{CopiesSame, IsPiece, IsPlainPiece, IsValue, WritesMarked, WritesPieceList};
+ghost use Rattle.ciborium_ll_grammar.specs.declared.limits.TheConstants.{LEAST_BUFFER};
 
 use ciborium_ll_decoder::dec::Decoder;
 use ciborium_ll_encoder::enc::Encoder;
@@ -16,14 +17,14 @@ use ciborium_ll_grammar::hdr::Header;
 use ciborium_ll_io::io::{Read, Write};
 use ciborium_ll_recode::recode::{RecodeError, recode};
 
-/// What one call writes: a header, or a value in segments of limited length.
+/// The argument of one call that writes: a header, or a value in segments of limited length.
 #[derive(Drop)]
 pub enum Piece<'a> {
     /// A header that begins no string.
     Header(Header),
-    /// A byte string, and the limit of its segments.
+    /// A byte string, and the limit of its segments in bytes.
     Bytes(&'a [u8], Option<usize>),
-    /// A text string, and the limit of its segments.
+    /// A text string, and the limit of its segments in bytes.
     Text(&'a str, Option<usize>),
 }
 
@@ -72,13 +73,15 @@ fn write_piece<W: Write>(encoder: &mut Encoder<W>, piece: &Piece<'_>) -> Result<
     }
 }
 
-/// Writes each piece in turn, a header by `push` and a value by `bytes` or `text`.
+/// Writes each piece in turn: a header by `push`, and a value by `bytes` or `text`.
 ///
-/// What is written is an element for each piece, in its shortest spelling, and the bodies of a value joined are the
-/// value. So a copy of as many elements leaves it as it is, as `copy_spelled` says.
+/// Each piece becomes one element in its shortest spelling. The bodies of a value, joined, are the value. So a copy of
+/// these elements leaves them unchanged, as [`copy_spelled`] says. The writer stays on its slice.
 ///
-/// The only errors are the writer's. The pieces in front of one were then written, and of that one's spelling a
-/// beginning; the writer failed once, and a room that it tells was too small for it. The writer stays on its slice.
+/// # Errors
+///
+/// - `W::Error`: the writer failed once, at one of the pieces. The pieces before it were written, and a beginning of
+///   its spelling. A room that the writer tells was too small for it.
 pub fn write_pieces<W: Write>(
     encoder: &mut Encoder<W>,
     pieces: &[Piece<'_>],
@@ -92,17 +95,22 @@ pub fn write_pieces<W: Write>(
     Ok(())
 }
 
-/// Copies elements that are in their shortest spelling, as those of [`write_pieces`] are.
+/// Copies elements in their shortest spelling, for example the elements of [`write_pieces`].
 ///
-/// Where the decoder isn't strict, the reader is steady, the writer has room and the offset fits, they are copied
-/// unchanged, and just what follows them is left, whatever the limits were, and whatever `buffer` of four bytes or more.
+/// `buffer` has at least four bytes. If the decoder is not strict, the reader is steady, the writer has room and the
+/// offset fits, the elements are copied unchanged. The bytes that follow them are left, for any limits of segments and
+/// any `buffer`.
+///
+/// # Errors
+///
+/// The errors are the errors of [`recode`](crate::recode::recode).
 pub fn copy_spelled<R: Read, W: Write>(
     decoder: &mut Decoder<R>,
     encoder: &mut Encoder<W>,
     count: usize,
     buffer: &mut [u8],
 ) -> Result<(), RecodeError<R::Error, W::Error>>
-    requires room { 4 ≤ length buffer.old }
+    requires room { LEAST_BUFFER ≤ length buffer.old }
     ensures copied { Recodes R.Read W.Write count (length buffer.old) (sides_of decoder.old encoder.old) result
         (sides_of decoder.new encoder.new) }
     ensures same { (marks : List Mark) (rest written : List ℕ) → IsRun count (spelling marks) marks

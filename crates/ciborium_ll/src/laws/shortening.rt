@@ -1,21 +1,21 @@
-//! The law that ties the words in which `recode` says when it succeeds to elements and their spelling.
+//! The law that ties `Shortens`, by which `recode` says when it succeeds, to elements and their spelling.
 
 ghost use Rattle.std.specs.Prelude.{◌≡◌, ◌+◌, ◌≤◌, ◌↔◌, ◌++◌, ℕ, Bool, true, List, [], length};
 ghost use Rattle.ciborium_ll_grammar.specs.Elements.{spelling};
-ghost use Rattle.ciborium_ll_grammar.specs.Faults.{RunInFront};
+ghost use Rattle.ciborium_ll_grammar.specs.Faults.{BeginsWithElements};
 ghost use Rattle.ciborium_ll_grammar.specs.Shortening.{Shortens};
 
-/// `Shortens` says of bytes just what elements and their marks say: that so many elements stand in front, of a strict
-/// decoder in their shortest spelling, what their shortest spelling is, and what follows them.
+/// Says that `Shortens` means the same as elements and their marks.
 ///
-/// The two are defined each by itself: `Shortens` by what is read and what is written, side by side, and the marks by
-/// what an element leaves. So either of them tells whether the other one says what was meant.
+/// Both say that the bytes begin with `count` elements, for a strict decoder in their shortest spelling. Both give this
+/// spelling and the bytes that follow. `Shortens` relates the bytes read to the bytes written, and the marks are the
+/// trace of an element. Each definition stands by itself, so each is a test of the other.
 ///
-/// There is at most one copy and one rest, however strict the decoder is. The copy is no longer than what was copied,
-/// it is copied as it is, and of a strict decoder it is just what was read.
+/// There is at most one copy and one rest, whether the decoder is strict or not. The copy is no longer than the
+/// elements, and its own copy is the same. For a strict decoder the copy is exactly the elements.
 pub fn shortened_run()
     ensures same { (strict : Bool) (count : ℕ) (due copy rest : List ℕ) → (Shortens strict count due copy rest
-        ↔ ((front : RunInFront strict count due) × (copy ≡ spelling front.marks) × (rest ≡ front.rest))) }
+        ↔ ((front : BeginsWithElements strict count due) × (copy ≡ spelling front.marks) × (rest ≡ front.rest))) }
     ensures one { (strict other : Bool) (count : ℕ) (due copy rest again left : List ℕ)
         → Shortens strict count due copy rest → Shortens other count due again left → (copy ≡ again) × (rest ≡ left) }
     ensures no_longer { (strict : Bool) (count : ℕ) (due copy rest : List ℕ) → Shortens strict count due copy rest

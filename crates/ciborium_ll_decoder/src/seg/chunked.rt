@@ -1,34 +1,35 @@
-//! Bodies in chunks and read to their end, for both kinds of string alike.
+//! Bodies that are read in chunks and to their end, for both kinds of string.
 
 ghost use Rattle.std.specs.Prelude.{◌≡◌, ◌≤◌, ◌+◌, ◌-◌, ◌↔◌, [], length, IfOk, IfSome, IsTrue, None, Some};
 ghost use Rattle.ciborium_ll_grammar.specs.Title.{title_len};
 ghost use Rattle.ciborium_ll_grammar.specs.Strings.{IsWritable, kind_header};
 ghost use Rattle.ciborium_ll_decoder.specs.Decoding.{MovesOn, offset_of, waiting_of};
 ghost use Rattle.ciborium_ll_decoder.specs.Segments.{string_decoder};
-ghost use Rattle.ciborium_ll_decoder.specs.Chunks.{PullsChunk, left_of, segment_decoder, segment_reference};
-ghost use Rattle.ciborium_ll_decoder.specs.Finishing.{EndsBody, Finishes, FinishesBody, FinishesString, IsFinished};
+ghost use Rattle.ciborium_ll_decoder.specs.Chunks.{SegmentPullAnswer, left_of, segment_decoder, segment_reference};
+ghost use Rattle.ciborium_ll_decoder.specs.Finishing.{EndsBody, Finishes, FinishesBody, FinishesString, SegmentFinish};
+ghost use Rattle.ciborium_ll_grammar.specs.declared.limits.TheConstants.{LEAST_BUFFER};
 
 use crate::dec::{Decoder, Error};
 use crate::seg::{Body, Bytes, Parser, Segment, Segments, Text};
 use ciborium_ll_io::io::Read;
 use ciborium_ll_text::state::{State, text_front};
 
-/// A kind of string whose chunks are bytes: what [`Bytes`] and [`Text`] have in common. It is the bound of a loop that
+/// A kind of string whose chunks are bytes: the common part of [`Bytes`] and [`Text`]. It is the bound of a loop that
 /// reads the segments of either kind.
 pub trait Chunked: Parser {
-    /// The next chunk of a segment: what its `pull` gives, as bytes, of which no `&str` is made. The errors are those of
-    /// its `pull`.
+    /// Reads the next chunk of a segment as its `pull` does, and returns it as bytes: no `&str` is made. The errors are
+    /// those of its `pull`.
     fn chunk<'a, R: Read>(
         segment: &mut Segment<'_, R, Self>,
         buffer: &'a mut [u8],
     ) -> Result<Option<&'a [u8]>, Error<R::Error>>
-        ensures chunk { PullsChunk R.Read (length buffer.old) segment.old result segment.new }
+        ensures chunk { SegmentPullAnswer R.Read (length buffer.old) segment.old result segment.new }
         ensures left { IfOk result (λ chunk. IfSome chunk
             (λ c. length c.now + left_of segment.new ≡ left_of segment.old)) }
         ensures same_reference { segment_reference segment.new ≡ segment_reference segment.old }
         ensures moves_on { MovesOn R.Read (segment_decoder segment.old) (segment_decoder segment.new) };
 
-    /// Whether bytes may be the body of a string: any bytes, of a text those that are UTF-8.
+    /// Returns whether bytes may be the body of a string: any bytes for a byte string, UTF-8 for a text.
     fn is_body(bytes: &[u8]) -> bool
         ensures { IsTrue result ↔ IsWritable Self.kind bytes.now };
 }
@@ -63,19 +64,26 @@ impl Chunked for Text {
 }
 
 impl<'r, R: Read, P: Chunked> Segment<'r, R, P> {
-    /// Reads what is left of the body, by pulls through `buffer` of four bytes at least, and lets the segment go.
+    /// Reads the rest of the body, by pulls through `buffer` of four bytes at least, and lets the segment go.
     ///
-    /// `Ok` says that the whole body was read, and that it is UTF-8 where it is of a text: the decoder is then behind
-    /// it, and just the bytes that were not read yet are consumed. The errors are those of `pull`: `Syntax` with the
-    /// segment's place where the body is no text: what was consumed of it is none as the whole body, or however it goes
-    /// on; `Io` where the reader failed, and `TooLong` where the offset would pass `usize::MAX`. The last read, which
-    /// these two stop and behind which `Syntax` comes, is one that fills the buffer, behind the bytes that are kept, or
-    /// takes all that is left of the body, if anything is. What was read before it is text, but for up to three bytes
-    /// with which no further text begins. What was read before an error is consumed; a segment that was damaged before
-    /// reads nothing.
+    /// `Ok` means that the whole body was read, and that the body of a text is UTF-8. Exactly the bytes that were not
+    /// read yet are consumed.
+    ///
+    /// # Errors
+    ///
+    /// - `Syntax`, with the segment's place: the body's bytes so far are no text, as the whole body or however the body
+    ///   goes on.
+    /// - `Io`: the reader failed.
+    /// - `TooLong`: the offset would pass `usize::MAX`.
+    ///
+    /// These are the errors of `pull`. `Io` and `TooLong` stop the last read, and `Syntax` comes after it. That read
+    /// fills the buffer, after the kept bytes, or takes all that is left of the body, if anything is. The bytes before
+    /// it are text, except for up to three bytes with which no further text begins.
+    ///
+    /// Bytes that were read before an error are consumed. A segment that was damaged before reads nothing.
     pub fn finish(self, buffer: &mut [u8]) -> Result<(), Error<R::Error>>
-        requires room { 4 ≤ length buffer.old }
-        ensures { IsFinished R.Read (length buffer.old) self.entry result self.exit.0.now }
+        requires room { LEAST_BUFFER ≤ length buffer.old }
+        ensures { SegmentFinish R.Read (length buffer.old) self.entry result self.exit.0.now }
     {
         let Segment {
             decoder,
@@ -98,9 +106,9 @@ impl<'r, R: Read, P: Chunked> Segment<'r, R, P> {
         segment.drain(buffer)
     }
 
-    /// Reads what is left of the body.
+    /// Reads the rest of the body.
     fn drain(&mut self, buffer: &mut [u8]) -> Result<(), Error<R::Error>>
-        requires room { 4 ≤ length buffer.old }
+        requires room { LEAST_BUFFER ≤ length buffer.old }
         ensures finishes { Finishes R.Read (length buffer.old) self.old result (segment_decoder self.new) }
         ensures same_reference { segment_reference self.new ≡ segment_reference self.old }
         ensures moves_on { MovesOn R.Read (segment_decoder self.old) (segment_decoder self.new) }
@@ -111,16 +119,21 @@ impl<'r, R: Read, P: Chunked> Segment<'r, R, P> {
 }
 
 impl<'r, R: Read, P: Chunked> Segments<'r, R, P> {
-    /// Reads the body that [`Segments::advance`] gave last to its end, by pulls through `buffer` of four bytes at least,
-    /// as [`Segment::finish`] does.
+    /// Reads the body that [`Segments::advance`] gave last to its end, by pulls through `buffer` of four bytes at
+    /// least.
     ///
-    /// `Ok` says that the whole body was read, and that it is UTF-8 where it is of a text: the decoder is then behind
-    /// it. The errors are `Syntax` with the body's place where it is no text; `Io` where the reader failed, and
-    /// `TooLong` where the offset would pass `usize::MAX`. The last read, which these two stop and behind which
-    /// `Syntax` comes, is one that fills the buffer, behind the bytes that are kept, or takes all that is left of the
-    /// body, if anything is. What was read before an error is consumed. The string goes on as before.
+    /// `Ok` means that the whole body was read, and that the body of a text is UTF-8. The decoder is then after the
+    /// body. The string goes on as before, also after an error.
+    ///
+    /// # Errors
+    ///
+    /// - `Syntax`, with the body's place: the body is no text.
+    /// - `Io`: the reader failed.
+    /// - `TooLong`: the offset would pass `usize::MAX`.
+    ///
+    /// Bytes that were read before an error are consumed. [`Segment::finish`] says what the last read takes.
     pub fn finish(&mut self, body: Body, buffer: &mut [u8]) -> Result<(), Error<R::Error>>
-        requires room { 4 ≤ length buffer.old }
+        requires room { LEAST_BUFFER ≤ length buffer.old }
         requires none_waits { waiting_of (string_decoder self.old) ≡ None }
         ensures { FinishesBody R.Read body (length buffer.old) self.old result self.new }
     {
@@ -128,23 +141,29 @@ impl<'r, R: Read, P: Chunked> Segments<'r, R, P> {
     }
 }
 
-/// Reads the body of a string of definite length to its end, behind its header with this length, which was just
-/// pulled: by one read where `buffer` holds it, else by pulls through `buffer`, which has four bytes at least. It
-/// answers as [`Segment::finish`] does for the segment of that string, and pushes no header back. Users skip strings.
+/// Reads the body of a string of definite length to its end, after its header with this length, which was pulled last.
 ///
-/// `Ok` says that the whole body was read, and that it is UTF-8 where it is of a text: the decoder is then behind it.
-/// The errors are `Syntax` where the body is no text, with the byte from which the header's shortest title would reach
-/// it; `Io` where the reader failed, and `TooLong` where the offset would pass `usize::MAX`. The last read, which these
-/// two stop and behind which `Syntax` comes, is one that fills the buffer, behind the bytes that are kept, or takes all
-/// that is left of the body, if anything is: the whole body, where the buffer holds it. What was read before an error
-/// is consumed.
+/// One read takes a body that `buffer` holds. Pulls through `buffer`, which has four bytes at least, take a longer
+/// body. The call pushes no header back, and answers as [`Segment::finish`] does for the segment of that string. Users
+/// skip strings.
+///
+/// `Ok` means that the whole body was read, and that the body of a text is UTF-8. The decoder is then after the body.
+///
+/// # Errors
+///
+/// - `Syntax`: the body is no text, at the place that [`Error::Syntax`] names.
+/// - `Io`: the reader failed.
+/// - `TooLong`: the offset would pass `usize::MAX`.
+///
+/// Bytes that were read before an error are consumed. [`Segment::finish`] says what the last read takes: the whole
+/// body, if the buffer holds it.
 #[inline(always)]
 pub fn finish_body<R: Read, P: Chunked>(
     decoder: &mut Decoder<R>,
     len: usize,
     buffer: &mut [u8],
 ) -> Result<(), Error<R::Error>>
-    requires room { 4 ≤ length buffer.old }
+    requires room { LEAST_BUFFER ≤ length buffer.old }
     requires none_waits { waiting_of decoder.old ≡ None }
     requires covered { title_len (kind_header P.kind (Some len)) ≤ offset_of decoder.old }
     ensures { FinishesString R.Read P.kind len (length buffer.old) decoder.old result decoder.new }
@@ -157,7 +176,7 @@ pub fn finish_body<R: Read, P: Chunked>(
     finish_whole::<R, P>(decoder, body, buffer)
 }
 
-/// Reads a body that the buffer holds by one read, and an empty one by none.
+/// Reads a body that the buffer holds by one read. An empty body takes no read.
 #[inline(always)]
 #[tactic(auto, using(crate::proofs::WholeBodyLaws::empty_ends, crate::proofs::WholeBodyLaws::whole_ends))]
 fn finish_whole<R: Read, P: Chunked>(
@@ -190,7 +209,7 @@ fn finish_chunks<R: Read, P: Chunked>(
     body: Body,
     buffer: &mut [u8],
 ) -> Result<(), Error<R::Error>>
-    requires room { 4 ≤ length buffer.old }
+    requires room { LEAST_BUFFER ≤ length buffer.old }
     requires none_waits { waiting_of decoder.old ≡ None }
     ensures finishes { EndsBody R.Read P.kind [] body.length (length buffer.old) body.place decoder.old result
         decoder.new }

@@ -1,4 +1,4 @@
-//! The strings of a decoder: it lends itself to what reads one.
+//! The strings of a decoder: the decoder lends itself to the segments of a string.
 
 ghost use Rattle.std.specs.Prelude.{◌≡◌, ◌≤◌, None};
 ghost use Rattle.ciborium_ll_grammar.specs.Title.{title_len};
@@ -15,10 +15,10 @@ use ciborium_ll_io::io::Read;
 use std::marker::PhantomData;
 
 impl<R: Read> Decoder<R> {
-    /// The segments of a byte string, behind its header with this length, which was just pulled.
+    /// Returns the segments of a byte string, after its header with this length, which was pulled last.
     ///
-    /// The header waits again until the first segment is asked for. Another length than the header's is not refused:
-    /// the string is then read with that length.
+    /// The header waits again until the caller asks for the first segment. A length other than the header's is not
+    /// refused: the string is then read with that length.
     ///
     /// The conditions are those of [`Decoder::push`] for that header. The string is as strict as the decoder.
     pub fn bytes(&mut self, len: Option<usize>) -> Segments<'_, R, Bytes>
@@ -29,12 +29,10 @@ impl<R: Read> Decoder<R> {
         self.string(len)
     }
 
-    /// The segments of a text string, behind its header with this length, which was just pulled.
+    /// Returns the segments of a text string, after its header with this length, which was pulled last.
     ///
-    /// The header waits again until the first segment is asked for. Another length than the header's is not refused:
-    /// the string is then read with that length.
-    ///
-    /// The conditions are those of [`Decoder::push`] for that header. The string is as strict as the decoder.
+    /// The header waits again, and a length other than the header's is not refused, as [`Decoder::bytes`] says. The
+    /// conditions are those of [`Decoder::push`] for that header. The string is as strict as the decoder.
     pub fn text(&mut self, len: Option<usize>) -> Segments<'_, R, Text>
         requires none_waits { waiting_of self.old ≡ None }
         requires covered { title_len (Header.Text len) ≤ offset_of self.old }
@@ -43,7 +41,7 @@ impl<R: Read> Decoder<R> {
         self.string(len)
     }
 
-    /// The segments of a string of either kind, behind its header.
+    /// Returns the segments of a string of either kind, after its header.
     pub(crate) fn string<P: Parser>(&mut self, len: Option<usize>) -> Segments<'_, R, P>
         requires none_waits { waiting_of self.old ≡ None }
         requires covered { title_len (kind_header P.kind len) ≤ offset_of self.old }
@@ -54,8 +52,8 @@ impl<R: Read> Decoder<R> {
     }
 }
 
-/// The segments of a string of indefinite length, behind its open, which was just pulled. It doesn't wait again. Users
-/// take [`Decoder::bytes`] or [`Decoder::text`].
+/// Returns the segments of a string of indefinite length, after its open, which was pulled last. The open doesn't wait
+/// again. Users take [`Decoder::bytes`] or [`Decoder::text`].
 pub fn open_segments<R: Read, P: Parser>(decoder: &mut Decoder<R>) -> Segments<'_, R, P>
     ensures lent { string_decoder result ≡ decoder.old }
     ensures opened { progress_of result ≡ Open 1 }

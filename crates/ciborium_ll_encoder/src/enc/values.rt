@@ -12,7 +12,7 @@ use crate::enc::Encoder;
 use ciborium_ll_grammar::hdr::Header;
 use ciborium_ll_io::io::Write;
 
-/// The limit that is asked for, or else the length of the whole value, and no less than `least`.
+/// Returns the requested limit, or `len` if there is none, and at least `least`.
 #[inline(always)]
 fn limit(segment: Option<usize>, len: usize, least: usize) -> usize
     ensures { result ≡ max least (unwrap_or segment len) }
@@ -21,13 +21,15 @@ fn limit(segment: Option<usize>, len: usize, least: usize) -> usize
 }
 
 impl<W: Write> Encoder<W> {
-    /// Writes a byte string (RFC 7049, 2.1), in segments of `segment` bytes (2.2.2), or in one where that is `None`.
+    /// Writes a byte string (RFC 7049, 2.1) in segments of `segment` bytes (2.2.2), or in one segment for `None`.
     ///
-    /// A limit of 0 counts as 1. A value no longer than the limit is one string of a definite length. A longer one is a
-    /// string of indefinite length, whose segments have as many bytes as the limit, but for the last one, which has
-    /// the remainder.
+    /// A limit of 0 counts as 1. A value no longer than the limit is one string of a definite length. A longer value is
+    /// a string of indefinite length. Its segments have as many bytes as the limit, and the last segment has the
+    /// remainder.
     ///
-    /// The only errors are the writer's. A beginning of the string was then written.
+    /// # Errors
+    ///
+    /// - `W::Error`: the writer failed, with a beginning of the string written.
     #[tactic(auto, using(crate::proofs::Writes::values))]
     pub fn bytes(&mut self, value: &[u8], segment: Option<usize>) -> Result<(), W::Error>
         ensures { WritesString W.Write Bytes segment value.now (writer_of self.old) result (writer_of self.new) }
@@ -41,15 +43,19 @@ impl<W: Write> Encoder<W> {
         self.push(Header::Break)
     }
 
-    /// Writes a text string (RFC 7049, 2.1), in segments of at most `segment` bytes (2.2.2), or in one where that is
+    /// Writes a text string (RFC 7049, 2.1) in segments of at most `segment` bytes (2.2.2), or in one segment for
     /// `None`.
     ///
-    /// A limit below 4 counts as 4, which is the length of the longest character. A value no longer than the limit is
-    /// one string of a definite length. A longer one is a string of indefinite length, whose segments are texts: each
-    /// is as long as the limit allows with no character cut. None of them is empty, joined they are the text, and no
-    /// other segments within the limit are fewer.
+    /// A limit below 4 counts as 4, the length of the longest character. A value no longer than the limit is one string
+    /// of a definite length. A longer value is a string of indefinite length. Each of its segments is a text, as long
+    /// as the limit allows without a cut character. No segment is empty, joined they are the text, and no fewer
+    /// segments fit the limit.
     ///
-    /// The only errors are the writer's. A beginning of the string was then written.
+    /// # Errors
+    ///
+    /// - `W::Error`: the writer failed, with a beginning of the string written.
+    ///
+    /// # Examples
     ///
     /// ```rust
     /// encoder.text(entry.key, None)?;
@@ -82,7 +88,7 @@ impl<W: Write> Encoder<W> {
         self.push(Header::Break)
     }
 
-    /// Writes a body behind its title.
+    /// Writes a body after its title.
     fn string(&mut self, title: Header, body: &[u8]) -> Result<(), W::Error>
         ensures bytes { WritesBytes W.Write (writer_of self.old) result (shortest_title title ++ body.now)
             (writer_of self.new) }
@@ -125,10 +131,10 @@ impl<W: Write> Encoder<W> {
     }
 }
 
-/// How many bytes the first piece of a text has that is longer than the limit.
+/// Returns the length of the first piece of a text that is longer than the limit.
 ///
-/// The piece ends at the limit, or else in front of the character that lies across it. Such a character has at most
-/// three later bytes, so no more are stepped over, however long the text is.
+/// The piece ends at the limit, or before a character that lies across the limit. The search steps over at most three
+/// bytes, because a character has at most three later bytes.
 fn piece_len(text: &str, limit: usize) -> usize
     requires four { 4 ≤ limit }
     requires longer { limit < length text.now }
@@ -146,7 +152,7 @@ fn piece_len(text: &str, limit: usize) -> usize
     len
 }
 
-/// Whether a byte stands behind the first one of a character (Unicode, Table 3-7).
+/// Tells if a byte is a later byte of a character (Unicode, Table 3-7).
 fn is_continuation(byte: u8) -> bool
     ensures { IsTrue result ↔ IsTail byte }
 {

@@ -1,4 +1,4 @@
-//! What a title begins within an item.
+//! The role of a title within an item.
 
 ghost use Rattle.std.specs.Prelude.{◌≡◌};
 ghost use Rattle.ciborium_ll_grammar.specs.Title.{IsTitle};
@@ -7,7 +7,7 @@ ghost use Rattle.ciborium_ll_grammar.specs.Starts.{start_of};
 
 use crate::hdr::{Header, Minor, Title};
 
-/// What a title begins (RFC 7049, 2.1 to 2.4).
+/// The role of a title within an item (RFC 7049, 2.1 to 2.4).
 #[derive(Clone, Copy)]
 pub enum Start {
     /// A number, a float or a simple value, which is an item by itself.
@@ -16,15 +16,16 @@ pub enum Start {
     Bytes(Option<usize>),
     /// A text string of this many bytes, or of indefinite length.
     Text(Option<usize>),
-    /// A tag, an array or a map with this header, which items follow.
+    /// A tag, an array or a map with this header. Items follow it.
     Nest(Header),
     /// The end of an indefinite form.
     Break,
 }
 
 impl Title {
-    /// What the title begins, which means this header. It is told by the parts alone, so a skip makes the header of a
-    /// nest and no other.
+    /// Returns the role of the title. `header` is its meaning.
+    ///
+    /// It looks at the parts alone, so a skip makes headers of tags, arrays and maps only.
     #[inline(always)]
     pub fn start(self, header: Header) -> Start
         requires parts { IsParts self }

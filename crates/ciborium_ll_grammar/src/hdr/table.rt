@@ -1,56 +1,56 @@
-//! What each first byte says of its title (RFC 7049, 2.1 to 2.3), as a table.
+//! A table of the first bytes of titles (RFC 7049, 2.1 to 2.3).
 
 ghost use Rattle.std.specs.Prelude.{ℕ, ◌≡◌};
 ghost use Rattle.ciborium_ll_grammar.specs.Title.{affix_len};
 ghost use Rattle.ciborium_ll_grammar.specs.TitleRows.{IsAffix, IsRow};
 
-/// What a title means, but for its number: its major type (RFC 7049, 2.1).
+/// The meaning of a title without its number: its major type (RFC 7049, 2.1).
 #[derive(Clone, Copy)]
 pub enum TitleKind {
     /// An unsigned integer: the major type 0.
     Positive,
-    /// A negative integer: 1.
+    /// A negative integer: the major type 1.
     Negative,
-    /// A byte string: 2.
+    /// A byte string: the major type 2.
     Bytes,
-    /// A text string: 3.
+    /// A text string: the major type 3.
     Text,
-    /// An array: 4.
+    /// An array: the major type 4.
     Array,
-    /// A map: 5.
+    /// A map: the major type 5.
     Map,
-    /// A tag: 6.
+    /// A tag: the major type 6.
     Tag,
-    /// A simple value, a float or the break: 7.
+    /// A simple value, a float or the break: the major type 7.
     Other,
-    /// Nothing: no title begins so.
+    /// No title begins with this first byte.
     Refused,
 }
 
-/// Where the number of a title stands (RFC 7049, 2.1).
+/// The place of a title's number (RFC 7049, 2.1).
 #[derive(Clone, Copy)]
 pub enum Affix {
-    /// In the first byte itself.
+    /// In the lower five bits of the first byte.
     Within,
-    /// In one byte behind.
+    /// In one byte after the first.
     One,
-    /// In two bytes behind.
+    /// In two bytes after the first.
     Two,
-    /// In four bytes behind.
+    /// In four bytes after the first.
     Four,
-    /// In eight bytes behind.
+    /// In eight bytes after the first.
     Eight,
-    /// Nowhere: an indefinite form or a break.
+    /// No number: an indefinite form or a break.
     Open,
-    /// Nowhere: the minors 28 to 30 are reserved, and nothing is read behind them.
+    /// No number: the minors 28 to 30 are reserved. Nothing is read after them.
     Reserved,
 }
 
-/// How many bytes stand behind the first one, by the place of the number in [`Affix`]. A look-up takes no branch.
+/// The number of bytes of the affix for each variant of [`Affix`]. A look-up takes no branch.
 const AFFIX_LENS: [usize; 7] = [0, 1, 2, 4, 8, 0, 0];
 
 impl Affix {
-    /// How many bytes stand behind the first one.
+    /// Returns the number of bytes of the affix.
     #[inline(always)]
     pub fn len(self) -> usize
         ensures { (minor : ℕ) → IsAffix self minor → result ≡ affix_len minor }
@@ -59,12 +59,12 @@ impl Affix {
     }
 }
 
-/// What a first byte says of its title.
+/// The entry of the table for one first byte.
 #[derive(Clone, Copy)]
 pub struct Row {
-    /// What a title with that first byte means, or that there is none.
+    /// The meaning of a title with this first byte, or `Refused`.
     pub kind: TitleKind,
-    /// Where the title's number stands, and how many bytes follow the first one.
+    /// The place of the title's number, and thereby the number of bytes of the affix.
     pub affix: Affix,
 }
 
@@ -77,7 +77,7 @@ macro_rules! row {
     };
 }
 
-// Each is named for its kind and the length of the affix.
+// Each row has a name from its kind and the length of its affix.
 const POSITIVE: Row = row!(Positive, Within);
 
 const POSITIVE_1: Row = row!(Positive, One);
@@ -172,7 +172,7 @@ const RESERVED: Row = row!(Refused, Reserved);
 /// The minor 31 under a major type that has no indefinite form.
 const NEVER_OPEN: Row = row!(Refused, Open);
 
-/// A row for each first byte: four lines, of eight rows each, for each major type.
+/// A row for each first byte. Each major type has four lines of eight rows.
 #[rattlefmt::skip]
 static ROWS: [Row; 256] = [
     // unsigned integers
@@ -217,7 +217,7 @@ static ROWS: [Row; 256] = [
     OTHER_1, OTHER_2, OTHER_4, OTHER_8, RESERVED, RESERVED, RESERVED, OTHER_OPEN,
 ];
 
-/// The row of a first byte.
+/// Returns the row of a first byte.
 #[inline(always)]
 pub fn row_of(first: u8) -> Row
     ensures { IsRow first result }

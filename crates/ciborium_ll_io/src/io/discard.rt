@@ -7,9 +7,10 @@ use super::failures::Failures;
 use super::slices::OutOfSpace;
 use super::taken::Taken;
 
-/// Takes bytes and keeps none of them, so it takes no memory. It tells what it took, to contracts alone, and its room.
+/// Takes bytes and keeps none of them, so it needs no memory. It tells its room, and to contracts the bytes that it
+/// took.
 ///
-/// It is for a copy whose answer alone matters. Where the room covers what is due, no write is refused.
+/// A caller uses it for a copy whose answer alone matters. If the room covers the bytes that are due, no write fails.
 #[derive(Drop)]
 pub struct Discard {
     taken: Taken,
@@ -18,7 +19,7 @@ pub struct Discard {
 }
 
 impl Discard {
-    /// A writer that takes at most `room` bytes.
+    /// Returns a writer that takes at most `room` bytes.
     pub fn new(room: usize) -> Discard
         ensures written { ⟦<Discard as Write>⟧.written result ≡ Some [] }
         ensures room { ⟦<Discard as Write>⟧.room result ≡ Some room }
@@ -31,7 +32,7 @@ impl Discard {
         }
     }
 
-    /// How many more bytes it takes.
+    /// Returns the number of further bytes that it takes.
     pub fn room(&self) -> usize
         ensures { ⟦<Discard as Write>⟧.room self.now ≡ Some result }
     {
@@ -57,7 +58,11 @@ impl Write for Discard {
 
     ghost target = { λ _. None };
 
-    /// Takes the whole of `data`, or nothing where the room is smaller.
+    /// Takes the whole of `data`.
+    ///
+    /// # Errors
+    ///
+    /// - `OutOfSpace`: `data` is longer than the room. Nothing is taken.
     fn write_all(&mut self, data: &[u8]) -> Result<(), OutOfSpace>
         // The trait's.
         ensures bytes { OnOk result (Appends (discard_taken self.old) (discard_taken self.new) «data».now) }

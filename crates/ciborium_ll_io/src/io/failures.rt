@@ -5,7 +5,7 @@ ghost use Rattle.std.specs.Borrow.{ftrue};
 
 use std::marker::{Model, PhantomData};
 
-/// How many calls of a reader or a writer failed. It has no greatest value and takes no bytes.
+/// The number of failed calls of a reader or a writer. It has no greatest value and takes no bytes.
 #[derive(Drop)]
 pub struct Failures {
     marker: PhantomData<()>,
@@ -17,7 +17,7 @@ impl Model for Failures {
 }
 
 impl Failures {
-    /// No failure yet.
+    /// Returns a count of no failures.
     pub fn new() -> Failures
         ensures { result.count ≡ 0 }
     {

@@ -1,4 +1,4 @@
-//! What the errors of readers and writers say to a person.
+//! The messages of the errors of readers and writers.
 
 use super::{EndOfFile, OutOfSpace};
 use std::error::Error;

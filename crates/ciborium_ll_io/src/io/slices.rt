@@ -6,11 +6,11 @@ use super::failures::Failures;
 use super::taken::Taken;
 use super::{Read, Write};
 
-/// Fewer bytes are left than were asked for. Nothing was consumed.
+/// Fewer bytes are left than a read wants. Nothing was consumed.
 #[derive(Debug, Drop)]
 pub struct EndOfFile;
 
-/// Reads from a slice. It is steady, and tells what is left of the slice.
+/// Reads from a slice. It is steady, and tells the bytes that are left.
 #[derive(Drop)]
 pub struct SliceReader<'a> {
     left: &'a [u8],
@@ -18,7 +18,7 @@ pub struct SliceReader<'a> {
 }
 
 impl<'a> SliceReader<'a> {
-    /// A reader of the whole slice.
+    /// Returns a reader of the whole slice.
     pub fn new(bytes: &'a [u8]) -> SliceReader<'a>
         ensures ahead { ⟦<SliceReader<'a> as Read>⟧.ahead result ≡ Some bytes.now }
         ensures failures { ⟦<SliceReader<'a> as Read>⟧.failures result ≡ 0 }
@@ -29,7 +29,7 @@ impl<'a> SliceReader<'a> {
         }
     }
 
-    /// The bytes that were not read yet.
+    /// Returns the bytes that are left.
     pub fn left(&self) -> &[u8]
         ensures { ⟦<SliceReader<'a> as Read>⟧.ahead self.now ≡ Some result.now }
     {
@@ -60,8 +60,10 @@ impl<'a> Read for SliceReader<'a> {
     }
 }
 
-/// Copies all bytes. The lengths that a title and its affix have go by themselves: where such a length is known when
-/// the program is built, what is left is one move, with no look at whether the two slices overlap.
+/// Copies all bytes.
+///
+/// The lengths of a title's parts have a case each. If the compiler knows the length, one move remains, without a test
+/// for slices that overlap.
 #[inline(always)]
 fn copy(to: &mut [u8], from: &[u8])
     requires len { length to.old ≡ length from.now }
@@ -77,8 +79,7 @@ fn copy(to: &mut [u8], from: &[u8])
     }
 }
 
-/// Copies all bytes. Those of a chunk through a buffer of 64 bytes, which is what a copy is lent most often, are one
-/// move too.
+/// Copies all bytes. A chunk of 64 bytes, which is the usual buffer of a copy, takes one move.
 #[inline(always)]
 pub fn copy_chunk(to: &mut [u8], from: &[u8])
     requires len { length to.old ≡ length from.now }
@@ -91,7 +92,7 @@ pub fn copy_chunk(to: &mut [u8], from: &[u8])
     }
 }
 
-/// Copies so many bytes.
+/// Copies `N` bytes.
 #[inline(always)]
 fn copy_array<const N: usize>(to: &mut [u8], from: &[u8])
     requires to { length to.old ≡ N }
@@ -105,12 +106,13 @@ fn copy_array<const N: usize>(to: &mut [u8], from: &[u8])
     }
 }
 
-/// The room is smaller than what was to be written. Nothing was written.
+/// The room is smaller than the bytes of a write. Nothing was written.
 #[derive(Debug, Drop)]
 pub struct OutOfSpace;
 
-/// Writes into a slice, from its front on. It tells what it wrote, its room and its slice, which is behind what was
-/// written as it was when it was lent. It stays on that slice.
+/// Writes into a slice, from its front on, and stays on that slice.
+///
+/// It tells the bytes that it wrote, its room and its slice. After these bytes the slice is as it was when it was lent.
 #[derive(Drop)]
 pub struct SliceWriter<'a> {
     buffer: &'a mut [u8],
@@ -124,7 +126,7 @@ pub struct SliceWriter<'a> {
 impl<'a> SliceWriter<'a> {
     ghost use Rattle.ciborium_ll_io.specs.Slices.{slice_before};
 
-    /// A writer with the whole slice as its room.
+    /// Returns a writer whose room is the whole slice.
     pub fn new(buffer: &'a mut [u8]) -> SliceWriter<'a>
         ensures written { ⟦<SliceWriter<'a> as Write>⟧.written result ≡ Some [] }
         ensures room { ⟦<SliceWriter<'a> as Write>⟧.room result ≡ Some (length buffer.old) }
@@ -142,7 +144,7 @@ impl<'a> SliceWriter<'a> {
         }
     }
 
-    /// The bytes written so far. Behind them the slice is as it was when it was lent.
+    /// Returns the bytes written so far. After them the slice is as it was when it was lent.
     pub fn written(&self) -> &[u8]
         ensures written { ⟦<SliceWriter<'a> as Write>⟧.written self.now ≡ Some result.now }
         ensures slice { self.now.buffer.now ≡ result.now ++ drop (length result.now) (slice_before self.now) }
@@ -150,7 +152,7 @@ impl<'a> SliceWriter<'a> {
         &self.buffer[..self.filled]
     }
 
-    /// How many more bytes fit.
+    /// Returns the number of further bytes that fit.
     pub fn room(&self) -> usize
         ensures { ⟦<SliceWriter<'a> as Write>⟧.room self.now ≡ Some result }
     {
@@ -176,8 +178,11 @@ impl<'a> Write for SliceWriter<'a> {
 
     ghost target = { λ w. Some (slice_target w) };
 
-    /// Appends the whole of `data`, or nothing where the room is smaller. The slice is then as it was, behind what was
-    /// written too.
+    /// Appends the whole of `data`.
+    ///
+    /// # Errors
+    ///
+    /// - `OutOfSpace`: `data` is longer than the room. The whole slice is as it was before the call.
     #[tactic(auto, using(crate::proofs::SliceLaws::behind_grown))]
     fn write_all(&mut self, data: &[u8]) -> Result<(), OutOfSpace>
         // The trait's.

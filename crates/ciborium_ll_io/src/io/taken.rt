@@ -5,7 +5,7 @@ ghost use Rattle.std.specs.Borrow.{ftrue};
 
 use std::marker::{Model, PhantomData};
 
-/// A list of bytes, of which none is kept: those that a writer took, or those that stood in its slice.
+/// A list of bytes for contracts, which takes no memory: the bytes that a writer took, or the bytes of a lent slice.
 #[derive(Drop)]
 pub(super) struct Taken {
     marker: PhantomData<()>,
@@ -17,7 +17,7 @@ impl Model for Taken {
 }
 
 impl Taken {
-    /// No byte yet.
+    /// Returns an empty list.
     pub(super) fn new() -> Taken
         ensures { result.bytes ≡ [] }
     {
@@ -26,7 +26,7 @@ impl Taken {
         }
     }
 
-    /// Takes the bytes of `_data` too.
+    /// Appends the bytes of `_data`.
     pub(super) fn append(&mut self, _data: &[u8])
         ensures { self.new.bytes ≡ self.old.bytes ++ _data.now }
     {}

@@ -21,7 +21,7 @@ returns-then-is_small_simple c = λ rest.
 pub returns-else-is_small_simple : goal.returns-else-is_small_simple
 returns-else-is_small_simple c = λ rest.
     loose_fails c.in-Some.title c.args.bytes.now rest c.in-Some.ensures.parts c.in-Some.ensures.bytes
-    c.in-Some-header.header c.in-Some-header.ensures.some (sym c.is_longer.ensures ∙ c.if-is_longer.true)
+    c.in-Some-header.header c.in-Some-header.ensures.some (sym c.is_refused_when_strict.ensures ∙ c.if-is_refused_when_strict.true)
     (untold c.is_small_simple.result c.if-is_small_simple.false c.is_small_simple.ensures)
 
 pub returns-then-is_wide : goal.returns-then-is_wide
@@ -39,6 +39,6 @@ returns-then-is_indefinite c = λ rest.
 pub returns : goal.returns
 returns c =
     preferred_parts c.in-Some.title c.args.bytes.now c.args.bytes.now c.in-Some.ensures.parts c.in-Some.ensures.bytes
-    c.in-Some-header.header c.in-Some-header.ensures.some (sym c.is_longer.ensures ∙ c.if-is_longer.false)
+    c.in-Some-header.header c.in-Some-header.ensures.some (sym c.is_refused_when_strict.ensures ∙ c.if-is_refused_when_strict.false)
     (untold c.is_wide.result c.if-is_wide.false c.is_wide.ensures)
     (untold c.is_indefinite.result c.if-is_indefinite.false c.is_indefinite.ensures)

@@ -8,7 +8,7 @@ use Rattle.cbor_skip.proofs.ItemSteps.{none_read, one_more, stops_here, pull_sto
 use Rattle.cbor_diag.specs.Showing.{ReadsFrom}
 use Rattle.cbor_diag.proofs.ShowLaws.{break_said, reading_stops, reading_unread}
 use Rattle.cbor_diag.proofs.ItemLaws.{ItemRead, nest_deep, nest_of, nest_read, nest_stops}
-use Rattle.ciborium_ll.specs.Decoding.{PullsHeader}
+use Rattle.ciborium_ll.specs.Decoding.{DecoderPullAnswer}
 use Rattle.cbor_diag.specs.ItemStops.{deep}
 use Rattle.cbor_diag.proofs.ItemTextLaws.{break_shown, item_stops, items_begin, items_closed, items_done, items_more}
 use Rattle.cbor_diag.proofs.ItemTextLaws.{lead_stops, nest_shown, opening_stops, plain_shown, said_failed, said_wrote}
@@ -170,7 +170,7 @@ pub show_within-returns-in_err-next-clause-shown : goal.show_within-returns-in_e
 show_within-returns-in_err-next-clause-shown g t c =
     let error = c.in_err-next.field-0.0 in
     rw (exit_is _ _ c.from_residual.ensures.1) (title_stops c.items.invariant.items (s.Read error) _
-    (subst (λ x. PullsHeader g.R.Read x (Err error) c.pull.new.self) c.offset-place.ensures.same
+    (subst (λ x. DecoderPullAnswer g.R.Read x (Err error) c.pull.new.self) c.offset-place.ensures.same
     c.in_err-next.ensures.header))
 
 pub show_within-returns-in-Break-clause-shown : goal.show_within-returns-in-Break-clause-shown

@@ -1,6 +1,6 @@
 use Rattle.std.proofs.Common.{rules, refl, subst, ◌≡◌, ℕ, None, Ok, Err, length}
 use Rattle.ciborium_ll_decoder.specs.declared.copy.RecodeError.TheVariants as r
-use Rattle.ciborium_ll_decoder.specs.Chunks.{PullsChunk}
+use Rattle.ciborium_ll_decoder.specs.Chunks.{SegmentPullAnswer}
 use Rattle.ciborium_ll_decoder.proofs.DecodingLaws.{exit_is, MovesOn-none, MovesOn-then}
 use Rattle.ciborium_ll_decoder.proofs.BodyCopyLaws.{so_far_start, so_far_chunk, so_far_unwritten, so_far_whole}
 use Rattle.ciborium_ll_decoder.proofs.BodyCopyLaws.{so_far_error, write_refused}
@@ -43,7 +43,7 @@ pub returns-in_err-chunk-clause-copied : goal.returns-in_err-chunk-clause-copied
 returns-in_err-chunk-clause-copied g c =
     let same = exit_is c.from_residual.result (r.Read c.in_err-chunk.field-0.0) c.from_residual.ensures.1 in
     let pulled = c.in_err-chunk.ensures in
-    let chunk = subst (λ (room : ℕ). PullsChunk g.R.Read room c.chunks.segment (Err c.in_err-chunk.field-0.0)
+    let chunk = subst (λ (room : ℕ). SegmentPullAnswer g.R.Read room c.chunks.segment (Err c.in_err-chunk.field-0.0)
     c.chunk.new.segment) c.chunks.auto.buffer pulled.chunk in
     rw same (so_far_error g.R.Read g.W.Write c.args.body _ c.chunks.segment _ _ c.requires.whole
     c.chunks.invariant.so_far _ c.in_err-chunk.field-0.0 c.chunk.new.segment c.requires.room pulled.moves_on.steady

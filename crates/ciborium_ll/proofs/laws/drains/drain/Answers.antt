@@ -1,6 +1,6 @@
 use Rattle.std.proofs.Common.{rules, ◌≡◌, ℕ, get_or, refl, subst, ◌∙◌, arith, None, Ok, Err, length-take-le}
 use Rattle.std.proofs.lemmas.List.{take_more, take_all}
-use Rattle.ciborium_ll_decoder.specs.Chunks.{GivesChunk, PullsChunk}
+use Rattle.ciborium_ll_decoder.specs.Chunks.{GivesChunk, SegmentPullAnswer}
 use Rattle.ciborium_ll_decoder.proofs.BodyCopyLaws.{write_refused}
 use Rattle.ciborium_ll_decoder.proofs.DecodingLaws.{exit_is, MovesOn-none, MovesOn-then}
 use Rattle.ciborium_ll_io.proofs.WriteLaws.{WritesBytes-of}
@@ -37,7 +37,7 @@ returns-in_err-chunk-clause-drains g c =
       size = get_or sizes c.sizes.index 0;
       between = c.sizes.segment;
       comes = comes_at g.R.Read g.W.Write sizes c.sizes.index 0 c.sizes-test.true c.sizes.invariant.each;
-      fails = subst (λ (n : ℕ). PullsChunk g.R.Read n c.sizes.segment (Err error) c.chunk.new.segment) room
+      fails = subst (λ (n : ℕ). SegmentPullAnswer g.R.Read n c.sizes.segment (Err error) c.chunk.new.segment) room
           c.in_err-chunk.ensures.chunk;
     })
 

@@ -1,8 +1,8 @@
 use Rattle.std.proofs.Common.{rules}
 use Rattle.ciborium_ll_decoder.proofs.dec.Decoder.taken.Goals as goal
 
-pub returns-then-is_longer : goal.returns-then-is_longer
-returns-then-is_longer g c = search rules
+pub returns-then-is_refused_when_strict : goal.returns-then-is_refused_when_strict
+returns-then-is_refused_when_strict g c = search rules
 
 pub returns-else-self : goal.returns-else-self
 returns-else-self g c = search rules

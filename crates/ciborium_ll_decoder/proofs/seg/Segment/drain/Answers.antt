@@ -1,6 +1,6 @@
 use Rattle.std.proofs.Common.{rules, refl, ◌≡◌, true, subst, ℕ, Err}
 use Rattle.std.specs.Option.{is_some}
-use Rattle.ciborium_ll_decoder.specs.Chunks.{PullsChunk}
+use Rattle.ciborium_ll_decoder.specs.Chunks.{SegmentPullAnswer}
 use Rattle.ciborium_ll_decoder.proofs.DecodingLaws.{exit_is, MovesOn-none, MovesOn-then}
 use Rattle.ciborium_ll_decoder.proofs.FinishLaws.{rest_start, rest_pulled, rest_error}
 use Rattle.ciborium_ll_decoder.proofs.seg.Segment.drain.Goals as goal
@@ -27,7 +27,7 @@ chunks-preserved g c =
 pub returns-in_err-chunk-clause-finishes : goal.returns-in_err-chunk-clause-finishes
 returns-in_err-chunk-clause-finishes g c =
     let pulled = c.in_err-chunk.ensures in
-    let chunk = subst (λ (room : ℕ). PullsChunk g.R.Read room c.chunks.self (Err c.in_err-chunk.field-0.0)
+    let chunk = subst (λ (room : ℕ). SegmentPullAnswer g.R.Read room c.chunks.self (Err c.in_err-chunk.field-0.0)
     c.chunk.new.segment) c.chunks.auto.buffer pulled.chunk in
     rw (exit_is c.from_residual.result c.in_err-chunk.field-0.0 c.from_residual.ensures.1)
     (rest_error g.R.Read _ c.chunks.self c.chunks.invariant.so_far _ c.chunk.new.segment pulled.moves_on.steady

@@ -1,5 +1,5 @@
--- `pull` by hand: the walk in `Proof/Walk.antt`, over `advance` and `segment` as they are proved. It stands apart from
--- them, so that it isn't checked again where what `advance` rests on changes.
+-- `pull` by hand: the walk in `Proof/Walk.antt`, over the proofs of `advance` and `segment`. The walk stands in a file
+-- of its own. So the prover does not check it again if a premise of `advance` changes.
 mod Walk
 use contract.Running.{tables, tables_of}
 use denote.Triple.Clauses.{closing}

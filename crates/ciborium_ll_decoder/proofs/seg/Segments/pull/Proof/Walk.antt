@@ -1,8 +1,8 @@
--- `pull` by hand, as it lends out of its own reference inside a result, which the borrow checker does not follow:
---   1. the string is lent to `advance`, under a lifetime that is made for that call and ends with it;
---   2. where `advance` gave a body, the string is lent on to `segment`, and the segment leaves in the result;
---   3. where it gave none, nothing is lent, and the string stays as `advance` left it.
--- A comment in brackets says what is owned at that point, the head first; the locals come last and are not named.
+-- `pull` by hand: the call lends out of its own reference inside a result, and the borrow checker does not follow that.
+--   1. The string is lent to `advance`, under a lifetime that is made for that call and ends with it.
+--   2. If `advance` gave a body, the string is lent on to `segment`, and the segment leaves in the result.
+--   3. If `advance` gave none, nothing is lent, and the string stays as `advance` left it.
+-- A comment in brackets lists the owned things at that point, the head first. The locals come last and are not named.
 use Rattle.ciborium_ll_decoder.proofs.AdvanceLaws.{none_waits_for_body, given_again}
 use mathlib.Core.Path.{◌≡◌, refl, sym, ap, ◌∙◌, subst}
 use mathlib.Core.List.{[], ◌∷◌, List, ◌++◌}
@@ -54,10 +54,10 @@ use Rattle.std.proofs.VecSteps.Element.{Some-of, none_of}
 use Rattle.ciborium_ll_decoder.proofs.seg.Body.TheLaws as body_laws
 use Rattle.std.specs.Prelude.{Some, None, Ok, Err}
 use Rattle.std.specs.contracts.option.Option as option
-use Rattle.ciborium_ll_decoder.specs.Chunks.{GoesOnTo, IsWhole, PullsSegment}
+use Rattle.ciborium_ll_decoder.specs.Chunks.{GoesOnTo, IsWhole, SegmentsPull}
 use Rattle.ciborium_ll_decoder.specs.Decoding.{waiting_of}
 use Rattle.ciborium_ll_decoder.specs.Segments.{GivesAgain}
-use Rattle.ciborium_ll_decoder.specs.Lend.{with_decoder, HoldsDecoder, IsAdvanced, advance_answer, lent_reference}
+use Rattle.ciborium_ll_decoder.specs.Lend.{with_decoder, HoldsDecoder, SegmentsAdvance, advance_answer, lent_reference}
 use Rattle.ciborium_ll_io.specs.declared.io.Read as read
 use Rattle.ciborium_ll_decoder.specs.declared.seg.Parser as parser
 use Rattle.ciborium_ll_decoder.specs.declared.dec.Decoder.{Decoder}
@@ -261,7 +261,7 @@ module _ (R P E : RattleType) (reads : read.Ghosts R.Denot E.Denot) (reads_dict 
         DecoderIn = decoder.the_row (param 0 R)
 
         abbrev Advanced : Pull.Denot → String → Type 0
-        Advanced answer new = IsAdvanced reads kind.kind old (advance_answer answer) new
+        Advanced answer new = SegmentsAdvance reads kind.kind old (advance_answer answer) new
 
         -- how the string ends, by the decoder that a segment leaves and where there is none
         abbrev Tied : Pull.Denot → Type 0
@@ -270,10 +270,10 @@ module _ (R P E : RattleType) (reads : read.Ghosts R.Denot E.Denot) (reads_dict 
             × HoldsDecoder answer new × (ends.0 d ≡ with_decoder new d)) × Advanced answer ends.1
 
         abbrev Pulls : Pull.Denot → Type 0
-        Pulls answer = PullsSegment reads kind.kind old.strict old.progress old.decoder.now answer
+        Pulls answer = SegmentsPull reads kind.kind old.strict old.progress old.decoder.now answer
 
         -- what `advance` promises of the string holds of its decoder
-        goes_on : (result : Advance.Denot) (new : String) → IsAdvanced reads kind.kind old result new
+        goes_on : (result : Advance.Denot) (new : String) → SegmentsAdvance reads kind.kind old result new
             → GoesOnTo reads kind.kind old.strict old.progress old.decoder.now result new.decoder.now
         goes_on result new is =
             record { after = new.progress; advanced = is.advances; opens = is.opens; moves_on = is.moves_on }
@@ -359,7 +359,7 @@ module _ (R P E : RattleType) (reads : read.Ghosts R.Denot E.Denot) (reads_dict 
             ‵ (Advance.own_val answer (value ∷ []))) ⊛
             some (λ (news : String × Unit {0}). ‵ (lasts (advance.ended R P E reads reads_dict kind kind_dict)
             given_advance.0.0 given_advance.0.3 news) ⊛
-            raw (fact 𝓤 (IsAdvanced reads kind.kind old answer news.0)))))) (id⊢ 𝓤 _) $
+            raw (fact 𝓤 (SegmentsAdvance reads kind.kind old answer news.0)))))) (id⊢ 𝓤 _) $
             await ! tt $ pick ! (λ answer. split ! $ split ! $ move ! (2 ∷ []) $ pick ! (λ news. split ! $ move !
             (1 ∷ []) $
             heard ! _ (λ promised.
@@ -384,8 +384,8 @@ module _ (R P E : RattleType) (reads : read.Ghosts R.Denot E.Denot) (reads_dict 
             by_answer answer value is
             -- the arm of a body
             (λ b u is_body e is_value.
-            let found : IsAdvanced reads kind.kind old (Ok (Some b)) new =
-            subst (λ r. IsAdvanced reads kind.kind old r new) e promised in
+            let found : SegmentsAdvance reads kind.kind old (Ok (Some b)) new =
+            subst (λ r. SegmentsAdvance reads kind.kind old r new) e promised in
             let none_waits = none_waits_for_body reads kind.kind old.strict old.progress old.decoder.now b new.progress
             new.decoder.now found.advances in
             let good_body : Good (layout body.the_row) u =
@@ -443,7 +443,7 @@ module _ (R P E : RattleType) (reads : read.Ghosts R.Denot E.Denot) (reads_dict 
             returns ! (look_at ! 0 refl) $ free_all ! refl $ move ! (2 ∷ 0 ∷ 1 ∷ []) $
             let stands : body_of part.unread part.place ≡ b = ap (λ (length : ℕ). body_of length part.place)
             is_whole.unread ∙ ap (λ (place : ℕ). body_of b.length place) is_whole.place in
-            by ! (leaves out (Ok (Some part)) new (subst (λ (c : Body). IsAdvanced reads kind.kind old (Ok (Some c))
+            by ! (leaves out (Ok (Some part)) new (subst (λ (c : Body). SegmentsAdvance reads kind.kind old (Ok (Some c))
             new) (sym stands) found) lent
             (record {
               body = b;
@@ -454,7 +454,7 @@ module _ (R P E : RattleType) (reads : read.Ghosts R.Denot E.Denot) (reads_dict 
             -- the arm of the end: nothing is lent, and the string's last value is what `advance` left
             (λ e is_value.
             let out : Val = live 0 (vcons (live 0 vnil) vnil) in
-            let found : IsAdvanced reads kind.kind old (Ok None) new = subst (λ r. IsAdvanced reads kind.kind old r new)
+            let found : SegmentsAdvance reads kind.kind old (Ok None) new = subst (λ r. SegmentsAdvance reads kind.kind old r new)
             e promised in
             drop ! $ move ! (1 ∷ []) $ fsplit3 ! $ drop ! $ use1 𝓛 (‵ (fres name (StringIn.coded.code new)))
             (𝓛.names.obs-res name (StringIn.coded.code new)) $ move ! (1 ∷ []) $ drop ! $
@@ -488,7 +488,7 @@ module _ (R P E : RattleType) (reads : read.Ghosts R.Denot E.Denot) (reads_dict 
             -- the arm of an error: it is handed on, nothing is lent, and the string's last value is what `advance` left
             (λ x u e is_value.
             let out : Val = live 1 (vcons u vnil) in
-            let found : IsAdvanced reads kind.kind old (Err x) new = subst (λ r. IsAdvanced reads kind.kind old r new) e
+            let found : SegmentsAdvance reads kind.kind old (Err x) new = subst (λ r. SegmentsAdvance reads kind.kind old r new) e
             promised in
             rewrite ! 0 (λ (r : Advance.Denot). ‵ (Advance.own_val r (value ∷ []))) e refl $ rewrite ! 0
             (λ (w : Val). ‵ (Advance.own_val (Err x) (w ∷ []))) is_value refl $

@@ -1,5 +1,5 @@
--- `new` makes a count of zero: a struct of no bytes that owns nothing. By hand, since a struct with `also_owns` is
--- made.
+-- `new` makes a count of zero: a struct of no bytes that owns nothing. This proof is by hand, because the call makes a
+-- struct with `also_owns`.
 use Rattle.std.proofs.Common.{[], ◌∷◌, refl}
 use Rattle.std.proofs.raw_atomic.Walks.{proved}
 use mir.Val.{Val, vstruct, vcons, vnil}

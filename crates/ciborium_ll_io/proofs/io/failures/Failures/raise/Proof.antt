@@ -1,5 +1,5 @@
--- `raise` touches no byte: the count behind the reference is exchanged for the next one. By hand, since the struct has
--- `also_owns`.
+-- `raise` touches no byte: the next count replaces the count that the reference leads to. This proof is by hand,
+-- because the struct has `also_owns`.
 use Rattle.std.proofs.Common.{◌+◌, [], ◌∷◌, refl}
 use Rattle.std.proofs.raw_atomic.Walks.{proved}
 use mir.Syntax.{named}

@@ -1,5 +1,5 @@
--- `append` touches no byte: the list behind the reference is exchanged for the longer one, and the lent slice is given
--- up. By hand, since the struct has `also_owns`.
+-- `append` touches no byte: the longer list replaces the list that the reference leads to, and the call gives up the
+-- lent slice. This proof is by hand, because the struct has `also_owns`.
 use Rattle.std.proofs.Common.{◌++◌, [], ◌∷◌, refl}
 use Rattle.std.proofs.raw_atomic.Walks.{proved}
 use mir.Syntax.{named}

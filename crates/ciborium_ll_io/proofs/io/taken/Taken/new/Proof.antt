@@ -1,4 +1,5 @@
--- `new` makes an empty list: a struct of no bytes that owns nothing. By hand, since a struct with `also_owns` is made.
+-- `new` makes an empty list: a struct of no bytes that owns nothing. This proof is by hand, because the call makes a
+-- struct with `also_owns`.
 use Rattle.std.proofs.Common.{[], ◌∷◌, refl}
 use Rattle.std.proofs.raw_atomic.Walks.{proved}
 use mir.Val.{Val, vstruct, vcons, vnil}

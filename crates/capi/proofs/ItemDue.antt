@@ -1,0 +1,107 @@
+-- What a checker says of an item that its bytes begin.
+use Rattle.std.proofs.Common.{◌≡◌, ℕ, Bool, List, [], ◌++◌, length, take, drop, sym, ap, subst}
+use Rattle.std.proofs.Common.{◌∙◌, arith, inl, inr, append_assoc, append-nil, length-append}
+use Rattle.std.proofs.lemmas.Bool.{cases_lt}
+use Rattle.std.proofs.lemmas.List.{take_all, take-append-drop}
+use Rattle.ciborium_ll.specs.Items.{IsItem}
+use Rattle.ciborium_ll.proofs.Lists.{front_of_front}
+use Rattle.cbor_checker.specs.declared.progress.Progress.TheVariants as r
+use Rattle.cbor_checker.specs.declared.phase.Fault.{Fault}
+use Rattle.cbor_checker.specs.Spots.{Spot}
+use Rattle.cbor_checker.specs.Steps.{IsFed}
+use Rattle.cbor_checker.specs.Telling.{Tells, progress_of}
+use Rattle.cbor_skip.specs.ItemFaults.{BeginsWithItem}
+use Rattle.capi.specs.Lacking.{ItemLacks}
+
+-- if no item comes first in the bytes, an item that comes first in the bytes and more goes on into what follows
+pub record GoesOn (strict : Bool) (depth : ℕ) (bytes more : List ℕ) : Type 0 where
+  pub next : List ℕ
+  pub rest : List ℕ
+  pub is_item : IsItem strict depth (bytes ++ next)
+  pub is : more ≡ next ++ rest
+
+module _ (strict : Bool) (depth : ℕ) (bytes : List ℕ) (cut : BeginsWithItem strict depth bytes → ⊥) where
+  pub goes_on : (more : List ℕ) → BeginsWithItem strict depth (bytes ++ more) → GoesOn strict depth bytes more
+  goes_on more front =
+      elim (cases_lt (length front.item) (length bytes)) [
+        | inl less ↦ (
+            let f = front_of_front front.item bytes front.rest more (sym front.is) (omega (arith, less)) in
+            absurd (cut (record { item = front.item; rest = f.0; is_item = front.is_item; is = f.1 }))
+            )
+        | inr as_long ↦ (
+            let f = front_of_front bytes front.item more front.rest front.is as_long in
+            record {
+              next = f.0;
+              rest = front.rest;
+              is_item = subst (IsItem strict depth) f.1 front.is_item;
+              is = f.2;
+            }
+            )
+      ]
+
+  -- a checker lacks some
+  pub some_lack : (taken due : ℕ) (spot : Spot) → taken ≡ length bytes → IsFed strict depth (take taken bytes) spot
+      → Tells strict depth (take taken bytes) (r.More due) → r.More due ≡ progress_of spot
+      → ItemLacks strict depth bytes due
+  some_lack taken due spot all fed tells answer =
+      let whole : take taken bytes ≡ bytes = take_all taken bytes (omega (arith, all)) in
+      let told = subst (λ (z : List ℕ). Tells strict depth z (r.More due)) whole tells in
+      record {
+        least = λ more front.
+            let on = goes_on more front in
+            let counted = ap length on.is in
+            let most = told.2 on.next on.is_item in
+            (told.0, omega (arith, most, counted, length-append on.next on.rest));
+        some = λ positive. (
+          told.1.0,
+          record {
+            item = bytes ++ told.1.0;
+            rest = [];
+            is_item = told.1.1;
+            is = sym (append-nil (bytes ++ told.1.0));
+          },
+        );
+        checker = λ positive. record {
+          spot = spot;
+          is_fed = subst (λ (z : List ℕ). IsFed strict depth z spot) whole fed;
+          lacks = sym answer;
+        };
+      }
+
+  -- no item begins so
+  pub none_follow : (taken : ℕ) (fault : Fault) → Tells strict depth (take taken bytes) (r.Fault fault)
+      → ItemLacks strict depth bytes 0
+  none_follow taken fault never = record {
+    least = λ more front.
+        let on = goes_on more front in
+        let parts : bytes ++ on.next ≡ take taken bytes ++ (drop taken bytes ++ on.next) =
+        ap (λ (z : List ℕ). z ++ on.next) (sym (take-append-drop taken bytes))
+        ∙ append_assoc (take taken bytes) (drop taken bytes) on.next in
+        absurd (never (drop taken bytes ++ on.next) (subst (IsItem strict depth) parts on.is_item));
+    some = λ positive. absurd (omega (arith, positive));
+    checker = λ positive. absurd (omega (arith, positive));
+  }
+
+  -- nor has one ended
+  pub none_ended : (taken len : ℕ) → Tells strict depth (take taken bytes) (r.Ended len) → ⊥
+  none_ended taken len tells =
+      cut (record {
+        item = take taken bytes;
+        rest = drop taken bytes;
+        is_item = tells.0;
+        is = sym (take-append-drop taken bytes);
+      })
+
+-- if a checker says that an item ended, an item of that length comes first
+pub ended_in_front : (strict : Bool) (depth : ℕ) (bytes : List ℕ) (taken len : ℕ)
+    → Tells strict depth (take taken bytes) (r.Ended len)
+    → (front : BeginsWithItem strict depth bytes) × (len ≡ length front.item)
+ended_in_front strict depth bytes taken len tells = (
+  record {
+    item = take taken bytes;
+    rest = drop taken bytes;
+    is_item = tells.0;
+    is = sym (take-append-drop taken bytes);
+  },
+  tells.1,
+)

@@ -1,0 +1,5 @@
+use Rattle.std.proofs.Common.{rules}
+use Rattle.capi.proofs.cll_copier_init.Goals as goal
+
+pub returns : goal.returns
+returns c = search rules

@@ -1,0 +1,46 @@
+-- What `cll_skip` does.
+use Rattle.std.specs.Prelude.{◌≡◌, ℕ, ◌+◌, false, List, length, Result, Ok, Err}
+use Rattle.ciborium_ll.specs.Types.Error.TheVariants as e
+use Rattle.ciborium_ll.specs.Faults.{Short, Syntax}
+use Rattle.cbor_skip.specs.declared.SkipError.{SkipError}
+use Rattle.cbor_skip.specs.declared.SkipError.TheVariants as s
+use Rattle.cbor_skip.specs.ItemFaults.{HasDeepNest, HasEarlyBreak, HasItemFault, BeginsWithItem}
+use Rattle.capi.specs.declared.answer.CllAnswer.{CllAnswer}
+use Rattle.capi.specs.declared.answer.CllAnswer.TheVariants as a
+use Rattle.capi.specs.declared.answer.CllReport.{CllReport}
+use Rattle.capi.specs.Answers.{Reports}
+
+-- what `cll_skip` does, by its answer: it finds the item with which the bytes begin, or a fault that stops the read of
+-- it. Nothing is written. If the bytes end too early, the place is a number of bytes (`ItemLacks`)
+abbrev pub Skips : ℕ → List ℕ → CllAnswer → CllReport → Type 0
+Skips depth bytes a.Ok report = (front : BeginsWithItem false depth bytes) × Reports report (length front.item) 0 0
+Skips depth bytes a.Short report =
+    (fault : HasItemFault false depth bytes) × (fault.answer ≡ Short)
+    × Reports report (length fault.before + fault.consumed) 0 report.place
+Skips depth bytes a.Syntax report =
+    (fault : HasItemFault false depth bytes) × (fault.answer ≡ Syntax report.place)
+    × Reports report (length fault.before + fault.consumed) 0 report.place
+Skips depth bytes a.BreakDue report =
+    (fault : HasEarlyBreak false depth bytes) × Reports report (length fault.before + 1) 0 (length fault.before)
+Skips depth bytes a.TooDeep report =
+    (fault : HasDeepNest false depth bytes)
+    × Reports report (length fault.before + length fault.title) 0 (length fault.before)
+Skips depth bytes answer report = ⊥
+
+module _ {E : Type 0} where
+  -- the answer that stands for what `skip_item` returned
+  abbrev pub skip_answer : Result (Unit {0}) (SkipError E) → CllAnswer
+  skip_answer (Ok done) = a.Ok
+  skip_answer (Err (s.Read (e.Io fault))) = a.Short
+  skip_answer (Err (s.Read (e.Syntax place))) = a.Syntax
+  skip_answer (Err (s.Read e.TooLong)) = a.TooLong
+  skip_answer (Err (s.Read e.Waiting)) = a.TooLong
+  skip_answer (Err (s.Break place)) = a.BreakDue
+  skip_answer (Err (s.Deep place)) = a.TooDeep
+
+  -- the place that it names, or 0
+  abbrev pub skip_place : Result (Unit {0}) (SkipError E) → ℕ
+  skip_place (Err (s.Read (e.Syntax place))) = place
+  skip_place (Err (s.Break place)) = place
+  skip_place (Err (s.Deep place)) = place
+  skip_place skipped = 0

@@ -1,0 +1,143 @@
+-- The bytes that begin a title that is the shortest of its header.
+use Rattle.std.proofs.Common.{◌≡◌, ℕ, zero, suc, ◌-◌, ◌<◌, ◌≤◌, ◌%◌, ◌⊎◌, inl, inr, Bool, true, false, List, [], ◌∷◌}
+use Rattle.std.proofs.Common.{◌++◌, length, get_or, refl, ap, subst, arith, length-append, slice_index, Option, Some}
+use Rattle.std.proofs.Common.{None, IfSome, IfNone}
+use Rattle.std.proofs.Math.ListN.{replicate}
+use Rattle.std.proofs.lemmas.Bool.{false_from_ne_true}
+use Rattle.std.proofs.lemmas.Bool.Decides.{nat_tests}
+use Rattle.std.proofs.Math.Seq.{get_or-append_right}
+use Rattle.std.proofs.lemmas.List.{length-replicate, get_or_append_left, get_or-replicate}
+use Rattle.ciborium_ll_grammar.specs.declared.hdr.Header.{Header}
+use Rattle.ciborium_ll_grammar.specs.declared.hdr.Minor.{Minor}
+use Rattle.ciborium_ll_grammar.specs.Title.{Major, major_code, first_byte, Size, size_limit, affix_len, numbered_title}
+use Rattle.ciborium_ll_grammar.specs.Title.{IsTitle, numbered, alone, IsStrictTitle, AreBytes, BeginsRefused}
+use Rattle.ciborium_ll_grammar.specs.Title.{IsNeverOpen}
+use Rattle.ciborium_ll_grammar.specs.Parts.{IsMinor, minor_code, parts_bytes, refused_when_strict}
+use Rattle.ciborium_ll_grammar.specs.Items.{IsTakenTitle}
+use Rattle.ciborium_ll_grammar.proofs.TitleLaws.{one_title, title_refused}
+use Rattle.ciborium_ll_grammar.proofs.LongerLaws.{minor_as, taken, refused, parts_header, parts_taken, parts_refused}
+use Rattle.ciborium_ll_grammar.proofs.AffixLaws.{title_or_refused, refused_affix, cut_begins, AreBytes-append}
+use Rattle.cbor_checker.specs.Longer.{BeginsLonger}
+use Rattle.cbor_checker.specs.Steps.{SomeTaken, NoneTaken}
+
+ruleset tests = (arith, nat_tests)
+
+-- ---- a number whose first half is 0 has a smaller form
+
+-- the bytes of a list in front are those of the whole
+same_at : (a m t r : List ℕ) → a ++ m ≡ t ++ r → (i : ℕ) → i < length a → i < length t → get_or a i 0 ≡ get_or t i 0
+same_at a m t r e i la lt = cc (get_or_append_left t r 0 i lt, get_or_append_left a m 0 i la)
+
+-- no such title is the shortest
+by_title : (front m t r : List ℕ) (x : Header) → BeginsLonger front → 0 < length front → IsTitle t x
+    → front ++ m ≡ t ++ r → IsStrictTitle t x → ⊥
+by_title front m t r x longer some (numbered k s n p) e strict =
+    let at = same_at front m (numbered_title k s n) r e in refused k s n p (grind tests) strict
+by_title front m t r x longer some (alone k y o) e strict =
+    let first = same_at front m (first_byte k 31 ∷ []) r e 0 some (omega arith) in omega arith
+
+-- bytes that begin so begin no such title
+pub longer_none : (front : List ℕ) → 0 < length front → BeginsLonger front → NoneTaken true front
+longer_none front some longer = λ more title rest header is_title strict e.
+    by_title front more title rest header longer some is_title e strict
+
+-- ---- others go on to one that is the shortest
+
+-- bytes of 255
+AreBytes-full : (n : ℕ) → AreBytes (replicate n 255)
+AreBytes-full zero = tt
+AreBytes-full (suc n) = (omega arith, AreBytes-full n)
+
+-- the number of a title that ends so is high enough
+module _ (a : List ℕ) (k : ℕ) (some : 0 < length a) (more : 0 < k) (never : BeginsLonger a → ⊥) where
+  abbrev Whole : List ℕ
+  Whole = a ++ replicate k 255
+
+  -- each of its bytes came, or is 255
+  byte_at : (t : List ℕ) → t ≡ Whole → (i : ℕ) → i < length t
+      → ((i < length a) × (get_or a i 0 ≡ get_or t i 0)) ⊎ ((length a ≤ i) × (get_or t i 0 ≡ 255))
+  byte_at t e i lt =
+      let long = ap length e in
+      let whole = length-append a (replicate k 255) in
+      rw e (grind (arith, get_or_append_left, get_or-append_right, get_or-replicate, length-replicate))
+
+  not_longer : (m : Major) (s : Size) (n : ℕ) → n < size_limit s → numbered_title m s n ≡ Whole
+      → refused_when_strict (major_code m) (minor_as s n) ≡ true → ⊥
+  not_longer m s n p e longer =
+      let at = byte_at (numbered_title m s n) e in let long = ap length e in
+      grind (tests, length-append, length-replicate)
+
+  whole_taken : (t : List ℕ) (x : Header) → IsTitle t x → t ≡ Whole → IsStrictTitle t x
+  whole_taken t x (numbered m s n p) e = taken m s n p (false_from_ne_true _ (not_longer m s n p e))
+  whole_taken t x (alone m y o) e =
+      absurd (omega (arith, ap length e, length-append a (replicate k 255), length-replicate {A = ℕ} k 255, some, more))
+
+-- bytes that begin no longer title go on to the shortest of some header
+longer_some : (b : ℕ) (a : List ℕ) → b < 256 → AreBytes a → length a < affix_len (b % 32)
+    → (BeginsLonger (b ∷ a) → ⊥) → SomeTaken true (b ∷ a)
+longer_some b a byte bytes less never =
+    let k = affix_len (b % 32) - length a in
+    let whole = a ++ replicate k 255 in
+    let long : length whole ≡ affix_len (b % 32) = omega
+    (arith, length-append a (replicate k 255), length-replicate {A = ℕ} k 255, less) in
+    elim (title_or_refused b whole byte (AreBytes-append a (replicate k 255) bytes (AreBytes-full k)) long) [
+      | inl r ↦ absurd (omega (arith, refused_affix b r, less))
+      | inr t ↦ (
+        replicate k 255,
+        t.0,
+        t.1,
+        whole_taken (b ∷ a) k (omega arith) (omega (arith, less)) never (b ∷ whole) t.0 t.1 refl,
+      )
+    ]
+
+-- ---- as the code has them
+
+are_bytes : (xs : List ℕ) → ((i : ℕ) → get_or xs i 0 < 256) → AreBytes xs
+are_bytes [] f = tt
+are_bytes (x ∷ xs) f = (f 0, are_bytes xs (λ i. f (suc i)))
+
+pub strict_some : (xs : List ℕ) → ((i : ℕ) → get_or xs i 0 < 256) → 0 < length xs
+    → length xs ≤ affix_len (slice_index xs 0 % 32) → (BeginsLonger xs → ⊥) → SomeTaken true xs
+strict_some [] f some short never = absurd (omega (arith, some))
+strict_some (b ∷ a) f some short never =
+    longer_some b a (f 0) (are_bytes a (λ i. f (suc i))) (omega (arith, short)) never
+
+-- where any spelling is taken, each beginning of a title goes on to one
+pub any_some : (s : Bool) (xs : List ℕ) → s ≡ false → ((i : ℕ) → get_or xs i 0 < 256) → 0 < length xs
+    → length xs ≤ affix_len (slice_index xs 0 % 32) → SomeTaken s xs
+any_some s [] any f some short = absurd (omega (arith, some))
+any_some s (b ∷ a) any f some short =
+    let o = cut_begins (b ∷ a) (are_bytes (b ∷ a) f) (omega (arith, short)) in
+    rw any (o.byte ∷ o.more, o.header, o.title, tt)
+
+-- ---- a whole title
+
+-- bytes with which no title begins
+pub refused_none : (s : Bool) (xs : List ℕ) → BeginsRefused xs → NoneTaken s xs
+refused_none s [] r = absurd r
+refused_none s (b ∷ a) r = λ more title rest header is_title taken e.
+    title_refused title rest header is_title (subst BeginsRefused e r)
+
+-- the bytes of parts that are longer
+pub parts_none : (major : ℕ) (minor : Minor) (xs : List ℕ) → major < 8 → IsMinor minor
+    → refused_when_strict major minor ≡ true → parts_bytes major minor ≡ xs → NoneTaken true xs
+parts_none major minor xs l p longer is = λ more title rest header is_title taken e.
+    let o = parts_header major minor l p longer in
+    let same = one_title (parts_bytes major minor) title more rest o.0 header o.1 is_title (cc) in
+    parts_refused major minor header l p (rw same.0 is_title) longer (rw same.0 taken)
+
+-- the header that parts mean is under a title that is taken
+pub some_taken : (header : Option Header) (s : Bool) (major : ℕ) (minor : Minor) (xs : List ℕ) → major < 8
+    → IsMinor minor → (s ≡ true → refused_when_strict major minor ≡ false) → parts_bytes major minor ≡ xs
+    → IfSome header (IsTitle (parts_bytes major minor)) → IfSome header (IsTakenTitle s xs)
+some_taken (Some header) true major minor xs l p shortest is title =
+    rw (← is) (parts_taken major minor header l p title (shortest refl))
+some_taken header s major minor xs l p shortest is title = tt
+
+-- parts that mean nothing
+pub none_means : (header : Option Header) (s : Bool) (major : ℕ) (minor : Minor) (xs : List ℕ)
+    → parts_bytes major minor ≡ xs → IfNone header ((minor_code minor ≡ 31) × IsNeverOpen major)
+    → IfNone header (NoneTaken s xs)
+none_means (Some header) s major minor xs is none = tt
+none_means None s major minor xs is none =
+    rw (← is) (refused_none s (parts_bytes major minor) (inr (grind (arith, none))))

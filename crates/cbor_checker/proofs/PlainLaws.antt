@@ -1,0 +1,190 @@
+-- Plain items: the table's entries for first bytes, and the spots that plain items lead to.
+use Rattle.std.proofs.Common.{◌≡◌, ℕ, suc, ◌+◌, ◌-◌, ◌*◌, ◌/◌, ◌%◌, ◌<◌, ◌≤◌, ◌^◌, Bool, true, false, List, [], ◌∷◌}
+use Rattle.std.proofs.Common.{◌&&◌, ◌||◌, eqb, ltb, get_or, length, take, drop, slice_index, refl, sym, ap, ◌∙◌, arith}
+use Rattle.std.proofs.Common.{inl, inr, None}
+use borrow.Author.Tests.{le-ltb, lt-ltb}
+use Rattle.std.proofs.lemmas.Bool.{agree_below_at, and_parts}
+use Rattle.std.proofs.lemmas.Bool.Decides.{nat_tests}
+use Rattle.std.proofs.lemmas.List.{length-take-le}
+use Rattle.std.proofs.Math.Seq.{take-add}
+use Rattle.ciborium_ll_text.proofs.Lists.{Below}
+use Rattle.ciborium_ll_text.specs.declared.state.State.TheVariants as s
+use Rattle.ciborium_ll_text.specs.declared.state.State.{State}
+use Rattle.ciborium_ll_text.specs.States.{after}
+use Rattle.ciborium_ll_text.specs.Text.{IsFront}
+use Rattle.ciborium_ll_text.proofs.StateLaws.{after-append, text_ends}
+use Rattle.ciborium_ll_grammar.specs.declared.hdr.table.TitleKind.TheVariants as k
+use Rattle.ciborium_ll_grammar.specs.Title.{IsTitle, Major, Unsigned, Negative, ByteString, TextString, Other, Size}
+use Rattle.ciborium_ll_grammar.specs.Title.{Small, One, NamesNoTitle, affix_len, major_code, numbered, numbered_header}
+use Rattle.ciborium_ll_grammar.specs.Title.{numbered_title, size_limit}
+use Rattle.ciborium_ll_grammar.specs.Items.{IsTakenTitle}
+use Rattle.ciborium_ll_grammar.specs.TitleRows.{NamesTitle}
+use Rattle.ciborium_ll_grammar.specs.Parts.{refused_when_strict}
+use Rattle.ciborium_ll_grammar.proofs.LongerLaws.{minor_as, taken}
+use Rattle.ciborium_ll_grammar.proofs.TitleKinds.{kind_names, kind_of}
+use Rattle.cbor_checker.specs.declared.phase.Within.TheVariants as w
+use Rattle.cbor_checker.specs.declared.plain.TheConstants.{LENS, TEXT_LENS}
+use Rattle.cbor_checker.specs.Blocked.{blocked, is_single}
+use Rattle.cbor_checker.specs.Plain.{ArePlain, IsPlainItem, IsSpan, IsValueMajor, more}
+use Rattle.cbor_checker.specs.Spots.{Spot, item_done, item_entered}
+use Rattle.cbor_checker.proofs.ItemLeads.{bytes_item, one_long, text_item, title_item, value_item}
+
+-- ---- text
+
+-- where the longest front of some bytes that is text leaves no character begun, they are a text
+pub front_ends : (xs front : List ℕ) (state : State) → IsFront xs front (drop (length front) xs)
+    → state ≡ after s.Between (drop (length front) xs) → state ≡ s.Between → s.Between ≡ after s.Between xs
+front_ends xs front state is behind between =
+    let rest = drop (length front) xs in
+    sym (ap (λ (z : List ℕ). after s.Between z) is.parts ∙ (after-append s.Between front rest
+    ∙ (ap (λ (z : State). after z rest) (text_ends front is.text) ∙ (sym behind ∙ between))))
+
+-- ---- the table
+
+abbrev value_test : ℕ → Bool
+value_test major = eqb major 0 || (eqb major 1 || eqb major 7)
+
+abbrev item_test : ℕ → ℕ → ℕ → Bool
+item_test first len text_len =
+    eqb len 0
+    || ((eqb len 1 && (ltb (first % 32) 24 && value_test (first / 32)))
+    || ((eqb len (1 + first % 32) && (ltb (first % 32) 24 && eqb (first / 32) 2))
+    || ((eqb len (1 + affix_len (first % 32)) && (ltb 0 (affix_len (first % 32)) && (ltb 23 (first % 32)
+    && (ltb (first % 32) 28 && value_test (first / 32)))))
+    || ((eqb len (1 + first % 32) && (ltb (first % 32) 24 && eqb (first / 32) 3)) && eqb text_len (first % 32)))))
+
+abbrev span_test : ℕ → ℕ → ℕ → Bool
+span_test first len text_len = item_test first len text_len && (eqb len 0 || ltb text_len len)
+
+item_tells : (first len text_len : ℕ) → item_test first len text_len ≡ true → IsSpan first len text_len
+item_tells first len text_len e = grind (arith, nat_tests)
+
+span_tells : (first len text_len : ℕ) → span_test first len text_len ≡ true
+    → IsSpan first len text_len × (0 < len → text_len < len)
+span_tells first len text_len both =
+    let parts = and_parts (item_test first len text_len) _ both in
+    (item_tells first len text_len parts.0, let less = parts.1 in grind (arith, nat_tests))
+
+-- each of the 256 numbers passes its test
+pub span_says : (first len text_len : ℕ) → first < 256 → len ≡ get_or LENS first 0
+    → text_len ≡ get_or TEXT_LENS first 0 → IsSpan first len text_len × (0 < len → text_len < len)
+span_says first len text_len l len_is text_len_is =
+    let passes = agree_below_at (λ (b : ℕ). span_test b (get_or LENS b 0) (get_or TEXT_LENS b 0)) (λ (b : ℕ). true)
+    256 first refl l in
+    span_tells first len text_len (ap (λ (z : ℕ). span_test first z text_len) len_is
+    ∙ (ap (λ (z : ℕ). span_test first (get_or LENS first 0) z) text_len_is ∙ passes))
+
+-- ---- titles of one and of two bytes
+
+-- where a number takes this size it is a title, and where it takes no smaller one it is taken
+numbered_taken : (strict : Bool) (t : List ℕ) (major : Major) (size : Size) (n : ℕ) → t ≡ numbered_title major size n
+    → n < size_limit size → refused_when_strict (major_code major) (minor_as size n) ≡ false
+    → IsTitle t (numbered_header major size n) × IsTakenTitle strict t (numbered_header major size n)
+numbered_taken false t major size n e fits short = rw e (numbered major size n fits, tt)
+numbered_taken true t major size n e fits short = rw e (numbered major size n fits, taken major size n fits short)
+
+pub one_taken : (strict : Bool) (b n : ℕ) (major : Major) → b ≡ 32 * major_code major + n → n < 24
+    → IsTitle (b ∷ []) (numbered_header major Small n) × IsTakenTitle strict (b ∷ []) (numbered_header major Small n)
+one_taken strict b n major e small = numbered_taken strict (b ∷ []) major Small n (rw e refl) small refl
+
+take_two : (xs : List ℕ) → 1 < length xs → take 2 xs ≡ slice_index xs 0 ∷ slice_index xs 1 ∷ []
+take_two xs some = grind (arith, nat_tests)
+
+two_taken : (strict : Bool) (xs : List ℕ) (major : Major) → 1 < length xs
+    → slice_index xs 0 ≡ 32 * major_code major + 24 → slice_index xs 1 < 256
+    → refused_when_strict (major_code major) (minor_as One (slice_index xs 1)) ≡ false
+    → IsTitle (take 2 xs) (numbered_header major One (slice_index xs 1))
+    × IsTakenTitle strict (take 2 xs) (numbered_header major One (slice_index xs 1))
+two_taken strict xs major some e fits short =
+    let same : slice_index xs 1 % 256 ≡ slice_index xs 1 = omega (arith, fits) in
+    let parts : take 2 xs ≡ numbered_title major One (slice_index xs 1) = rw (take_two xs some, same, e) refl in
+    numbered_taken strict (take 2 xs) major One (slice_index xs 1) parts fits short
+
+-- ---- what the numbers of a first byte say of the item
+
+-- a byte before the reserved minors names a title
+named : (b : ℕ) → b % 32 < 28 → NamesNoTitle (b / 32) (b % 32) → ⊥
+named b less none = grind (arith, nat_tests)
+
+strings_free : (d place : ℕ) → (blocked w.Nothing d place k.Bytes ≡ None) × (blocked w.Nothing d place k.Text ≡ None)
+strings_free d place = grind (arith, nat_tests)
+
+-- the major type of a value
+record ValueMajor (code : ℕ) : Type 0 where
+  major : Major
+  is : major_code major ≡ code
+  value : is_single (kind_of major) ≡ true
+  ends : (n : ℕ) (u : Spot) → item_entered (numbered_header major Small n) u ≡ item_done u
+
+major_of : (code : ℕ) → IsValueMajor code → ValueMajor code
+major_of code (inl e) = record { major = Unsigned; is = sym e; value = refl; ends = λ n u. refl }
+major_of code (inr (inl e)) = record { major = Negative; is = sym e; value = refl; ends = λ n u. refl }
+major_of code (inr (inr e)) = record { major = Other; is = sym e; value = refl; ends = λ n u. refl }
+
+-- of a longer title any spelling is taken, and the body of a text is one by itself
+pub span_plain : (xs : List ℕ) (len text_len : ℕ) (strict : Bool) → Below xs → 0 < length xs
+    → IsSpan (slice_index xs 0) len text_len → 0 < len → len ≤ length xs → (24 ≤ slice_index xs 0 % 32 → strict ≡ false)
+    → s.Between ≡ after s.Between (take text_len (drop 1 xs)) → IsPlainItem strict (take len xs)
+span_plain [] len text_len strict below some is least le any text = absurd (omega arith)
+span_plain (b ∷ xs) len text_len strict below some (inl none) least le any text = absurd (omega (arith, none, least))
+span_plain (b ∷ xs) len text_len strict below some (inr (inl v)) least le any text =
+    let m = major_of (b / 32) v.2 in
+    title_item (b ∷ xs) len strict (numbered_header m.major Small (b % 32)) below least le
+    (λ more. absurd (omega (arith, more, v.0))) (rw v.0 (one_taken strict b (b % 32) m.major (omega arith) v.1))
+    (m.ends (b % 32))
+span_plain (b ∷ xs) len text_len strict below some (inr (inr (inl v))) least le any text =
+    bytes_item (b ∷ xs) 1 (b % 32) len strict below (omega arith) v.0 le (λ more. absurd (omega (arith, more)))
+    (one_taken strict b (b % 32) ByteString (omega (arith, v.2)) v.1)
+span_plain (b ∷ xs) len text_len strict below some (inr (inr (inr (inl v)))) least le any text =
+    let m = major_of (b / 32) v.4 in
+    rw (any v.2) (value_item (b ∷ xs) len (kind_of m.major) below m.value (omega (arith, v.0, v.1)) le v.0
+    (kind_names m.major (b / 32) (b % 32) m.is (named b v.3)))
+span_plain (b ∷ xs) len text_len strict below some (inr (inr (inr (inr v)))) least le any text =
+    let title = one_taken strict b (b % 32) TextString (omega (arith, v.2)) v.1 in
+    text_item (b ∷ xs) 1 (b % 32) len strict below (omega arith) v.0 le (λ more. absurd (omega (arith, more))) title
+    (one_long (b ∷ []) (b % 32) title.0 refl) (rw v.3 at text)
+
+-- a text of which the first byte tells the length
+pub short_text : (xs : List ℕ) (len : ℕ) (strict : Bool) → Below xs → 0 < length xs → slice_index xs 0 / 32 ≡ 3
+    → slice_index xs 0 % 32 < 24 → len ≡ 1 + slice_index xs 0 % 32 → len ≤ length xs
+    → s.Between ≡ after s.Between (take (len - 1) (drop 1 xs)) → IsPlainItem strict (take len xs)
+short_text xs len strict below some major small is le text =
+    let body : len - 1 ≡ slice_index xs 0 % 32 = omega (arith, is) in
+    span_plain xs len (slice_index xs 0 % 32) strict below some (inr (inr (inr (inr (is, small, major, refl)))))
+    (omega (arith, is)) le (λ high. absurd (omega (arith, high, small))) (rw body at text)
+
+-- ---- a string of which one byte behind the first says how long it is
+
+module _ (xs : List ℕ) (len : ℕ) (strict : Bool) (below : Below xs) (some : 1 < length xs)
+    (least : 24 ≤ slice_index xs 1) (e : len ≡ 2 + slice_index xs 1) (le : len ≤ length xs) where
+  pub long_bytes : slice_index xs 0 ≡ 88 → IsPlainItem strict (take len xs)
+  long_bytes is =
+      let known : NamesTitle 2 (slice_index xs 0 / 32) (slice_index xs 0 % 32) =
+      (omega (arith, is), named (slice_index xs 0) (omega (arith, is))) in
+      bytes_item xs 2 (slice_index xs 1) len strict below (omega arith) e le
+      (λ more d place. record { kind = k.Bytes; is = known; free = (strings_free d place).0 })
+      (two_taken strict xs ByteString some is (below 1 some) (le-ltb (slice_index xs 1) 24 least))
+
+  pub long_text : slice_index xs 0 ≡ 120 → s.Between ≡ after s.Between (take (len - 2) (drop 2 xs))
+      → IsPlainItem strict (take len xs)
+  long_text is text =
+      let c = slice_index xs 1 in
+      let known : NamesTitle 3 (slice_index xs 0 / 32) (slice_index xs 0 % 32) =
+      (omega (arith, is), named (slice_index xs 0) (omega (arith, is))) in
+      let long : c < 2 ^ 8 = omega (arith, below 1 some) in
+      let less : len - 2 ≡ c = omega (arith, e) in
+      text_item xs 2 c len strict below (omega arith) e le
+      (λ more d place. record { kind = k.Text; is = known; free = (strings_free d place).1 })
+      (two_taken strict xs TextString some is (below 1 some) (le-ltb c 24 least))
+      (rw (le-ltb c 24 least, lt-ltb c (2 ^ 8) long) refl) (rw less at text)
+
+-- ---- items one behind the other
+
+-- one more
+pub plain_more : (strict : Bool) (offset first last most left at len : ℕ) (xs : List ℕ) → at ≤ length xs → 0 < left
+    → left ≤ most → ArePlain strict offset first (most - left) last (take at xs)
+    → IsPlainItem strict (take len (drop at xs))
+    → ArePlain strict offset first (most - (left - 1)) (offset + at) (take (at + len) xs)
+plain_more strict offset first last most left at len xs le some fits so_far one =
+    let count : suc (most - left) ≡ most - (left - 1) = omega arith in
+    rw (take-add at len xs) (rw (count, length-take-le at xs le) at (more so_far one))

@@ -1,0 +1,126 @@
+-- The bytes after a spot that make a whole item of all.
+use Rattle.std.proofs.Common.{◌≡◌, ℕ, zero, suc, ◌*◌, ◌⊎◌, Bool, true, List, [], ◌∷◌, ◌++◌, length}
+use Rattle.ciborium_ll_grammar.specs.Items.{AreItems, AreTakenStrings, IsItem}
+use Rattle.ciborium_ll_grammar.specs.Strings.{Kind, Bytes, Text, AreStrings}
+use Rattle.ciborium_ll_grammar.specs.Elements.{AreWritable}
+use Rattle.ciborium_ll_text.specs.declared.state.State.{State}
+use Rattle.ciborium_ll_text.specs.declared.state.State.TheVariants as s
+use Rattle.ciborium_ll_text.specs.States.{after}
+use Rattle.cbor_checker.specs.declared.level.Level.{Level}
+use Rattle.cbor_checker.specs.declared.level.Level.TheVariants as l
+use Rattle.cbor_checker.specs.declared.phase.Phase.{Phase}
+use Rattle.cbor_checker.specs.declared.phase.Phase.TheVariants as p
+use Rattle.cbor_checker.specs.declared.phase.Within.{Within}
+use Rattle.cbor_checker.specs.declared.phase.Within.TheVariants as w
+use Rattle.cbor_checker.specs.Levels.{closes}
+use Rattle.cbor_checker.specs.Spots.{Spot}
+
+-- a level takes so many items and then this end
+abbrev pub Takes : Level → ℕ → List ℕ → Type 0
+Takes (l.Items more) count end = (count ≡ more) × (end ≡ [])
+Takes (l.Pairs more) count end = (count ≡ 2 * more) × (end ≡ [])
+Takes (l.Value more) count end = (count ≡ suc (2 * more)) × (end ≡ [])
+Takes l.OpenItems count end = Unit {0} × (end ≡ 0xff ∷ [])
+Takes l.OpenPairs count end = ((pairs : ℕ) × (count ≡ 2 * pairs)) × (end ≡ 0xff ∷ [])
+Takes l.OpenValue count end = ((pairs : ℕ) × (count ≡ suc (2 * pairs))) × (end ≡ 0xff ∷ [])
+
+-- the bytes end the level, and those behind it are so
+pub record EndsLevel (strict : Bool) (level : Level) (depth : ℕ) (Then : List ℕ
+    → Type 0) (bytes : List ℕ) : Type 0 where
+  pub count : ℕ
+  pub items : List ℕ
+  pub end : List ℕ
+  pub rest : List ℕ
+  pub takes : Takes level count end
+  pub are_items : AreItems strict depth count items
+  pub behind : Then rest
+  pub is : bytes ≡ items ++ (end ++ rest)
+
+-- the bytes end all levels
+abbrev pub Ends : Bool → ℕ → List Level → List ℕ → Type 0
+Ends strict depth [] bytes = bytes ≡ []
+Ends strict depth (level ∷ levels) bytes = EndsLevel strict level depth (Ends strict (suc depth) levels) bytes
+
+-- the bytes are an item, and those behind it are so
+pub record ItemThen (strict : Bool) (depth : ℕ) (Then : List ℕ → Type 0) (bytes : List ℕ) : Type 0 where
+  pub item : List ℕ
+  pub rest : List ℕ
+  pub is_item : IsItem strict depth item
+  pub behind : Then rest
+  pub is : bytes ≡ item ++ rest
+
+-- a break ends the innermost level, and the bytes behind it end the others
+pub record BreakThen (level : Level) (Then : List ℕ → Type 0) (bytes : List ℕ) : Type 0 where
+  pub rest : List ℕ
+  pub may : closes level ≡ true
+  pub behind : Then rest
+  pub is : bytes ≡ 0xff ∷ rest
+
+abbrev pub Breaks : Bool → ℕ → List Level → List ℕ → Type 0
+Breaks strict depth [] bytes = ⊥
+Breaks strict depth (level ∷ levels) bytes = BreakThen level (Ends strict (suc depth) levels) bytes
+
+-- where an item is due
+abbrev pub ItemDue : Bool → ℕ → List Level → List ℕ → Type 0
+ItemDue strict depth levels bytes = ItemThen strict depth
+    (Ends strict depth levels) bytes ⊎ Breaks strict depth levels bytes
+
+-- the bytes end an open string, and those behind it are so
+pub record EndsString (strict : Bool) (kind : Kind) (Then : List ℕ → Type 0) (bytes : List ℕ) : Type 0 where
+  pub strings : List ℕ
+  pub bodies : List (List ℕ)
+  pub rest : List ℕ
+  pub are : AreStrings kind strings bodies
+  pub taken : AreTakenStrings strict kind strings bodies
+  pub sound : AreWritable kind bodies
+  pub behind : Then rest
+  pub is : bytes ≡ strings ++ 0xff ∷ rest
+
+-- what stands behind the innermost of so many open strings, and one more
+abbrev pub Behind : Bool → Kind → ℕ → (List ℕ → Type 0) → List ℕ → Type 0
+Behind strict kind zero Then bytes = Then bytes
+Behind strict kind (suc more) Then bytes = EndsString strict kind (Behind strict kind more Then) bytes
+
+-- the bytes end them all
+abbrev pub EndsStrings : Bool → Kind → ℕ → (List ℕ → Type 0) → List ℕ → Type 0
+EndsStrings strict kind more Then bytes = EndsString strict kind (Behind strict kind more Then) bytes
+
+-- behind a title or a string, where a title is due
+abbrev pub TitleDue : Bool → Within → ℕ → List Level → List ℕ → Type 0
+TitleDue strict w.Nothing depth levels bytes = ItemDue strict depth levels bytes
+TitleDue strict (w.Bytes more) depth levels bytes = EndsStrings strict Bytes more (Ends strict depth levels) bytes
+TitleDue strict (w.Text more) depth levels bytes = EndsStrings strict Text more (Ends strict depth levels) bytes
+
+-- behind a string of a definite length
+abbrev pub StringDone : Bool → Within → ℕ → List Level → List ℕ → Type 0
+StringDone strict w.Nothing depth levels bytes = Ends strict depth levels bytes
+StringDone strict (w.Bytes more) depth levels bytes = EndsStrings strict Bytes more (Ends strict depth levels) bytes
+StringDone strict (w.Text more) depth levels bytes = EndsStrings strict Text more (Ends strict depth levels) bytes
+
+-- a body of so many bytes
+pub record BodyThen (len : ℕ) (Sound Then : List ℕ → Type 0) (bytes : List ℕ) : Type 0 where
+  pub body : List ℕ
+  pub rest : List ℕ
+  pub long : length body ≡ len
+  pub sound : Sound body
+  pub behind : Then rest
+  pub is : bytes ≡ body ++ rest
+
+abbrev pub AnyBody : List ℕ → Type 0
+AnyBody body = Unit {0}
+
+abbrev pub TextBody : State → List ℕ → Type 0
+TextBody state body = after state body ≡ s.Between
+
+abbrev pub WaitsIn : Phase → Spot → List ℕ → Type 0
+WaitsIn p.Title spot bytes = TitleDue spot.strict spot.within spot.depth spot.levels (spot.front ++ bytes)
+WaitsIn (p.Bytes len) spot bytes = BodyThen len AnyBody
+    (StringDone spot.strict spot.within spot.depth spot.levels) bytes
+WaitsIn (p.Text len state) spot bytes =
+    BodyThen len (TextBody state) (StringDone spot.strict spot.within spot.depth spot.levels) bytes
+WaitsIn p.Ended spot bytes = bytes ≡ []
+WaitsIn (p.Faulted fault) spot bytes = ⊥
+
+-- these bytes behind the spot make a whole item of all
+abbrev pub Waits : Spot → List ℕ → Type 0
+Waits spot bytes = WaitsIn spot.phase spot bytes

@@ -1,0 +1,32 @@
+-- The rest of a tag, an array or a map after the item that is due in it (RFC 7049, 2.1, 2.2.1 and 2.4).
+use Rattle.std.specs.Prelude.{zero, suc, Bool, true, false, Option, Some, None}
+use Rattle.ciborium_ll_grammar.specs.declared.hdr.Header.{Header}
+use Rattle.ciborium_ll_grammar.specs.declared.hdr.Header.TheVariants as h
+use Rattle.cbor_checker.specs.declared.level.Level.{Level}
+use Rattle.cbor_checker.specs.declared.level.Level.TheVariants as l
+
+-- The contents of a nest, by its header: one item, a counted number of items or pairs, or any number up to a break.
+abbrev pub contents : Header → Level
+contents (h.Tag number) = l.Items 1
+contents (h.Array (Some count)) = l.Items count
+contents (h.Array None) = l.OpenItems
+contents (h.Map (Some count)) = l.Pairs count
+contents (h.Map None) = l.OpenPairs
+contents header = l.Items 0
+
+-- The rest of a nest after one more item, if an item is due.
+abbrev pub next : Level → Option Level
+next (l.Items zero) = None
+next (l.Items (suc count)) = Some (l.Items count)
+next (l.Pairs zero) = None
+next (l.Pairs (suc count)) = Some (l.Value count)
+next (l.Value count) = Some (l.Pairs count)
+next l.OpenItems = Some l.OpenItems
+next l.OpenPairs = Some l.OpenValue
+next l.OpenValue = Some l.OpenPairs
+
+-- A break may stand in place of the item that is due: any item of an open array, or a key of an open map.
+abbrev pub closes : Level → Bool
+closes l.OpenItems = true
+closes l.OpenValue = true
+closes level = false

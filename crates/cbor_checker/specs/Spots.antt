@@ -1,0 +1,132 @@
+-- The *spot* that the bytes so far have come to. `proofs/Waiting.antt` says what a spot means: which bytes after it
+-- make a whole item of all. The law `exact_states` says it of the bytes alone.
+use Rattle.std.specs.Prelude.{ℕ, zero, suc, ◌-◌, Bool, true, false, List, [], ◌∷◌, Some, None}
+use Rattle.ciborium_ll_grammar.specs.declared.hdr.Header.{Header}
+use Rattle.ciborium_ll_grammar.specs.declared.hdr.Header.TheVariants as h
+use Rattle.ciborium_ll_grammar.specs.Title.{title_len}
+use Rattle.ciborium_ll_text.specs.declared.state.State.TheVariants as s
+use Rattle.cbor_checker.specs.declared.level.Level.{Level}
+use Rattle.cbor_checker.specs.declared.phase.Phase.{Phase}
+use Rattle.cbor_checker.specs.declared.phase.Phase.TheVariants as p
+use Rattle.cbor_checker.specs.declared.phase.Within.{Within}
+use Rattle.cbor_checker.specs.declared.phase.Within.TheVariants as w
+use Rattle.cbor_checker.specs.declared.phase.Fault.TheVariants as f
+use Rattle.cbor_checker.specs.Levels.{closes, contents, next}
+
+-- In turn: only the shortest spelling is taken, what is due, the bytes of a title that isn't whole, and the open
+-- strings. Then the levels left, the nests around the item (the innermost first), the place that a fault would name,
+-- and how many bytes came.
+pub record Spot : Type 0 where
+  pub strict : Bool
+  pub phase : Phase
+  pub front : List ℕ
+  pub within : Within
+  pub depth : ℕ
+  pub levels : List Level
+  pub place : ℕ
+  pub offset : ℕ
+
+-- The same spot with another phase.
+abbrev pub at_phase : Phase → Spot → Spot
+at_phase phase spot = record spot { phase = phase }
+
+-- An item is due in the innermost nest. Its rest after the item is the first of `levels`.
+abbrev pub item_due : ℕ → List Level → Spot → Spot
+item_due depth levels spot =
+    record spot { phase = p.Title; within = w.Nothing; depth = depth; levels = levels }
+
+-- The spot after a whole item: nests that are done end too. Without a nest left, the whole item has ended (RFC 7049,
+-- 2.1, 2.2.1 and 2.4).
+abbrev pub settled : ℕ → List Level → Spot → Spot
+settled depth [] spot = record spot { phase = p.Ended; within = w.Nothing; depth = depth; levels = [] }
+settled depth (level ∷ levels) spot =
+    elim (next level) [ None ↦ settled (suc depth) levels spot | Some left ↦ item_due depth (left ∷ levels) spot ]
+
+-- The spot after a whole item.
+abbrev pub item_done : Spot → Spot
+item_done spot = settled spot.depth spot.levels spot
+
+-- The spot after a string of a definite length, which is an item or a piece of an open string (RFC 7049, 2.2.2).
+abbrev pub string_done : Within → Spot → Spot
+string_done w.Nothing spot = item_done spot
+string_done (w.Bytes more) spot = at_phase p.Title spot
+string_done (w.Text more) spot = at_phase p.Title spot
+
+-- This many bytes of a byte string are due; with 0 the string is done (RFC 7049, 2.1).
+abbrev pub bytes_due : ℕ → Spot → Spot
+bytes_due zero spot = string_done spot.within spot
+bytes_due (suc len) spot = at_phase (p.Bytes (suc len)) spot
+
+-- This many bytes of a text are due, from its first byte on; with 0 the text is done (RFC 7049, 2.1).
+abbrev pub text_due : ℕ → Spot → Spot
+text_due zero spot = string_done spot.within spot
+text_due (suc len) spot = at_phase (p.Text (suc len) s.Between) spot
+
+-- Strings are open, and a piece of them or a break is due (RFC 7049, 2.2.2).
+abbrev pub string_open : Within → Spot → Spot
+string_open within spot = record spot { phase = p.Title; within = within }
+
+-- The spot after the title of a nest (RFC 7049, 2.1 and 2.4).
+abbrev pub nested : ℕ → Level → Spot → Spot
+nested zero inner spot = at_phase (p.Faulted (f.Deep spot.place)) spot
+nested (suc depth) inner spot = settled depth (inner ∷ spot.levels) spot
+
+-- The spot after a break in place of an item (RFC 7049, 2.2.1).
+abbrev pub broken : List Level → Spot → Spot
+broken [] spot = at_phase (p.Faulted (f.Break spot.place)) spot
+broken (level ∷ levels) spot =
+    elim (closes level) [
+      | true ↦ settled (suc spot.depth) levels spot
+      | false ↦ at_phase (p.Faulted (f.Break spot.place)) spot
+    ]
+
+-- The bytes may not stand there: a fault of syntax at the place.
+abbrev pub refused : Spot → Spot
+refused spot = at_phase (p.Faulted (f.Syntax spot.place)) spot
+
+-- A fault in this text's body names the byte from which its shortest title would reach the body.
+abbrev pub body_placed : ℕ → Spot → Spot
+body_placed len spot = record spot { place = spot.offset - title_len (h.Text (Some len)) }
+
+-- The spot after the whole title of an item (RFC 7049, 2.1 to 2.4).
+abbrev pub item_entered : Header → Spot → Spot
+item_entered (h.Bytes (Some len)) spot = bytes_due len spot
+item_entered (h.Bytes None) spot = string_open (w.Bytes zero) spot
+item_entered (h.Text (Some len)) spot =
+    text_due len (body_placed len spot)
+item_entered (h.Text None) spot = string_open (w.Text zero) spot
+item_entered (h.Tag number) spot = nested spot.depth (contents (h.Tag number)) spot
+item_entered (h.Array count) spot = nested spot.depth (contents (h.Array count)) spot
+item_entered (h.Map count) spot = nested spot.depth (contents (h.Map count)) spot
+item_entered h.Break spot = broken spot.levels spot
+item_entered header spot = item_done spot
+
+-- The spot after a break within strings, with this many more open (RFC 7049, 2.2.2).
+abbrev pub string_closed : (ℕ → Within) → ℕ → Spot → Spot
+string_closed within zero spot = item_done spot
+string_closed within (suc more) spot = string_open (within more) spot
+
+-- The spot after an open within an open string of its kind (RFC 7049, 2.2.2). The shortest spelling has none (3.9).
+abbrev pub open_entered : Bool → Within → Spot → Spot
+open_entered true within spot = refused spot
+open_entered false within spot = string_open within spot
+
+-- The spot after a whole title within a byte string (RFC 7049, 2.2.2).
+abbrev pub bytes_entered : Header → ℕ → Spot → Spot
+bytes_entered (h.Bytes (Some len)) more spot = bytes_due len spot
+bytes_entered (h.Bytes None) more spot = open_entered spot.strict (w.Bytes (suc more)) spot
+bytes_entered h.Break more spot = string_closed w.Bytes more spot
+bytes_entered header more spot = refused spot
+
+-- The spot after a whole title within a text (RFC 7049, 2.2.2).
+abbrev pub text_entered : Header → ℕ → Spot → Spot
+text_entered (h.Text (Some len)) more spot = text_due len spot
+text_entered (h.Text None) more spot = open_entered spot.strict (w.Text (suc more)) spot
+text_entered h.Break more spot = string_closed w.Text more spot
+text_entered header more spot = refused spot
+
+-- The spot after a whole title, of an item or within an open string.
+abbrev pub entered : Within → Header → Spot → Spot
+entered w.Nothing header spot = item_entered header spot
+entered (w.Bytes more) header spot = bytes_entered header more spot
+entered (w.Text more) header spot = text_entered header more spot

@@ -1,0 +1,113 @@
+-- Steps from spot to spot: by one more byte, and by a list of bytes.
+use Rattle.std.specs.Prelude.{◌≡◌, ℕ, zero, suc, ◌+◌, ◌<◌, Bool, List, [], ◌∷◌, ◌++◌, true, false}
+use Rattle.ciborium_ll_grammar.specs.declared.hdr.Header.{Header}
+use Rattle.ciborium_ll_grammar.specs.Title.{IsTitle, IsCutTitle}
+use Rattle.ciborium_ll_grammar.specs.Items.{IsTakenTitle}
+use Rattle.ciborium_ll_text.specs.declared.state.State.{State}
+use Rattle.ciborium_ll_text.specs.States.{after_byte, may_end}
+use Rattle.cbor_checker.specs.declared.phase.Phase.{Phase}
+use Rattle.cbor_checker.specs.declared.phase.Phase.TheVariants as p
+use Rattle.cbor_checker.specs.declared.phase.Within.TheVariants as w
+use Rattle.cbor_checker.specs.declared.phase.Fault.{Fault}
+use Rattle.cbor_checker.specs.Spots.{Spot, at_phase, bytes_due, entered, refused, string_done}
+
+-- No byte came, and one item is due.
+abbrev pub start : Bool → ℕ → Spot
+start strict depth = record {
+  strict = strict;
+  phase = p.Title;
+  front = [];
+  within = w.Nothing;
+  depth = depth;
+  levels = [];
+  place = 0;
+  offset = 0;
+}
+
+-- The offset at which this title began, which its fault names.
+abbrev pub title_place : List ℕ → Spot → ℕ
+title_place [] spot = spot.offset
+title_place (byte ∷ bytes) spot = spot.place
+
+-- The spot with one more byte of a title.
+abbrev pub with_byte : ℕ → Spot → Spot
+with_byte byte spot = record spot {
+  front = spot.front ++ byte ∷ [];
+  place = title_place spot.front spot;
+  offset = spot.offset + 1;
+}
+
+-- The spot after a whole title.
+abbrev pub titled : Header → Spot → Spot
+titled header spot = entered spot.within header (record spot { front = [] })
+
+-- A title that begins with these bytes is taken (RFC 7049, 2.1 and 3.9).
+abbrev pub SomeTaken : Bool → List ℕ → Type 0
+SomeTaken strict front =
+    (more : List ℕ) × (header : Header) × IsTitle (front ++ more) header × IsTakenTitle strict (front ++ more) header
+
+-- Nothing that begins with these bytes begins with a title that is taken (RFC 7049, 2.1 and 3.9).
+abbrev pub NoneTaken : Bool → List ℕ → Type 0
+NoneTaken strict front =
+    (more title rest : List ℕ) (header : Header) → IsTitle title header → IsTakenTitle strict title header
+    → front ++ more ≡ title ++ rest → ⊥
+
+-- The spot that a byte of a title leads to. The byte stands at the end of the front (RFC 7049, 2.1).
+pub data TitleStep (spot : Spot) : Spot → Type 0 where
+  -- The title isn't whole. Some titles with this beginning are taken, and all of them may stand here.
+  cut : IsCutTitle spot.front → SomeTaken spot.strict spot.front
+      → ((more : List ℕ) (header : Header) (fault : Fault) → IsTitle (spot.front ++ more) header
+      → (titled header spot).phase ≡ p.Faulted fault → ⊥)
+      → TitleStep spot spot
+  -- The title isn't whole. Some titles with this beginning are taken, and none of them may stand here.
+  early : (fault : Fault) → IsCutTitle spot.front → SomeTaken spot.strict spot.front
+      → ((more : List ℕ) (header : Header) → IsTitle (spot.front ++ more) header
+      → (titled header spot).phase ≡ p.Faulted fault)
+      → TitleStep spot (at_phase (p.Faulted fault) spot)
+  -- The title is whole, and is taken.
+  whole : (header : Header) → IsTitle spot.front header → IsTakenTitle spot.strict spot.front header
+      → TitleStep spot (titled header spot)
+  -- No title that is taken begins with these bytes.
+  none : NoneTaken spot.strict spot.front → TitleStep spot (refused (record spot { front = [] }))
+
+-- The spot after a byte of a text, with this many bytes left.
+abbrev pub text_left : Bool → ℕ → State → Spot → Spot
+text_left false left state spot = refused spot
+text_left true zero state spot = string_done spot.within spot
+text_left true (suc left) state spot = at_phase (p.Text (suc left) state) spot
+
+-- This many bytes of a body came.
+abbrev pub counted_by : ℕ → Spot → Spot
+counted_by len spot = record spot { front = []; offset = spot.offset + len }
+
+-- A byte of a body came.
+abbrev pub counted : Spot → Spot
+counted spot = record spot { front = []; offset = spot.offset + 1 }
+
+-- The next spot, by what is due.
+abbrev pub StepIn : Phase → Spot → ℕ → Spot → Type 0
+StepIn p.Title spot byte new = TitleStep (with_byte byte spot) new
+StepIn (p.Bytes zero) spot byte new = ⊥
+StepIn (p.Bytes (suc left)) spot byte new = new ≡ bytes_due left (counted spot)
+StepIn (p.Text zero state) spot byte new = ⊥
+StepIn (p.Text (suc left) state) spot byte new =
+    new ≡ text_left (may_end (after_byte state byte) left) left (after_byte state byte) (counted spot)
+StepIn p.Ended spot byte new = ⊥
+StepIn (p.Faulted fault) spot byte new = ⊥
+
+-- The next spot, after one more byte of a title or of a string's body.
+abbrev pub Step : Spot → ℕ → Spot → Type 0
+Step spot byte new = StepIn spot.phase spot byte new
+
+-- `Leads spot bytes new`: these bytes lead from the spot to the new spot, with a `Step` for each.
+pub data Leads : Spot → List ℕ → Spot → Type 0 where
+  stay : {spot : Spot} → Leads spot [] spot
+  go : {bytes : List ℕ} {spot next new : Spot} (byte : ℕ) → byte < 256 → Step spot byte next → Leads next bytes new
+      → Leads spot (byte ∷ bytes) new
+
+-- `IsFed strict depth bytes spot`: these bytes have led from `start` to the spot, with a `Step` for each. They are fed
+-- as one item nested to the depth, and if `strict` in its shortest spelling.
+pub data IsFed (strict : Bool) (depth : ℕ) : List ℕ → Spot → Type 0 where
+  fresh : IsFed strict depth [] (start strict depth)
+  more : {bytes : List ℕ} {spot new : Spot} (byte : ℕ) → byte < 256 → IsFed strict depth bytes spot
+      → Step spot byte new → IsFed strict depth (bytes ++ byte ∷ []) new

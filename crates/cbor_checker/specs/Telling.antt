@@ -1,0 +1,96 @@
+-- The answers of a checker, and what they say of the bytes so far.
+use Rattle.std.specs.Prelude.{◌≡◌, ℕ, zero, ◌+◌, ◌-◌, ◌%◌, ◌<◌, ◌≤◌, ◌^◌, ◌⊎◌, Bool, true, false, List, [], ◌∷◌}
+use Rattle.std.specs.Prelude.{◌++◌, ◌==◌, if◌then◌else◌, length}
+use Rattle.ciborium_ll_grammar.specs.Title.{affix_len}
+use Rattle.ciborium_ll_grammar.specs.Items.{IsItem}
+use Rattle.cbor_checker.specs.declared.phase.Phase.{Phase}
+use Rattle.cbor_checker.specs.declared.phase.Phase.TheVariants as p
+use Rattle.cbor_checker.specs.declared.progress.Progress.{Progress}
+use Rattle.cbor_checker.specs.declared.progress.Progress.TheVariants as r
+use Rattle.cbor_checker.specs.declared.progress.End.{End}
+use Rattle.cbor_checker.specs.declared.progress.End.TheVariants as e
+use Rattle.cbor_checker.specs.Spots.{Spot}
+
+-- A body has bytes left.
+abbrev pub has_left : Phase → Bool
+has_left (p.Bytes zero) = false
+has_left (p.Text zero state) = false
+has_left phase = true
+
+-- More bytes may come.
+abbrev pub is_due : Phase → Bool
+is_due p.Ended = false
+is_due (p.Faulted fault) = false
+is_due phase = true
+
+-- How many bytes a title lacks at least: `19` lacks two.
+abbrev pub title_due : List ℕ → ℕ
+title_due [] = 1
+title_due (byte ∷ bytes) = affix_len (byte % 32) - length bytes
+
+-- The answer, by what is due. It says how many bytes are missing.
+abbrev pub progress_in : Phase → Spot → Progress
+progress_in p.Title spot = r.More (title_due spot.front)
+progress_in (p.Bytes left) spot = r.More left
+progress_in (p.Text left state) spot = r.More left
+progress_in p.Ended spot = r.Ended spot.offset
+progress_in (p.Faulted fault) spot = r.Fault fault
+
+-- The answer at a spot.
+abbrev pub progress_of : Spot → Progress
+progress_of spot = progress_in spot.phase spot
+
+-- The answer if no more bytes come, by the last answer.
+abbrev pub end_in : Progress → End
+end_in (r.More due) = e.Short due
+end_in (r.Ended len) = e.Between
+end_in (r.Fault fault) = e.Fault fault
+end_in r.TooLong = e.Between
+
+-- The answer at a spot if no more bytes come. Without any byte, they end between items.
+abbrev pub end_of : Spot → End
+end_of spot = if spot.offset == 0 then e.Between else end_in (progress_of spot)
+
+-- More bytes are due.
+abbrev pub IsMore : Progress → Type 0
+IsMore (r.More due) = Unit {0}
+IsMore progress = ⊥
+
+-- The answer is that of the spot. With `TooLong`, more bytes are due there that can't be counted.
+abbrev pub IsAnswer : Progress → Spot → Type 0
+IsAnswer r.TooLong spot = IsMore (progress_of spot)
+IsAnswer progress spot = progress ≡ progress_of spot
+
+-- What the answer says of all bytes so far (RFC 7049, 2.1 to 2.4). `More`: they are no item, some more bytes make them
+-- an item, and all that do are at least `due`. `Ended`: they are one item, of this length. `Fault`: no item begins so.
+abbrev pub Tells : Bool → ℕ → List ℕ → Progress → Type 0
+Tells strict depth bytes (r.More due) =
+    (1 ≤ due) × ((more : List ℕ) × IsItem strict depth (bytes ++ more))
+    × ((more : List ℕ) → IsItem strict depth (bytes ++ more) → due ≤ length more)
+Tells strict depth bytes (r.Ended len) = IsItem strict depth bytes × (len ≡ length bytes)
+Tells strict depth bytes (r.Fault fault) = (more : List ℕ) → IsItem strict depth (bytes ++ more) → ⊥
+Tells strict depth bytes r.TooLong = 2 ^ 64 ≤ length bytes + 1
+
+-- What the last answer says of all bytes: they end between items or within an item, or no item begins so.
+abbrev pub TellsEnd : Bool → ℕ → List ℕ → End → Type 0
+TellsEnd strict depth bytes e.Between = (bytes ≡ []) ⊎ IsItem strict depth bytes
+TellsEnd strict depth bytes (e.Short due) = (0 < length bytes) × Tells strict depth bytes (r.More due)
+TellsEnd strict depth bytes (e.Fault fault) = Tells strict depth bytes (r.Fault fault)
+
+-- The item is whole.
+abbrev pub EndedIn : Phase → Type 0
+EndedIn p.Ended = Unit {0}
+EndedIn phase = ⊥
+
+-- The item is whole at the spot.
+abbrev pub HasEnded : Spot → Type 0
+HasEnded spot = EndedIn spot.phase
+
+-- No item goes on from here.
+abbrev pub FaultIn : Phase → Type 0
+FaultIn (p.Faulted fault) = Unit {0}
+FaultIn phase = ⊥
+
+-- No item goes on from the spot.
+abbrev pub IsAtFault : Spot → Type 0
+IsAtFault spot = FaultIn spot.phase

@@ -1,0 +1,33 @@
+-- A checker during a call as the spot that it has come to. The numbers of its nests stand in the caller's memory.
+use Rattle.std.specs.Prelude.{◌≡◌, ◌-◌, ℕ, List, length, take, drop}
+use Rattle.cbor_checker.specs.declared.level.Level.{Level}
+use Rattle.cbor_checker.specs.declared.levels.Levels.{Levels}
+use Rattle.cbor_checker.specs.declared.walk.Walk.{Walk}
+use Rattle.cbor_checker.specs.Snapshots.{levels_in}
+use Rattle.cbor_checker.specs.Spots.{Spot}
+use Rattle.cbor_checker.specs.Stack.{levels_of}
+
+-- The nests whose numbers stand in that memory.
+abbrev pub levels_at : Levels → List Level
+levels_at l = levels_of (levels_in l.len l.kinds.now l.counts.now)
+
+-- The memory is the same.
+abbrev pub AreLent : Levels → Levels → Type 0
+AreLent old new = (new.kinds.ghost_name ≡ old.kinds.ghost_name) × (new.counts.ghost_name ≡ old.counts.ghost_name)
+
+-- The spot that a walk has come to.
+abbrev pub spot_at : Walk → Spot
+spot_at w = record {
+  strict = w.strict;
+  phase = w.phase;
+  front = w.front;
+  within = w.within;
+  depth = w.depth;
+  levels = levels_at w.levels;
+  place = w.place;
+  offset = w.offset;
+}
+
+-- The bytes of a piece from this index on.
+abbrev pub rest_of : List ℕ → ℕ → List ℕ
+rest_of bytes at = take (length bytes - at) (drop at bytes)

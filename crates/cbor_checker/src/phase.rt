@@ -1,0 +1,115 @@
+//! What a checker waits for.
+
+ghost use Rattle.std.specs.Prelude.{◌≡◌, Some};
+ghost use Rattle.cbor_checker.specs.Snapshots.{phase_in, within_in};
+
+use ciborium_ll_text::state::State;
+
+/// Why no item begins with the bytes so far, whatever follows them. The number is an offset in bytes.
+///
+/// It is the offset of the title that may not stand there. If a text's body is not UTF-8, it is the place that
+/// `Error::Syntax` of `ciborium_ll` names.
+///
+/// A list of bytes has at most one fault, with one offset (`one_state`). They are those of `skip_item` of `cbor_skip`,
+/// unless `skip_item` ends short before them. The fault differs only for a nest that is too deep and whose title isn't
+/// the shortest: a strict checker names the nest. Laws of `cbor_checker_laws` say so.
+#[derive(Clone, Copy, Debug, PartialEq, Eq)]
+pub enum Fault {
+    /// At this offset stands no title, or a title that its string may not contain. For a strict checker, it may also be
+    /// a longer title, a simple value below 32 in two bytes, or an open within a string.
+    ///
+    /// Or a text's body is not UTF-8, and the offset is the place that `Error::Syntax` of `ciborium_ll` names.
+    Syntax(usize),
+    /// At this offset a break stands in place of an item: outside of arrays and maps of indefinite length, or in place
+    /// of a value in a map of indefinite length.
+    Break(usize),
+    /// At this offset the title of a tag, an array or a map stands deeper than the caller allowed.
+    Deep(usize),
+}
+
+/// What a checker waits for.
+#[derive(Clone, Copy)]
+pub(crate) enum Phase {
+    /// A title, or the rest of a title.
+    Title,
+    /// This many bytes of the body of a byte string.
+    Bytes(usize),
+    /// This many bytes of the body of a text whose characters have led to this state.
+    Text(usize, State),
+    /// Nothing: the item has ended.
+    Ended,
+    /// Nothing: no item begins as the bytes so far do.
+    Faulted(Fault),
+}
+
+/// The strings of indefinite length that are open.
+#[derive(Clone, Copy)]
+pub(crate) enum Within {
+    /// No string.
+    Nothing,
+    /// A byte string, and this many strings within it.
+    Bytes(usize),
+    /// A text, and this many strings within it.
+    Text(usize),
+}
+
+impl Phase {
+    /// Returns the number of the kind, how many bytes are due or the place of a fault, and the number of a text's
+    /// state.
+    #[inline(always)]
+    pub(crate) fn numbers(self) -> (u8, usize, u8)
+        ensures { phase_in result.0 result.1 result.2 ≡ Some self }
+    {
+        match self {
+            Phase::Title => (1, 0, 0),
+            Phase::Bytes(left) => (2, left, 0),
+            Phase::Text(left, state) => (3, left, state.number()),
+            Phase::Ended => (4, 0, 0),
+            Phase::Faulted(Fault::Syntax(place)) => (5, place, 0),
+            Phase::Faulted(Fault::Break(place)) => (6, place, 0),
+            Phase::Faulted(Fault::Deep(place)) => (7, place, 0),
+        }
+    }
+
+    /// Returns the phase with these numbers, if there is one.
+    pub(crate) fn of(kind: u8, number: usize, text: u8) -> Option<Phase>
+        ensures { result ≡ phase_in kind number text }
+    {
+        match kind {
+            1 => Some(Phase::Title),
+            2 => Some(Phase::Bytes(number)),
+            3 => Some(Phase::Text(number, State::of_number(text)?)),
+            4 => Some(Phase::Ended),
+            5 => Some(Phase::Faulted(Fault::Syntax(number))),
+            6 => Some(Phase::Faulted(Fault::Break(number))),
+            7 => Some(Phase::Faulted(Fault::Deep(number))),
+            _ => None,
+        }
+    }
+}
+
+impl Within {
+    /// Returns the number of the kind, and how many strings are open within the first.
+    #[inline(always)]
+    pub(crate) fn numbers(self) -> (u8, usize)
+        ensures { within_in result.0 result.1 ≡ Some self }
+    {
+        match self {
+            Within::Nothing => (0, 0),
+            Within::Bytes(more) => (1, more),
+            Within::Text(more) => (2, more),
+        }
+    }
+
+    /// Returns the open strings with these numbers, if there are any.
+    pub(crate) fn of(kind: u8, more: usize) -> Option<Within>
+        ensures { result ≡ within_in kind more }
+    {
+        match kind {
+            0 => Some(Within::Nothing),
+            1 => Some(Within::Bytes(more)),
+            2 => Some(Within::Text(more)),
+            _ => None,
+        }
+    }
+}

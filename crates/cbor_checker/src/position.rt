@@ -1,0 +1,221 @@
+//! A checker's state without the numbers of its nests.
+
+ghost use Rattle.std.specs.Prelude.{◌≡◌, ◌+◌, ◌<◌, ◌≤◌, ◌%◌, length, slice_index, true, false, IsSome};
+ghost use Rattle.ciborium_ll_grammar.specs.Title.{affix_len};
+ghost use Rattle.cbor_checker.specs.Opens.{open_count};
+ghost use Rattle.cbor_checker.specs.Snapshots.{levels_in};
+ghost use Rattle.cbor_checker.specs.Telling.{has_left};
+ghost use Rattle.ciborium_ll_grammar.specs.declared.limits.TheConstants.{MOST_LEVELS};
+
+use crate::front::Front;
+use crate::levels::{Levels, are_levels};
+use crate::phase::{Phase, Within};
+use crate::progress::{Feed, Progress};
+use crate::snapshot::{Snapshot, is_state, strict_of};
+use crate::tell::answer;
+use crate::walk::Walk;
+use ciborium_ll_grammar::limits::MOST_LEVELS;
+
+/// A checker's state without the numbers of its nests: how many nests there are, and all the rest.
+#[derive(Drop)]
+pub(crate) struct Position {
+    pub(crate) strict: bool,
+    pub(crate) phase: Phase,
+    pub(crate) front: Front,
+    pub(crate) within: Within,
+    pub(crate) depth: usize,
+    pub(crate) nests: usize,
+    pub(crate) place: usize,
+    pub(crate) offset: usize,
+    ghost room: { nests + depth ≤ MOST_LEVELS },
+    ghost counted: { open_count within ≤ offset },
+    ghost left: { has_left phase ≡ true },
+    ghost begun: { length front ≤ affix_len (slice_index front 0 % 32) },
+}
+
+impl Position {
+    ghost use Rattle.std.specs.Prelude.{◌++◌, Bool, ℕ, List, take};
+    ghost use Rattle.cbor_checker.specs.Places.{spot_in};
+    ghost use Rattle.cbor_checker.specs.Snapshots.{Holds};
+    ghost use Rattle.cbor_checker.specs.Spots.{Spot};
+    ghost use Rattle.cbor_checker.specs.Steps.{IsFed, start};
+    ghost use Rattle.cbor_checker.specs.Telling.{IsAnswer, IsMore, Tells, is_due};
+    ghost use Rattle.cbor_checker.specs.declared.progress.Progress.TheVariants as r;
+    ghost use Rattle.ciborium_ll_grammar.specs.declared.limits.TheConstants.{MOST_LEVELS};
+
+    /// Returns the position of a checker before its first byte.
+    #[inline(always)]
+    pub(crate) fn of(strict: bool, depth: usize) -> Position
+        requires { depth ≤ MOST_LEVELS }
+        ensures spot { (kinds counts : List ℕ) → spot_in result kinds counts ≡ start strict depth }
+        ensures none { result.nests ≡ 0 }
+    {
+        Position {
+            strict,
+            phase: Phase::Title,
+            front: Front::new(),
+            within: Within::Nothing,
+            depth,
+            nests: 0,
+            place: 0,
+            offset: 0,
+        }
+    }
+
+    /// Writes the state into `snapshot`, without the numbers of nests.
+    #[inline(always)]
+    pub(crate) fn save(&self, snapshot: &mut Snapshot)
+        ensures kinds { snapshot.new.kinds ≡ snapshot.old.kinds }
+        ensures counts { snapshot.new.counts ≡ snapshot.old.counts }
+        ensures holds { IsSome (levels_in self.now.nests snapshot.old.kinds snapshot.old.counts)
+            → Holds snapshot.new (spot_in self.now snapshot.old.kinds snapshot.old.counts) }
+    {
+        let (strings, more) = self.within.numbers();
+        snapshot.strings = strings;
+        snapshot.more = more as u64;
+        snapshot.title_len = self.front.save(&mut snapshot.title) as u8;
+        snapshot.strict = u8::from(self.strict);
+        snapshot.nests = self.nests as u16;
+        snapshot.depth = self.depth as u64;
+        snapshot.place = self.place as u64;
+        snapshot.offset = self.offset as u64;
+        // The numbers that the phase decides come last, so that no other number waits for it.
+        let (phase, number, text) = self.phase.numbers();
+        snapshot.phase = phase;
+        snapshot.number = number as u64;
+        snapshot.text = text;
+    }
+
+    /// Becomes the position of the checker that `snapshot` holds, and returns whether there is one. If the numbers are
+    /// those of no checker, the position stays as it was.
+    #[inline(always)]
+    pub(crate) fn load(&mut self, snapshot: &Snapshot) -> bool
+        ensures some { result ≡ true
+            → Holds snapshot.now (spot_in self.new snapshot.now.kinds snapshot.now.counts) }
+        ensures known { result ≡ true → IsSome (levels_in self.new.nests snapshot.now.kinds snapshot.now.counts) }
+        ensures found { (spot : Spot) → Holds snapshot.now spot → result ≡ true }
+        ensures same { (spot : Spot) → Holds snapshot.now spot
+            → spot_in self.new snapshot.now.kinds snapshot.now.counts ≡ spot }
+        ensures none { result ≡ false → self.new ≡ self.old }
+    {
+        let Some(phase) = Phase::of(snapshot.phase, snapshot.number as usize, snapshot.text) else {
+            return false;
+        };
+        let Some(within) = Within::of(snapshot.strings, snapshot.more as usize) else {
+            return false;
+        };
+        let Some(strict) = strict_of(snapshot.strict) else {
+            return false;
+        };
+        if !is_state(snapshot, phase, within) {
+            return false;
+        }
+        let nests = usize::from(snapshot.nests);
+        if !are_levels(nests, &snapshot.kinds, &snapshot.counts) {
+            return false;
+        }
+        self.strict = strict;
+        self.phase = phase;
+        self.front
+            .load(&snapshot.title, usize::from(snapshot.title_len));
+        self.within = within;
+        self.depth = snapshot.depth as usize;
+        self.nests = nests;
+        self.place = snapshot.place as usize;
+        self.offset = snapshot.offset as usize;
+        true
+    }
+
+    /// Feeds a piece to the checker at this position, as [`Checker::feed`](crate::Checker::feed) does. The call changes
+    /// the numbers of its nests in place.
+    #[inline(always)]
+    pub(crate) fn feed(
+        &mut self,
+        kinds: &mut [u8; MOST_LEVELS],
+        counts: &mut [u64; MOST_LEVELS],
+        bytes: &[u8],
+    ) -> Feed
+        requires { IsSome (levels_in self.old.nests kinds.old counts.old) }
+        ensures known { IsSome (levels_in self.new.nests kinds.new counts.new) }
+        ensures taken { result.taken ≤ length bytes.now }
+        ensures all { IsMore result.progress → result.taken ≡ length bytes.now }
+        ensures long { result.progress ≡ r.TooLong → result.taken < length bytes.now }
+        ensures fed { (strict : Bool) (depth : ℕ) (fed : List ℕ) → IsFed strict depth fed (spot_in self.old kinds.old counts.old)
+            → IsFed strict depth (fed ++ take result.taken bytes.now) (spot_in self.new kinds.new counts.new) }
+        ensures tells { (strict : Bool) (depth : ℕ) (fed : List ℕ) → IsFed strict depth fed (spot_in self.old kinds.old counts.old)
+            → Tells strict depth (fed ++ take result.taken bytes.now) result.progress }
+        ensures counted { (strict : Bool) (depth : ℕ) (fed : List ℕ) → IsFed strict depth fed (spot_in self.old kinds.old counts.old)
+            → length fed + result.taken ≤ usize.MAX }
+        ensures answers { IsAnswer result.progress (spot_in self.new kinds.new counts.new) }
+        ensures stays { is_due self.old.phase ≡ false → (result.taken ≡ 0) × (spot_in self.new kinds.new counts.new ≡ spot_in self.old kinds.old counts.old) }
+    {
+        let taken = self.take(kinds, counts, bytes);
+        Feed {
+            taken,
+            progress: self.tell(taken < bytes.len()),
+        }
+    }
+
+    /// Does what [`Position::feed`] does, but returns only how many bytes it took.
+    #[inline(always)]
+    pub(crate) fn take(
+        &mut self,
+        kinds: &mut [u8; MOST_LEVELS],
+        counts: &mut [u64; MOST_LEVELS],
+        bytes: &[u8],
+    ) -> usize
+        requires { IsSome (levels_in self.old.nests kinds.old counts.old) }
+        ensures known { IsSome (levels_in self.new.nests kinds.new counts.new) }
+        ensures taken { result ≤ length bytes.now }
+        ensures full { result < length bytes.now → is_due self.new.phase ≡ true → self.new.offset ≡ usize.MAX }
+        ensures fed { (strict : Bool) (depth : ℕ) (fed : List ℕ) → IsFed strict depth fed (spot_in self.old kinds.old counts.old)
+            → IsFed strict depth (fed ++ take result bytes.now) (spot_in self.new kinds.new counts.new) }
+        ensures counted { (strict : Bool) (depth : ℕ) (fed : List ℕ) → IsFed strict depth fed (spot_in self.old kinds.old counts.old)
+            → length fed + result ≤ usize.MAX }
+        ensures stays { is_due self.old.phase ≡ false → (result ≡ 0) × (spot_in self.new kinds.new counts.new ≡ spot_in self.old kinds.old counts.old) }
+    {
+        let mut walk = Walk {
+            strict: self.strict,
+            phase: self.phase,
+            front: self.front.copy(),
+            within: self.within,
+            depth: self.depth,
+            levels: Levels {
+                kinds,
+                counts,
+                len: self.nests,
+            },
+            place: self.place,
+            offset: self.offset,
+        };
+        let taken = walk.take(bytes);
+        *self = Position {
+            strict: walk.strict,
+            phase: walk.phase,
+            front: walk.front.copy(),
+            within: walk.within,
+            depth: walk.depth,
+            nests: walk.levels.len,
+            place: walk.place,
+            offset: walk.offset,
+        };
+        taken
+    }
+
+    /// Returns how far the item has come; `left` says that bytes of the piece are left. A call asks this after all of
+    /// its writes, so that no number waits for it.
+    #[inline(always)]
+    pub(crate) fn tell(&self, left: bool) -> Progress
+        requires full { left ≡ true → is_due self.now.phase ≡ true → self.now.offset ≡ usize.MAX }
+        ensures all { left ≡ true → IsMore result → ⊥ }
+        ensures long { result ≡ r.TooLong → left ≡ true }
+        ensures tells { (kinds counts : List ℕ) (strict : Bool) (depth : ℕ) (fed : List ℕ)
+            → IsFed strict depth fed (spot_in self.now kinds counts) → Tells strict depth fed result }
+        ensures answers { (kinds counts : List ℕ) → IsAnswer result (spot_in self.now kinds counts) }
+    {
+        match answer(self.phase, &self.front, self.offset) {
+            Progress::More(_) if left => Progress::TooLong,
+            progress => progress,
+        }
+    }
+}

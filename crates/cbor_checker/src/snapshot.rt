@@ -1,0 +1,161 @@
+//! A checker's state as plain numbers.
+
+ghost use Rattle.std.specs.Prelude.{◌≡◌, ◌<◌, ◌≤◌, true, false, IfNone, IfSome, IsSome};
+ghost use Rattle.cbor_checker.specs.Piece.{TakesPiece};
+ghost use Rattle.cbor_checker.specs.Opens.{open_count};
+ghost use Rattle.cbor_checker.specs.Spots.{Spot};
+ghost use Rattle.cbor_checker.specs.Snapshots.{Holds, IsState, strict_in};
+ghost use Rattle.cbor_checker.specs.Telling.{has_left};
+
+use crate::phase::{Phase, Within};
+use crate::position::Position;
+use crate::progress::Feed;
+use ciborium_ll_grammar::limits::{LONGEST_TITLE, MOST_LEVELS};
+use ciborium_ll_grammar::titles::are_begun;
+
+/// The state of a [`Checker`](crate::Checker) as plain numbers, in the caller's own memory: for a program in C, or a
+/// program that keeps many checkers.
+///
+/// [`Checker::save`](crate::Checker::save) writes it, and [`Checker::restore`](crate::Checker::restore) makes a checker
+/// from it. Only these calls say which number means what; numbers that are all 0 are no state. The struct has no bytes
+/// between its fields or after them.
+///
+/// A restored checker equals the saved checker. The calls refuse numbers of no state: a kind that doesn't exist, or a
+/// number out of the few bounds that there are. So they do not find all memory that was overwritten: numbers of another
+/// state restore that state, even if no bytes lead to it.
+#[derive(Drop)]
+#[repr(C)]
+pub struct Snapshot {
+    /// How many bytes came.
+    pub offset: u64,
+    /// The offset that a fault would name.
+    pub place: u64,
+    /// How many levels are left.
+    pub depth: u64,
+    /// How many bytes of a body are due, or the offset of a fault.
+    pub number: u64,
+    /// How many strings are open within the first open string.
+    pub more: u64,
+    /// How many items or pairs are left in each nest around the item, the innermost last.
+    pub counts: [u64; MOST_LEVELS],
+    /// The kind of each nest.
+    pub kinds: [u8; MOST_LEVELS],
+    /// How many nests there are.
+    pub nests: u16,
+    /// How many bytes came of a title that isn't whole.
+    pub title_len: u8,
+    /// Whether the checker takes the shortest spelling only.
+    pub strict: u8,
+    /// These bytes of the title.
+    pub title: [u8; 9],
+    /// What is due.
+    pub phase: u8,
+    /// The state that the characters of a text have led to.
+    pub text: u8,
+    /// Which strings are open.
+    pub strings: u8,
+}
+
+impl Snapshot {
+    /// Returns numbers that are no state.
+    pub fn new() -> Snapshot
+        ensures { (spot : Spot) → Holds result spot → ⊥ }
+    {
+        Snapshot {
+            offset: 0,
+            place: 0,
+            depth: 0,
+            number: 0,
+            more: 0,
+            counts: [0; MOST_LEVELS],
+            kinds: [0; MOST_LEVELS],
+            nests: 0,
+            title_len: 0,
+            strict: 0,
+            title: [0; 9],
+            phase: 0,
+            text: 0,
+            strings: 0,
+        }
+    }
+
+    /// Feeds the next piece to the checker that these numbers hold, and returns its answer.
+    ///
+    /// The numbers become those of the checker after the piece, as [`Checker::restore`](crate::Checker::restore),
+    /// [`Checker::feed`](crate::Checker::feed) and [`Checker::save`](crate::Checker::save) make them. But the call
+    /// changes the numbers of nests in place, and copies none. If the numbers are those of no state, the call returns
+    /// `None`, and they stay as they were.
+    #[inline(always)]
+    pub fn feed(&mut self, bytes: &[u8]) -> Option<Feed>
+        ensures found { (spot : Spot) → Holds self.old spot → IsSome result }
+        ensures some { IfSome result (λ feed. (spot : Spot) × Holds self.old spot) }
+        ensures fed { (old : Spot) → Holds self.old old → IfSome result (λ feed. (new : Spot) × Holds self.new new
+            × TakesPiece old bytes.now feed new) }
+        ensures none { IfNone result (self.new ≡ self.old) }
+    {
+        let mut position = Position::of(false, 0);
+        if !position.load(self) {
+            return None;
+        }
+        let taken = position.take(&mut self.kinds, &mut self.counts, bytes);
+        position.save(self);
+        Some(Feed {
+            taken,
+            progress: position.tell(taken < bytes.len()),
+        })
+    }
+}
+
+/// Returns `false` for a body without bytes left.
+fn has_left(phase: Phase) -> bool
+    ensures { result ≡ has_left phase }
+{
+    match phase {
+        Phase::Bytes(left) | Phase::Text(left, _) => left > 0,
+        _ => true,
+    }
+}
+
+/// Returns whether at least as many bytes came as strings are open.
+fn are_counted(within: Within, offset: usize) -> bool
+    ensures yes { result ≡ true → open_count within ≤ offset }
+    ensures no { result ≡ false → offset < open_count within }
+{
+    match within {
+        Within::Nothing => true,
+        Within::Bytes(more) | Within::Text(more) => more < offset,
+    }
+}
+
+/// Returns whether the checker takes the shortest spelling only: 0 is no, 1 is yes.
+pub(crate) fn strict_of(number: u8) -> Option<bool>
+    ensures { result ≡ strict_in number }
+{
+    match number {
+        0 => Some(false),
+        1 => Some(true),
+        _ => None,
+    }
+}
+
+/// Returns whether the numbers are those of a state, with this phase and these open strings.
+pub(crate) fn is_state(snapshot: &Snapshot, phase: Phase, within: Within) -> bool
+    ensures yes { result ≡ true → IsState snapshot.now phase within }
+    ensures no { IsState snapshot.now phase within → result ≡ true }
+{
+    let title_len = usize::from(snapshot.title_len);
+    let nests = usize::from(snapshot.nests);
+    if title_len > LONGEST_TITLE {
+        return false;
+    }
+    if nests > MOST_LEVELS {
+        return false;
+    }
+    if snapshot.depth as usize > MOST_LEVELS - nests {
+        return false;
+    }
+    if !are_counted(within, snapshot.offset as usize) {
+        return false;
+    }
+    has_left(phase) && are_begun(&snapshot.title[..title_len])
+}

@@ -1,0 +1,43 @@
+-- The rest of a nest after several items.
+use Rattle.std.proofs.Common.{◌≡◌, ℕ, suc, ◌-◌, ◌*◌, ◌%◌, ◌≤◌, ◌==◌, if◌then◌else◌, Option, Some, None, arith}
+use Rattle.std.proofs.lemmas.Bool.Decides.{nat_tests}
+use Rattle.ciborium_ll_grammar.specs.declared.hdr.Header.{Header}
+use Rattle.ciborium_ll_grammar.specs.declared.hdr.Header.TheVariants as h
+use Rattle.cbor_checker.specs.Levels.{closes, contents, next}
+use Rattle.cbor_checker.specs.Plain.{pairs_of}
+use Rattle.cbor_skip.specs.Due.{IsNest, TakesMore, may_close}
+
+abbrev TypeOf : {A : Type 0} → A → Type 0
+TypeOf {A = A} a = A
+
+-- what is left in a nest. Outside of its crate no path names the type
+abbrev pub Level : Type 0
+Level = TypeOf (contents h.Break)
+
+abbrev or_none : Option Level → Level
+or_none (Some level) = level
+or_none None = contents h.Break
+
+-- what is left in a nest behind so many items
+abbrev pub reached : Header → ℕ → Level
+reached (h.Tag number) n = contents (h.Array (Some (1 - n)))
+reached (h.Array (Some len)) n = contents (h.Array (Some (len - n)))
+reached (h.Map (Some len)) n = pairs_of (2 * len - n)
+reached (h.Map None) n = if n % 2 == 0 then contents (h.Map None) else or_none (next (contents (h.Map None)))
+reached x n = contents x
+
+pub reached_first : (x : Header) → reached x 0 ≡ contents x
+reached_first x = grind (arith, nat_tests)
+
+pub reached_next : (x : Header) (n : ℕ) → TakesMore x n → next (reached x n) ≡ Some (reached x (suc n))
+reached_next x n takes = grind (arith, nat_tests)
+
+-- a break may stand in place of the next one just where it may behind the title
+pub reached_closes : (x : Header) (n : ℕ) → TakesMore x n → closes (reached x (suc n)) ≡ may_close x n
+reached_closes x n takes = grind (arith, nat_tests)
+
+pub takes_before : (x : Header) (m n : ℕ) → TakesMore x n → m ≤ n → TakesMore x m
+takes_before x m n takes le = grind (arith, nat_tests)
+
+pub takes_nest : (x : Header) (n : ℕ) → TakesMore x n → IsNest x
+takes_nest x n takes = grind (arith, nat_tests)

@@ -1,0 +1,97 @@
+-- The answers of a checker of `cbor_checker` and of `skip_item` of `cbor_skip` to some bytes. If the checker names a
+-- fault, the definitions below also say what the skip answers to the same bytes with any more after them.
+use Rattle.std.specs.Prelude.{◌≡◌, ℕ, ◌+◌, ◌⊎◌, Bool, false, List, [], ◌++◌, length, Result, Ok, Err}
+use Rattle.ciborium_ll_grammar.specs.Faults.{Short, Syntax}
+use Rattle.ciborium_ll_grammar.specs.declared.hdr.Header.{Header}
+use Rattle.ciborium_ll_grammar.specs.Title.{IsTitle}
+use Rattle.ciborium_ll_grammar.specs.Items.{IsTakenTitle}
+use Rattle.ciborium_ll_decoder.specs.declared.dec.Error.TheVariants as e
+use Rattle.cbor_skip.specs.declared.SkipError.{SkipError}
+use Rattle.cbor_skip.specs.declared.SkipError.TheVariants as s
+use Rattle.cbor_skip.specs.Due.{IsNest, ItemDue}
+use Rattle.cbor_skip.specs.ItemFaults.{HasDeepNest, HasEarlyBreak, HasItemFault, BeginsWithItem}
+use Rattle.cbor_checker.specs.declared.phase.Fault.{Fault}
+use Rattle.cbor_checker.specs.declared.phase.Fault.TheVariants as f
+use Rattle.cbor_checker.specs.declared.progress.Progress.{Progress}
+use Rattle.cbor_checker.specs.declared.progress.Progress.TheVariants as r
+use Rattle.cbor_checker.specs.Spots.{Spot}
+use Rattle.cbor_checker.specs.Steps.{IsFed}
+use Rattle.cbor_checker.specs.Telling.{progress_of, IsMore}
+
+-- The answer of a checker that was fed the bytes. It took a beginning of them, and all of them if more are due. Its
+-- answer is that of the spot to which the bytes that it took lead.
+pub record FeedTells (strict : Bool) (depth : ℕ) (bytes : List ℕ) (progress : Progress) : Type 0 where
+  pub taken : List ℕ
+  pub rest : List ℕ
+  pub is : bytes ≡ taken ++ rest
+  pub all : IsMore progress → rest ≡ []
+  pub spot : Spot
+  pub is_fed : IsFed strict depth taken spot
+  pub answers : progress ≡ progress_of spot
+
+-- The answer of a skip of the bytes, which begins at the offset 0. The bytes begin with an item, or end too early, or
+-- are at fault at the named place. The fault may be a break or a nest that may not stand there.
+abbrev pub SkipTells : {E : Type 0} → Bool → ℕ → List ℕ → Result (Unit {0}) (SkipError E) → Type 0
+SkipTells strict depth bytes (Ok done) = BeginsWithItem strict depth bytes
+SkipTells strict depth bytes (Err (s.Break at)) = (met : HasEarlyBreak strict depth bytes) × (at ≡ length met.before)
+SkipTells strict depth bytes (Err (s.Deep at)) = (met : HasDeepNest strict depth bytes) × (at ≡ length met.before)
+SkipTells strict depth bytes (Err (s.Read (e.Syntax at))) =
+    (met : HasItemFault strict depth bytes) × (met.answer ≡ Syntax at)
+SkipTells strict depth bytes (Err (s.Read (e.Io error))) =
+    (met : HasItemFault strict depth bytes) × (met.answer ≡ Short)
+SkipTells strict depth bytes (Err (s.Read e.TooLong)) = ⊥
+SkipTells strict depth bytes (Err (s.Read e.Waiting)) = ⊥
+
+-- A checker that was fed these bytes answers this fault.
+pub record Names (strict : Bool) (depth : ℕ) (fed : List ℕ) (fault : Fault) : Type 0 where
+  pub spot : Spot
+  pub is_fed : IsFed strict depth fed spot
+  pub answers : progress_of spot ≡ r.Fault fault
+
+-- The answer is that the item has ended.
+abbrev pub SaysEnd : Progress → Type 0
+SaysEnd (r.Ended len) = Unit {0}
+SaysEnd progress = ⊥
+
+-- The answer is a fault.
+abbrev pub IsFault : Progress → Type 0
+IsFault (r.Fault fault) = Unit {0}
+IsFault progress = ⊥
+
+-- The bytes begin no item, whatever follows them.
+abbrev pub BeginsNoItem : Bool → ℕ → List ℕ → Type 0
+BeginsNoItem strict depth bytes = (more : List ℕ) → BeginsWithItem strict depth (bytes ++ more) → ⊥
+
+-- After a beginning of an item a tag, an array or a map stands for which no level is left. Its title isn't the
+-- shortest, and only the shortest is taken (RFC 7049, 3.9). So there are two faults at one place.
+pub record HasLongNest (strict : Bool) (depth : ℕ) (bytes : List ℕ) : Type 0 where
+  pub before : List ℕ
+  pub title : List ℕ
+  pub header : Header
+  pub rest : List ℕ
+  pub closable : Bool
+  pub item_due : ItemDue strict false depth before 0 closable
+  pub is_title : IsTitle title header
+  pub untaken : IsTakenTitle strict title header → ⊥
+  pub is_nest : IsNest header
+  pub is : bytes ≡ before ++ (title ++ rest)
+
+-- The fault that a checker names if a skip finds a fault of syntax at this offset: that fault there. If two faults
+-- stand there, the checker names the nest: it sees the nest with the first byte, and whether the title is the shortest
+-- only with the next bytes. A skip reads the whole title first.
+abbrev pub NamesSyntax : Bool → ℕ → List ℕ → ℕ → Fault → Type 0
+NamesSyntax strict depth due at fault =
+    (fault ≡ f.Syntax at)
+    ⊎ ((nest : HasLongNest strict depth due) × (length nest.before ≡ at) × (fault ≡ f.Deep at))
+
+-- The answer of a skip that began at the offset `from` is the fault: the same kind, and the same place counted from
+-- there. Or the bytes end too early. The answer is never an item.
+abbrev pub AnswersFault : {E : Type 0} → Bool → ℕ → List ℕ → Fault → ℕ → Result (Unit {0}) (SkipError E) → Type 0
+AnswersFault strict depth due fault from (Ok done) = ⊥
+AnswersFault strict depth due fault from (Err (s.Break at)) = (place : ℕ) × (at ≡ from + place) × (fault ≡ f.Break place)
+AnswersFault strict depth due fault from (Err (s.Deep at)) = (place : ℕ) × (at ≡ from + place) × (fault ≡ f.Deep place)
+AnswersFault strict depth due fault from (Err (s.Read (e.Syntax at))) =
+    (place : ℕ) × (at ≡ from + place) × NamesSyntax strict depth due place fault
+AnswersFault strict depth due fault from (Err (s.Read (e.Io error))) = Unit {0}
+AnswersFault strict depth due fault from (Err (s.Read e.TooLong)) = ⊥
+AnswersFault strict depth due fault from (Err (s.Read e.Waiting)) = ⊥

@@ -1,0 +1,41 @@
+//! Laws of the definitions, each the contract of an empty function.
+
+ghost use Rattle.std.specs.Prelude.{◌≡◌, ◌++◌, ℕ, Bool, List, Result, length};
+ghost use Rattle.ciborium_ll_grammar.specs.Faults.{Syntax};
+ghost use Rattle.ciborium_ll_decoder.specs.declared.dec.Decoder.{Decoder};
+ghost use Rattle.cbor_skip.specs.declared.SkipError.{SkipError};
+ghost use Rattle.cbor_skip.specs.ItemFaults.{HasDeepNest, HasEarlyBreak, HasItemFault};
+ghost use Rattle.cbor_skip.specs.SkippingTold.{SkipsTold};
+ghost use Rattle.cbor_checker.specs.declared.phase.Fault.{Fault};
+ghost use Rattle.cbor_checker.specs.declared.phase.Fault.TheVariants as f;
+ghost use Rattle.cbor_checker_laws.specs.SameFaults.{AnswersFault, HasLongNest, Names, NamesSyntax};
+
+use ciborium_ll_io::io::Read;
+
+/// A skip of all bytes stops at the fault that a checker names after a part of them, at the same place.
+///
+/// Any bytes may follow that part. A nest too deep whose title isn't the shortest is two faults at one place. A strict
+/// checker then names the nest.
+pub fn same_faults()
+    ensures syntax { (strict : Bool) (depth : ℕ) (fed more : List ℕ) (fault : Fault) → Names strict depth fed fault
+        → (met : HasItemFault strict depth (fed ++ more)) → (at : ℕ) → met.answer ≡ Syntax at
+        → NamesSyntax strict depth (fed ++ more) at fault }
+    ensures early { (strict : Bool) (depth : ℕ) (fed more : List ℕ) (fault : Fault) → Names strict depth fed fault
+        → (met : HasEarlyBreak strict depth (fed ++ more)) → fault ≡ f.Break (length met.before) }
+    ensures deep { (strict : Bool) (depth : ℕ) (fed more : List ℕ) (fault : Fault) → Names strict depth fed fault
+        → (met : HasDeepNest strict depth (fed ++ more)) → fault ≡ f.Deep (length met.before) }
+    ensures both { (strict : Bool) (depth : ℕ) (fed more : List ℕ) (fault : Fault) → Names strict depth fed fault
+        → (met : HasLongNest strict depth (fed ++ more)) → fault ≡ f.Deep (length met.before) }
+{}
+
+/// A skip of all bytes answers the fault that a checker names after a part of them, at the same place, or that the
+/// bytes end too early.
+///
+/// Any bytes may follow that part. The skip is to the same depth, as strict, and as `SkipsTold` says. `skip_item`
+/// promises `SkipsTold` over a steady reader, if the offset fits and no header waits on a strict decoder.
+pub fn skip_answers<R: Read>()
+    ensures { (strict : Bool) (depth : ℕ) (fed more : List ℕ) (fault : Fault) → Names strict depth fed fault
+        → (old new : Decoder R) (result : Result (Unit {0}) (SkipError R.Error))
+        → SkipsTold R.Read strict depth (fed ++ more) old result new
+        → AnswersFault strict depth (fed ++ more) fault old.offset result }
+{}

@@ -1,0 +1,190 @@
+-- The parts of a spot that a whole title or body leaves as they were. The lengths of a byte's output and of the bytes
+-- that are then held back.
+use Rattle.std.proofs.Common.{◌≡◌, ℕ, zero, suc, ◌+◌, ◌-◌, ◌≤◌, Bool, true, false, List, [], ◌∷◌, ◌++◌, ◌⊎◌, length}
+use Rattle.std.proofs.Common.{take, Some, None, refl, ap, arith, inl, inr, length-append, length-take-le, ◌/◌, ◌%◌, ◌<◌}
+use Rattle.std.proofs.Common.{slice_index, drop, length-drop}
+use Rattle.ciborium_ll_grammar.specs.declared.hdr.Header.{Header}
+use Rattle.ciborium_ll_grammar.specs.declared.hdr.Header.TheVariants as h
+use Rattle.ciborium_ll_grammar.specs.Title.{IsTitle, shortest_title, Major, ByteString, TextString, Other, Size, Small}
+use Rattle.ciborium_ll_grammar.specs.Title.{affix_len, numbered_header, IsCutTitle, BeginsRefused}
+use Rattle.ciborium_ll_grammar.proofs.TitleLaws.{shortest_no_longer}
+use Rattle.ciborium_ll_text.specs.declared.state.State.{State}
+use Rattle.ciborium_ll_text.specs.declared.state.State.TheVariants as s
+use Rattle.ciborium_ll_text.specs.States.{after_byte}
+use Rattle.cbor_copier.specs.declared.phase.Phase.{Phase}
+use Rattle.cbor_copier.specs.declared.phase.Phase.TheVariants as p
+use Rattle.cbor_copier.specs.declared.phase.StringKind.{StringKind}
+use Rattle.cbor_copier.specs.declared.phase.StringKind.TheVariants as k
+use Rattle.cbor_copier.specs.declared.phase.Within.{Within}
+use Rattle.cbor_copier.specs.declared.phase.Within.TheVariants as w
+use Rattle.cbor_copier.specs.Spots.{Spot, elements_due, string_done, body_due, entered, refused}
+use Rattle.cbor_copier.specs.Steps.{Faults, with_byte, with_char, char_put, byte_put, text_left, StepIn, TitleStep, cut}
+use Rattle.cbor_copier.specs.Steps.{early, whole, none, titled}
+use Rattle.cbor_copier.proofs.Reached.{Misplaced}
+use Rattle.ciborium_ll_grammar.specs.declared.hdr.table.TitleKind.{TitleKind}
+use Rattle.ciborium_ll_grammar.specs.TitleRows.{IsTitleKind}
+use Rattle.ciborium_ll_grammar.proofs.TitleKinds.{kind_of, numbered_title, kind_at, parted}
+use Rattle.cbor_copier.specs.declared.phase.StringKind.TheVariants as k
+use Rattle.cbor_copier.specs.declared.phase.Within.TheVariants as w
+use Rattle.cbor_copier.specs.Blocked.{is_blocked}
+
+-- what is held back, how many bytes came and what was put out stay, and it is no fault
+abbrev pub Kept : Spot → Spot → Type 0
+Kept new old = (new.front ≡ old.front) × (new.offset ≡ old.offset) × (new.put ≡ old.put) × (Faults new → ⊥)
+
+pub due_kept : (left : ℕ) (spot : Spot) → Kept (elements_due left spot) spot
+due_kept zero spot = (refl, refl, refl, λ f. cc f.1)
+due_kept (suc left) spot = (refl, refl, refl, λ f. cc f.1)
+
+done_kept : (i : Within) (spot : Spot) → Kept (string_done i spot) spot
+done_kept w.Nothing spot = due_kept (spot.left - 1) spot
+done_kept (w.Open kind more) spot = (refl, refl, refl, λ f. cc f.1)
+
+pub body_kept : (kind : StringKind) (len : ℕ) (spot : Spot) → Kept (body_due kind len spot) spot
+body_kept kind zero spot = done_kept spot.within spot
+body_kept k.Bytes (suc len) spot = (refl, refl, refl, λ f. cc f.1)
+body_kept k.Text (suc len) spot = (refl, refl, refl, λ f. cc f.1)
+
+-- ---- a whole title
+
+-- it puts out its shortest one or nothing, and where it may not stand, and only there, it is a fault
+pub record Entered (i : Within) (header : Header) (spot new : Spot) : Type 0 where
+  pub front : new.front ≡ spot.front
+  pub offset : new.offset ≡ spot.offset
+  pub put : (new.put ≡ shortest_title header) ⊎ (new.put ≡ spot.put)
+  pub faults : Faults new → Misplaced i header
+  pub misplaced : Misplaced i header → Faults new
+
+module _ {i : Within} {header : Header} {spot : Spot} where
+  by_kept : {new : Spot} {put : List ℕ} → (new.front ≡ spot.front) × (new.offset ≡ spot.offset) × (new.put ≡ put)
+      × (Faults new → ⊥) → (put ≡ shortest_title header) ⊎ (put ≡ spot.put) → (Misplaced i header → ⊥)
+      → Entered i header spot new
+  by_kept {new} kept out sound =
+      let put = rw (← kept.2) at out in
+      let faults : Faults new → Misplaced i header = λ f. absurd (kept.3 f) in
+      let misplaced : Misplaced i header → Faults new = λ bad. absurd (sound bad) in
+      search
+
+  by_fault : Misplaced i header → Entered i header spot (refused spot)
+  by_fault bad = let misplaced : Misplaced i header → Faults (refused spot) = λ b. (spot.place, refl) in search inr
+
+pub enters : (i : Within) (header : Header) (spot : Spot) → Entered i header spot (entered i header spot)
+enters w.Nothing (h.Bytes (Some len)) spot = by_kept (body_kept k.Bytes len _) (inl refl) (λ bad. bad)
+enters w.Nothing (h.Text (Some len)) spot = by_kept (body_kept k.Text len _) (inl refl) (λ bad. bad)
+enters w.Nothing (h.Bytes None) spot = by_kept (refl, refl, refl, λ f. cc f.1) (inl refl) (λ bad. bad)
+enters w.Nothing (h.Text None) spot = by_kept (refl, refl, refl, λ f. cc f.1) (inl refl) (λ bad. bad)
+enters w.Nothing header spot = by_kept (due_kept (spot.left - 1) _) (inl refl) (λ bad. bad)
+enters (w.Open k.Bytes more) (h.Bytes (Some len)) spot = by_kept (body_kept k.Bytes len _) (inl refl) (λ bad. bad)
+enters (w.Open k.Text more) (h.Text (Some len)) spot = by_kept (body_kept k.Text len _) (inl refl) (λ bad. bad)
+enters (w.Open k.Bytes more) (h.Bytes None) spot = by_kept (refl, refl, refl, λ f. cc f.1) (inr refl) (λ bad. bad)
+enters (w.Open k.Text more) (h.Text None) spot = by_kept (refl, refl, refl, λ f. cc f.1) (inr refl) (λ bad. bad)
+enters (w.Open kind zero) h.Break spot = by_kept (due_kept (spot.left - 1) _) (inl refl) (λ bad. bad)
+enters (w.Open kind (suc more)) h.Break spot = by_kept (refl, refl, refl, λ f. cc f.1) (inr refl) (λ bad. bad)
+enters (w.Open k.Bytes more) header spot = by_fault tt
+enters (w.Open k.Text more) header spot = by_fault tt
+
+-- what was put out is no longer than the title
+pub entered_put : (i : Within) (header : Header) (spot : Spot) (title : List ℕ) → IsTitle title header → spot.put ≡ []
+    → length (entered i header spot).put ≤ length title
+entered_put i header spot title q clear =
+    elim (enters i header spot).put [
+      | inl e ↦ rw e (shortest_no_longer title header q)
+      | inr e ↦ rw (e, clear) (omega arith)
+    ]
+
+-- ---- a byte
+
+-- it is counted, and what it puts out and what is held back are no longer than it and what was held back
+abbrev pub Stepped : Spot → Spot → Type 0
+Stepped old new = (new.offset ≡ old.offset + 1) × (length new.put + length new.front ≤ length old.front + 1)
+
+title_steps : (b : ℕ) (spot new : Spot) → TitleStep (with_byte b spot) new → Stepped spot new
+title_steps b spot new (cut c may) = (refl, omega (arith, length-append spot.front (b ∷ [])))
+title_steps b spot new (early c all) = (refl, omega (arith, length-append spot.front (b ∷ [])))
+title_steps b spot new (none r) = (refl, omega arith)
+title_steps b spot new (whole header q) =
+    let old = record (with_byte b spot) { front = [] } in
+    let o = enters spot.within header old in
+    let put = entered_put spot.within header old _ q refl in
+    (o.offset, rw o.front (omega (arith, put, length-append spot.front (b ∷ []))))
+
+text_steps : (may : Bool) (left b : ℕ) (state : State) (spot : Spot)
+    → Stepped spot (text_left may left state (with_char b spot))
+text_steps false left b state spot = (refl, omega arith)
+text_steps true left b s.Between spot =
+    let o = body_kept k.Text left (char_put (with_char b spot)) in
+    (o.1, rw (o.0, o.2) (omega (arith, length-append spot.front (b ∷ []))))
+text_steps true left b state spot = (refl, omega (arith, length-append spot.front (b ∷ [])))
+
+pub steps : (phase : Phase) (spot new : Spot) (b : ℕ) → StepIn phase spot b new → Stepped spot new
+steps p.Title spot new b step = title_steps b spot new step
+steps (p.Bytes (suc left)) spot new b step =
+    let o = body_kept k.Bytes left (byte_put b spot) in rw step (o.1, rw (o.0, o.2) (omega arith))
+steps (p.Text (suc left) state) spot new b step = rw step (text_steps _ left b (after_byte state b) spot)
+steps phase spot new b step = absurd step
+
+-- what was given of what was put out, what is pending of it and what is held back
+pub given_grows : (new : Spot) (at end most : ℕ) (out out' rest : List ℕ) → length new.put + length new.front ≤ most
+    → at ≤ length out → end ≤ length out' → take end out' ++ rest ≡ take at out ++ new.put
+    → end + length rest + length new.front ≤ at + most
+given_grows new at end most out out' rest grows before behind given =
+    omega (
+      arith,
+      ap length given,
+      length-take-le at out before,
+      length-take-le end out' behind,
+      length-append (take end out') rest,
+      length-append (take at out) new.put,
+    )
+
+-- ---- the kind of a first byte tells whether a title that begins so may stand there
+
+-- it is so, or it isn't
+abbrev Says : Bool → Type 0 → Type 0
+Says true P = P
+Says false P = P → ⊥
+
+-- a title of the kind may not stand there
+blocked : (i : Within) (m : Major) (s : Size) (n : ℕ)
+    → Says (is_blocked i (kind_of m)) (Misplaced i (numbered_header m s n))
+blocked w.Nothing m s n = λ bad. bad
+blocked (w.Open k.Bytes more) ByteString s n = λ bad. bad
+blocked (w.Open k.Text more) TextString s n = λ bad. bad
+blocked (w.Open k.Bytes more) Other Small n = tt
+blocked (w.Open k.Text more) Other Small n = tt
+blocked (w.Open k.Bytes more) m s n = tt
+blocked (w.Open k.Text more) m s n = tt
+
+-- where a byte of a title leads, as the code finds it
+module _ (spot new : Spot) (kind : TitleKind) (some : 0 < length spot.front)
+    (says : IsTitleKind kind (slice_index spot.front 0 / 32) (slice_index spot.front 0 % 32))
+    (short : length spot.front ≤ affix_len (slice_index spot.front 0 % 32)) where
+  is_cut : IsCutTitle spot.front
+  is_cut = rw (parted spot.front some) (omega (arith, short, some, length-drop 1 spot.front))
+
+  blocked_so : (behind : List ℕ) (x : Header) → IsTitle (spot.front ++ behind) x
+      → Says (is_blocked spot.within kind) (Misplaced spot.within x)
+  blocked_so behind x q =
+      let byte = slice_index spot.front 0 in
+      let o = numbered_title byte (drop 1 spot.front ++ behind) (spot.front ++ behind) x q
+      (ap (λ (z : List ℕ). z ++ behind) (parted spot.front some)) (omega (arith, some, short)) in
+      rw (← kind_at kind byte o.major o.code (omega (arith, some, short)) says, ← o.is)
+      at (blocked spot.within o.major o.size o.number)
+
+  pub step_early : is_blocked spot.within kind ≡ true → new ≡ refused spot → TitleStep spot new
+  step_early b e =
+      rw e (early is_cut (λ behind x q.
+      (enters spot.within x (record spot { front = [] })).misplaced (rw b at (blocked_so behind x q))))
+
+  pub step_cut : is_blocked spot.within kind ≡ false → new ≡ spot → TitleStep spot new
+  step_cut b e =
+      rw e (cut is_cut (λ behind x q f.
+      (rw b at (blocked_so behind x q)) ((enters spot.within x (record spot { front = [] })).faults f)))
+
+pub step_whole : (spot new : Spot) (header : Header) → IsTitle spot.front header → new ≡ titled header spot
+    → TitleStep spot new
+step_whole spot new header q e = rw e (whole header q)
+
+pub step_none : (spot new : Spot) → BeginsRefused spot.front → new ≡ refused (record spot { front = [] })
+    → TitleStep spot new
+step_none spot new r e = rw e (none r)

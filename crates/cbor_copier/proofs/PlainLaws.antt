@@ -1,0 +1,445 @@
+-- Elements that a copy keeps as they are: the table's entries for first bytes, and the spots that these elements lead
+-- to.
+use Rattle.std.proofs.Common.{false, get_or-take, length-drop, ◌^◌, ◌≡◌, ◌≢◌, ℕ, zero, suc, ◌+◌, ◌-◌, ◌*◌, ◌/◌, ◌%◌, ◌<◌, ◌≤◌, Bool, true, List, [], ◌∷◌}
+use Rattle.std.proofs.Common.{◌++◌, ◌&&◌, ◌||◌, inl, inr, eqb, ltb, get_or, length, take, drop, slice_index, refl, sym}
+use Rattle.std.proofs.Common.{ap, ◌∙◌, arith, append_assoc, append-nil, length-append, not, Some}
+use Rattle.std.proofs.lemmas.Bool.{agree_below_at}
+use Rattle.std.proofs.lemmas.Bool.Decides.{nat_tests}
+use Rattle.std.proofs.lemmas.List.{length-take-le}
+use Rattle.std.proofs.Math.Seq.{take-add}
+use Rattle.ciborium_ll_grammar.specs.declared.hdr.Header.{Header}
+use Rattle.ciborium_ll_grammar.specs.declared.hdr.Header.TheVariants as h
+use Rattle.ciborium_ll_grammar.specs.Title.{IsTitle, Major, Unsigned, Negative, ByteString, TextString, Array, Map, Tag}
+use Rattle.ciborium_ll_grammar.specs.Title.{Other, Small, major_code, numbered, numbered_header, shortest_title}
+use Rattle.ciborium_ll_grammar.specs.Title.{Size, One, Two, Four, Eight, affix_len, affix_of, alone, first_byte, minor_of, numbered_title, size_limit}
+use Rattle.ciborium_ll_grammar.specs.declared.hdr.Minor.TheVariants as m
+use Rattle.ciborium_ll_grammar.specs.Parts.{refused_when_strict}
+use Rattle.ciborium_ll_grammar.proofs.AffixLaws.{refused_affix, title_or_refused}
+use Rattle.ciborium_ll_grammar.proofs.TitleLaws.{minor_below}
+use Rattle.std.proofs.lemmas.List.{get_or-drop}
+use Rattle.ciborium_ll_grammar.specs.Title.{AreBytes}
+use Rattle.ciborium_ll_grammar.proofs.LongerLaws.{minor_as, taken}
+use Rattle.ciborium_ll_grammar.proofs.TightLaws.{tight_title}
+use Rattle.ciborium_ll_grammar.proofs.TitleLaws.{shortest_some}
+use Rattle.ciborium_ll_text.specs.declared.state.State.{State}
+use Rattle.ciborium_ll_text.specs.declared.state.State.TheVariants as s
+use Rattle.ciborium_ll_text.specs.States.{after}
+use Rattle.ciborium_ll_text.specs.Text.{IsCharacters, IsFront}
+use Rattle.ciborium_ll_text.proofs.Lists.{Below, below_rest, below_take}
+use Rattle.ciborium_ll_text.proofs.StateLaws.{after-append, text_ends, text_from}
+use Rattle.cbor_copier.specs.declared.phase.Phase.{Phase}
+use Rattle.cbor_copier.specs.declared.phase.Phase.TheVariants as p
+use Rattle.cbor_copier.specs.declared.phase.StringKind.{StringKind}
+use Rattle.cbor_copier.specs.declared.phase.StringKind.TheVariants as k
+use Rattle.cbor_copier.specs.declared.phase.Within.TheVariants as w
+use Rattle.cbor_copier.specs.declared.plain.TheConstants.{LENS}
+use Rattle.cbor_copier.specs.Plain.{AreKept, IsKept, IsLen, bare, one, more}
+use Rattle.cbor_copier.specs.Spots.{Spot, IsPutOut, at_phase, body_due, body_phase, element_done, elements_due, entered}
+use Rattle.cbor_copier.specs.Spots.{header_entered, putting}
+use Rattle.cbor_copier.specs.Steps.{IsFed, counted_by}
+use Rattle.cbor_copier.proofs.RunLaws.{body_given, title_given}
+
+-- ---- the table
+
+abbrev len_test : ℕ → ℕ → Bool
+len_test first len =
+    eqb len 0
+    || ((eqb len 1 && (ltb (first % 32) 24 && (not (eqb (first / 32) 2) && not (eqb (first / 32) 3))))
+    || (eqb len (1 + first % 32) && (ltb (first % 32) 24 && (eqb (first / 32) 2 || eqb (first / 32) 3))))
+
+len_tells : (first len : ℕ) → len_test first len ≡ true → IsLen first len
+len_tells first len e = grind (arith, nat_tests)
+
+-- each of the 256 numbers passes its test
+pub len_says : (first len : ℕ) → first < 256 → len ≡ get_or LENS first 0 → IsLen first len
+len_says first len l len_is =
+    let passes = agree_below_at (λ (b : ℕ). len_test b (get_or LENS b 0)) (λ (b : ℕ). true) 256 first refl l in
+    len_tells first len (ap (λ (z : ℕ). len_test first z) len_is ∙ passes)
+
+-- ---- text
+
+-- where the longest front of some bytes that is text leaves no character begun, they are a text
+pub front_ends : (xs front : List ℕ) (state : State) → IsFront xs front (drop (length front) xs)
+    → state ≡ after s.Between (drop (length front) xs) → state ≡ s.Between → IsCharacters xs
+front_ends xs front state is behind between =
+    let rest = drop (length front) xs in
+    text_from xs (ap (λ (z : List ℕ). after s.Between z) is.parts ∙ (after-append s.Between front rest
+    ∙ (ap (λ (z : State). after z rest) (text_ends front is.text) ∙ (sym behind ∙ between))))
+
+-- ---- where an element leads
+
+due_put : (left : ℕ) (out : List ℕ) (spot : Spot) → (elements_due left (putting out spot)).put ≡ out
+due_put zero out spot = refl
+due_put (suc left) out spot = refl
+
+due_clear : (left n place offset : ℕ) (out : List ℕ)
+    → putting [] (elements_due left (putting out (bare n place offset))) ≡ elements_due left (bare n place offset)
+due_clear zero n place offset out = refl
+due_clear (suc left) n place offset out = refl
+
+due_left : (left n m place offset : ℕ)
+    → elements_due left (bare n place offset) ≡ elements_due left (bare m place offset)
+due_left zero n m place offset = refl
+due_left (suc left) n m place offset = refl
+
+bare_put : (left n place offset : ℕ) → (elements_due left (bare n place offset)).put ≡ []
+bare_put zero n place offset = refl
+bare_put (suc left) n place offset = refl
+
+bare_clear : (left n place offset : ℕ)
+    → putting [] (elements_due left (bare n place offset)) ≡ elements_due left (bare n place offset)
+bare_clear zero n place offset = refl
+bare_clear (suc left) n place offset = refl
+
+due_none : (left n place offset : ℕ) (phase : Phase)
+    → (elements_due left (at_phase phase (bare n place offset))).put ≡ []
+due_none zero n place offset phase = refl
+due_none (suc left) n place offset phase = refl
+
+first_below : (b : ℕ) (xs : List ℕ) → Below (b ∷ xs) → Below (b ∷ [])
+first_below b xs below zero less = below zero (omega arith)
+first_below b xs below (suc i) less = absurd (omega (arith, less))
+
+due_phase : (left n place offset : ℕ) (phase : Phase)
+    → putting [] (elements_due left (at_phase phase (bare n place offset))) ≡ elements_due left (bare n place offset)
+due_phase zero n place offset phase = refl
+due_phase (suc left) n place offset phase = refl
+
+-- a title of one byte is the shortest one of its header
+one_shortest : (b : ℕ) (header : Header) → IsTitle (b ∷ []) header → b ∷ [] ≡ shortest_title header
+one_shortest b header q = tight_title (b ∷ []) header q (shortest_some header)
+
+-- a title that begins no string
+kept_title : (title : List ℕ) (header : Header) → Below title → 0 < length title → IsTitle title header
+    → title ≡ shortest_title header → ((spot : Spot) → header_entered header spot ≡ element_done spot) → IsKept title
+kept_title title header below some is shortest ends count left place offset fed out led =
+    let n = length title in
+    let at = bare left offset (offset + n) in
+    let new = element_done (putting (shortest_title header) at) in
+    let put : title ++ [] ≡ [] ++ new.put =
+    append-nil title ∙ (shortest ∙ sym (due_put (left - 1) (shortest_title header) at)) in
+    let gone = title_given count n title header (bare left place offset) new fed out [] title [] below some refl is refl
+    refl refl refl (sym (ends (putting (shortest_title header) at))) put
+    (rw (append-nil (out ++ []), append-nil out) led) in
+    rw (append-nil (out ++ title), due_clear (left - 1) left offset (offset + n) (shortest_title header)) at gone
+
+-- a string of one byte and its body
+abbrev string_of : StringKind → ℕ → Header
+string_of k.Bytes len = h.Bytes (Some len)
+string_of k.Text len = h.Text (Some len)
+
+enters_string : (kind : StringKind) (len : ℕ) (spot : Spot) → header_entered (string_of kind len) spot
+    ≡ body_due kind len (record spot { place = spot.offset - length (shortest_title (string_of kind len)) })
+enters_string k.Bytes len spot = refl
+enters_string k.Text len spot = refl
+
+body_put : (kind : StringKind) (len : ℕ) (out : List ℕ) (left place offset : ℕ)
+    → (body_due kind len (putting out (bare left place offset))).put ≡ out
+body_put kind zero out left place offset = due_put (left - 1) out (bare left place offset)
+body_put kind (suc len) out left place offset = refl
+
+-- behind the title of a string its body
+string_on : (kind : StringKind) (b : ℕ) (body : List ℕ) → Below (b ∷ body) → IsPutOut kind body
+    → (count left offset : ℕ) (fed out put : List ℕ)
+    → IsFed count (fed ++ b ∷ []) (putting [] (body_due kind (length body) (putting put (bare left offset (offset + 1)))))
+    (out ++ b ∷ [])
+    → IsFed count (fed ++ b ∷ body) (elements_due (left - 1) (bare left offset (offset + suc (length body)))) (out ++ b ∷ body)
+string_on kind b [] below whole count left offset fed out put led =
+    rw (due_clear (left - 1) left offset (offset + 1) put) at led
+string_on kind b (x ∷ xs) below whole count left offset fed out put led =
+    let n = length (x ∷ xs) in
+    let phase = body_phase kind n in
+    let spot = at_phase phase (bare left offset (offset + 1)) in
+    let far : offset + suc n ≡ (offset + 1) + n = omega arith in
+    let none : n - n ≡ 0 = omega arith in
+    let new = element_done (counted_by n spot) in
+    let gone = body_given kind count n (x ∷ xs) spot new (fed ++ b ∷ []) (out ++ b ∷ []) [] (x ∷ xs)
+    (λ i less. below (suc i) (omega (arith, less))) refl refl refl (omega arith) (omega arith) whole (rw none refl) refl
+    (rw (append-nil ((out ++ b ∷ []) ++ []), append-nil (out ++ b ∷ [])) led) in
+    rw (far, ← append_assoc fed (b ∷ []) (x ∷ xs), ← append_assoc out (b ∷ []) (x ∷ xs), ← due_phase (left - 1) left offset ((offset + 1) + n) phase)
+    (rw (due_none (left - 1) left offset ((offset + 1) + n) phase, append-nil ((out ++ b ∷ []) ++ (x ∷ xs))) at gone)
+
+kept_string : (kind : StringKind) (b : ℕ) (body : List ℕ) → Below (b ∷ body)
+    → IsTitle (b ∷ []) (string_of kind (length body)) → IsPutOut kind body → IsKept (b ∷ body)
+kept_string kind b body below is whole count left place offset fed out led =
+    let header = string_of kind (length body) in
+    let short = one_shortest b header is in
+    let out1 = shortest_title header in
+    let at = bare left offset (offset + 1) in
+    let new = body_due kind (length body) (putting out1 at) in
+    let long : 1 ≡ length out1 = ap length short in
+    let here : (offset + 1) - length out1 ≡ offset = omega (arith, long) in
+    let there : new ≡ entered w.Nothing header at =
+    sym (enters_string kind (length body) (putting out1 at)
+    ∙ ap (λ (z : ℕ). body_due kind (length body) (record (putting out1 at) { place = z })) here) in
+    let put : (b ∷ []) ++ [] ≡ [] ++ new.put = short ∙ sym (body_put kind (length body) out1 left offset (offset + 1)) in
+    let gone = title_given count 1 (b ∷ []) header (bare left place offset) new fed out [] (b ∷ []) []
+    (first_below b body below) (omega arith) refl is refl refl refl refl there put
+    (rw (append-nil (out ++ []), append-nil out) led) in
+    string_on kind b body below whole count left offset fed out out1 (rw (append-nil (out ++ b ∷ [])) at gone)
+
+-- ---- what the number of a first byte says
+
+-- a major type that begins no string
+record PlainMajor (code : ℕ) : Type 0 where
+  major : Major
+  is : major_code major ≡ code
+  ends : (n : ℕ) (spot : Spot) → header_entered (numbered_header major Small n) spot ≡ element_done spot
+
+major_of : (code : ℕ) → code < 8 → code ≢ 2 → code ≢ 3 → PlainMajor code
+major_of zero less two three = record { major = Unsigned; is = refl; ends = λ n s. refl }
+major_of (suc zero) less two three = record { major = Negative; is = refl; ends = λ n s. refl }
+major_of (suc (suc zero)) less two three = absurd (two refl)
+major_of (suc (suc (suc zero))) less two three = absurd (three refl)
+major_of (suc (suc (suc (suc zero)))) less two three = record { major = Array; is = refl; ends = λ n s. refl }
+major_of (suc (suc (suc (suc (suc zero))))) less two three = record { major = Map; is = refl; ends = λ n s. refl }
+major_of (suc (suc (suc (suc (suc (suc zero)))))) less two three = record { major = Tag; is = refl; ends = λ n s. refl }
+major_of (suc (suc (suc (suc (suc (suc (suc zero))))))) less two three =
+    record { major = Other; is = refl; ends = λ n s. refl }
+major_of (suc (suc (suc (suc (suc (suc (suc (suc code)))))))) less two three = absurd (omega (arith, less))
+
+small_title : (b : ℕ) (major : Major) → major_code major ≡ b / 32 → b % 32 < 24
+    → IsTitle (b ∷ []) (numbered_header major Small (b % 32))
+small_title b major is small =
+    let parts : 32 * major_code major + b % 32 ≡ b = omega (arith, is) in
+    rw parts at (numbered major Small (b % 32) small)
+
+-- of a text the body is one by itself
+pub kept_by : (xs : List ℕ) (len : ℕ) → Below xs → 0 < length xs → IsLen (slice_index xs 0) len → 0 < len
+    → len ≤ length xs → (slice_index xs 0 / 32 ≡ 3 → IsCharacters (take (len - 1) (drop 1 xs))) → IsKept (take len xs)
+kept_by [] len below some is least le text = absurd (omega (arith, some))
+kept_by (b ∷ xs) len below some (inl none) least le text = absurd (omega (arith, none, least))
+kept_by (b ∷ xs) len below some (inr (inl v)) least le text =
+    let m = major_of (b / 32) (omega (arith, below 0 (omega arith))) v.2 v.3 in
+    let title = small_title b m.major m.is v.1 in
+    let header = numbered_header m.major Small (b % 32) in
+    rw v.0 (kept_title (b ∷ []) header (first_below b xs below) (omega arith) title (one_shortest b header title)
+    (m.ends (b % 32)))
+kept_by (b ∷ xs) len below some (inr (inr v)) least le text =
+    let n = b % 32 in
+    let e : len ≡ suc n = omega (arith, v.0) in
+    let less : n ≤ length xs = omega (arith, e, le) in
+    let long : length (take n xs) ≡ n = length-take-le n xs less in
+    let within : Below (b ∷ take n xs) = below_take (suc n) (b ∷ xs) (omega (arith, less)) below in
+    elim v.2 [
+      | inl two ↦ rw e (kept_string k.Bytes b (take n xs) within (rw long (small_title b ByteString (sym two) v.1)) tt)
+      | inr three ↦ (
+          let body : len - 1 ≡ n = omega (arith, e) in
+          rw e (kept_string k.Text b (take n xs) within (rw long (small_title b TextString (sym three) v.1))
+          (rw body at (text three)))
+          )
+    ]
+
+-- ---- elements one behind the other
+
+-- one more
+pub kept_more : (last most left at len : ℕ) (xs : List ℕ) → at ≤ length xs → 0 < left → left ≤ most
+    → (at ≡ 0 → left ≡ most) → (0 < at → AreKept (most - left) last (take at xs)) → IsKept (take len (drop at xs))
+    → AreKept (most - (left - 1)) at (take (at + len) xs)
+kept_more last most left zero len xs le some fits none so_far item =
+    let all : left ≡ most = none refl in
+    let count : 1 ≡ most - (left - 1) = omega (arith, all, some) in
+    let far : len ≡ 0 + len = omega arith in
+    rw (← count, ← far) (one item)
+kept_more last most left (suc at) len xs le some fits none so_far item =
+    let count : suc (most - left) ≡ most - (left - 1) = omega (arith, some, fits) in
+    rw (take-add (suc at) len xs) (rw (count, length-take-le (suc at) xs le) at (more (so_far (omega arith)) item))
+
+-- where they lead
+pub kept_run : (n last : ℕ) (xs : List ℕ) → AreKept n last xs → (count left place offset : ℕ) (fed out : List ℕ)
+    → n ≤ left → IsFed count fed (bare left place offset) out
+    → IsFed count (fed ++ xs) (elements_due (left - n) (bare left (offset + last) (offset + length xs))) (out ++ xs)
+kept_run n last xs (one item) count left place offset fed out some led =
+    let here : offset ≡ offset + 0 = omega arith in
+    rw (← here) (item count left place offset fed out led)
+kept_run n last xs (more {count = before} {last = last'} {bytes} {item} run kept) count left place offset fed out some led =
+    let m = left - suc before in
+    let still : left - before ≡ suc m = omega (arith, some) in
+    let less : before ≤ left = omega (arith, some) in
+    let back : suc m - 1 ≡ m = omega arith in
+    let far : (offset + length bytes) + length item ≡ offset + length (bytes ++ item) =
+    omega (arith, length-append bytes item) in
+    let gone = kept_run before last' bytes run count left place offset fed out less led in
+    let next = kept count (suc m) (offset + last') (offset + length bytes) (fed ++ bytes) (out ++ bytes) (rw still at gone) in
+    rw (← append_assoc fed bytes item, ← append_assoc out bytes item)
+    (rw (back, due_left m (suc m) left (offset + length bytes) ((offset + length bytes) + length item), far) at next)
+
+-- a run of them: front is what was given before of the room, and end what is then
+pub run_given : (count n last left : ℕ) (xs : List ℕ) (spot new : Spot) (fed given front end : List ℕ) → AreKept n last xs
+    → spot.phase ≡ p.Title → spot.within ≡ w.Nothing → spot.front ≡ [] → spot.put ≡ [] → n ≡ spot.left - left
+    → left ≤ spot.left
+    → new ≡ elements_due left (record spot { place = spot.offset + last; offset = spot.offset + length xs })
+    → end ≡ front ++ xs → IsFed count fed (putting [] spot) ((given ++ front) ++ spot.put)
+    → IsFed count (fed ++ xs) (putting [] new) ((given ++ end) ++ new.put)
+run_given count n last left xs spot new fed given front end run at inside clear none counts fits e all is =
+    let begin : putting [] spot ≡ bare spot.left spot.place spot.offset = rw (at, inside, clear) in
+    let still : spot.left - n ≡ left = omega (arith, counts, fits) in
+    let there : new ≡ elements_due left (bare spot.left (spot.offset + last) (spot.offset + length xs)) =
+    e ∙ rw (at, inside, clear, none) in
+    let behind = kept_run n last xs run count spot.left spot.place spot.offset fed (given ++ front)
+    (omega (arith, counts)) (rw (begin, none, append-nil (given ++ front)) at is) in
+    rw (
+      there,
+      all,
+      bare_put left spot.left (spot.offset + last) (spot.offset + length xs),
+      bare_clear left spot.left (spot.offset + last) (spot.offset + length xs),
+      append-nil (given ++ (front ++ xs)),
+      ← append_assoc given front xs,
+    ) (rw still at behind)
+
+-- ---- longer titles
+
+short_one : (k n b : ℕ) → n < 2 ^ 8 → 32 * k + 24 ≡ b → 24 ≤ n → (224 ≤ b → 32 ≤ n) → refused_when_strict k (m.One n) ≡ false
+short_one k n b fits parts least simple = grind (arith, nat_tests)
+
+short_two : (k n b : ℕ) → n < 2 ^ 16 → 32 * k + 25 ≡ b → k < 8 → (b < 224 → 2 ^ 8 ≤ n) → refused_when_strict k (m.Two n) ≡ false
+short_two k n b fits parts major least = grind (arith, nat_tests)
+
+short_four : (k n b : ℕ) → n < 2 ^ 32 → 32 * k + 26 ≡ b → k < 8 → (b < 224 → 2 ^ 16 ≤ n) → refused_when_strict k (m.Four n) ≡ false
+short_four k n b fits parts major least = grind (arith, nat_tests)
+
+short_eight : (k n b : ℕ) → n < 2 ^ 64 → 32 * k + 27 ≡ b → k < 8 → (b < 224 → 2 ^ 32 ≤ n) → refused_when_strict k (m.Eight n) ≡ false
+short_eight k n b fits parts major least = grind (arith, nat_tests)
+
+-- what stands behind the first byte of the shortest title
+abbrev Stays : ℕ → List ℕ → Type 0
+Stays b v =
+    (b % 32 ≡ 24 → (24 ≤ get_or v 0 0) × (224 ≤ b → 32 ≤ get_or v 0 0))
+    × (b % 32 ≡ 25 → b < 224 → 0 < get_or v 0 0)
+    × (b % 32 ≡ 26 → b < 224 → 0 < get_or v 0 0 + get_or v 1 0)
+    × (b % 32 ≡ 27 → b < 224 → 0 < get_or v 0 0 + get_or v 1 0 + get_or v 2 0 + get_or v 3 0)
+
+code_below : (k : Major) → major_code k < 8
+code_below k = grind arith
+
+short_by : (k : Major) (s : Size) (n b : ℕ) (v : List ℕ) → n < size_limit s → first_byte k (minor_of s n) ≡ b
+    → affix_of s n ≡ v → Stays b v → refused_when_strict (major_code k) (minor_as s n) ≡ false
+short_by k Small n b v fits head tail stays = refl
+short_by k One n b v fits head tail stays =
+    let at : b % 32 ≡ 24 = omega (arith, head) in
+    let x : get_or v 0 0 ≡ n % 256 = ap (λ (z : List ℕ). get_or z 0 0) (sym tail) in
+    short_one (major_code k) n b fits head (omega (arith, (stays.0 at).0, x, fits)) (λ high. omega (arith, (stays.0 at).1 high, x, fits))
+short_by k Two n b v fits head tail stays =
+    let at : b % 32 ≡ 25 = omega (arith, head) in
+    let x : get_or v 0 0 ≡ n / 256 % 256 = ap (λ (z : List ℕ). get_or z 0 0) (sym tail) in
+    short_two (major_code k) n b fits head (code_below k) (λ low. omega (arith, stays.1 at low, x))
+short_by k Four n b v fits head tail stays =
+    let at : b % 32 ≡ 26 = omega (arith, head) in
+    let x : get_or v 0 0 ≡ n / 16777216 % 256 = ap (λ (z : List ℕ). get_or z 0 0) (sym tail) in
+    let y : get_or v 1 0 ≡ n / 65536 % 256 = ap (λ (z : List ℕ). get_or z 1 0) (sym tail) in
+    short_four (major_code k) n b fits head (code_below k) (λ low. omega (arith, stays.2 at low, x, y))
+short_by k Eight n b v fits head tail stays =
+    let at : b % 32 ≡ 27 = omega (arith, head) in
+    let x : get_or v 0 0 ≡ n / 2 ^ 56 % 256 = ap (λ (z : List ℕ). get_or z 0 0) (sym tail) in
+    let y : get_or v 1 0 ≡ n / 2 ^ 48 % 256 = ap (λ (z : List ℕ). get_or z 1 0) (sym tail) in
+    let z : get_or v 2 0 ≡ n / 2 ^ 40 % 256 = ap (λ (z : List ℕ). get_or z 2 0) (sym tail) in
+    let w : get_or v 3 0 ≡ n / 2 ^ 32 % 256 = ap (λ (z : List ℕ). get_or z 3 0) (sym tail) in
+    short_eight (major_code k) n b fits head (code_below k) (λ low. omega (arith, stays.3 at low, x, y, z, w))
+
+ends_plain : (k : Major) (s : Size) (n : ℕ) → major_code k ≢ 2 → major_code k ≢ 3 → (spot : Spot)
+    → header_entered (numbered_header k s n) spot ≡ element_done spot
+ends_plain Unsigned s n two three spot = refl
+ends_plain Negative s n two three spot = refl
+ends_plain ByteString s n two three spot = absurd (two refl)
+ends_plain TextString s n two three spot = absurd (three refl)
+ends_plain Array s n two three spot = refl
+ends_plain Map s n two three spot = refl
+ends_plain Tag s n two three spot = refl
+ends_plain Other Small n two three spot = refl
+ends_plain Other One n two three spot = refl
+ends_plain Other Two n two three spot = refl
+ends_plain Other Four n two three spot = refl
+ends_plain Other Eight n two three spot = refl
+
+kept_wide : (t : List ℕ) (header : Header) (b : ℕ) (v : List ℕ) → IsTitle t header → t ≡ b ∷ v → Below t
+    → 24 ≤ b % 32 → b % 32 < 28 → b / 32 ≢ 2 → b / 32 ≢ 3 → Stays b v → IsKept t
+kept_wide t header b v (alone k x o) e below least most two three stays =
+    let head : first_byte k 31 ≡ b = cc in
+    absurd (omega (arith, head, most))
+kept_wide t header b v (numbered k s n fits) e below least most two three stays =
+    let head : first_byte k (minor_of s n) ≡ b = cc in
+    let tail : affix_of s n ≡ v = cc in
+    let code : major_code k ≡ b / 32 = omega (arith, head, minor_below s n fits) in
+    kept_title (numbered_title k s n) (numbered_header k s n) below (omega arith) (numbered k s n fits)
+    (taken k s n fits (short_by k s n b v fits head tail stays)).shortest
+    (ends_plain k s n (λ is. two (sym code ∙ is)) (λ is. three (sym code ∙ is)))
+
+none_long : (minor : ℕ) → 24 ≤ minor → minor < 28 → affix_len minor ≡ 0 → ⊥
+none_long minor least most none = grind (arith, nat_tests)
+
+bytes_of : (xs : List ℕ) → Below xs → AreBytes xs
+bytes_of [] below = tt
+bytes_of (x ∷ xs) below = (below 0 (omega arith), bytes_of xs (below_rest x xs below))
+
+front_at : (b : ℕ) (n : ℕ) (xs : List ℕ) → 0 < length xs → slice_index xs 0 ≡ b
+    → take (suc n) xs ≡ b ∷ take n (drop 1 xs)
+front_at b n [] some first = absurd (omega (arith, some))
+front_at b n (x ∷ xs) some first = rw first refl
+
+-- the bytes in front are such a title
+kept_long : (xs : List ℕ) (n b : ℕ) → Below xs → suc n ≤ length xs → slice_index xs 0 ≡ b
+    → n ≡ affix_len (b % 32) → 24 ≤ b % 32 → b % 32 < 28 → b / 32 ≢ 2 → b / 32 ≢ 3
+    → Stays b (take n (drop 1 xs)) → IsKept (take (suc n) xs)
+kept_long xs n b below le first long least most two three stays =
+    let v = take n (drop 1 xs) in
+    let front = front_at b n xs (omega (arith, le)) first in
+    let within : Below (take (suc n) xs) = below_take (suc n) xs le below in
+    let all : Below (b ∷ v) = rw front at within in
+    let fits : b < 256 = all 0 (omega arith) in
+    let far : n ≤ length (drop 1 xs) = omega (arith, length-drop 1 xs, le) in
+    let count : length v ≡ affix_len (b % 32) = length-take-le n (drop 1 xs) far ∙ long in
+    rw front (elim (title_or_refused b v fits (bytes_of v (below_rest b v all)) count) [
+      | inl refused ↦ absurd (none_long (b % 32) least most (refused_affix b refused))
+      | inr titled ↦ kept_wide (b ∷ v) titled.0 b v titled.1 refl all least most two three stays
+    ])
+
+taken_at : (xs : List ℕ) (n i : ℕ) → i < n → get_or (take n (drop 1 xs)) i 0 ≡ slice_index xs (1 + i)
+taken_at xs n i less = get_or-take n (drop 1 xs) i 0 less ∙ get_or-drop 1 xs i 0
+
+module _ (xs : List ℕ) (b : ℕ) (below : Below xs) (first : slice_index xs 0 ≡ b) (two : b / 32 ≢ 2)
+    (three : b / 32 ≢ 3) where
+  pub long_24 : 2 ≤ length xs → b % 32 ≡ 24 → 24 ≤ slice_index xs 1 → (224 ≤ b → 32 ≤ slice_index xs 1)
+      → IsKept (take 2 xs)
+  long_24 le at least simple =
+      let x = taken_at xs 1 0 (omega arith) in
+      kept_long xs 1 b below le first (rw at refl) (omega (arith, at)) (omega (arith, at)) two three (
+        λ e. (rw x least, λ high. rw x (simple high)),
+        λ e. absurd (omega (arith, e, at)),
+        λ e. absurd (omega (arith, e, at)),
+        λ e. absurd (omega (arith, e, at)),
+      )
+
+  pub long_25 : 3 ≤ length xs → b % 32 ≡ 25 → (b < 224 → 0 < slice_index xs 1) → IsKept (take 3 xs)
+  long_25 le at some =
+      let x = taken_at xs 2 0 (omega arith) in
+      kept_long xs 2 b below le first (rw at refl) (omega (arith, at)) (omega (arith, at)) two three (
+        λ e. absurd (omega (arith, e, at)),
+        λ e low. rw x (some low),
+        λ e. absurd (omega (arith, e, at)),
+        λ e. absurd (omega (arith, e, at)),
+      )
+
+  pub long_26 : 5 ≤ length xs → b % 32 ≡ 26 → (b < 224 → 0 < slice_index xs 1 + slice_index xs 2) → IsKept (take 5 xs)
+  long_26 le at some =
+      let x = taken_at xs 4 0 (omega arith) in
+      let y = taken_at xs 4 1 (omega arith) in
+      kept_long xs 4 b below le first (rw at refl) (omega (arith, at)) (omega (arith, at)) two three (
+        λ e. absurd (omega (arith, e, at)),
+        λ e. absurd (omega (arith, e, at)),
+        λ e low. rw (x, y) (some low),
+        λ e. absurd (omega (arith, e, at)),
+      )
+
+  pub long_27 : 9 ≤ length xs → b % 32 ≡ 27
+      → (b < 224 → 0 < slice_index xs 1 + slice_index xs 2 + slice_index xs 3 + slice_index xs 4) → IsKept (take 9 xs)
+  long_27 le at some =
+      let x = taken_at xs 8 0 (omega arith) in
+      let y = taken_at xs 8 1 (omega arith) in
+      let z = taken_at xs 8 2 (omega arith) in
+      let w = taken_at xs 8 3 (omega arith) in
+      kept_long xs 8 b below le first (rw at refl) (omega (arith, at)) (omega (arith, at)) two three (
+        λ e. absurd (omega (arith, e, at)),
+        λ e. absurd (omega (arith, e, at)),
+        λ e. absurd (omega (arith, e, at)),
+        λ e low. rw (x, y, z, w) (some low),
+      )

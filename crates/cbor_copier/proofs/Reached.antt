@@ -1,0 +1,131 @@
+-- The elements that the bytes of a copy have led to, and their output.
+use Rattle.std.proofs.Common.{◌≡◌, ℕ, suc, ◌+◌, ◌-◌, ◌<◌, true, List, [], ◌∷◌, ◌++◌, length, Some, ◌⊎◌}
+use Rattle.ciborium_ll_grammar.specs.declared.hdr.Header.{Header}
+use Rattle.ciborium_ll_grammar.specs.Title.{IsTitle, title_len, IsCutTitle, AreBytes}
+use Rattle.ciborium_ll_grammar.specs.Strings.{Kind, Bytes, Text, kind_header, IsMisplaced, IsWritable}
+use Rattle.ciborium_ll_grammar.specs.Elements.{AreWritable, Mark, Open, pieces, spelling, IsRun}
+use Rattle.ciborium_ll_grammar.specs.Faults.{Point, Due, In, with_front}
+use Rattle.ciborium_ll_grammar.proofs.OpenStrings.{IsInsideAt}
+use Rattle.ciborium_ll_text.specs.declared.state.State.TheVariants as s
+use Rattle.ciborium_ll_text.specs.States.{after, may_end}
+use Rattle.cbor_copier.specs.declared.phase.Phase.{Phase}
+use Rattle.cbor_copier.specs.declared.phase.Phase.TheVariants as p
+use Rattle.cbor_copier.specs.declared.phase.StringKind.{StringKind}
+use Rattle.cbor_copier.specs.declared.phase.StringKind.TheVariants as k
+use Rattle.cbor_copier.specs.declared.phase.Within.{Within}
+use Rattle.cbor_copier.specs.declared.phase.Within.TheVariants as w
+use Rattle.cbor_copier.specs.Spots.{Spot, putting}
+use Rattle.cbor_copier.specs.Telling.{AreSpelled, NoneGoOn, FaultsAt}
+
+abbrev pub kind_of : StringKind → Kind
+kind_of k.Bytes = Bytes
+kind_of k.Text = Text
+
+-- the bytes are all of the elements but so many
+pub record RunLeft (count left : ℕ) (bytes : List ℕ) (marks : List Mark) : Type 0 where
+  pub before : ℕ
+  pub run : IsRun before bytes marks
+  pub counted : before + left ≡ count
+
+-- behind those a string of the kind is open, and so many within it
+pub record InOpen (kind : Kind) (more count left : ℕ) (bytes : List ℕ) (marks : List Mark) : Type 0 where
+  pub elements : List ℕ
+  pub element_marks : List Mark
+  pub opens : List ℕ
+  pub bodies : List (List ℕ)
+  pub run : RunLeft count left elements element_marks
+  pub inside : IsInsideAt kind (suc more) opens bodies
+  pub sound : AreWritable kind bodies
+  pub is : bytes ≡ elements ++ opens
+  pub marks_are : marks ≡ element_marks ++ Open kind ∷ pieces kind bodies
+
+-- a header that may not stand there
+abbrev pub Misplaced : Within → Header → Type 0
+Misplaced w.Nothing header = ⊥
+Misplaced (w.Open kind more) header = IsMisplaced (kind_of kind) header
+
+-- a string of the kind may stand there
+abbrev pub OfKind : Within → StringKind → Type 0
+OfKind w.Nothing kind = Unit {0}
+OfKind (w.Open outer more) kind = outer ≡ kind
+
+abbrev pub place_of : Within → Point
+place_of w.Nothing = Due
+place_of (w.Open kind more) = In (kind_of kind)
+
+-- the place that a fault of a body names
+abbrev pub body_place : Within → List ℕ → List ℕ → Header → ℕ
+body_place w.Nothing before title header = length (before ++ title) - title_len header
+body_place (w.Open kind more) before title header = length before
+
+-- no title came, or a part of one that may stand there
+abbrev pub FrontAt : Within → ℕ → ℕ → List ℕ → Type 0
+FrontAt i at place front = (front ≡ []) ⊎ (AreBytes front × IsCutTitle front
+    × ((more : List ℕ) (header : Header) → IsTitle (front ++ more) header → Misplaced i header → ⊥)
+    × (place ≡ at) × (0 < length front))
+
+-- a title is due: an element is the next, or strings are open
+pub data Here (count left : ℕ) (bytes : List ℕ) (marks : List Mark) : Within → Type 0 where
+  between : RunLeft count left bytes marks → 0 < left → Here count left bytes marks w.Nothing
+  in_open : {kind : StringKind} {more : ℕ} → InOpen (kind_of kind) more count left bytes marks → 0 < left
+      → Here count left bytes marks (w.Open kind more)
+
+-- where a title is due
+pub record Titling (count : ℕ) (bytes : List ℕ) (spot : Spot) (output : List ℕ) : Type 0 where
+  pub before : List ℕ
+  pub marks : List Mark
+  pub here : Here count spot.left before marks spot.within
+  pub is : bytes ≡ before ++ spot.front
+  pub out : output ≡ spelling marks
+  pub front : FrontAt spot.within (length before) spot.place spot.front
+
+-- behind its title a body of so many bytes is due, and this is the place that its fault names
+pub record Begun (kind : StringKind) (count left place len : ℕ) (before title : List ℕ) (marks : List Mark) (i : Within)
+    : Type 0 where
+  pub here : Here count left before marks i
+  pub of_kind : OfKind i kind
+  pub is_title : IsTitle title (kind_header (kind_of kind) (Some len))
+  pub named : place ≡ body_place i before title (kind_header (kind_of kind) (Some len))
+
+-- where so many bytes of a body are due
+pub record Bodying (kind : StringKind) (left count : ℕ) (bytes : List ℕ) (spot : Spot) (output : List ℕ) : Type 0 where
+  pub before : List ℕ
+  pub title : List ℕ
+  pub part : List ℕ
+  pub marks : List Mark
+  pub len : ℕ
+  pub begun : Begun kind count spot.left spot.place len before title marks spot.within
+  pub is : bytes ≡ (before ++ title) ++ (part ++ spot.front)
+  pub long : length (part ++ spot.front) + left ≡ len
+  pub out : output ≡ with_front marks (kind_of kind) len part
+  pub sound : IsWritable (kind_of kind) part
+
+-- there is a fault at this place
+abbrev pub Broken : ℕ → ℕ → List ℕ → List ℕ → Type 0
+Broken place count bytes output = NoneGoOn count bytes × FaultsAt place count bytes output
+
+abbrev pub HoldsIn : Phase → ℕ → List ℕ → Spot → List ℕ → Type 0
+HoldsIn p.Title count bytes spot output = Titling count bytes spot output
+HoldsIn (p.Bytes left) count bytes spot output =
+    Bodying k.Bytes left count bytes spot output × (spot.front ≡ []) × (0 < left)
+HoldsIn (p.Text left state) count bytes spot output =
+    Bodying k.Text left count bytes spot output × (state ≡ after s.Between spot.front) × (may_end state left ≡ true)
+    × (0 < left)
+HoldsIn p.Ended count bytes spot output = AreSpelled count bytes output
+HoldsIn (p.Faulted place) count bytes spot output = Broken place count bytes output
+
+-- what the last byte put out does not count
+abbrev pub Holds : ℕ → List ℕ → Spot → List ℕ → Type 0
+Holds count bytes spot output = HoldsIn spot.phase count bytes (putting [] spot) output
+
+-- a spot that holds no bytes back
+abbrev pub clear : Phase → Within → ℕ → ℕ → ℕ → List ℕ → Spot
+clear phase i left place offset put = record {
+  phase = phase;
+  front = [];
+  within = i;
+  left = left;
+  place = place;
+  offset = offset;
+  put = put;
+}

@@ -1,0 +1,14 @@
+-- Titles that may not stand at the place, by the kind of their first byte.
+use Rattle.std.specs.Prelude.{Bool, true, false}
+use Rattle.ciborium_ll_grammar.specs.declared.hdr.table.TitleKind.{TitleKind}
+use Rattle.ciborium_ll_grammar.specs.declared.hdr.table.TitleKind.TheVariants as t
+use Rattle.cbor_copier.specs.declared.phase.StringKind.TheVariants as k
+use Rattle.cbor_copier.specs.declared.phase.Within.{Within}
+use Rattle.cbor_copier.specs.declared.phase.Within.TheVariants as w
+
+-- No title of this kind may stand here: within a string, it is of another kind (RFC 7049, 2.2.2).
+abbrev pub is_blocked : Within → TitleKind → Bool
+is_blocked w.Nothing kind = false
+is_blocked (w.Open k.Bytes more) t.Bytes = false
+is_blocked (w.Open k.Text more) t.Text = false
+is_blocked (w.Open kind more) title = true

@@ -1,0 +1,36 @@
+-- How many bytes of a title or of a character are held back at most, and how many strings are open.
+use Rattle.std.specs.Prelude.{ℕ, zero, suc, ◌-◌, ◌%◌, Bool, true, false, List, slice_index}
+use Rattle.ciborium_ll_grammar.specs.Title.{affix_len}
+use Rattle.ciborium_ll_text.specs.declared.state.State.{State}
+use Rattle.ciborium_ll_text.specs.declared.state.State.TheVariants as s
+use Rattle.ciborium_ll_text.specs.States.{tail_due}
+use Rattle.cbor_copier.specs.declared.phase.Phase.{Phase}
+use Rattle.cbor_copier.specs.declared.phase.Phase.TheVariants as p
+use Rattle.cbor_copier.specs.declared.phase.Within.{Within}
+use Rattle.cbor_copier.specs.declared.phase.Within.TheVariants as w
+
+-- How many bytes of a character are held back at most, by how many more bytes end it. It has at most four (Unicode,
+-- Table 3-7).
+abbrev pub most_cut : State → ℕ
+most_cut s.Between = 0
+most_cut s.Damaged = 0
+most_cut state = 4 - tail_due state
+
+-- How many bytes of a title or a character are held back at most. For a title it is the length of the affix that its
+-- first byte announces (RFC 7049, 2.1).
+abbrev pub most_front : Phase → List ℕ → ℕ
+most_front p.Title front = affix_len (slice_index front 0 % 32)
+most_front (p.Text left state) front = most_cut state
+most_front (p.Faulted place) front = 8
+most_front phase front = 0
+
+-- How many strings are open (RFC 7049, 2.2.2).
+abbrev pub open_count : Within → ℕ
+open_count w.Nothing = 0
+open_count (w.Open kind more) = suc more
+
+-- A body has bytes left.
+abbrev pub has_left : Phase → Bool
+has_left (p.Bytes zero) = false
+has_left (p.Text zero state) = false
+has_left phase = true

@@ -1,0 +1,37 @@
+-- Elements that a copy keeps as they are.
+use Rattle.std.specs.Prelude.{◌≡◌, ◌≢◌, ℕ, suc, ◌+◌, ◌-◌, ◌/◌, ◌%◌, ◌<◌, ◌⊎◌, List, [], ◌++◌, length}
+use Rattle.cbor_copier.specs.declared.phase.Phase.TheVariants as p
+use Rattle.cbor_copier.specs.declared.phase.Within.TheVariants as w
+use Rattle.cbor_copier.specs.Spots.{Spot, elements_due}
+use Rattle.cbor_copier.specs.Steps.{IsFed}
+
+-- This many elements are left. None of the next title came, and nothing is pending.
+abbrev pub bare : ℕ → ℕ → ℕ → Spot
+bare left place offset = record {
+  phase = p.Title;
+  front = [];
+  within = w.Nothing;
+  left = left;
+  place = place;
+  offset = offset;
+  put = [];
+}
+
+-- If an element is due, these bytes are an element, and go out as they are (RFC 7049, 2.1 and 3.9).
+abbrev pub IsKept : List ℕ → Type 0
+IsKept bytes = (count left place offset : ℕ) (fed out : List ℕ) → IsFed count fed (bare left place offset) out
+    → IsFed count (fed ++ bytes) (elements_due (left - 1) (bare left offset (offset + length bytes))) (out ++ bytes)
+
+-- This many elements of this kind, joined. The last begins at this index.
+pub data AreKept : ℕ → ℕ → List ℕ → Type 0 where
+  one : {item : List ℕ} → IsKept item → AreKept 1 0 item
+  more : {count last : ℕ} {bytes item : List ℕ} → AreKept count last bytes → IsKept item
+      → AreKept (suc count) (length bytes) (bytes ++ item)
+
+-- The number in the table of a first byte, by its major type and its lower five bits (RFC 7049, 2.1). It is the length
+-- of a title of one byte that begins no string, or of a string below 24 bytes. 0 says nothing.
+abbrev pub IsLen : ℕ → ℕ → Type 0
+IsLen first len =
+    (len ≡ 0)
+    ⊎ ((len ≡ 1) × (first % 32 < 24) × (first / 32 ≢ 2) × (first / 32 ≢ 3)
+    ⊎ (len ≡ 1 + first % 32) × (first % 32 < 24) × ((first / 32 ≡ 2) ⊎ (first / 32 ≡ 3)))

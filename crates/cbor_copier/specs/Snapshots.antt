@@ -1,0 +1,59 @@
+-- A spot as plain numbers, which a caller keeps in its own memory.
+use Rattle.std.specs.Prelude.{◌≡◌, ◌==◌, ◌≤◌, ℕ, true, List, length, take, Option, Some, None, if◌then◌else◌}
+use Rattle.ciborium_ll_text.specs.declared.state.State.{State}
+use Rattle.ciborium_ll_text.specs.Numbers.{state_in}
+use Rattle.cbor_copier.specs.declared.phase.Phase.{Phase}
+use Rattle.cbor_copier.specs.declared.phase.Phase.TheVariants as p
+use Rattle.cbor_copier.specs.declared.phase.StringKind.TheVariants as k
+use Rattle.cbor_copier.specs.declared.phase.Within.{Within}
+use Rattle.cbor_copier.specs.declared.phase.Within.TheVariants as w
+use Rattle.cbor_copier.specs.declared.snapshot.Snapshot.{Snapshot}
+use Rattle.cbor_copier.specs.Fronts.{has_left, most_front, open_count}
+use Rattle.cbor_copier.specs.Spots.{Spot}
+
+-- This many bytes of a text are due, if there is a state.
+abbrev pub text_in : ℕ → Option State → Option Phase
+text_in left (Some state) = Some (p.Text left state)
+text_in left None = None
+
+-- What is due, by the number of its kind. `number` counts the bytes due of a body, or is the place of a fault. 0 is no
+-- kind.
+abbrev pub phase_in : ℕ → ℕ → ℕ → Option Phase
+phase_in kind number text =
+    if kind == 1 then Some p.Title else
+    (if kind == 2 then Some (p.Bytes number) else
+    (if kind == 3 then text_in number (state_in text) else
+    (if kind == 4 then Some p.Ended else
+    (if kind == 5 then Some (p.Faulted number) else None))))
+
+-- The strings that are open, by the number of their kind and how many there are within the first.
+abbrev pub within_in : ℕ → ℕ → Option Within
+within_in kind more =
+    if kind == 0 then Some w.Nothing else
+    (if kind == 1 then Some (w.Open k.Bytes more) else
+    (if kind == 2 then Some (w.Open k.Text more) else None))
+
+-- The bytes of a title or of a character that isn't whole.
+abbrev pub front_in : Snapshot → List ℕ
+front_in snapshot = take snapshot.front_len snapshot.front
+
+-- A copier can have this phase and these open strings with the other numbers. A body has bytes left, and each open
+-- string has come with a byte. No more bytes are held back than a cut title or character has. No more are to be written
+-- than the longest title has.
+pub record IsState (snapshot : Snapshot) (phase : Phase) (within : Within) : Type 0 where
+  pub some : has_left phase ≡ true
+  pub counted : open_count within ≤ snapshot.offset
+  pub long : snapshot.front_len ≤ 9
+  pub room : length (front_in snapshot) ≤ most_front phase (front_in snapshot)
+  pub few : snapshot.pending_len ≤ 9
+
+-- The plain numbers are those of this spot.
+pub record Holds (snapshot : Snapshot) (spot : Spot) : Type 0 where
+  pub phase : phase_in snapshot.phase snapshot.number snapshot.text ≡ Some spot.phase
+  pub front : front_in snapshot ≡ spot.front
+  pub within : within_in snapshot.strings snapshot.more ≡ Some spot.within
+  pub left : snapshot.left ≡ spot.left
+  pub place : snapshot.place ≡ spot.place
+  pub offset : snapshot.offset ≡ spot.offset
+  pub put : take snapshot.pending_len snapshot.pending ≡ spot.put
+  pub is_state : IsState snapshot spot.phase spot.within

@@ -1,0 +1,136 @@
+-- The answers of a copier, and what they say of the bytes so far and of the output.
+use Rattle.std.specs.Prelude.{◌≡◌, ℕ, ◌+◌, ◌<◌, ◌≤◌, ◌^◌, Bool, true, false, List, [], ◌∷◌, ◌++◌, length}
+use Rattle.ciborium_ll_grammar.specs.Title.{AreBytes}
+use Rattle.ciborium_ll_grammar.specs.Elements.{Mark, spelling, IsRun}
+use Rattle.ciborium_ll_grammar.specs.Faults.{Answer, Short, Syntax, BeginsWithElements, HasFault}
+use Rattle.cbor_copier.specs.declared.phase.Phase.{Phase}
+use Rattle.cbor_copier.specs.declared.phase.Phase.TheVariants as p
+use Rattle.cbor_copier.specs.declared.progress.Progress.{Progress}
+use Rattle.cbor_copier.specs.declared.progress.Progress.TheVariants as r
+use Rattle.cbor_copier.specs.declared.progress.End.{End}
+use Rattle.cbor_copier.specs.declared.progress.End.TheVariants as e
+use Rattle.cbor_copier.specs.Spots.{Spot}
+
+-- More bytes may come.
+abbrev pub is_due : Phase → Bool
+is_due p.Ended = false
+is_due (p.Faulted place) = false
+is_due phase = true
+
+-- The answer if nothing is pending, by what is due.
+abbrev pub progress_in : Phase → Progress
+progress_in p.Ended = r.Ended
+progress_in (p.Faulted place) = r.Syntax place
+progress_in phase = r.More
+
+-- The answer, by what is pending and what is due.
+abbrev pub progress_of : List ℕ → Phase → Progress
+progress_of [] phase = progress_in phase
+progress_of (byte ∷ bytes) phase = r.Room
+
+-- The answer if no more bytes come and nothing is pending, by what is due.
+abbrev pub end_in : Phase → End
+end_in p.Ended = e.Ended
+end_in (p.Faulted place) = e.Syntax place
+end_in phase = e.Short
+
+-- The answer if no more bytes come, by what is pending and what is due.
+abbrev pub end_of : List ℕ → Phase → End
+end_of [] phase = end_in phase
+end_of (byte ∷ bytes) phase = e.Room
+
+-- The answer is that of the state. With `TooLong`, more bytes are due that can't be counted.
+abbrev pub IsAnswer : Progress → List ℕ → Phase → Type 0
+IsAnswer r.TooLong pending phase = progress_of pending phase ≡ r.More
+IsAnswer progress pending phase = progress ≡ progress_of pending phase
+
+-- More bytes are due.
+abbrev pub IsMore : Progress → Type 0
+IsMore r.More = Unit {0}
+IsMore progress = ⊥
+
+-- There is no room for the pending bytes.
+abbrev pub IsRoom : Progress → Type 0
+IsRoom r.Room = Unit {0}
+IsRoom progress = ⊥
+
+-- ---- what is said of all bytes so far
+
+-- The bytes are that many elements, and the output is their shortest spelling (RFC 7049, 2.1, 2.2.2 and 3.9).
+pub record AreSpelled (count : ℕ) (bytes output : List ℕ) : Type 0 where
+  pub marks : List Mark
+  pub run : IsRun count bytes marks
+  pub spelled : output ≡ spelling marks
+
+-- If no more bytes come, a copy of that many elements is at this fault with this output (RFC 7049, 2.1 and 2.2.2).
+pub record ComesTo (count : ℕ) (bytes : List ℕ) (answer : Answer) (output : List ℕ) : Type 0 where
+  pub fault : HasFault false count bytes
+  pub answered : fault.answer ≡ answer
+  pub written : fault.written ≡ output
+
+-- Some more bytes make that many elements (RFC 7049, 2.1 and 2.2.2).
+pub record SomeGoOn (count : ℕ) (bytes : List ℕ) : Type 0 where
+  pub more : List ℕ
+  pub more_bytes : AreBytes more
+  pub marks : List Mark
+  pub run : IsRun count (bytes ++ more) marks
+
+-- Whatever bytes follow, that many elements do not stand at the start (RFC 7049, 2.1 and 2.2.2).
+abbrev pub NoneGoOn : ℕ → List ℕ → Type 0
+NoneGoOn count bytes = (more : List ℕ) → AreBytes more → BeginsWithElements false count (bytes ++ more) → ⊥
+
+-- With some more bytes, a copy is at the fault of this place with this output (RFC 7049, 2.1 and 2.2.2).
+pub record FaultsAt (place count : ℕ) (bytes output : List ℕ) : Type 0 where
+  pub more : List ℕ
+  pub more_bytes : AreBytes more
+  pub comes_to : ComesTo count (bytes ++ more) (Syntax place) output
+
+-- What an answer says if nothing is pending. `More`: the bytes are a part of that many elements. `Ended`: they are that
+-- many elements. `Syntax`: no list of that many elements begins so.
+abbrev pub TellsWhole : ℕ → List ℕ → List ℕ → Progress → Type 0
+TellsWhole count bytes output r.More = ComesTo count bytes Short output × SomeGoOn count bytes
+TellsWhole count bytes output r.Room = ⊥
+TellsWhole count bytes output r.Ended = AreSpelled count bytes output
+TellsWhole count bytes output (r.Syntax place) = NoneGoOn count bytes × FaultsAt place count bytes output
+TellsWhole count bytes output r.TooLong =
+    ComesTo count bytes Short output × SomeGoOn count bytes × (2 ^ 64 ≤ length bytes + 1)
+
+-- With some pending bytes after the output, one of those answers holds.
+pub record LacksRoom (count : ℕ) (bytes output : List ℕ) : Type 0 where
+  pub pending : List ℕ
+  pub some : 0 < length pending
+  pub progress : Progress
+  pub told : TellsWhole count bytes (output ++ pending) progress
+
+-- What the answer says of all bytes so far and of the output.
+abbrev pub Tells : ℕ → List ℕ → List ℕ → Progress → Type 0
+Tells count bytes output r.Room = LacksRoom count bytes output
+Tells count bytes output progress = TellsWhole count bytes output progress
+
+-- What the last answer says of all bytes and of the output. `Ended`: they are that many elements, and all is written.
+-- `Short`: they are a part of that many elements. `Syntax`: no list of that many elements begins so.
+abbrev pub TellsEnd : ℕ → List ℕ → List ℕ → End → Type 0
+TellsEnd count bytes output e.Ended = AreSpelled count bytes output
+TellsEnd count bytes output e.Short = ComesTo count bytes Short output × SomeGoOn count bytes
+TellsEnd count bytes output e.Room = LacksRoom count bytes output
+TellsEnd count bytes output (e.Syntax place) = NoneGoOn count bytes × FaultsAt place count bytes output
+
+-- ---- by the spot
+
+-- That many elements came.
+abbrev pub EndedIn : Phase → Type 0
+EndedIn p.Ended = Unit {0}
+EndedIn phase = ⊥
+
+-- The elements have come at the spot.
+abbrev pub HasEnded : Spot → Type 0
+HasEnded spot = EndedIn spot.phase
+
+-- No list of that many elements begins so.
+abbrev pub FaultIn : Phase → Type 0
+FaultIn (p.Faulted place) = Unit {0}
+FaultIn phase = ⊥
+
+-- No list of that many elements goes on from the spot.
+abbrev pub IsAtFault : Spot → Type 0
+IsAtFault spot = FaultIn spot.phase

@@ -1,0 +1,685 @@
+//! The copier: it takes one byte after another, and puts out the copy.
+
+ghost use Rattle.std.specs.Prelude.{◌≡◌, ◌+◌, ◌<◌, ◌≤◌, [], length, take, true};
+ghost use Rattle.cbor_copier.specs.Fronts.{has_left, most_front, open_count};
+ghost use Rattle.cbor_copier.specs.Blocked.{is_blocked};
+ghost use Rattle.cbor_copier.specs.Spots.{IsPutOut};
+ghost use Rattle.ciborium_ll_text.specs.States.{may_end};
+
+use crate::few::Few;
+use crate::pending::Pending;
+use crate::phase::{Phase, StringKind, Within};
+use crate::plain::{Run, kept_run};
+use crate::progress::{Copied, End, Progress};
+use crate::snapshot::{Snapshot, is_state};
+use crate::title::header_of;
+use ciborium_ll_grammar::hdr::Header;
+use ciborium_ll_grammar::hdr::table::{TitleKind, row_of};
+use ciborium_ll_text::state::{State, text_front};
+
+/// Returns whether a title of this kind may not stand here, before all of its bytes came.
+fn is_blocked(within: Within, kind: TitleKind) -> bool
+    ensures { result ≡ is_blocked within kind }
+{
+    !matches!(
+        (within, kind),
+        (Within::Nothing, _)
+            | (Within::Open(StringKind::Bytes, _), TitleKind::Bytes)
+            | (Within::Open(StringKind::Text, _), TitleKind::Text)
+    )
+}
+
+/// Returns how many bytes at the start of a part of a body go out as they are: all of them, or the whole characters of
+/// a text.
+#[inline(always)]
+fn whole_len(kind: StringKind, bytes: &[u8]) -> usize
+    ensures within { result ≤ length bytes.now }
+    ensures whole { IsPutOut kind (take result bytes.now) }
+{
+    match kind {
+        StringKind::Bytes => bytes.len(),
+        StringKind::Text => text_front(bytes, 0, State::Between).0.len(),
+    }
+}
+
+/// Copies elements of CBOR whose bytes come in pieces, each in its shortest spelling.
+///
+/// An element is a header that begins no string, or a whole string (RFC 7049, 2.1 and 2.2). A caller gives each piece
+/// to [`Copier::feed`], which writes into the caller's memory. The copier takes no memory, and reads and writes nothing
+/// by itself.
+#[derive(Drop)]
+pub struct Copier {
+    phase: Phase,
+    front: Few,
+    within: Within,
+    left: usize,
+    place: usize,
+    offset: usize,
+    pending: Pending,
+    ghost some: { has_left phase ≡ true },
+    ghost room: { length front ≤ most_front phase front },
+    ghost counted: { open_count within ≤ offset },
+}
+
+impl Copier {
+    ghost use Rattle.std.specs.Prelude.{ℕ, ◌-◌, ◌++◌, ◌↔◌, ◌⊎◌, List, drop, false, IfSome};
+    ghost use Rattle.ciborium_ll_text.specs.States.{after_byte};
+    ghost use Rattle.cbor_copier.specs.Copying.{IsAt, IsCopied, spot_of};
+    ghost use Rattle.cbor_copier.specs.Snapshots.{Holds};
+    ghost use Rattle.cbor_copier.specs.Spots.{Spot, body_due, body_phase, element_done, element_entered, elements_due, entered};
+    ghost use Rattle.cbor_copier.specs.Spots.{string_closed, string_done, string_entered, string_open, within_entered};
+    ghost use Rattle.cbor_copier.specs.Spots.{piece_entered, refused};
+    ghost use Rattle.cbor_copier.specs.Fronts.{most_cut};
+    ghost use Rattle.cbor_copier.specs.Plain.{AreKept};
+    ghost use Rattle.cbor_copier.specs.Steps.{Step, TitleStep, byte_put, counted_by, text_left};
+    ghost use Rattle.cbor_copier.specs.Steps.{title_place, with_byte, with_char};
+    ghost use Rattle.cbor_copier.specs.Telling.{IsAnswer, IsMore, IsRoom, Tells, is_due, progress_of};
+    ghost use Rattle.cbor_copier.specs.Telling.{AreSpelled, TellsEnd, end_of};
+    ghost use Rattle.cbor_copier.specs.declared.phase.Phase.TheVariants as p;
+    ghost use Rattle.cbor_copier.specs.declared.phase.StringKind.TheVariants as k;
+    ghost use Rattle.cbor_copier.specs.declared.phase.Within.TheVariants as w;
+    ghost use Rattle.ciborium_ll_grammar.specs.Title.{IsTitle};
+    ghost use Rattle.cbor_copier.specs.declared.progress.End.TheVariants as e;
+    ghost use Rattle.cbor_copier.specs.declared.progress.Progress.TheVariants as r;
+
+    /// Makes a copier of `count` elements, before their first byte.
+    pub fn new(count: usize) -> Copier
+        ensures { IsCopied count [] [] result }
+    {
+        let mut copier = Copier {
+            phase: Phase::Title,
+            front: Few::new(),
+            within: Within::Nothing,
+            left: count,
+            place: 0,
+            offset: 0,
+            pending: Pending::new(),
+        };
+        copier.elements_due(count);
+        copier
+    }
+
+    /// Waits for `left` elements.
+    #[inline(always)]
+    fn elements_due(&mut self, left: usize)
+        requires { self.old.front ≡ [] }
+        ensures { spot_of self.new ≡ elements_due left (spot_of self.old) }
+    {
+        self.within = Within::Nothing;
+        self.left = left;
+        self.phase = if left == 0 {
+            Phase::Ended
+        } else {
+            Phase::Title
+        };
+    }
+
+    /// Ends an element.
+    #[inline(always)]
+    fn element_done(&mut self)
+        requires { self.old.front ≡ [] }
+        ensures { spot_of self.new ≡ element_done (spot_of self.old) }
+    {
+        self.elements_due(self.left.saturating_sub(1));
+    }
+
+    /// Ends a string of a definite length: an element, or a piece of an open string.
+    #[inline(always)]
+    fn string_done(&mut self)
+        requires { self.old.front ≡ [] }
+        ensures { spot_of self.new ≡ string_done self.old.within (spot_of self.old) }
+    {
+        match self.within {
+            Within::Nothing => self.element_done(),
+            Within::Open(_, _) => self.phase = Phase::Title,
+        }
+    }
+
+    /// Waits for `len` bytes of a string's body, or ends the string if `len` is 0.
+    #[inline(always)]
+    fn body_due(&mut self, kind: StringKind, len: usize)
+        requires { self.old.front ≡ [] }
+        ensures { spot_of self.new ≡ body_due kind len (spot_of self.old) }
+    {
+        if len == 0 {
+            self.string_done();
+            return;
+        }
+        self.phase = match kind {
+            StringKind::Bytes => Phase::Bytes(len),
+            StringKind::Text => Phase::Text(len, State::Between),
+        };
+    }
+
+    /// Waits for a piece or a break of open strings.
+    fn string_open(&mut self, kind: StringKind, more: usize)
+        requires clear { self.old.front ≡ [] }
+        requires open { more < self.old.offset }
+        ensures { spot_of self.new ≡ string_open kind more (spot_of self.old) }
+    {
+        self.within = Within::Open(kind, more);
+        self.phase = Phase::Title;
+    }
+
+    /// Enters the title of a string that is an element.
+    #[inline(always)]
+    fn enter_string(&mut self, kind: StringKind, header: Header, len: Option<usize>)
+        requires clear { self.old.front ≡ [] }
+        requires some { 1 ≤ self.old.offset }
+        ensures { spot_of self.new ≡ string_entered kind header len (spot_of self.old) }
+    {
+        match len {
+            Some(len) => {
+                self.place = self.offset.saturating_sub(header.title_len());
+                self.body_due(kind, len);
+            }
+            None => self.string_open(kind, 0),
+        }
+    }
+
+    /// Enters the title of this header, which is the start of an element.
+    #[inline(always)]
+    fn enter_element(&mut self, header: Header)
+        requires clear { self.old.front ≡ [] }
+        requires some { 1 ≤ self.old.offset }
+        ensures { spot_of self.new ≡ element_entered header (spot_of self.old) }
+    {
+        self.pending.set(Few::title(header));
+        match header {
+            Header::Bytes(len) => self.enter_string(StringKind::Bytes, header, len),
+            Header::Text(len) => self.enter_string(StringKind::Text, header, len),
+            _ => self.element_done(),
+        }
+    }
+
+    /// Ends an open string at its break, with `more` open strings around it.
+    fn string_closed(&mut self, kind: StringKind, more: usize)
+        requires clear { self.old.front ≡ [] }
+        requires open { more ≤ self.old.offset }
+        ensures { spot_of self.new ≡ string_closed kind more (spot_of self.old) }
+    {
+        if more == 0 {
+            self.pending.set(Few::title(Header::Break));
+            self.element_done();
+        } else {
+            self.string_open(kind, more - 1);
+        }
+    }
+
+    /// Refuses what came: a fault at the place.
+    fn refuse(&mut self)
+        ensures { spot_of self.new ≡ refused (spot_of self.old) }
+    {
+        self.phase = Phase::Faulted(self.place);
+    }
+
+    /// Enters the title of a string within an open string of its kind, with `more` open strings around that.
+    fn enter_piece(&mut self, kind: StringKind, more: usize, header: Header, len: Option<usize>)
+        requires clear { self.old.front ≡ [] }
+        requires open { more + 2 ≤ self.old.offset }
+        ensures { spot_of self.new ≡ piece_entered kind more header len (spot_of self.old) }
+    {
+        match len {
+            Some(len) => {
+                self.pending.set(Few::title(header));
+                self.body_due(kind, len);
+            }
+            None => self.string_open(kind, more + 1),
+        }
+    }
+
+    /// Enters the title of this header within an open string, with `more` open strings around that.
+    fn enter_within(&mut self, kind: StringKind, more: usize, header: Header)
+        requires clear { self.old.front ≡ [] }
+        requires open { more + 2 ≤ self.old.offset }
+        ensures { spot_of self.new ≡ within_entered kind more header (spot_of self.old) }
+    {
+        match (kind, header) {
+            (StringKind::Bytes, Header::Bytes(len)) | (StringKind::Text, Header::Text(len)) => {
+                self.enter_piece(kind, more, header, len);
+            }
+            (_, Header::Break) => self.string_closed(kind, more),
+            _ => self.refuse(),
+        }
+    }
+
+    /// Enters the title of this header.
+    #[inline(always)]
+    fn enter(&mut self, header: Header)
+        requires clear { self.old.front ≡ [] }
+        requires open { open_count self.old.within < self.old.offset }
+        ensures { spot_of self.new ≡ entered self.old.within header (spot_of self.old) }
+    {
+        match self.within {
+            Within::Nothing => self.enter_element(header),
+            Within::Open(kind, more) => self.enter_within(kind, more, header),
+        }
+    }
+
+    /// Returns the offset of the next byte's title.
+    fn title_place(&self) -> usize
+        ensures { result ≡ title_place self.now.front (spot_of self.now) }
+    {
+        if self.front.len() == 0 {
+            self.offset
+        } else {
+            self.place
+        }
+    }
+
+    /// Takes a byte of a title.
+    #[tactic(auto, using(ciborium_ll_grammar::proofs::TitleKinds::affix_most))]
+    fn title_step(&mut self, byte: u8)
+        requires room { self.old.offset < usize.MAX }
+        requires due { self.old.phase ≡ p.Title }
+        requires given { self.old.pending ≡ [] }
+        ensures { TitleStep (with_byte byte (spot_of self.old)) (spot_of self.new) }
+    {
+        self.place = self.title_place();
+        self.front.push(byte);
+        self.offset += 1;
+        let bytes = self.front.bytes();
+        let row = row_of(bytes[0]);
+        if bytes.len() <= row.affix.len() {
+            if is_blocked(self.within, row.kind) {
+                self.refuse();
+            }
+            return;
+        }
+        let header = header_of(bytes);
+        self.front.clear();
+        match header {
+            Some(header) => self.enter(header),
+            None => self.refuse(),
+        }
+    }
+
+    /// Takes one of the `left` bytes of a byte string's body.
+    fn bytes_step(&mut self, left: usize, byte: u8)
+        requires room { self.old.offset < usize.MAX }
+        requires clear { self.old.front ≡ [] }
+        ensures { spot_of self.new ≡ body_due k.Bytes (left - 1) (byte_put byte (spot_of self.old)) }
+    {
+        self.offset += 1;
+        self.pending.set(Few::one(byte));
+        self.body_due(StringKind::Bytes, left.saturating_sub(1));
+    }
+
+    /// Takes one of the `left` bytes of a text's body.
+    #[tactic(auto, using(crate::proofs::FrontLaws::text_room))]
+    fn text_step(&mut self, left: usize, state: State, byte: u8)
+        requires room { self.old.offset < usize.MAX }
+        requires front { length self.old.front ≤ most_cut state }
+        requires given { self.old.pending ≡ [] }
+        ensures { let next = after_byte state byte in spot_of self.new
+            ≡ text_left (may_end next (left - 1)) (left - 1) next (with_char byte (spot_of self.old)) }
+    {
+        let mut front = self.front.take();
+        front.push(byte);
+        self.offset += 1;
+        let state = state.step(byte);
+        let left = left.saturating_sub(1);
+        if !state.may_end(left) {
+            self.refuse();
+        } else if let State::Between = state {
+            self.pending.set(front);
+            self.body_due(StringKind::Text, left);
+        } else {
+            self.front = front;
+            self.phase = Phase::Text(left, state);
+        }
+    }
+
+    /// Writes these of the `left` bytes of a string's body after the first `at` bytes of `out`; of a text they are
+    /// whole characters. Returns where they end.
+    #[inline(always)]
+    fn bytes_put(
+        &mut self,
+        kind: StringKind,
+        left: usize,
+        bytes: &[u8],
+        out: &mut [u8],
+        at: usize,
+    ) -> usize
+        requires clear { self.old.front ≡ [] }
+        requires counted { self.old.offset + length bytes.now ≤ usize.MAX }
+        requires room { at + length bytes.now ≤ length out.old }
+        ensures put { let len = length bytes.now in spot_of self.new
+            ≡ body_due kind (left - len) (counted_by len (spot_of self.old)) }
+        ensures end { result ≡ at + length bytes.now }
+        ensures given { take result out.new ≡ take at out.old ++ bytes.now }
+        ensures rest { drop result out.new ≡ drop result out.old }
+    {
+        let end = at + bytes.len();
+        out[at..end].copy_from_slice(bytes);
+        self.offset += bytes.len();
+        self.body_due(kind, left.saturating_sub(bytes.len()));
+        end
+    }
+
+    /// Returns the kind of the current body and how many bytes of it are left. A text stands between two characters.
+    #[inline(always)]
+    fn body(&self) -> Option<(StringKind, usize)>
+        ensures due { IfSome result (λ body. self.now.phase ≡ body_phase body.0 body.1) }
+        ensures clear { IfSome result (λ body. self.now.front ≡ []) }
+    {
+        match self.phase {
+            Phase::Bytes(left) => Some((StringKind::Bytes, left)),
+            Phase::Text(left, State::Between) => Some((StringKind::Text, left)),
+            Phase::Title | Phase::Text(_, _) | Phase::Ended | Phase::Faulted(_) => None,
+        }
+    }
+
+    /// Returns the length and the header of the whole title at the start of `bytes`, if an element is due and none of
+    /// its title came.
+    #[inline(always)]
+    fn title(&self, bytes: &[u8]) -> Option<(usize, Header)>
+        requires some { 0 < length bytes.now }
+        ensures due { IfSome result (λ title. (self.now.phase ≡ p.Title) × (self.now.within ≡ w.Nothing)
+            × (self.now.front ≡ [])) }
+        ensures fits { IfSome result (λ title. (0 < title.0) × (title.0 ≤ length bytes.now)
+            × (self.now.offset + title.0 ≤ usize.MAX)) }
+        ensures titled { IfSome result (λ title. IsTitle (take title.0 bytes.now) title.1) }
+    {
+        let (Phase::Title, Within::Nothing, 0) = (self.phase, self.within, self.front.len()) else {
+            return None;
+        };
+        let len = 1 + row_of(bytes[0]).affix.len();
+        if len > bytes.len() || len > usize::MAX - self.offset {
+            return None;
+        }
+        let header = header_of(&bytes[..len])?;
+        Some((len, header))
+    }
+
+    /// Takes the title of this header, `len` bytes at once, as the start of an element.
+    #[inline(always)]
+    fn title_put(&mut self, len: usize, header: Header)
+        requires counted { self.old.offset + len ≤ usize.MAX }
+        requires some { 0 < len }
+        requires clear { self.old.front ≡ [] }
+        requires nothing { self.old.within ≡ w.Nothing }
+        ensures { let spot = spot_of self.old in
+            let counted = record spot { place = spot.offset; offset = spot.offset + len } in
+            spot_of self.new ≡ entered counted.within header counted }
+    {
+        self.place = self.offset;
+        self.offset += len;
+        self.enter(header);
+    }
+
+    /// Takes one byte. A byte is due, and nothing is pending.
+    fn step(&mut self, byte: u8)
+        requires room { self.old.offset < usize.MAX }
+        requires due { is_due self.old.phase ≡ true }
+        requires given { self.old.pending ≡ [] }
+        ensures { Step (spot_of self.old) byte (spot_of self.new) }
+    {
+        match self.phase {
+            Phase::Title => self.title_step(byte),
+            Phase::Bytes(left) => self.bytes_step(left, byte),
+            Phase::Text(left, state) => self.text_step(left, state, byte),
+            Phase::Ended | Phase::Faulted(_) => {}
+        }
+    }
+
+    /// Returns all whole elements at the start of `bytes` that the copy keeps and that fit `room`, if an element is due
+    /// and none of its title came.
+    #[inline(always)]
+    fn run(&self, bytes: &[u8], room: usize) -> Option<Run>
+        ensures due { IfSome result (λ run. (self.now.phase ≡ p.Title) × (self.now.within ≡ w.Nothing)
+            × (self.now.front ≡ [])) }
+        ensures fits { IfSome result (λ run. (0 < run.len) × (run.len ≤ length bytes.now) × (run.len ≤ room)
+            × (self.now.offset + run.len ≤ usize.MAX) × (run.last ≤ run.len) × (run.left ≤ self.now.left)) }
+        ensures kept { IfSome result (λ run. AreKept (self.now.left - run.left) run.last (take run.len bytes.now)) }
+    {
+        let (Phase::Title, Within::Nothing, 0) = (self.phase, self.within, self.front.len()) else {
+            return None;
+        };
+        let most = bytes.len().min(room).min(usize::MAX - self.offset);
+        let run = kept_run(&bytes[..most], self.left);
+        if run.len == 0 {
+            return None;
+        }
+        Some(run)
+    }
+
+    /// Writes elements as they are after the first `at` bytes of `out`. The last begins at `last`, and `left` more are
+    /// due. Returns where they end.
+    #[inline(always)]
+    fn run_put(
+        &mut self,
+        last: usize,
+        left: usize,
+        bytes: &[u8],
+        out: &mut [u8],
+        at: usize,
+    ) -> usize
+        requires clear { self.old.front ≡ [] }
+        requires counted { self.old.offset + length bytes.now ≤ usize.MAX }
+        requires last { last ≤ length bytes.now }
+        requires room { at + length bytes.now ≤ length out.old }
+        ensures put { let spot = spot_of self.old in
+            let counted = record spot { place = spot.offset + last; offset = spot.offset + length bytes.now } in
+            spot_of self.new ≡ elements_due left counted }
+        ensures end { result ≡ at + length bytes.now }
+        ensures given { take result out.new ≡ take at out.old ++ bytes.now }
+        ensures rest { drop result out.new ≡ drop result out.old }
+    {
+        let end = at + bytes.len();
+        out[at..end].copy_from_slice(bytes);
+        self.place = self.offset + last;
+        self.offset += bytes.len();
+        self.elements_due(left);
+        end
+    }
+
+    /// Takes whole elements that the copy keeps, or the bytes of a body that it keeps, or a whole title of an element,
+    /// otherwise one byte. It writes what they put out after the first `at` bytes of `out`. Returns how many bytes it
+    /// took, and where the output ends.
+    #[inline(always)]
+    fn advance(&mut self, bytes: &[u8], out: &mut [u8], at: usize) -> (usize, usize)
+        requires some { 0 < length bytes.now }
+        requires counted { self.old.offset < usize.MAX }
+        requires due { is_due self.old.phase ≡ true }
+        requires given { self.old.pending ≡ [] }
+        requires room { at ≤ length out.old }
+        ensures some { (0 < result.0) × (result.0 ≤ length bytes.now) }
+        ensures within { (at ≤ result.1) × (result.1 ≤ length out.old) }
+        ensures rest { drop result.1 out.new ≡ drop result.1 out.old }
+        ensures all { (self.new.pending ≡ []) ⊎ (result.1 ≡ length out.old) }
+        ensures copied { (count : ℕ) (fed given : List ℕ) → IsCopied count fed (given ++ take at out.old) self.old
+            → IsCopied count (fed ++ take result.0 bytes.now) (given ++ take result.1 out.new) self.new }
+        ensures grown { result.1 + length self.new.pending + length self.new.front
+            ≤ at + length self.old.front + result.0 }
+    {
+        if let Some(kept) = self.run(bytes, out.len() - at) {
+            let end = self.run_put(kept.last, kept.left, &bytes[..kept.len], out, at);
+            return (kept.len, end);
+        }
+        if let Some((kind, left)) = self.body() {
+            let most = left
+                .min(bytes.len())
+                .min(out.len() - at)
+                .min(usize::MAX - self.offset);
+            let len = whole_len(kind, &bytes[..most]);
+            if len > 0 {
+                return (len, self.bytes_put(kind, left, &bytes[..len], out, at));
+            }
+        }
+        if let Some((len, header)) = self.title(bytes) {
+            self.title_put(len, header);
+            return (len, self.pending.give(out, at));
+        }
+        self.step(bytes[0]);
+        (1, self.pending.give(out, at))
+    }
+
+    /// Returns how far the copy has come.
+    #[inline(always)]
+    fn progress(&self) -> Progress
+        ensures { result ≡ progress_of self.now.pending self.now.phase }
+    {
+        if !self.pending.is_empty() {
+            return Progress::Room;
+        }
+        match self.phase {
+            Phase::Ended => Progress::Ended,
+            Phase::Faulted(place) => Progress::Syntax(place),
+            Phase::Title | Phase::Bytes(_) | Phase::Text(_, _) => Progress::More,
+        }
+    }
+
+    /// Returns how the copy stands if no more bytes come, in the terms of [`Copier::feed`]. The copier stays as it is.
+    ///
+    /// - `Ended`: exactly if the bytes so far are that many elements, and all output is exactly their shortest
+    ///   spelling.
+    /// - `Short`: the bytes are cut off. More bytes were due, and all that can be written is written.
+    /// - `Syntax(offset)`: no list of that many elements begins as the bytes so far do.
+    /// - `Room`: bytes are still to be written. [`Copier::feed`] writes them, also without a piece.
+    pub fn end(&self) -> End
+        ensures exactly { (count : ℕ) (fed given : List ℕ) → IsCopied count fed given self.now
+            → (result ≡ e.Ended ↔ AreSpelled count fed given) }
+        ensures tells { (count : ℕ) (fed given : List ℕ) → IsCopied count fed given self.now
+            → TellsEnd count fed given result }
+        ensures answers { result ≡ end_of self.now.pending self.now.phase }
+    {
+        if !self.pending.is_empty() {
+            return End::Room;
+        }
+        match self.phase {
+            Phase::Ended => End::Ended,
+            Phase::Faulted(place) => End::Syntax(place),
+            Phase::Title | Phase::Bytes(_) | Phase::Text(_, _) => End::Short,
+        }
+    }
+
+    /// Takes a piece of the elements' bytes, of any length, and writes their shortest spelling to the start of `out`.
+    /// Returns how many bytes it took and wrote, and how far the copy has come.
+    ///
+    /// The cuts between pieces and the lengths of the outputs change nothing of all that is written. The copier's state
+    /// is that of all bytes so far, and all that they put out is written, but for a few bytes that are pending. The
+    /// rest of `out` stays as it was.
+    ///
+    /// Each title becomes the shortest title of its header. The bodies of a string of indefinite length stay the same
+    /// segments in one string: strings within it lose their opens and breaks. The copier writes nothing of a title or a
+    /// character that isn't whole. If `out` is full within one of them, the rest comes with the next call.
+    ///
+    /// - `More`: the call took all of the piece, and all that can be written of the bytes so far is written. If no more
+    ///   bytes come, a copy of that many elements is short with exactly this output. Some more bytes make that many
+    ///   elements.
+    /// - `Room`: `out` is full, and with the bytes still to write one of the other answers holds. The caller gives the
+    ///   rest of the piece again. It never comes if nothing was pending and `out` has at least eight bytes more than
+    ///   the piece.
+    /// - `Ended`: that many elements came, and exactly their shortest spelling is written, as `recode` writes it. The
+    ///   call takes no byte after them.
+    /// - `Syntax(offset)`: no list of that many elements begins as the bytes so far do. It comes with the first byte
+    ///   that makes this true, which counts as taken. With some bytes after those so far, a copy at a fault of this
+    ///   place has this output.
+    /// - `TooLong`: `usize::MAX` bytes came, and the elements go on. The call takes no more, and the rest is as with
+    ///   `More`.
+    ///
+    /// After `Ended` or `Syntax`, a later call takes and writes nothing, and answers the same.
+    ///
+    /// The answer and its place are those of the one state that the bytes so far lead to (`one_copy`). The contract of
+    /// `recode` has the same faults, and the same output up to them. In a damaged body `recode` may have written less,
+    /// by its buffer: a copier has written each whole character before the damage.
+    pub fn feed(&mut self, bytes: &[u8], out: &mut [u8]) -> Copied
+        ensures taken { result.taken ≤ length bytes.now }
+        ensures written { result.written ≤ length out.old }
+        ensures kept { drop result.written out.new ≡ drop result.written out.old }
+        ensures copied { (count : ℕ) (fed given : List ℕ) → IsCopied count fed given self.old
+            → IsCopied count (fed ++ take result.taken bytes.now) (given ++ take result.written out.new) self.new }
+        ensures tells { (count : ℕ) (fed given : List ℕ) → IsCopied count fed given self.old
+            → Tells count (fed ++ take result.taken bytes.now) (given ++ take result.written out.new) result.progress }
+        ensures answers { IsAnswer result.progress self.new.pending self.new.phase }
+        ensures all { IsMore result.progress → result.taken ≡ length bytes.now }
+        ensures long { result.progress ≡ r.TooLong → result.taken < length bytes.now }
+        ensures full { IsRoom result.progress → result.written ≡ length out.old }
+        ensures fits { self.old.pending ≡ [] → length bytes.now + 8 ≤ length out.old → IsRoom result.progress → ⊥ }
+        ensures grown { result.written + length self.new.pending + length self.new.front
+            ≤ length self.old.pending + length self.old.front + result.taken }
+        ensures stays { is_due self.old.phase ≡ false → self.old.pending ≡ []
+            → (result.taken ≡ 0) × (result.written ≡ 0) × (spot_of self.new ≡ spot_of self.old) }
+    {
+        let mut written = self.pending.give(out, 0);
+        let mut at = 0;
+        'pieces: while at < bytes.len() {
+            match self.progress() {
+                Progress::More => {}
+                progress => {
+                    return Copied {
+                        taken: at,
+                        written,
+                        progress,
+                    };
+                }
+            }
+            if self.offset == usize::MAX {
+                return Copied {
+                    taken: at,
+                    written,
+                    progress: Progress::TooLong,
+                };
+            }
+            let (len, end) = self.advance(&bytes[at..], out, written);
+            at += len;
+            written = end;
+        }
+        Copied {
+            taken: bytes.len(),
+            written,
+            progress: self.progress(),
+        }
+    }
+
+    /// Returns the state as plain numbers, from which [`Copier::restore`] makes this copier again. `spare` is 0.
+    pub fn save(&self) -> Snapshot
+        ensures holds { Holds result (spot_of self.now) }
+        ensures spare { result.spare ≡ 0 }
+    {
+        let (phase, number, text) = self.phase.numbers();
+        let (strings, more) = self.within.numbers();
+        let (front, front_len) = self.front.save();
+        let (pending, pending_len) = self.pending.rest().save();
+        Snapshot {
+            offset: self.offset as u64,
+            place: self.place as u64,
+            left: self.left as u64,
+            number: number as u64,
+            more: more as u64,
+            front,
+            pending,
+            front_len: front_len as u8,
+            pending_len: pending_len as u8,
+            phase,
+            text,
+            strings,
+            spare: 0,
+        }
+    }
+
+    /// Returns the copier that [`Copier::save`] made the numbers of, or `None` if they are those of no state.
+    ///
+    /// The call does not find all memory that was overwritten, as `Snapshot` says.
+    pub fn restore(snapshot: &Snapshot) -> Option<Copier>
+        ensures some { IfSome result (λ copier. Holds snapshot.now (spot_of copier)) }
+        ensures same { (spot : Spot) → Holds snapshot.now spot → IsAt result spot }
+    {
+        let phase = Phase::of(snapshot.phase, snapshot.number as usize, snapshot.text)?;
+        let within = Within::of(snapshot.strings, snapshot.more as usize)?;
+        if !is_state(snapshot, phase, within) {
+            return None;
+        }
+        let pending = Few::restore(&snapshot.pending, usize::from(snapshot.pending_len));
+        Some(Copier {
+            phase,
+            front: Few::restore(&snapshot.front, usize::from(snapshot.front_len)),
+            within,
+            left: snapshot.left as usize,
+            place: snapshot.place as usize,
+            offset: snapshot.offset as usize,
+            pending: Pending::of(pending),
+        })
+    }
+}

@@ -1,0 +1,179 @@
+//! Elements that a copy keeps as they are, and whose bytes are all there.
+
+ghost use Rattle.std.specs.Prelude.{◌≡◌, ◌+◌, ◌-◌, ◌<◌, ◌≤◌, [], drop, take, length, true};
+ghost use Rattle.ciborium_ll_text.specs.Text.{IsCharacters};
+ghost use Rattle.cbor_copier.specs.Plain.{AreKept, IsKept, IsLen};
+
+use ciborium_ll_text::state::{State, text_front};
+
+/// The length of an element in bytes, title included, by its first byte, with two lines for each major type. 0 says
+/// nothing.
+#[rattlefmt::skip]
+static LENS: [u8; 256] = [
+    // unsigned integers
+    1, 1, 1, 1, 1, 1, 1, 1, 1, 1, 1, 1, 1, 1, 1, 1,
+    1, 1, 1, 1, 1, 1, 1, 1, 0, 0, 0, 0, 0, 0, 0, 0,
+    // negative integers
+    1, 1, 1, 1, 1, 1, 1, 1, 1, 1, 1, 1, 1, 1, 1, 1,
+    1, 1, 1, 1, 1, 1, 1, 1, 0, 0, 0, 0, 0, 0, 0, 0,
+    // byte strings
+    1, 2, 3, 4, 5, 6, 7, 8, 9, 10, 11, 12, 13, 14, 15, 16,
+    17, 18, 19, 20, 21, 22, 23, 24, 0, 0, 0, 0, 0, 0, 0, 0,
+    // text strings
+    1, 2, 3, 4, 5, 6, 7, 8, 9, 10, 11, 12, 13, 14, 15, 16,
+    17, 18, 19, 20, 21, 22, 23, 24, 0, 0, 0, 0, 0, 0, 0, 0,
+    // arrays
+    1, 1, 1, 1, 1, 1, 1, 1, 1, 1, 1, 1, 1, 1, 1, 1,
+    1, 1, 1, 1, 1, 1, 1, 1, 0, 0, 0, 0, 0, 0, 0, 0,
+    // maps
+    1, 1, 1, 1, 1, 1, 1, 1, 1, 1, 1, 1, 1, 1, 1, 1,
+    1, 1, 1, 1, 1, 1, 1, 1, 0, 0, 0, 0, 0, 0, 0, 0,
+    // tags
+    1, 1, 1, 1, 1, 1, 1, 1, 1, 1, 1, 1, 1, 1, 1, 1,
+    1, 1, 1, 1, 1, 1, 1, 1, 0, 0, 0, 0, 0, 0, 0, 0,
+    // simple values and floats
+    1, 1, 1, 1, 1, 1, 1, 1, 1, 1, 1, 1, 1, 1, 1, 1,
+    1, 1, 1, 1, 1, 1, 1, 1, 0, 0, 0, 0, 0, 0, 0, 0,
+];
+
+/// Returns the length of an element by its first byte, or 0.
+#[inline(always)]
+fn len_of(first: u8) -> usize
+    ensures { IsLen first result }
+{
+    usize::from(LENS[first as usize])
+}
+
+/// Returns whether these bytes are UTF-8 by themselves.
+#[inline(never)]
+fn is_text(bytes: &[u8]) -> bool
+    ensures { result ≡ true → IsCharacters bytes.now }
+{
+    matches!(text_front(bytes, 0, State::Between).1, State::Between)
+}
+
+/// Returns whether a title with this affix of one byte is the shortest.
+#[inline(always)]
+fn stays_in_one(first: u8, x: u8) -> bool
+    ensures { result ≡ true → (24 ≤ x) × (224 ≤ first → 32 ≤ x) }
+{
+    if first >= 0xe0 { x >= 32 } else { x >= 24 }
+}
+
+/// Returns whether a title with an affix of two bytes is the shortest, by the first byte of the affix. A float's title
+/// always is.
+#[inline(always)]
+fn stays_in_two(first: u8, x: u8) -> bool
+    ensures { result ≡ true → first < 224 → 0 < x }
+{
+    first >= 0xe0 || x > 0
+}
+
+/// Does what [`stays_in_two`] does, for an affix of four bytes by its first two.
+#[inline(always)]
+fn stays_in_four(first: u8, x: u8, y: u8) -> bool
+    ensures { result ≡ true → first < 224 → 0 < x + y }
+{
+    first >= 0xe0 || x > 0 || y > 0
+}
+
+/// Does what [`stays_in_two`] does, for an affix of eight bytes by its first four.
+#[inline(always)]
+fn stays_in_eight(first: u8, x: u8, y: u8, z: u8, w: u8) -> bool
+    ensures { result ≡ true → first < 224 → 0 < x + y + z + w }
+{
+    first >= 0xe0 || x > 0 || y > 0 || z > 0 || w > 0
+}
+
+/// Returns the length of the title at `at`, if it has an affix, begins no string, is the shortest of its header, and
+/// all of it is there. Otherwise it returns 0.
+#[inline(always)]
+fn title_len(bytes: &[u8], at: usize) -> usize
+    requires some { at < length bytes.now }
+    ensures within { at + result ≤ length bytes.now }
+    ensures kept { 0 < result → IsKept (take result (drop at bytes.now)) }
+{
+    let first = bytes[at];
+    let left = bytes.len() - at;
+    if first / 32 == 2 || first / 32 == 3 {
+        return 0;
+    }
+    match first % 32 {
+        24 if left >= 2 && stays_in_one(first, bytes[at + 1]) => 2,
+        25 if left >= 3 && stays_in_two(first, bytes[at + 1]) => 3,
+        26 if left >= 5 && stays_in_four(first, bytes[at + 1], bytes[at + 2]) => 5,
+        27
+            if left >= 9
+                && stays_in_eight(
+                    first,
+                    bytes[at + 1],
+                    bytes[at + 2],
+                    bytes[at + 3],
+                    bytes[at + 4],
+                ) => { 9 }
+        _ => 0,
+    }
+}
+
+/// Returns the length of the element at `at`, if the copy keeps it and all of it is there. A 0 says nothing.
+#[inline(always)]
+fn kept_len(bytes: &[u8], at: usize) -> usize
+    requires some { at < length bytes.now }
+    ensures within { at + result ≤ length bytes.now }
+    ensures kept { 0 < result → IsKept (take result (drop at bytes.now)) }
+{
+    let len = len_of(bytes[at]);
+    if len == 0 {
+        return title_len(bytes, at);
+    }
+    if len > bytes.len() - at {
+        return 0;
+    }
+    if bytes[at] / 32 == 3 && !is_text(&bytes[at + 1..at + len]) {
+        return 0;
+    }
+    len
+}
+
+/// Elements in a row.
+#[derive(Drop)]
+pub(crate) struct Run {
+    /// How many bytes the elements have.
+    pub(crate) len: usize,
+    /// Where the last element begins.
+    pub(crate) last: usize,
+    /// How many more elements the caller allowed.
+    pub(crate) left: usize,
+}
+
+/// Returns at most `most` elements whose lengths [`kept_len`] gives. It stays a function of its own, with all that an
+/// element needs in registers.
+#[inline(never)]
+pub(crate) fn kept_run(bytes: &[u8], most: usize) -> Run
+    ensures within { result.len ≤ length bytes.now }
+    ensures most { result.left ≤ most }
+    ensures last { result.last ≤ result.len }
+    ensures kept { 0 < result.len → AreKept (most - result.left) result.last (take result.len bytes.now) }
+{
+    let mut at = 0;
+    let mut last = 0;
+    let mut left = most;
+    'elements: while left > 0 && at < bytes.len() {
+        let len = kept_len(bytes, at);
+        if len == 0 {
+            return Run {
+                len: at,
+                last,
+                left,
+            };
+        }
+        last = at;
+        at += len;
+        left -= 1;
+    }
+    Run {
+        len: at,
+        last,
+        left,
+    }
+}

@@ -1,5 +1,0 @@
-use Rattle.std.proofs.Common.{rules}
-use Rattle.cbor_copy.proofs.copier.Copier.save.Goals as goal
-
-pub returns-clause-spare : goal.returns-clause-spare
-returns-clause-spare c = search rules

@@ -1,6 +1,0 @@
-use Rattle.std.proofs.Common.{arith}
-use Rattle.cbor_copy.proofs.PlainLaws.{len_says}
-use Rattle.cbor_copy.proofs.plain.len_of.Goals as goal
-
-pub returns : goal.returns
-returns c = len_says c.args.first c.from.result (omega (arith, c.ranges.first)) c.from.ensures

@@ -1,0 +1,126 @@
+-- The texts of rows, as they are written step by step.
+use Rattle.std.proofs.lemmas.Bool.Decides.{nat_tests}
+use Rattle.std.proofs.Common.{◌≡◌, ◌∙◌, ℕ, zero, suc, ◌+◌, ◌<◌, List, [], ◌∷◌, ◌++◌, refl, sym, ap, arith, false, ◌-◌}
+use Rattle.std.proofs.Common.{◌^◌}
+use Rattle.std.proofs.Common.{append-nil, append_assoc, length, take, get_or, Option, Some, Result, subst}
+use Rattle.std.proofs.Common.{◌*◌, min, ◌⊎◌, inl, inr}
+use Rattle.std.proofs.lemmas.List.{take_more}
+use Rattle.std.proofs.lemmas.Str.{IsUtf8-from_is_utf8, is_utf8-from_IsUtf8}
+use Rattle.std.specs.Result.{MatchResult, result_unwrap_or}
+use Rattle.std.specs.Str.{IsUtf8, is_utf8}
+use Rattle.std.proofs.lemmas.Fmt.{hex_byte}
+use Rattle.std.proofs.lemmas.Grind.{put_two}
+use Rattle.std.specs.Fmt.{HasWritten, IsPlainFormatter, DisplaysOnOk, WritesOnOk, digits, format_spec, padded_integral}
+use Rattle.std.specs.Fmt.{digits_output, styled_digits_output, shown_prefix, radix_prefix}
+use Rattle.std.specs.Option.{option_map}
+use Rattle.std.specs.declared.fmt.Formatter.{Formatter}
+use Rattle.ciborium_ll_text.specs.Digits.{hex_text}
+use Rattle.cbor_dump.specs.RowTexts.{blank, joined_text, more_text, characters_text, character_text}
+use Rattle.cbor_dump.specs.RowTexts.{shown_text}
+use Rattle.cbor_dump.specs.RowTexts.{digits_text, margin_text, meaning_text, row_text}
+use Rattle.cbor_dump.specs.declared.rows.Meaning.{Meaning}
+use Rattle.cbor_dump.specs.declared.rows.Meaning.TheVariants as m
+use Rattle.cbor_dump.specs.declared.rows.Row.{Row}
+
+-- one space more
+pub blank_more : (count : ℕ) → blank count ++ 32 ∷ [] ≡ blank (count + 1)
+blank_more zero = refl
+blank_more (suc count) =
+    let same : suc (count + 1) ≡ suc count + 1 = omega arith in
+    ap (λ (z : List ℕ). 32 ∷ z) (blank_more count) ∙ ap blank same
+
+-- what a format of two hexadecimal digits writes
+pub two_digits : (byte : ℕ) → byte < 256
+    → padded_integral (format_spec 32 0 4 2 (2 ^ 64 - 1)) false [] (digits 16 false byte) ≡ hex_text byte
+two_digits byte small = hex_byte false byte small
+
+-- and so by what is known of that format
+pub hex_shown : (radix : _) (spec : _) (byte : ℕ) → spec ≡ format_spec 32 0 4 2 (2 ^ 64 - 1)
+    → digits_output radix ≡ Some (digits 16 false byte) → byte < 256
+    → styled_digits_output radix spec ≡ Some (hex_text byte)
+hex_shown radix spec byte laid digits_are small =
+    let prefix = radix_prefix radix.base in
+    ap (option_map (padded_integral spec false (shown_prefix spec prefix))) digits_are
+    ∙ (ap (λ z. Some (padded_integral z false (shown_prefix z prefix) (digits 16 false byte))) laid
+    ∙ ap Some (two_digits byte small))
+
+-- one byte more, without spaces
+pub joined_more : (bytes : List ℕ) (byte : ℕ) → joined_text (bytes ++ byte ∷ []) ≡ joined_text bytes ++ hex_text byte
+joined_more [] byte = append-nil (hex_text byte)
+joined_more (first ∷ bytes) byte = ap (λ (z : List ℕ). hex_text first ++ z) (joined_more bytes byte)
+
+-- one byte more behind a first one
+pub more_more : (bytes : List ℕ) (byte : ℕ) → more_text (bytes ++ byte ∷ []) ≡ more_text bytes ++ (32 ∷ hex_text byte)
+more_more [] byte = refl
+more_more (first ∷ bytes) byte = ap (λ (z : List ℕ). 32 ∷ (hex_text first ++ z)) (more_more bytes byte)
+
+-- up to a place in a list of bytes, and up to the next one
+pub joined_at : (bytes : List ℕ) (at : ℕ) → at < length bytes
+    → joined_text (take (at + 1) bytes) ≡ joined_text (take at bytes) ++ hex_text (get_or bytes at 0)
+joined_at bytes at less =
+    ap joined_text (take_more bytes at 0 less) ∙ joined_more (take at bytes) (get_or bytes at 0)
+
+pub more_at : (bytes : List ℕ) (at : ℕ) → at < length bytes
+    → more_text (take (at + 1) bytes) ≡ more_text (take at bytes) ++ (32 ∷ hex_text (get_or bytes at 0))
+more_at bytes at less = ap more_text (take_more bytes at 0 less) ∙ more_more (take at bytes) (get_or bytes at 0)
+
+-- one character more
+pub characters_more : (characters : List ℕ) (character : ℕ)
+    → characters_text (characters ++ character ∷ []) ≡ characters_text characters ++ character_text character
+characters_more [] character = append-nil (character_text character)
+characters_more (first ∷ characters) character =
+    ap (λ (z : List ℕ). character_text first ++ z) (characters_more characters character)
+    ∙ sym (append_assoc (character_text first) (characters_text characters) (character_text character))
+
+-- the text that some bytes are, or none
+pub text_or_none : {B E : Type 0} (Rest : E → Type 0) (now : B → List ℕ) (bytes : List ℕ) (result : Result B E)
+    (none : B)
+    → MatchResult result (λ text. (now text ≡ bytes) × IsUtf8 bytes) (λ error. (IsUtf8 bytes → ⊥) × Rest error)
+    → now none ≡ [] → now (result_unwrap_or result none) ≡ shown_text bytes
+text_or_none Rest now bytes result none p q =
+    grind (arith, nat_tests, is_utf8-from_IsUtf8, is_utf8, IsUtf8-from_is_utf8)
+
+module _ {W : Type 0} (took : W → List ℕ → W → Type 0) where
+  -- a text, and then another one
+  pub then_written : (f g h : Formatter W) (first next all : List ℕ)
+      → (IsPlainFormatter f → HasWritten took f first g) → (IsPlainFormatter g → HasWritten took g next h)
+      → first ++ next ≡ all → IsPlainFormatter f → HasWritten took f all h
+  then_written f g h first next all wrote goes_on same plain =
+      let done = wrote plain in put_two took f g h first next all done (goes_on done.plain) same
+
+  -- a text that is the one that is meant
+  pub text_is : (f g : Formatter W) (one other : List ℕ) → one ≡ other → HasWritten took f one g
+      → HasWritten took f other g
+  text_is f g one other same wrote = subst (λ z. HasWritten took f z g) same wrote
+
+  -- a text that is known, where a write of it is told
+  pub shows : (f g : Formatter W) (result : Result (Unit {0}) _) (output : Option (List ℕ)) (text : List ℕ)
+      → output ≡ Some text → DisplaysOnOk took f result output g → WritesOnOk took f result text g
+  shows f g result output text same wrote = subst (λ o. DisplaysOnOk took f result o g) same wrote
+
+-- what stands on a row: the indent, the bytes, and behind them what they mean
+pub row_is : (row : Row) (shown : ℕ) (meaning : Meaning) (text : List ℕ) → shown ≡ min row.level 256
+    → row.meaning ≡ meaning → meaning_text meaning row.level row.bytes.now ≡ text
+    → blank (3 * shown) ++ (digits_text row.bytes.now ++ text) ≡ row_text row
+row_is row shown meaning text same means is =
+    ap (λ (n : ℕ). blank (3 * n) ++ (digits_text row.bytes.now ++ text)) same
+    ∙ ap (λ (z : List ℕ). blank (3 * min row.level 256) ++ (digits_text row.bytes.now ++ z))
+    (sym is ∙ ap (λ (z : Meaning). meaning_text z row.level row.bytes.now) (sym means))
+
+-- and nothing behind the bytes
+pub row_bare : (row : Row) (shown : ℕ) → shown ≡ min row.level 256
+    → (row.meaning ≡ m.Bytes) ⊎ (row.meaning ≡ m.Fault)
+    → blank (3 * shown) ++ digits_text row.bytes.now ≡ row_text row
+row_bare row shown same means =
+    ap (λ (z : List ℕ). blank (3 * shown) ++ z) (sym (append-nil (digits_text row.bytes.now)))
+    ∙ (elim means [
+      | inl is ↦ row_is row shown m.Bytes [] same is refl
+      | inr is ↦ row_is row shown m.Fault [] same is refl
+    ])
+
+-- what stands between the bytes of a row and what they mean
+pub margin_is : (level count shown left : ℕ) → shown ≡ min level 256 → left ≡ 36 - (3 * shown + 3 * count)
+    → blank left ++ (32 ∷ 35 ∷ 32 ∷ blank (2 * shown)) ≡ margin_text level count
+margin_is level count shown left same less =
+    ap (λ (n : ℕ). blank n ++ (32 ∷ 35 ∷ 32 ∷ blank (2 * shown))) less
+    ∙ ap (λ (n : ℕ). blank (36 - (3 * n + 3 * count)) ++ (32 ∷ 35 ∷ 32 ∷ blank (2 * n))) same

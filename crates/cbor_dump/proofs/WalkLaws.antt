@@ -1,0 +1,413 @@
+-- The steps of a walk: what it keeps of the nests within which an item is due.
+use Rattle.std.proofs.lemmas.Bool.Decides.{nat_tests}
+use Rattle.std.proofs.Common.{◌≡◌, ℕ, zero, suc, ◌+◌, ◌-◌, ◌<◌, ◌≤◌, Bool, true, false, List, [], ◌∷◌, ◌++◌}
+use Rattle.std.proofs.Common.{length, set, refl, sym, ap, subst, ◌∙◌, arith, append_assoc}
+use Rattle.std.proofs.Common.{append-nil}
+use Rattle.std.proofs.lemmas.List.{get_or-set_same, get_or-set_other, length-set}
+use Rattle.ciborium_ll.specs.Types.Header.{Header}
+use Rattle.ciborium_ll.specs.Types.Header.TheVariants as h
+use Rattle.ciborium_ll.specs.Title.{IsTitle}
+use Rattle.ciborium_ll.specs.Items.{Completes, tag, array, pairs, open_array, open_pairs, AreItems, no_items, IsItem}
+use Rattle.ciborium_ll.specs.Items.{IsTakenTitle}
+use Rattle.cbor_skip.specs.declared.remaining.Remaining.{Remaining}
+use Rattle.cbor_skip.specs.Due.{TakesMore}
+use Rattle.cbor_skip.specs.Remaining.{IsRemaining, is_done, closes}
+use Rattle.cbor_skip.proofs.RemainingLaws.{takes_more}
+use Rattle.cbor_skip.proofs.ItemSteps.{item_of, items_item}
+use Rattle.cbor_skip.proofs.StrictnessLaws.{items_looser}
+use Rattle.cbor_dump.specs.declared.walk.Walk.{Walk}
+use Rattle.cbor_dump.specs.Levels.{Nest, StandsBehind, outside, inside, closes_one, title_level}
+use Rattle.cbor_dump.specs.Walks.{remaining_at, AreKept, KeepsNests, IsDue, IsDueBehind, IsBehindItem, Breaks}
+use Rattle.cbor_dump.specs.Walks.{IsDeepest}
+
+-- ---- all items of a nest
+
+-- all items were read, by what remains
+all_read : (strict : Bool) (x : Header) (d count : ℕ) (items : List ℕ) (remaining : Remaining)
+    → IsRemaining x count remaining
+    → is_done remaining ≡ true → AreItems strict d count items → Completes strict (suc d) x items
+all_read strict x d count items remaining is done i = grind (arith, tag, array, pairs)
+
+-- a break ended them, by what remains
+all_closed : (strict : Bool) (x : Header) (d count : ℕ) (items : List ℕ) (remaining : Remaining)
+    → IsRemaining x count remaining
+    → closes remaining ≡ true → AreItems strict d count items → Completes strict (suc d) x (items ++ 0xff ∷ [])
+all_closed strict x d count items remaining is may i = grind (arith, open_array, open_pairs)
+
+-- ---- what is kept
+
+-- a write above the nests leaves them
+kept_below : (levels : List Remaining) (nests : List Nest) (at : ℕ) (x : Remaining) → length nests ≤ at
+    → AreKept levels nests → AreKept (set levels at x) nests
+kept_below levels [] at x few kept = tt
+kept_below levels (nest ∷ nests) at x few kept =
+    let inner = kept_below levels nests at x (omega (arith, few)) kept.2 in
+    grind (arith, get_or-set_other, inner)
+
+-- a write at their end keeps one more
+kept_more : (levels : List Remaining) (nests : List Nest) (nest : Nest) (at : ℕ) (x : Remaining) → at ≡ length nests
+    → at < length levels → IsRemaining nest.header nest.count x → is_done x ≡ false → AreKept levels nests
+    → AreKept (set levels at x) (nest ∷ nests)
+kept_more levels nests nest at x end room is some kept =
+    grind (arith, nat_tests, levels, get_or-set_same, is, some, kept_below)
+
+-- ---- the innermost nest
+
+-- its title and its items behind what is before it
+record Inner (strict : Bool) (depth whole : ℕ) (nest : Nest) (outer : List Nest) (bytes : List ℕ) : Type 0 where
+  before : List ℕ
+  title : List ℕ
+  items : List ℕ
+  levels : ℕ
+  within : StandsBehind strict depth whole outer before
+  level : length outer + suc levels ≡ depth
+  is_title : IsTitle title nest.header
+  taken : IsTakenTitle strict title nest.header
+  takes_more : TakesMore nest.header nest.count
+  are_items : AreItems strict levels nest.count items
+  is : bytes ≡ before ++ (title ++ items)
+
+inner_of : (strict : Bool) (depth whole : ℕ) (nest : Nest) (outer : List Nest) (bytes : List ℕ)
+    → StandsBehind strict depth whole (nest ∷ outer) bytes
+    → Inner strict depth whole nest outer bytes
+inner_of strict depth whole nest outer bytes
+    (inside {levels = l} {before = b} {title = t} {items = i} w e p g more are) = record {
+      before = b;
+      title = t;
+      items = i;
+      levels = l;
+      within = w;
+      level = e;
+      is_title = p;
+      taken = g;
+      takes_more = more;
+      are_items = are;
+      is = refl;
+    }
+
+-- no item ends a nest of which more is due: it is the same with one more
+goes_on : (strict : Bool) (depth whole levels : ℕ) (nest : Nest) (outer : List Nest) (bytes item : List ℕ)
+    → Inner strict depth whole nest outer bytes → suc (length outer) + levels ≡ depth → IsItem strict levels item
+    → TakesMore nest.header (suc nest.count)
+    → StandsBehind strict depth whole (record { header = nest.header; count = suc nest.count } ∷ outer) (bytes ++ item)
+goes_on strict depth whole levels nest outer bytes item inner level is_item more =
+    let same : levels ≡ inner.levels = let e = inner.level in omega (arith, e, level) in
+    let all : inner.before ++ (inner.title ++ (inner.items ++ item)) ≡ bytes ++ item =
+    sym (ap (λ (z : List ℕ). z ++ item) inner.is ∙ (append_assoc inner.before (inner.title ++ inner.items) item
+    ∙ ap (λ (z : List ℕ). inner.before ++ z) (append_assoc inner.title inner.items item))) in
+    let item' = subst (λ (n : ℕ). IsItem strict n item) same is_item in
+    subst (λ (z : List ℕ). StandsBehind strict depth whole (record { header = nest.header; count = suc nest.count }
+    ∷ outer) z)
+    all
+    (inside inner.within inner.level inner.is_title inner.taken more
+    (items_item strict inner.levels nest.count inner.items item inner.are_items item'))
+
+-- what completes the nest ends an item a level further out
+ends_nest : (strict : Bool) (depth whole : ℕ) (nest : Nest) (outer : List Nest) (bytes more rest : List ℕ) (walk : Walk)
+    (inner : Inner strict depth whole nest outer bytes) → rest ≡ inner.items ++ more
+    → Completes strict (suc inner.levels) nest.header rest → KeepsNests depth walk outer
+    → IsBehindItem strict depth whole walk (bytes ++ more)
+ends_nest strict depth whole nest outer bytes more rest walk inner e completes keeps = record {
+  before = inner.before;
+  item = inner.title ++ rest;
+  levels = suc inner.levels;
+  due = record { nests = outer; within = inner.within; keeps = keeps };
+  left = inner.level;
+  is_item = item_of strict (suc inner.levels) inner.title rest nest.header inner.is_title inner.taken completes;
+  is =
+      ap (λ (z : List ℕ). z ++ more) inner.is ∙ (append_assoc inner.before (inner.title ++ inner.items) more
+      ∙ (ap (λ (z : List ℕ). inner.before ++ z) (append_assoc inner.title inner.items more)
+      ∙ ap (λ (z : List ℕ). inner.before ++ (inner.title ++ z)) (sym e)));
+}
+
+-- ---- the walk
+
+-- what is in its shortest spelling is in any
+pub stands_any : (strict : Bool) (depth whole : ℕ) (nests : List Nest) (bytes : List ℕ)
+    → StandsBehind strict depth whole nests bytes → StandsBehind false depth whole nests bytes
+stands_any strict depth whole nests bytes (outside are) =
+    outside (items_looser false strict (λ no. absurd cc) depth whole bytes are)
+stands_any strict depth whole nests bytes
+    (inside {levels = l} {count = n} {nests = outer} {before = b} {items = i} w e p g more are) =
+    inside (stands_any strict depth whole outer b w) e p tt more
+    (items_looser false strict (λ no. absurd cc) l n i are)
+
+-- within a nest no more items are whole
+within_nest : (strict : Bool) (depth whole used : ℕ) (walk : Walk) (bytes : List ℕ) → walk.used ≡ used → 0 < used
+    → IsDue strict depth whole walk bytes → IsDueBehind strict depth whole walk bytes
+within_nest strict depth whole zero walk bytes same some due = absurd (omega (arith, some))
+within_nest strict depth whole (suc used) walk bytes same some due = grind (arith, nat_tests)
+
+-- outside of all nests one more is
+due_outside : (strict : Bool) (depth whole : ℕ) (walk : Walk) (bytes : List ℕ) → walk.used ≡ 0
+    → IsDue strict depth (suc whole) walk bytes → IsDueBehind strict depth whole walk bytes
+due_outside strict depth whole walk bytes none due = grind (arith, nat_tests)
+
+pub due_first : (strict : Bool) (depth : ℕ) (walk : Walk) → walk.used ≡ 0 → walk.depth ≡ depth
+    → length walk.levels ≡ 256
+    → IsDue strict depth 0 walk []
+due_first strict depth walk used same room = grind (arith, outside, no_items)
+
+-- no level is left
+pub deepest : (strict : Bool) (depth whole : ℕ) (walk : Walk) (before : List ℕ) → IsDue strict depth whole walk before
+    → walk.used ≡ walk.depth → IsDeepest strict depth whole before
+deepest strict depth whole walk before due full = grind arith
+
+-- a nest with nothing in it is an item
+pub enters_empty : (strict : Bool) (depth whole : ℕ) (walk : Walk) (before title : List ℕ) (header : Header)
+    (x : Remaining)
+    → IsDue strict depth whole walk before → IsTitle title header → IsTakenTitle strict title header
+    → walk.used ≤ walk.depth → (walk.used ≡ walk.depth → ⊥)
+    → IsRemaining header 0 x → is_done x ≡ true → IsBehindItem strict depth whole walk (before ++ title)
+enters_empty strict depth whole walk before title header x due p g within room is done =
+    let levels = depth - suc (length due.nests) in
+    let used = due.keeps.used in
+    let same = due.keeps.same_depth in
+    record {
+      before = before;
+      item = title;
+      levels = suc levels;
+      due = due;
+      left = omega (arith, used, same, within, room);
+      is_item = subst (λ (z : List ℕ). IsItem strict (suc levels) z) (append-nil title)
+          (item_of strict (suc levels) title [] header p g (all_read strict header levels 0 [] x is done no_items));
+      is = refl;
+    }
+
+-- a nest in which something is due is one more
+pub enters_within : (strict : Bool) (depth whole : ℕ) (walk new : Walk) (before title : List ℕ) (header : Header)
+    (x : Remaining)
+    → IsDue strict depth whole walk before → IsTitle title header → IsTakenTitle strict title header
+    → walk.used ≤ walk.depth → walk.depth ≤ 256
+    → (walk.used ≡ walk.depth → ⊥) → IsRemaining header 0 x → is_done x ≡ false
+    → new.levels ≡ set walk.levels walk.used x → new.used ≡ walk.used + 1 → new.depth ≡ walk.depth
+    → IsDueBehind strict depth whole new (before ++ title)
+enters_within strict depth whole walk new before title header x due p g within shallow room is some written one deep =
+    let levels = depth - suc (length due.nests) in
+    let used = due.keeps.used in
+    let same = due.keeps.same_depth in
+    let long = due.keeps.room in
+    let nest : Nest = record { header = header; count = 0 } in
+    let all : before ++ (title ++ []) ≡ before ++ title = ap (λ (z : List ℕ). before ++ z) (append-nil title) in
+    let more = takes_more header 0 x is some in
+    let level : length due.nests + suc levels ≡ depth = omega (arith, used, same, within, room) in
+    let fits : walk.used < length walk.levels = omega (arith, used, same, within, room, shallow, long) in
+    within_nest strict depth whole new.used new (before ++ title) refl (omega (arith, one)) (record {
+      nests = nest ∷ due.nests;
+      within = subst (λ (z : List ℕ). StandsBehind strict depth whole (nest ∷ due.nests) z) all
+          (inside due.within level p g more.0 no_items);
+      keeps = record {
+        kept = subst (λ (z : List Remaining). AreKept z (nest ∷ due.nests)) (sym written)
+            (kept_more walk.levels due.nests nest walk.used x used fits is some due.keeps.kept);
+        used = omega (arith, one, used);
+        same_depth = deep ∙ same;
+        room = ap length written ∙ (length-set walk.levels walk.used x ∙ long);
+      };
+    })
+
+-- ---- a break
+
+level_open : (nests : List Nest) → closes_one nests 0 ≡ false → title_level h.Break nests 0 ≡ length nests
+level_open nests e = grind (arith, nat_tests)
+
+level_closed : (nests : List Nest) → closes_one nests 0 ≡ true → title_level h.Break nests 0 ≡ length nests - 1
+level_closed nests e = grind (arith, nat_tests)
+
+breaks_not : (strict : Bool) (depth whole : ℕ) (walk : Walk) (before : List ℕ)
+    (due : IsDue strict depth whole walk before)
+    → closes_one due.nests 0 ≡ false → Breaks strict depth whole false walk before
+breaks_not strict depth whole walk before due none = record {
+  nests = due.nests;
+  within = due.within;
+  level = due.keeps.used ∙ sym (level_open due.nests none);
+  may = none;
+  behind = λ e. absurd cc;
+}
+
+-- no break may stand where no nest is open
+outside_no_break : (nests : List Nest) → length nests ≡ 0 → closes_one nests 0 ≡ false
+outside_no_break nests e = grind arith
+
+pub break_outside : (strict : Bool) (depth whole : ℕ) (walk : Walk) (before : List ℕ)
+    → IsDue strict depth whole walk before → walk.used ≡ 0
+    → Breaks strict depth whole false walk before
+break_outside strict depth whole walk before due none = grind (arith, nat_tests, breaks_not, before, outside_no_break)
+
+-- whether one may is whether the innermost nest takes it
+closes_as_kept : (depth : ℕ) (walk : Walk) (nests : List Nest) → KeepsNests depth walk nests → (walk.used ≡ 0 → ⊥)
+    → closes_one nests 0 ≡ closes (remaining_at walk.levels (walk.used - 1))
+closes_as_kept depth walk nests keeps some = grind (arith, takes_more)
+
+pub break_refused : (strict : Bool) (depth whole : ℕ) (walk : Walk) (before : List ℕ)
+    → IsDue strict depth whole walk before
+    → (walk.used ≡ 0 → ⊥)
+    → closes (remaining_at walk.levels (walk.used - 1)) ≡ false → Breaks strict depth whole false walk before
+break_refused strict depth whole walk before due some refused =
+    grind (arith, nat_tests, breaks_not, before, closes_as_kept, some)
+
+closed_behind : (strict : Bool) (depth whole : ℕ) (walk new : Walk) (before : List ℕ) (nests : List Nest)
+    → StandsBehind strict depth whole nests before
+    → KeepsNests depth walk nests → (walk.used ≡ 0 → ⊥) → closes (remaining_at walk.levels (walk.used - 1)) ≡ true
+    → new.levels ≡ walk.levels → new.used ≡ walk.used - 1 → new.depth ≡ walk.depth
+    → IsBehindItem strict depth whole new (before ++ 0xff ∷ [])
+closed_behind strict depth whole walk new before [] within keeps some may same less deep = absurd (some keeps.used)
+closed_behind strict depth whole walk new before (nest ∷ nests) within keeps some may same less deep =
+    let used = keeps.used in
+    let kept = keeps.kept in
+    let at : walk.used - 1 ≡ length nests = omega (arith, used) in
+    let remaining = remaining_at walk.levels (length nests) in
+    let closing : closes remaining ≡ true = subst (λ (k : ℕ). closes (remaining_at walk.levels k) ≡ true) at may in
+    let inner = inner_of strict depth whole nest nests before within in
+    let completes =
+    all_closed strict nest.header inner.levels nest.count inner.items remaining kept.0 closing inner.are_items in
+    ends_nest strict depth whole nest nests before (0xff ∷ []) (inner.items ++ 0xff ∷ []) new inner refl completes
+    (record {
+      kept = subst (λ (z : List Remaining). AreKept z nests) (sym same) kept.2;
+      used = less ∙ at;
+      same_depth = deep ∙ keeps.same_depth;
+      room = ap length same ∙ keeps.room;
+    })
+
+pub break_closes : (strict : Bool) (depth whole : ℕ) (walk new : Walk) (before : List ℕ)
+    → IsDue strict depth whole walk before
+    → (walk.used ≡ 0 → ⊥)
+    → closes (remaining_at walk.levels (walk.used - 1)) ≡ true
+    → new.levels ≡ walk.levels → new.used ≡ walk.used - 1 → new.depth ≡ walk.depth
+    → Breaks strict depth whole true new before
+break_closes strict depth whole walk new before due some may same less deep =
+    let closing = closes_as_kept depth walk due.nests due.keeps some ∙ may in
+    let used = due.keeps.used in
+    record {
+      nests = due.nests;
+      within = due.within;
+      level = less ∙ (ap (λ (k : ℕ). k - 1) used ∙ sym (level_closed due.nests closing));
+      may = closing;
+      behind = λ e. closed_behind strict depth whole walk new before due.nests due.within due.keeps some may same less
+          deep;
+    }
+
+-- ---- the end of an item
+
+-- outside of all nests
+outside_more : (strict : Bool) (depth whole levels : ℕ) (nests : List Nest) (before item : List ℕ)
+    → StandsBehind strict depth whole nests before
+    → length nests ≡ 0 → levels ≡ depth → IsItem strict levels item → StandsBehind strict depth (suc whole) []
+    (before ++ item)
+outside_more strict depth whole levels nests before item stands none same is_item = grind (arith, outside, items_item)
+
+pub end_outside : (strict : Bool) (depth whole : ℕ) (walk : Walk) (bytes : List ℕ)
+    → IsBehindItem strict depth whole walk bytes → walk.used ≡ 0
+    → IsDueBehind strict depth whole walk bytes
+end_outside strict depth whole walk bytes behind none =
+    let due = behind.due in
+    let used = due.keeps.used in
+    let left = behind.left in
+    let empty : length due.nests ≡ 0 = omega (arith, used, none) in
+    let same : behind.levels ≡ depth = omega (arith, left, empty) in
+    due_outside strict depth whole walk bytes none (record {
+      nests = [];
+      within = subst (λ (z : List ℕ). StandsBehind strict depth (suc whole) [] z) (sym behind.is)
+          (outside_more strict depth whole behind.levels due.nests behind.before behind.item due.within empty same
+          behind.is_item);
+      keeps = record {
+        kept = tt;
+        used = none;
+        same_depth = due.keeps.same_depth;
+        room = due.keeps.room;
+      };
+    })
+
+-- what the end of an item changes: what remains of the innermost nest
+pub record Steps (walk new : Walk) (after : Remaining) : Type 0 where
+  pub counts : (x : Header) (count : ℕ) → IsRemaining x count (remaining_at walk.levels (walk.used - 1))
+      → IsRemaining x (suc count) after
+  pub some : walk.used ≡ 0 → ⊥
+  pub within : walk.used ≤ 256
+  pub written : new.levels ≡ set walk.levels (walk.used - 1) after
+  pub deep : new.depth ≡ walk.depth
+
+more_due : (strict : Bool) (depth whole : ℕ) (walk new : Walk) (after : Remaining) → Steps walk new after
+    → (nests : List Nest) (before item : List ℕ) (levels : ℕ) → StandsBehind strict depth whole nests before
+    → KeepsNests depth walk nests → length nests + levels ≡ depth → IsItem strict levels item
+    → is_done after ≡ false → new.used ≡ walk.used → IsDue strict depth whole new (before ++ item)
+more_due strict depth whole walk new after s [] before item levels stands keeps left is_item rest same = absurd (s.some
+    keeps.used)
+more_due strict depth whole walk new after s (nest ∷ nests) before item levels stands keeps left is_item rest same =
+    let used = keeps.used in
+    let few = s.within in
+    let at : walk.used - 1 ≡ length nests = omega (arith, used) in
+    let kept = keeps.kept in
+    let long = keeps.room in
+    let count = nest.count in
+    let is : IsRemaining nest.header (suc count) after =
+    s.counts nest.header count
+    (subst (λ (k : ℕ). IsRemaining nest.header count (remaining_at walk.levels k)) (sym at) kept.0) in
+    let next : Nest = record { header = nest.header; count = suc count } in
+    let inner = inner_of strict depth whole nest nests before stands in
+    let more = takes_more nest.header (suc count) after is rest in
+    record {
+      nests = next ∷ nests;
+      within = goes_on strict depth whole levels nest nests before item inner left is_item more.0;
+      keeps = record {
+        kept = subst (λ (z : List Remaining). AreKept z (next ∷ nests)) (sym s.written)
+            (kept_more walk.levels nests next (walk.used - 1) after at (omega (arith, used, long, few)) is rest
+            kept.2);
+        used = same ∙ used;
+        same_depth = s.deep ∙ keeps.same_depth;
+        room = ap length s.written ∙ (length-set walk.levels (walk.used - 1) after ∙ long);
+      };
+    }
+
+pub end_goes_on : (strict : Bool) (depth whole : ℕ) (walk new : Walk) (after : Remaining) → Steps walk new after
+    → (bytes : List ℕ)
+    → IsBehindItem strict depth whole walk bytes → is_done after ≡ false → new.used ≡ walk.used
+    → IsDueBehind strict depth whole new bytes
+end_goes_on strict depth whole walk new after s bytes behind rest same =
+    let due = behind.due in
+    let some = s.some in
+    within_nest strict depth whole new.used new bytes refl (omega (arith, same, some))
+    (subst (λ (z : List ℕ). IsDue strict depth whole new z) (sym behind.is)
+    (more_due strict depth whole walk new after s due.nests behind.before behind.item behind.levels due.within due.keeps
+    behind.left behind.is_item rest
+    same))
+
+level_ends : (strict : Bool) (depth whole : ℕ) (walk new : Walk) (after : Remaining) → Steps walk new after
+    → (nests : List Nest) (before item : List ℕ) (levels : ℕ) → StandsBehind strict depth whole nests before
+    → KeepsNests depth walk nests → length nests + levels ≡ depth → IsItem strict levels item
+    → is_done after ≡ true → new.used ≡ walk.used - 1 → IsBehindItem strict depth whole new (before ++ item)
+level_ends strict depth whole walk new after s [] before item levels stands keeps left is_item done less =
+    absurd (s.some keeps.used)
+level_ends strict depth whole walk new after s (nest ∷ nests) before item levels stands keeps left is_item done less =
+    let used = keeps.used in
+    let few = s.within in
+    let at : walk.used - 1 ≡ length nests = omega (arith, used) in
+    let kept = keeps.kept in
+    let count = nest.count in
+    let is : IsRemaining nest.header (suc count) after =
+    s.counts nest.header count
+    (subst (λ (k : ℕ). IsRemaining nest.header count (remaining_at walk.levels k)) (sym at) kept.0) in
+    let inner = inner_of strict depth whole nest nests before stands in
+    let level = inner.level in
+    let same : levels ≡ inner.levels = omega (arith, level, left) in
+    let item' = subst (λ (n : ℕ). IsItem strict n item) same is_item in
+    let all = items_item strict inner.levels count inner.items item inner.are_items item' in
+    let completes = all_read strict nest.header inner.levels (suc count) (inner.items ++ item) after is done all in
+    ends_nest strict depth whole nest nests before item (inner.items ++ item) new inner refl completes (record {
+      kept = subst (λ (z : List Remaining). AreKept z nests) (sym s.written)
+          (kept_below walk.levels nests (walk.used - 1) after (omega (arith, at)) kept.2);
+      used = less ∙ at;
+      same_depth = s.deep ∙ keeps.same_depth;
+      room = ap length s.written ∙ (length-set walk.levels (walk.used - 1) after ∙ keeps.room);
+    })
+
+pub end_of_level : (strict : Bool) (depth whole : ℕ) (walk new : Walk) (after : Remaining) → Steps walk new after
+    → (bytes : List ℕ)
+    → IsBehindItem strict depth whole walk bytes → is_done after ≡ true
+    → new.used ≡ walk.used - 1 → IsBehindItem strict depth whole new bytes
+end_of_level strict depth whole walk new after s bytes behind done less =
+    let due = behind.due in
+    subst (λ (z : List ℕ). IsBehindItem strict depth whole new z) (sym behind.is)
+    (level_ends strict depth whole walk new after s due.nests behind.before behind.item behind.levels due.within
+    due.keeps
+    behind.left behind.is_item
+    done less)

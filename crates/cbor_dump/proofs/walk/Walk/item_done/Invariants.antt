@@ -1,0 +1,11 @@
+use Rattle.std.proofs.Common.{ℕ, Bool, List}
+use Rattle.cbor_dump.specs.Walks.{IsBehindItem}
+use Rattle.cbor_dump.proofs.walk.Walk.item_done.Given as goal
+
+abbrev pub invariant-levels : goal.invariant-levels
+invariant-levels l = (strict : Bool) (depth whole : ℕ) (bytes : List ℕ)
+    → IsBehindItem strict depth whole l.fn.self bytes → IsBehindItem strict depth whole l.self bytes
+
+-- each level that ends is one less
+abbrev pub decreases-levels : goal.decreases-levels
+decreases-levels l = l.self.used

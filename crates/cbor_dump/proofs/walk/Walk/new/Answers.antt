@@ -1,0 +1,6 @@
+use Rattle.std.proofs.Common.{refl}
+use Rattle.cbor_dump.proofs.WalkLaws.{due_first}
+use Rattle.cbor_dump.proofs.walk.Walk.new.Goals as goal
+
+pub returns : goal.returns
+returns c = λ strict. due_first strict c.args.depth _ refl refl refl

@@ -1,0 +1,172 @@
+-- At which level each line of a dump stands: within how many tags, arrays, maps and opens.
+use Rattle.std.specs.Prelude.{◌≡◌, ℕ, zero, suc, ◌+◌, ◌-◌, ◌<◌, ◌≤◌, ◌⊎◌, Bool, true, false, List, [], ◌∷◌, ◌++◌}
+use Rattle.std.specs.Prelude.{length, Some, None, if◌then◌else◌}
+use Rattle.ciborium_ll.specs.Types.Header.{Header}
+use Rattle.ciborium_ll.specs.Types.Header.TheVariants as h
+use Rattle.ciborium_ll.specs.Title.{IsTitle}
+use Rattle.ciborium_ll.specs.Strings.{Kind, Bytes, Text, kind_header, AreStrings, IsWritable}
+use Rattle.ciborium_ll.specs.Elements.{AreWritable}
+use Rattle.ciborium_ll.specs.Faults.{IsRefusedIn}
+use Rattle.ciborium_ll.specs.Finishing.{IsNoText}
+use Rattle.ciborium_ll.specs.Items.{AreItems, IsTakenTitle}
+use Rattle.cbor_skip.specs.Due.{TakesMore, may_close}
+use Rattle.cbor_dump.specs.declared.rows.Meaning.{Meaning}
+use Rattle.cbor_dump.specs.declared.rows.Meaning.TheVariants as m
+use Rattle.cbor_dump.specs.Takings.{IsFirstByte, AnswersTitle, most_bytes}
+use Rattle.cbor_dump.specs.Parts.{IsFullPart, IsCutText}
+
+-- ---- within what a title stands
+
+-- A tag, an array or a map, by its header, and how many of its items stand before.
+pub record Nest : Type 0 where
+  pub header : Header
+  pub count : ℕ
+
+-- `StandsBehind strict depth whole nests bytes`: the bytes begin a sequence of items to the depth, and an item is due
+-- after them within exactly these nests, the innermost first. After `whole` items each nest has its title and some of
+-- its items, and more of them are due (RFC 7049, 2.1 to 2.4). If `strict`, all stand in their shortest spelling. After
+-- `83 01 02` an item is due within an array of 3 items that has 2.
+pub data StandsBehind (strict : Bool) (depth whole : ℕ) : List Nest → List ℕ → Type 0 where
+  outside : {items : List ℕ} → AreItems strict depth whole items → StandsBehind strict depth whole [] items
+  inside : {levels count : ℕ} {nests : List Nest} {before title items : List ℕ} {header : Header}
+      → StandsBehind strict depth whole nests before → length nests + suc levels ≡ depth → IsTitle title header
+      → IsTakenTitle strict title header → TakesMore header count → AreItems strict levels count items
+      → StandsBehind strict depth whole (record { header = header; count = count } ∷ nests)
+      (before ++ (title ++ items))
+
+-- `StandsBehind` in any spelling, after any number of whole items. A level does not depend on the spelling (RFC 7049,
+-- 2.1, 2.2.1 and 2.4; RFC 8742).
+abbrev pub StandsWithin : ℕ → List Nest → List ℕ → Type 0
+StandsWithin depth nests bytes = (whole : ℕ) × StandsBehind false depth whole nests bytes
+
+-- `AreOpen kind opens bytes bodies`: the bytes are `opens` opens of the kind, each with strings after it, and none
+-- closed. The bodies are those of the strings so far (RFC 7049, 2.2.2).
+pub data AreOpen (kind : Kind) : ℕ → List ℕ → List (List ℕ) → Type 0 where
+  none : AreOpen kind zero [] []
+  more : {opens : ℕ} {outer title strings : List ℕ} {bodies others : List (List ℕ)} → AreOpen kind opens outer bodies
+      → IsTitle title (kind_header kind None) → AreStrings kind strings others
+      → AreOpen kind (suc opens) (outer ++ (title ++ strings)) (bodies ++ others)
+
+-- After the bytes a title is due: within these nests, and in a string within this many opens.
+pub record TitleDue (depth : ℕ) (nests : List Nest) (opens : ℕ) (bytes : List ℕ) : Type 0 where
+  pub items : List ℕ
+  pub kind : Kind
+  pub parts : List ℕ
+  pub bodies : List (List ℕ)
+  pub within : StandsWithin depth nests items
+  pub are_open : AreOpen kind opens parts bodies
+  pub sound : AreWritable kind bodies
+  pub is : bytes ≡ items ++ parts
+
+-- A break may stand here. It closes the last open, or the innermost nest if no open is left (RFC 7049, 2.2).
+abbrev pub closes_one : List Nest → ℕ → Bool
+closes_one nests (suc opens) = true
+closes_one [] zero = false
+closes_one (nest ∷ nests) zero = may_close nest.header nest.count
+
+-- The level of a title: how many nests and opens it stands within. A break that closes a nest or an open has the level
+-- of its title.
+abbrev pub title_level : Header → List Nest → ℕ → ℕ
+title_level h.Break nests opens =
+    if closes_one nests opens then (length nests + opens) - 1 else length nests + opens
+title_level header nests opens = length nests + opens
+
+-- ---- lines
+
+-- A line of a dump: its level, its offset, its bytes, and what they mean.
+pub record Line : Type 0 where
+  pub level : ℕ
+  pub offset : ℕ
+  pub bytes : List ℕ
+  pub meaning : Meaning
+
+-- The bytes of the lines, joined.
+abbrev pub bytes_of : List Line → List ℕ
+bytes_of [] = []
+bytes_of (line ∷ lines) = line.bytes ++ bytes_of lines
+
+-- After these bytes the line has a title of the header, at its level.
+pub record HasTitle (depth : ℕ) (before : List ℕ) (header : Header) (line : Line) : Type 0 where
+  pub nests : List Nest
+  pub opens : ℕ
+  pub due : TitleDue depth nests opens before
+  pub is_title : IsTitle line.bytes header
+  pub level : line.level ≡ title_level header nests opens
+
+-- After these bytes the line has a part of a string's body, one level deeper than the string's title. The part has as
+-- many bytes as a row has, or all that is left.
+pub record HasBody (depth : ℕ) (before : List ℕ) (kind : Kind) (line : Line) : Type 0 where
+  pub nests : List Nest
+  pub opens : ℕ
+  pub outer : List ℕ
+  pub title : List ℕ
+  pub front : List ℕ
+  pub len : ℕ
+  pub due : TitleDue depth nests opens outer
+  pub is_title : IsTitle title (kind_header kind (Some len))
+  pub is : before ≡ outer ++ (title ++ front)
+  pub fits : length front + length line.bytes ≤ len
+  pub full : IsFullPart kind (len - length front) line.bytes
+  pub level : line.level ≡ suc (length nests + opens)
+
+-- How lines end. `Meant`: each line has a meaning. `Refused`: the last line is at fault, since a dump, strict or not,
+-- refuses its bytes. `Failed` and `Stopped`: the reader failed, or a read stopped for another reason; each line has a
+-- meaning, or the last line was cut and is at fault.
+pub data Ending : Type 0 where
+  Meant : Ending
+  Refused : Bool → Ending
+  Failed : Ending
+  Stopped : Ending
+
+-- All bytes of a refused title, within this many opens of the kind. Its first byte is refused, or only strict titles
+-- are taken and it is not strict, or the string may not contain it (RFC 7049, 2.1, 2.2.2 and 3.9).
+abbrev pub IsNoTitle : Bool → Kind → ℕ → List ℕ → Type 0
+IsNoTitle strict kind opens bytes = AnswersTitle strict bytes None
+    ⊎ ((0 < opens) × ((header : Header) × IsTitle bytes header × IsRefusedIn strict kind header))
+
+-- What a line at fault has of a title, by how the lines end: all of a refused title, or the first byte of a title that
+-- was cut.
+abbrev pub IsTitleFault : Ending → Kind → ℕ → List ℕ → Type 0
+IsTitleFault Meant kind opens bytes = ⊥
+IsTitleFault (Refused strict) kind opens bytes = IsNoTitle strict kind opens bytes
+IsTitleFault Failed kind opens bytes = IsFirstByte bytes
+IsTitleFault Stopped kind opens bytes = IsFirstByte bytes
+
+-- What a line at fault has of a text's body that has `left` bytes left: bytes that are no text, or the first bytes of a
+-- text that was cut.
+abbrev pub IsTextFault : Ending → ℕ → List ℕ → Type 0
+IsTextFault Meant left bytes = ⊥
+IsTextFault (Refused strict) left bytes = IsNoText [] left bytes
+IsTextFault Failed left bytes = IsCutText left bytes
+IsTextFault Stopped left bytes = IsCutText left bytes
+
+-- After these bytes the line has what was read of a title at fault, at the level of a title that is due.
+pub record HasNoTitle (how : Ending) (depth : ℕ) (before : List ℕ) (line : Line) : Type 0 where
+  pub nests : List Nest
+  pub opens : ℕ
+  pub due : TitleDue depth nests opens before
+  pub fault : IsTitleFault how due.kind opens line.bytes
+  pub level : line.level ≡ length nests + opens
+
+-- After these bytes the line has what was read of a text's body at fault.
+pub record HasNoText (how : Ending) (depth : ℕ) (before : List ℕ) (line : Line) : Type 0 where
+  pub body : HasBody depth before Text line
+  pub fault : IsTextFault how (body.len - length body.front) line.bytes
+
+-- After these bytes the line has what its meaning says, at its level.
+abbrev pub Stands : Ending → ℕ → List ℕ → Meaning → Line → Type 0
+Stands how depth before (m.Header header) line = HasTitle depth before header line
+Stands how depth before m.Bytes line = HasBody depth before Bytes line
+Stands how depth before m.Text line = HasBody depth before Text line × IsWritable Text line.bytes
+Stands how depth before m.Fault line = HasNoTitle how depth before line ⊎ HasNoText how depth before line
+
+-- A line has at least one byte, and at most 16.
+abbrev pub FitsRow : List ℕ → Type 0
+FitsRow bytes = (0 < length bytes) × (length bytes ≤ most_bytes)
+
+-- Each line has what its meaning says, fits a row, and has the offset of its first byte. The bytes before begin at the
+-- start.
+abbrev pub AllStand : Ending → ℕ → ℕ → List ℕ → List Line → Type 0
+AllStand how depth start before [] = Unit {0}
+AllStand how depth start before (line ∷ lines) = (line.offset ≡ start + length before) × FitsRow line.bytes
+    × Stands how depth before line.meaning line × AllStand how depth start (before ++ line.bytes) lines

@@ -1,0 +1,70 @@
+-- What the read of a part of a body does, as a skip of the string does it.
+use Rattle.std.specs.Prelude.{◌≡◌, ℕ, ◌<◌, ◌≤◌, ◌⊎◌, min, Bool, true, false, List, [], ◌++◌, length, Result, Ok, Err}
+use Rattle.ciborium_ll.specs.Types.Read.{Ghosts}
+use Rattle.ciborium_ll.specs.Types.Decoder.{Decoder}
+use Rattle.ciborium_ll.specs.Types.Error.{Error}
+use Rattle.ciborium_ll.specs.Types.Error.TheVariants as e
+use Rattle.ciborium_ll.specs.Strings.{Kind, Bytes, Text}
+use Rattle.ciborium_ll.specs.Decoding.{ReadsPast}
+use Rattle.ciborium_ll.specs.Finishing.{EndsBody, IsNoText}
+use Rattle.ciborium_ll_text.specs.Text.{IsCharacters}
+use Rattle.ciborium_ll_text.specs.declared.state.State.{State}
+use Rattle.ciborium_ll_text.specs.declared.state.State.TheVariants as t
+use Rattle.cbor_dump.specs.Takings.{ThroughSomeRoom, most_bytes, most_text}
+
+-- The bytes so far end between two characters (Unicode, Table 3-7).
+abbrev pub is_between : State → Bool
+is_between t.Between = true
+is_between state = false
+
+-- The bytes so far end inside a character (Unicode, Table 3-7).
+abbrev pub is_inside : State → Bool
+is_inside t.Between = false
+is_inside t.Damaged = false
+is_inside state = true
+
+-- The bytes are characters; or they begin no text of a body that has `left` bytes left.
+abbrev pub IsSound : ℕ → List ℕ → Bool → Type 0
+IsSound left bytes true = IsCharacters bytes
+IsSound left bytes false = IsNoText [] left bytes
+
+-- The first bytes of a text that was cut, of a body that has `left` bytes left. They end inside a character (RFC 3629,
+-- 4), as twelve `61` and a `c3` do.
+pub record IsCutText (left : ℕ) (bytes : List ℕ) : Type 0 where
+  pub many : most_text ≤ length bytes
+  pub due : length bytes < left
+  pub no_text : IsCharacters bytes → ⊥
+  pub more : List ℕ
+  pub goes_on : IsCharacters (bytes ++ more)
+
+-- The bytes are as many as a row has, of a body that has `left` bytes left: 16, or at least 13 of a text, or all that
+-- is left.
+abbrev pub IsFullPart : Kind → ℕ → List ℕ → Type 0
+IsFullPart Bytes left bytes = min left most_bytes ≤ length bytes
+IsFullPart Text left bytes = min left most_text ≤ length bytes
+
+-- What was read of a body that has `left` bytes left, if the read stopped with this error. For `Syntax` it is a full
+-- part of a text's body that is no text, or begins none. Otherwise it is nothing, or the first bytes of a text that was
+-- cut.
+abbrev pub IsPartRow : {E : Type 0} → Kind → ℕ → Error E → List ℕ → Type 0
+IsPartRow kind left (e.Syntax at) bytes = (kind ≡ Text) × IsNoText [] left bytes × IsFullPart Text left bytes
+IsPartRow kind left error bytes = (bytes ≡ []) ⊎ ((kind ≡ Text) × IsCutText left bytes)
+
+module _ {R E : Type 0} (source : Ghosts R E) where
+  -- The read of a body that has `left` bytes left failed as that of a skip does. The skip has a buffer of at most a
+  -- row's 16 bytes (RFC 7049, 2.1; RFC 3629, 4).
+  abbrev pub FailsInBody : Kind → ℕ → ℕ → Decoder R → Error E → Decoder R → Type 0
+  FailsInBody kind left place old error new =
+      ThroughSomeRoom (λ room. EndsBody source kind [] left room place old (Err error) new)
+
+  -- Bytes of a text that had `left` bytes left were read; or the read failed as the read of the whole body does (RFC
+  -- 7049, 2.1; RFC 3629, 4).
+  abbrev pub ReadsTextPart : ℕ → List ℕ → Decoder R → Result Bool (Error E) → Decoder R → Type 0
+  ReadsTextPart left bytes old (Ok whole) new = ReadsPast source old bytes new × IsSound left bytes whole
+  ReadsTextPart left bytes old (Err error) new = (place : ℕ) → FailsInBody Text left place old error new
+
+  -- Bytes of a body of either kind were read; or the read failed as the read of the whole body does (RFC 7049, 2.1; RFC
+  -- 3629, 4).
+  abbrev pub ReadsPart : Kind → ℕ → ℕ → List ℕ → Decoder R → Result (Unit {0}) (Error E) → Decoder R → Type 0
+  ReadsPart kind left place bytes old (Ok done) new = ReadsPast source old bytes new
+  ReadsPart kind left place bytes old (Err error) new = FailsInBody kind left place old error new

@@ -1,0 +1,96 @@
+-- Sequences of items (RFC 8742), and what `check` does with them.
+use Rattle.std.specs.Prelude.{◌≡◌, ℕ, ◌+◌, ◌-◌, Bool, List, [], ◌++◌, length, Some, Result, Ok, Err}
+use Rattle.ciborium_ll.specs.Types.Read.{Ghosts}
+use Rattle.ciborium_ll.specs.Types.Decoder.{Decoder}
+use Rattle.ciborium_ll.specs.Types.Error.TheVariants as e
+use Rattle.ciborium_ll.specs.Items.{AreItems}
+use Rattle.ciborium_ll.specs.Decoding.{view, ReadsPast}
+use Rattle.cbor_skip.specs.declared.SkipError.{SkipError}
+use Rattle.cbor_skip.specs.declared.SkipError.TheVariants as s
+use Rattle.cbor_skip.specs.Failures.{CountsItemFailure}
+use Rattle.cbor_skip.specs.ItemFaults.{BeginsWithItem}
+use Rattle.cbor_skip.specs.Skipping.{SkipsItem, strictness}
+use Rattle.cbor_skip.specs.SkippingTold.{SkipsTold}
+use Rattle.cbor_dump.specs.declared.sequence.Sequence.{Sequence}
+use Rattle.cbor_dump.specs.declared.sequence.Stopped.{Stopped}
+
+-- The bytes are exactly items of at most that depth, one after the other, in any spelling or in the shortest one (RFC
+-- 8742, 2). `01 80` is a sequence of two items.
+abbrev pub IsSequence : Bool → ℕ → List ℕ → Type 0
+IsSequence strict depth bytes = (count : ℕ) × AreItems strict depth count bytes
+
+-- The error says that no byte of an item came: the reader failed, and the offset is still that of the item.
+abbrev pub IsEnd : {E : Type 0} → SkipError E → ℕ → ℕ → Type 0
+IsEnd (s.Read (e.Io fault)) place stop = stop ≡ place
+IsEnd error place stop = ⊥
+
+-- What the end of the read says. The first item begins at the start, the last item at the place, and the read stopped
+-- at `stop`.
+abbrev pub EndsSequence : {E : Type 0} → SkipError E → ℕ → ℕ → ℕ → ℕ → Result (Sequence E) (Stopped E) → Type 0
+EndsSequence error items start place stop (Ok sequence) = (error ≡ s.Read (e.Io sequence.«end»)) × (stop ≡ place)
+    × (sequence.items ≡ items) × (sequence.bytes ≡ place - start)
+EndsSequence error items start place stop (Err stopped) =
+    (stopped ≡ record { items = items; place = place; error = error }) × (IsEnd error place stop → ⊥)
+
+-- How often the reader failed, by the answer of a check: once at the end, and before the end once if the error says so.
+abbrev pub CountsCheck : {E : Type 0} → Result (Sequence E) (Stopped E) → ℕ → ℕ → Type 0
+CountsCheck (Ok sequence) old new = new ≡ old + 1
+CountsCheck (Err stopped) old new = CountsItemFailure stopped.error old new
+
+module _ {R E : Type 0} (source : Ghosts R E) where
+  -- `count` items were read, by a strict decoder in their shortest spelling.
+  pub record ReadsItems (depth count : ℕ) (old new : Decoder R) : Type 0 where
+    pub bytes : List ℕ
+    pub are_items : AreItems (strictness old) depth count bytes
+    pub passed : ReadsPast source old bytes new
+
+  -- Items were read, and the reader failed at a further item before it consumed a byte.
+  pub record FindsEnd (depth room : ℕ) (old : Decoder R) (sequence : Sequence E) (new : Decoder R) : Type 0 where
+    pub between : Decoder R
+    pub reads : ReadsItems depth sequence.items old between
+    pub counted : sequence.bytes ≡ length reads.bytes
+    pub fails : SkipsItem source depth room between (Err (s.Read (e.Io sequence.«end»))) new
+    pub still : new.offset ≡ between.offset
+
+  -- Items were read, and the read of a further item failed. The failure is not an end.
+  pub record FindsNoItem (depth room : ℕ) (old : Decoder R) (stopped : Stopped E) (new : Decoder R) : Type 0 where
+    pub between : Decoder R
+    pub reads : ReadsItems depth stopped.items old between
+    pub place : stopped.place ≡ between.offset
+    pub fails : SkipsItem source depth room between (Err stopped.error) new
+    pub no_end : IsEnd stopped.error between.offset new.offset → ⊥
+
+  -- What `check` does through a buffer of this room, by its answer, after the items that the answer counts.
+  abbrev pub ChecksItems : ℕ → ℕ → Decoder R → Result (Sequence E) (Stopped E) → Decoder R → Type 0
+  ChecksItems depth room old (Ok sequence) new = FindsEnd depth room old sequence new
+  ChecksItems depth room old (Err stopped) new = FindsNoItem depth room old stopped new
+
+  -- The bytes are a sequence of as many items as the answer counts, for a strict decoder in their shortest spelling. No
+  -- byte is left.
+  pub record FindsSequence (depth : ℕ) (due : List ℕ) (old : Decoder R) (sequence : Sequence E) (new : Decoder R)
+      : Type 0 where
+    pub are_items : AreItems old.strict depth sequence.items due
+    pub counted : sequence.bytes ≡ length due
+    pub left : view source new ≡ Some []
+    pub offset : new.offset ≡ old.offset + length due
+
+  -- After the counted items, bytes follow that begin with no item, and the decoder meets what stops the read of an
+  -- item.
+  pub record FindsFault (depth : ℕ) (due : List ℕ) (old : Decoder R) (stopped : Stopped E) (new : Decoder R)
+      : Type 0 where
+    pub before : List ℕ
+    pub ahead : List ℕ
+    pub are_items : AreItems old.strict depth stopped.items before
+    pub is : due ≡ before ++ ahead
+    pub place : stopped.place ≡ old.offset + length before
+    pub no_item : BeginsWithItem old.strict depth ahead → ⊥
+    pub no_end : ahead ≡ [] → ⊥
+    pub between : Decoder R
+    pub at : between.offset ≡ stopped.place
+    pub met : SkipsTold source old.strict depth ahead between (Err stopped.error) new
+
+  -- What `check` does with told bytes, by its answer: it reads a sequence, or the items before the fault and what
+  -- `SkipsTold` says of the next item.
+  abbrev pub ChecksTold : ℕ → List ℕ → Decoder R → Result (Sequence E) (Stopped E) → Decoder R → Type 0
+  ChecksTold depth due old (Ok sequence) new = FindsSequence depth due old sequence new
+  ChecksTold depth due old (Err stopped) new = FindsFault depth due old stopped new

@@ -1,0 +1,90 @@
+-- What the rows of a string show of it.
+use Rattle.std.specs.Prelude.{◌≡◌, ℕ, Bool, false, List, [], ◌∷◌, ◌++◌, length, Option, Some, None, Result, Ok}
+use Rattle.std.specs.Prelude.{Err}
+use Rattle.std.specs.Prelude.{OnOk}
+use Rattle.ciborium_ll.specs.Types.Read.{Ghosts}
+use Rattle.ciborium_ll.specs.Types.Decoder.{Decoder}
+use Rattle.ciborium_ll.specs.Types.Error.{Error}
+use Rattle.ciborium_ll.specs.Types.Header.{Header}
+use Rattle.ciborium_ll.specs.Types.Header.TheVariants as h
+use Rattle.ciborium_ll.specs.Strings.{Kind, Bytes, Text, kind_header, AreStrings, IsWritable}
+use Rattle.ciborium_ll.specs.Elements.{AreWritable}
+use Rattle.ciborium_ll.specs.Faults.{IsRefusedIn}
+use Rattle.ciborium_ll.specs.Items.{AreTakenStrings}
+use Rattle.ciborium_ll.specs.Decoding.{ReadsPast}
+use Rattle.ciborium_ll.specs.Skipping.{StopsInside}
+use Rattle.cbor_skip.specs.declared.SkipError.TheVariants as s
+use Rattle.cbor_dump.specs.declared.dump.DumpError.{DumpError}
+use Rattle.cbor_dump.specs.declared.dump.DumpError.TheVariants as d
+use Rattle.cbor_dump.specs.declared.strings.Kind.{Kind as CodeKind}
+use Rattle.cbor_dump.specs.declared.strings.Kind.TheVariants as k
+use Rattle.cbor_dump.specs.declared.strings.Part.{Part}
+use Rattle.cbor_dump.specs.declared.strings.Part.TheVariants as p
+use Rattle.cbor_dump.specs.declared.rows.Meaning.{Meaning}
+use Rattle.cbor_dump.specs.declared.rows.Meaning.TheVariants as m
+use Rattle.cbor_dump.specs.Levels.{Line}
+use Rattle.cbor_dump.specs.Dumps.{Shows}
+use Rattle.cbor_dump.specs.Endings.{ending}
+use Rattle.cbor_dump.specs.Parts.{FailsInBody}
+use Rattle.cbor_dump.specs.Takings.{ThroughSomeRoom, IsInMode}
+
+-- The kind of a string in the code, as the grammar has it.
+abbrev pub kind_of : CodeKind → Kind
+kind_of k.Bytes = Bytes
+kind_of k.Text = Text
+
+-- The meaning of a part of a body.
+abbrev pub meaning_of : CodeKind → Meaning
+meaning_of k.Bytes = m.Bytes
+meaning_of k.Text = m.Text
+
+-- What a header is within an open of the kind. A strict read refuses a further open (RFC 7049, 2.2.2).
+abbrev pub IsPart : Bool → Kind → Header → Part → Type 0
+IsPart strict kind header p.Break = header ≡ h.Break
+IsPart strict kind header (p.Piece len) = header ≡ kind_header kind (Some len)
+IsPart strict kind header p.Open = (header ≡ kind_header kind None) × (strict ≡ false)
+IsPart strict kind header p.Other = IsRefusedIn strict kind header
+
+-- The bytes are strings of the kind and then a break, and each body of a text is UTF-8 (RFC 7049, 2.2.2). If only the
+-- shortest spelling is taken, each string has a definite length and a strict title (3.9).
+pub record EndsString (strict : Bool) (kind : Kind) (bytes : List ℕ) : Type 0 where
+  pub strings : List ℕ
+  pub bodies : List (List ℕ)
+  pub are_strings : AreStrings kind strings bodies
+  pub taken : AreTakenStrings strict kind strings bodies
+  pub sound : AreWritable kind bodies
+  pub is : bytes ≡ strings ++ 0xff ∷ []
+
+-- What follows the title of a string of this length (RFC 7049, 2.2.2).
+abbrev pub IsRest : Bool → Kind → Option ℕ → List ℕ → Type 0
+IsRest strict kind (Some len) bytes = (length bytes ≡ len) × IsWritable kind bytes
+IsRest strict kind None bytes = EndsString strict kind bytes
+
+module _ {R E : Type 0} (source : Ghosts R E) where
+  -- After an open the read of a string failed as that of a skip does, through a buffer of at most a row's 16 bytes (RFC
+  -- 7049, 2.2.2).
+  abbrev pub FailsInside : Kind → Decoder R → Error E → Decoder R → Type 0
+  FailsInside kind old error new = ThroughSomeRoom (λ room. StopsInside source kind room old error new)
+
+module _ {R E W : Type 0} (source : Ghosts R E) where
+  -- How the read of what follows a string's title stops: as a skip of the string does. The place is that of the title
+  -- of a body (RFC 7049, 2.2).
+  abbrev pub StopsBehindTitle : Kind → Option ℕ → ℕ → Decoder R → Result (Unit {0}) (DumpError E W) → Decoder R → Type 0
+  StopsBehindTitle kind len place old (Ok done) new = Unit {0}
+  StopsBehindTitle kind (Some len) place old (Err (d.Item (s.Read error))) new =
+      FailsInBody source kind len place old error new
+  StopsBehindTitle kind None place old (Err (d.Item (s.Read error))) new = FailsInside source kind old error new
+  StopsBehindTitle kind len place old (Err (d.Item (s.Break at))) new = ⊥
+  StopsBehindTitle kind len place old (Err (d.Item (s.Deep at))) new = ⊥
+  StopsBehindTitle kind len place old (Err (d.Rows fault)) new = Unit {0}
+
+  -- What follows a string's title was shown, or a beginning of it. For a definite length it is the body, and the body
+  -- of a text is UTF-8. Otherwise it is strings and a break.
+  pub record ShowsBehindTitle (depth start : ℕ) (drawn then_drawn : Option (List Line)) (before : List ℕ) (kind : Kind)
+      (len : Option ℕ) (strict : Bool) (place : ℕ) (result : Result (Unit {0}) (DumpError E W)) (old new : Decoder R)
+      : Type 0 where
+    pub bytes : List ℕ
+    pub shows : Shows source depth start drawn then_drawn before bytes (ending strict result) old new
+    pub whole : OnOk result (IsRest strict kind len bytes)
+    pub passed : IsInMode strict old → OnOk result (ReadsPast source old bytes new)
+    pub stops : IsInMode strict old → StopsBehindTitle kind len place old result new

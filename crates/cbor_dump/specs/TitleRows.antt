@@ -1,0 +1,95 @@
+-- What the rows of a title show, and the rows of the string that it begins.
+use Rattle.std.specs.Prelude.{◌≡◌, ℕ, Bool, false, List, [], ◌++◌, Option, Result, Ok, Err, OnOk}
+use Rattle.ciborium_ll.specs.Types.Read.{Ghosts}
+use Rattle.ciborium_ll.specs.Types.Decoder.{Decoder}
+use Rattle.ciborium_ll.specs.Types.Error.{Error}
+use Rattle.ciborium_ll.specs.Types.Header.{Header}
+use Rattle.ciborium_ll.specs.Types.Header.TheVariants as h
+use Rattle.ciborium_ll.specs.Strings.{Kind, kind_header}
+use Rattle.ciborium_ll.specs.Decoding.{ReadsPast}
+use Rattle.ciborium_ll.specs.Skipping.{SkipsString}
+use Rattle.cbor_skip.specs.declared.SkipError.TheVariants as s
+use Rattle.cbor_skip.specs.Due.{IsNest}
+use Rattle.cbor_dump.specs.declared.dump.DumpError.{DumpError}
+use Rattle.cbor_dump.specs.declared.dump.DumpError.TheVariants as d
+use Rattle.cbor_dump.specs.declared.walk.Walk.{Walk}
+use Rattle.cbor_dump.specs.Levels.{Line, Nest, StandsBehind, closes_one}
+use Rattle.cbor_dump.specs.Dumps.{Lines, Shows, ShowsBehind}
+use Rattle.cbor_dump.specs.Endings.{ending}
+use Rattle.cbor_dump.specs.Walks.{IsDueBehind, IsDeepest}
+use Rattle.cbor_dump.specs.Takings.{ThroughSomeRoom, IsInMode}
+use Rattle.cbor_dump.specs.Sequences.{IsSequence}
+
+-- After the bytes an item is due, and a break may not stand in its place.
+pub record IsUnclosed (strict : Bool) (depth whole : ℕ) (before : List ℕ) : Type 0 where
+  pub nests : List Nest
+  pub within : StandsBehind strict depth whole nests before
+  pub not_closable : closes_one nests 0 ≡ false
+
+-- After the bytes an item is due, and the header that came is that of a string.
+pub record IsStringDue (strict : Bool) (depth whole : ℕ) (before : List ℕ) (header : Header) (kind : Kind)
+    (len : Option ℕ) : Type 0 where
+  pub nests : List Nest
+  pub within : StandsBehind strict depth whole nests before
+  pub is : header ≡ kind_header kind len
+
+module _ {E W : Type 0} where
+  -- How a title that begins no string ends a dump, at the title's place: a break that may not stand there, or a nest
+  -- too deep (RFC 7049, 2.2).
+  abbrev pub StopsAlone : Bool → ℕ → ℕ → Header → ℕ → List ℕ → Result (Unit {0}) (DumpError E W) → Type 0
+  StopsAlone strict depth whole header place before (Ok done) = Unit {0}
+  StopsAlone strict depth whole header place before (Err (d.Item (s.Read error))) = ⊥
+  StopsAlone strict depth whole header place before (Err (d.Item (s.Break at))) =
+      IsUnclosed strict depth whole before × (header ≡ h.Break) × (at ≡ place)
+  StopsAlone strict depth whole header place before (Err (d.Item (s.Deep at))) =
+      IsDeepest strict depth whole before × IsNest header × (at ≡ place)
+  StopsAlone strict depth whole header place before (Err (d.Rows fault)) = Unit {0}
+
+  -- A title was drawn, after which nothing more is read. On `Ok` an item is due after it.
+  pub record DrawsTitle (strict : Bool) (depth whole start : ℕ) (drawn then_drawn : Option (List Line))
+      (before title : List ℕ) (header : Header) (walk : Walk) (place : ℕ)
+      (result : Result (Unit {0}) (DumpError E W)) : Type 0 where
+    pub lines : Lines depth start drawn then_drawn before title (ending strict result)
+    pub due : OnOk result (IsDueBehind strict depth whole walk (before ++ title))
+    pub stops : StopsAlone strict depth whole header place before result
+
+module _ {R E : Type 0} (source : Ghosts R E) where
+  -- A string of this length failed as a skip of it does, through a buffer of at most a row's 16 bytes (RFC 7049, 2.2).
+  abbrev pub FailsInString : Kind → Option ℕ → Decoder R → Error E → Decoder R → Type 0
+  FailsInString kind len old error new = ThroughSomeRoom (λ room. SkipsString source kind len room old (Err error) new)
+
+module _ {R E W : Type 0} (source : Ghosts R E) where
+  -- How a title ends a dump, or how the string that it begins ends it. The string stops as a skip of it does (RFC 7049,
+  -- 2.2).
+  abbrev pub EndsAtTitle : Bool → ℕ → ℕ → Header → ℕ → List ℕ → Decoder R → Result (Unit {0}) (DumpError E W)
+      → Decoder R → Type 0
+  EndsAtTitle strict depth whole header place before old (Ok done) new = Unit {0}
+  EndsAtTitle strict depth whole header place before old (Err (d.Item (s.Read error))) new =
+      (kind : Kind) × (len : Option ℕ) × IsStringDue strict depth whole before header kind len
+      × FailsInString source kind len old error new
+  EndsAtTitle strict depth whole header place before old (Err (d.Item (s.Break at))) new =
+      IsUnclosed strict depth whole before × (header ≡ h.Break) × (at ≡ place) × (new ≡ old)
+  EndsAtTitle strict depth whole header place before old (Err (d.Item (s.Deep at))) new =
+      IsDeepest strict depth whole before × IsNest header × (at ≡ place) × (new ≡ old)
+  EndsAtTitle strict depth whole header place before old (Err (d.Rows fault)) new = Unit {0}
+
+  -- A title that was read before was shown, and the string that it begins. On `Ok` an item is due after it.
+  pub record ShowsTitle (depth whole start : ℕ) (drawn then_drawn : Option (List Line)) (before title : List ℕ)
+      (header : Header) (walk : Walk) (strict : Bool) (place : ℕ) (result : Result (Unit {0}) (DumpError E W))
+      (old new : Decoder R) : Type 0 where
+    pub bytes : List ℕ
+    pub shows : ShowsBehind source depth start drawn then_drawn before title bytes (ending strict result) old new
+    pub due : OnOk result (IsDueBehind strict depth whole walk (before ++ (title ++ bytes)))
+    pub passed : IsInMode strict old → OnOk result (ReadsPast source old bytes new)
+    pub stops : IsInMode strict old → EndsAtTitle strict depth whole header place before old result new
+
+module _ {R E W : Type 0} (source : Ghosts R E) where
+  -- The lines that were drawn have exactly the consumed bytes, and each stands at its level. At most the last line
+  -- before an error is at fault (`ending`). On `Ok` the bytes are a sequence of items (RFC 8742), in any spelling or in
+  -- the shortest one.
+  pub record ShowsAll (strict : Bool) (depth : ℕ) (drawn then_drawn : Option (List Line)) (result : Result E
+      (DumpError E W))
+      (old new : Decoder R) : Type 0 where
+    pub bytes : List ℕ
+    pub shows : Shows source depth old.offset drawn then_drawn [] bytes (ending strict result) old new
+    pub whole : OnOk result (IsSequence strict depth bytes)

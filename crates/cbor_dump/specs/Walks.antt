@@ -1,0 +1,88 @@
+-- How a walk keeps which tags, arrays and maps are not closed, and what is due within each.
+use Rattle.std.specs.Prelude.{◌≡◌, ℕ, zero, suc, ◌+◌, Bool, true, false, List, [], ◌∷◌, ◌++◌, length, slice_index_or}
+use Rattle.ciborium_ll.specs.Types.Header.{Header}
+use Rattle.ciborium_ll.specs.Types.Header.TheVariants as h
+use Rattle.ciborium_ll.specs.Items.{IsItem}
+use Rattle.cbor_skip.specs.declared.remaining.Remaining.{Remaining}
+use Rattle.cbor_skip.specs.declared.remaining.Remaining.TheVariants as r
+use Rattle.cbor_skip.specs.Remaining.{IsRemaining, is_done}
+use Rattle.cbor_dump.specs.declared.walk.Walk.{Walk}
+use Rattle.cbor_dump.specs.declared.walk.Entered.{Entered}
+use Rattle.cbor_dump.specs.declared.walk.Entered.TheVariants as w
+use Rattle.cbor_dump.specs.Levels.{Nest, StandsBehind, closes_one, title_level}
+
+-- A header that is an item by itself (RFC 7049, 2.1 and 2.3).
+abbrev pub IsItemAlone : Header → Type 0
+IsItemAlone (h.Positive number) = Unit {0}
+IsItemAlone (h.Negative number) = Unit {0}
+IsItemAlone (h.Float value) = Unit {0}
+IsItemAlone (h.Simple number) = Unit {0}
+IsItemAlone header = ⊥
+
+-- What remains of the level of this number.
+abbrev pub remaining_at : List Remaining → ℕ → Remaining
+remaining_at levels at = slice_index_or levels at (r.Items 0)
+
+-- Each nest has items left, as many as the walk keeps at its level.
+abbrev pub AreKept : List Remaining → List Nest → Type 0
+AreKept levels [] = Unit {0}
+AreKept levels (nest ∷ nests) = IsRemaining nest.header nest.count (remaining_at levels (length nests))
+    × (is_done (remaining_at levels (length nests)) ≡ false) × AreKept levels nests
+
+-- The walk keeps exactly these nests.
+pub record KeepsNests (depth : ℕ) (walk : Walk) (nests : List Nest) : Type 0 where
+  pub kept : AreKept walk.levels nests
+  pub used : walk.used ≡ length nests
+  pub same_depth : walk.depth ≡ depth
+  pub room : length walk.levels ≡ 256
+
+-- After the bytes, which have `whole` whole items, an item is due within the nests that the walk keeps. All stand in
+-- any spelling, or all in the shortest one.
+pub record IsDue (strict : Bool) (depth whole : ℕ) (walk : Walk) (bytes : List ℕ) : Type 0 where
+  pub nests : List Nest
+  pub within : StandsBehind strict depth whole nests bytes
+  pub keeps : KeepsNests depth walk nests
+
+-- The bytes end with an item that was due within the nests that the walk keeps.
+pub record IsBehindItem (strict : Bool) (depth whole : ℕ) (walk : Walk) (bytes : List ℕ) : Type 0 where
+  pub before : List ℕ
+  pub item : List ℕ
+  pub levels : ℕ
+  pub due : IsDue strict depth whole walk before
+  pub left : length due.nests + levels ≡ depth
+  pub is_item : IsItem strict levels item
+  pub is : bytes ≡ before ++ item
+
+-- How many items are whole after the end of an item, if this many levels are open: outside of all levels one more.
+abbrev pub whole_behind : ℕ → ℕ → ℕ
+whole_behind whole zero = suc whole
+whole_behind whole (suc used) = whole
+
+-- After the bytes an item is due: after an item that has ended, or within an item that was begun.
+abbrev pub IsDueBehind : Bool → ℕ → ℕ → Walk → List ℕ → Type 0
+IsDueBehind strict depth whole walk bytes = IsDue strict depth (whole_behind whole walk.used) walk bytes
+
+-- After the bytes an item is due within as many nests as there may be.
+pub record IsDeepest (strict : Bool) (depth whole : ℕ) (bytes : List ℕ) : Type 0 where
+  pub nests : List Nest
+  pub within : StandsBehind strict depth whole nests bytes
+  pub full : length nests ≡ depth
+
+-- What the title of a nest does after the bytes.
+abbrev pub Enters : Bool → ℕ → ℕ → Entered → Walk → List ℕ → List ℕ → Type 0
+Enters strict depth whole w.Deep walk before title = IsDeepest strict depth whole before
+Enters strict depth whole w.Empty walk before title = IsBehindItem strict depth whole walk (before ++ title)
+Enters strict depth whole w.Within walk before title = IsDueBehind strict depth whole walk (before ++ title)
+
+-- What a break does after the bytes, and at which level it stands.
+pub record Breaks (strict : Bool) (depth whole : ℕ) (closed : Bool) (walk : Walk) (before : List ℕ) : Type 0 where
+  pub nests : List Nest
+  pub within : StandsBehind strict depth whole nests before
+  pub level : walk.used ≡ title_level h.Break nests 0
+  pub may : closes_one nests 0 ≡ closed
+  pub behind : closed ≡ true → IsBehindItem strict depth whole walk (before ++ 0xff ∷ [])
+
+-- What the end of an item does: its level goes on, or ends too.
+abbrev pub Ends : Bool → ℕ → ℕ → Bool → Walk → List ℕ → Type 0
+Ends strict depth whole true walk bytes = IsBehindItem strict depth whole walk bytes
+Ends strict depth whole false walk bytes = IsDueBehind strict depth whole walk bytes

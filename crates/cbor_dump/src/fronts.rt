@@ -1,0 +1,54 @@
+//! Reads the meaning of a row's bytes: a title, or a part of a text.
+
+ghost use Rattle.std.specs.Prelude.{◌≡◌, ◌%◌, ℕ, List, ◌∷◌, length, None, Some};
+ghost use Rattle.ciborium_ll.specs.Decoding.{IsSteady, offset_of, strict_of, view, waiting_of};
+ghost use Rattle.ciborium_ll.specs.Title.{affix_len};
+ghost use Rattle.ciborium_ll_text.specs.States.{after};
+ghost use Rattle.ciborium_ll_text.specs.declared.state.State.TheVariants.{Between};
+ghost use Rattle.cbor_dump.specs.Parts.{is_between, is_inside};
+ghost use Rattle.cbor_dump.specs.Takings.{AnswersTitle};
+
+use ciborium_ll::io::{Read, SliceReader};
+use ciborium_ll::{Decoder, Header, Spelling};
+use ciborium_ll_text::state::{State, text_front};
+
+/// Returns the header of a title. `title` has all its bytes: the first byte and as many as that announces.
+pub(crate) fn header_of(title: &[u8], strict: bool) -> Option<Header>
+    ensures { (first : ℕ) (affix : List ℕ) → title.now ≡ first ∷ affix → length affix ≡ affix_len (first % 32)
+        → AnswersTitle strict title.now result }
+{
+    let spelling = Spelling::shortest_if(strict);
+    whole_header(&mut Decoder::with_spelling(SliceReader::new(title), spelling, 0))
+}
+
+/// Returns the header of the title that is all that a decoder reads, from its start on.
+fn whole_header<R: Read>(decoder: &mut Decoder<R>) -> Option<Header>
+where
+    R::Error: Drop,
+    ensures { (first : ℕ) (affix bytes : List ℕ) → IsSteady R.Read decoder.old → offset_of decoder.old ≡ 0
+        → waiting_of decoder.old ≡ None → view R.Read decoder.old ≡ Some bytes → bytes ≡ first ∷ affix
+        → length affix ≡ affix_len (first % 32) → AnswersTitle (strict_of decoder.old) bytes result }
+{
+    decoder.pull().ok()
+}
+
+/// Returns the state of a text after these bytes.
+fn state_of(bytes: &[u8]) -> State
+    ensures { result ≡ after Between bytes.now }
+{
+    text_front(bytes, 0, State::Between).1
+}
+
+/// Returns whether the bytes are whole characters.
+pub(crate) fn is_text(bytes: &[u8]) -> bool
+    ensures { result ≡ is_between (after Between bytes.now) }
+{
+    matches!(state_of(bytes), State::Between)
+}
+
+/// Returns whether the bytes are whole characters and the beginning of another character.
+pub(crate) fn is_cut(bytes: &[u8]) -> bool
+    ensures { result ≡ is_inside (after Between bytes.now) }
+{
+    !matches!(state_of(bytes), State::Between | State::Damaged)
+}

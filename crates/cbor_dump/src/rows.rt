@@ -1,0 +1,291 @@
+//! The rows of a dump, and the text of each row.
+
+ghost use Rattle.std.specs.Prelude.{◌≡◌, List, OnErr, OnOk, [], ◌∷◌, ◌++◌, Some, negsuc, true};
+ghost use Rattle.std.specs.Fmt.{WritesOnOk, signed_decimal};
+ghost use Rattle.std.specs.Str.{chars};
+ghost use Rattle.std.specs.declared.option.Option.{Option};
+ghost use Rattle.ciborium_ll_text.specs.Digits.{hex_text};
+ghost use Rattle.cbor_dump.specs.Levels.{Line};
+ghost use Rattle.cbor_dump.specs.Dumps.{Draws};
+ghost use Rattle.cbor_dump.specs.RowTexts.{ArePlain, blank, character_text, characters_text, counted_text, digits_text};
+ghost use Rattle.cbor_dump.specs.RowTexts.{float_text};
+ghost use Rattle.cbor_dump.specs.RowTexts.{header_text, joined_text, margin_text, quoted_text, row_text, simple_text};
+
+use ciborium_ll::{Float, Header, simple};
+use std::fmt;
+
+/// How many columns the bytes of a row take at least.
+const COLUMNS: usize = 36;
+
+/// How many levels an indent shows at most.
+const MOST_INDENT: usize = 256;
+
+/// A space and two digits for each byte, from 00 to ff.
+const DIGITS: &str = " \
+    00 01 02 03 04 05 06 07 08 09 0a 0b 0c 0d 0e 0f \
+    10 11 12 13 14 15 16 17 18 19 1a 1b 1c 1d 1e 1f \
+    20 21 22 23 24 25 26 27 28 29 2a 2b 2c 2d 2e 2f \
+    30 31 32 33 34 35 36 37 38 39 3a 3b 3c 3d 3e 3f \
+    40 41 42 43 44 45 46 47 48 49 4a 4b 4c 4d 4e 4f \
+    50 51 52 53 54 55 56 57 58 59 5a 5b 5c 5d 5e 5f \
+    60 61 62 63 64 65 66 67 68 69 6a 6b 6c 6d 6e 6f \
+    70 71 72 73 74 75 76 77 78 79 7a 7b 7c 7d 7e 7f \
+    80 81 82 83 84 85 86 87 88 89 8a 8b 8c 8d 8e 8f \
+    90 91 92 93 94 95 96 97 98 99 9a 9b 9c 9d 9e 9f \
+    a0 a1 a2 a3 a4 a5 a6 a7 a8 a9 aa ab ac ad ae af \
+    b0 b1 b2 b3 b4 b5 b6 b7 b8 b9 ba bb bc bd be bf \
+    c0 c1 c2 c3 c4 c5 c6 c7 c8 c9 ca cb cc cd ce cf \
+    d0 d1 d2 d3 d4 d5 d6 d7 d8 d9 da db dc dd de df \
+    e0 e1 e2 e3 e4 e5 e6 e7 e8 e9 ea eb ec ed ee ef \
+    f0 f1 f2 f3 f4 f5 f6 f7 f8 f9 fa fb fc fd fe ff";
+
+/// Spaces. A row rarely needs more at once.
+const SPACES: &str = "                                                                ";
+
+/// What the bytes of a row mean.
+#[derive(Debug, Clone, Copy)]
+pub enum Meaning {
+    /// They are a title of this header.
+    Header(Header),
+    /// They are a part of the body of a byte string.
+    Bytes,
+    /// They are a part of the body of a text string, and whole characters.
+    Text,
+    /// They were read, and a fault stands within them or follows them.
+    Fault,
+}
+
+/// One row of a dump.
+#[derive(Debug, Clone, Copy)]
+pub struct Row<'a> {
+    /// How many tags, arrays, maps and opens a title stands within. A break that closes one of these has the level of
+    /// its title, and a part of a body one level more than its string's title.
+    pub level: usize,
+    /// The offset of the first byte.
+    pub offset: usize,
+    /// The bytes of the row: in a dump from 1 to 16.
+    pub bytes: &'a [u8],
+    /// What the bytes mean.
+    pub meaning: Meaning,
+}
+
+/// Takes the rows of a dump, one by one.
+pub trait Rows {
+    /// Why a row was refused.
+    type Error;
+
+    /// All rows so far, if the value exposes them.
+    ghost drawn: { Self → Option (List Line) };
+
+    /// Takes the next row. A refused row is not one of the rows so far.
+    ///
+    /// # Errors
+    ///
+    /// Any error refuses the row.
+    fn row(&mut self, row: Row<'_>) -> Result<(), Self::Error>
+        ensures line { OnOk result (Draws (drawn self.old) (drawn self.new) (record {
+          level = row.entry.level;
+          offset = row.entry.offset;
+          bytes = row.entry.bytes.now;
+          meaning = row.entry.meaning;
+        } ∷ [])) }
+        ensures refused { OnErr result (drawn self.new ≡ drawn self.old) };
+}
+
+/// Writes `count` spaces.
+fn spaces<W: fmt::Write>(f: &mut fmt::Formatter<W>, count: usize) -> fmt::Result
+    ensures { WritesOnOk W.Write.write_str_gives f.old result (blank count) f.new }
+{
+    let mut left = count;
+    'spaces: while left > SPACES.len() {
+        f.write_str(SPACES)?;
+        left -= SPACES.len();
+    }
+    f.write_str(&SPACES[..left])
+}
+
+/// Returns the two digits of a byte.
+#[inline(always)]
+fn digits_of(byte: u8) -> &'static str
+    ensures { result.now ≡ hex_text byte }
+{
+    let at = 3 * usize::from(byte) + 1;
+    &DIGITS[at..at + 2]
+}
+
+/// Returns a space and the two digits of a byte.
+#[inline(always)]
+fn digits_behind(byte: u8) -> &'static str
+    ensures { result.now ≡ 32 ∷ hex_text byte }
+{
+    let at = 3 * usize::from(byte);
+    &DIGITS[at..at + 3]
+}
+
+/// Writes bytes as digits, with spaces between them.
+fn digits<W: fmt::Write>(f: &mut fmt::Formatter<W>, bytes: &[u8]) -> fmt::Result
+    ensures { WritesOnOk W.Write.write_str_gives f.old result (digits_text bytes.now) f.new }
+{
+    if let [first, rest @ ..] = bytes {
+        f.write_str(digits_of(*first))?;
+        'bytes: for byte in rest {
+            f.write_str(digits_behind(*byte))?;
+        }
+    }
+    Ok(())
+}
+
+/// Writes a length or a count, or `*` for the indefinite form.
+fn counted<W: fmt::Write>(f: &mut fmt::Formatter<W>, name: &str, len: Option<usize>) -> fmt::Result
+    ensures { WritesOnOk W.Write.write_str_gives f.old result (counted_text name.now len) f.new }
+{
+    match len {
+        Some(len) => write!(f, "{name} {len}"),
+        None => write!(f, "{name} *"),
+    }
+}
+
+/// Writes the integer -1 - `number`.
+fn negative<W: fmt::Write>(f: &mut fmt::Formatter<W>, number: u64) -> fmt::Result
+    ensures { WritesOnOk W.Write.write_str_gives f.old result (signed_decimal (negsuc number)) f.new }
+{
+    write!(f, "{}", -1 - i128::from(number))
+}
+
+/// Writes a simple value (RFC 7049, 2.3).
+fn simple<W: fmt::Write>(f: &mut fmt::Formatter<W>, number: u8) -> fmt::Result
+    ensures { WritesOnOk W.Write.write_str_gives f.old result (simple_text number) f.new }
+{
+    match number {
+        simple::FALSE => f.write_str("false"),
+        simple::TRUE => f.write_str("true"),
+        simple::NULL => f.write_str("null"),
+        simple::UNDEFINED => f.write_str("undefined"),
+        _ => write!(f, "simple {number}"),
+    }
+}
+
+/// Writes the name of a float's width, and its bits.
+fn bits<W: fmt::Write>(f: &mut fmt::Formatter<W>, name: &str, bytes: &[u8]) -> fmt::Result
+    ensures { WritesOnOk W.Write.write_str_gives f.old result (name.now ++ joined_text bytes.now) f.new }
+{
+    f.write_str(name)?;
+    'bytes: for byte in bytes {
+        f.write_str(digits_of(*byte))?;
+    }
+    Ok(())
+}
+
+/// Writes a float by its width and its bits.
+fn float<W: fmt::Write>(f: &mut fmt::Formatter<W>, value: Float) -> fmt::Result
+    ensures { WritesOnOk W.Write.write_str_gives f.old result (float_text value) f.new }
+{
+    match value {
+        Float::Half(number) => bits(f, "half ", &number.to_be_bytes()),
+        Float::Single(number) => bits(f, "single ", &number.to_be_bytes()),
+        Float::Double(number) => bits(f, "double ", &number.to_be_bytes()),
+    }
+}
+
+/// Writes a header: its kind, and its value, length or count.
+fn header<W: fmt::Write>(f: &mut fmt::Formatter<W>, header: Header) -> fmt::Result
+    ensures { WritesOnOk W.Write.write_str_gives f.old result (header_text header) f.new }
+{
+    match header {
+        Header::Positive(number) => write!(f, "{number}"),
+        Header::Negative(number) => negative(f, number),
+        Header::Float(value) => float(f, value),
+        Header::Simple(number) => simple(f, number),
+        Header::Tag(number) => write!(f, "tag {number}"),
+        Header::Break => f.write_str("break"),
+        Header::Bytes(len) => counted(f, "bytes", len),
+        Header::Text(len) => counted(f, "text", len),
+        Header::Array(len) => counted(f, "array", len),
+        Header::Map(len) => counted(f, "map", len),
+    }
+}
+
+/// Writes a character of a text between quotes.
+fn character<W: fmt::Write>(f: &mut fmt::Formatter<W>, c: char) -> fmt::Result
+    ensures { WritesOnOk W.Write.write_str_gives f.old result (character_text c) f.new }
+{
+    let code = u32::from(c);
+    match c {
+        '"' => f.write_str("\\\""),
+        '\\' => f.write_str("\\\\"),
+        '\n' => f.write_str("\\n"),
+        '\r' => f.write_str("\\r"),
+        '\t' => f.write_str("\\t"),
+        _ if code < 32 || (127 <= code && code < 160) => write!(f, "\\u00{code:02x}"),
+        _ => write!(f, "{c}"),
+    }
+}
+
+/// Writes a text between quotes. If the bytes are no UTF-8, nothing stands between the quotes.
+fn quoted<W: fmt::Write>(f: &mut fmt::Formatter<W>, bytes: &[u8]) -> fmt::Result
+    ensures { WritesOnOk W.Write.write_str_gives f.old result (quoted_text bytes.now) f.new }
+{
+    f.write_str("\"")?;
+    characters(f, str::from_utf8(bytes).unwrap_or(""))?;
+    f.write_str("\"")
+}
+
+/// Returns whether each of these bytes is a character that stands for itself between quotes.
+fn is_plain(bytes: &[u8]) -> bool
+    ensures { result ≡ true → ArePlain bytes.now }
+{
+    let mut at = 0;
+    'bytes: while at < bytes.len() {
+        if bytes[at] < b' ' || bytes[at] >= 127 || bytes[at] == b'"' || bytes[at] == b'\\' {
+            return false;
+        }
+        at += 1;
+    }
+    true
+}
+
+/// Writes the characters of a text between its quotes.
+fn characters<W: fmt::Write>(f: &mut fmt::Formatter<W>, text: &str) -> fmt::Result
+    ensures { WritesOnOk W.Write.write_str_gives f.old result (characters_text (chars text.now)) f.new }
+{
+    if is_plain(text.as_bytes()) {
+        return f.write_str(text);
+    }
+    'characters: for c in text.chars() {
+        character(f, c)?;
+    }
+    Ok(())
+}
+
+/// Writes the space, the `#` and the indent between the bytes of a row, `count` in number, and their meaning.
+fn margin<W: fmt::Write>(f: &mut fmt::Formatter<W>, level: usize, count: usize) -> fmt::Result
+    ensures { WritesOnOk W.Write.write_str_gives f.old result (margin_text level count) f.new }
+{
+    let shown = level.min(MOST_INDENT);
+    let width = (3 * shown).saturating_add(count.saturating_mul(3));
+    spaces(f, COLUMNS.saturating_sub(width))?;
+    f.write_str(" # ")?;
+    spaces(f, 2 * shown)
+}
+
+impl fmt::Display for Row<'_> {
+    ghost output = { λ row. Some (row_text row) };
+
+    /// Writes the bytes as digits, indented by the level, and their meaning after a `#`. Parts of byte strings and
+    /// bytes at fault have no `#`.
+    fn fmt<W: fmt::Write>(&self, f: &mut fmt::Formatter<W>) -> fmt::Result {
+        spaces(f, 3 * self.level.min(MOST_INDENT))?;
+        digits(f, self.bytes)?;
+        match self.meaning {
+            Meaning::Header(value) => {
+                margin(f, self.level, self.bytes.len())?;
+                header(f, value)
+            }
+            Meaning::Text => {
+                margin(f, self.level, self.bytes.len())?;
+                quoted(f, self.bytes)
+            }
+            Meaning::Bytes | Meaning::Fault => Ok(()),
+        }
+    }
+}

@@ -1,0 +1,110 @@
+//! Reads a sequence of items (RFC 8742) to its end.
+
+ghost use Rattle.std.specs.Prelude.{◌≡◌, ◌≤◌, ◌↔◌, ℕ, List, length, IsOk, IfOk};
+ghost use Rattle.ciborium_ll.specs.Decoding.{MovesOn, failures_of, strict_of};
+ghost use Rattle.ciborium_ll.specs.Items.{AreItems};
+ghost use Rattle.cbor_skip.specs.SkippingTold.{IsReadyToSkip};
+ghost use Rattle.cbor_dump.specs.Sequences.{ChecksItems, ChecksTold, CountsCheck, EndsSequence, IsSequence};
+ghost use Rattle.ciborium_ll_grammar.specs.declared.limits.TheConstants.{LEAST_BUFFER, MOST_LEVELS};
+
+use cbor_skip::{SkipError, skip_item};
+use ciborium_ll::io::Read;
+use ciborium_ll::{Decoder, Error};
+
+/// A sequence that was read up to an end.
+#[derive(Debug, Drop)]
+pub struct Sequence<E> {
+    /// How many items it has.
+    pub items: usize,
+    /// How many bytes the items take.
+    pub bytes: usize,
+    /// The reader's error at the offset of a further item. It says whether the bytes end there or cannot be read.
+    pub end: E,
+}
+
+/// What stopped the read of a sequence, and at which offset.
+#[derive(Debug, Drop)]
+pub struct Stopped<E> {
+    /// How many whole items stand before the fault.
+    pub items: usize,
+    /// The offset after these items, at which the item at fault begins.
+    pub place: usize,
+    /// Why no item was read there.
+    pub error: SkipError<E>,
+}
+
+/// Reads items up to the end, and returns how many items and bytes there are, and the reader's error there.
+///
+/// Tags, arrays and maps nest at most `depth` levels deep. The depth is at most 256. Strings go through the buffer, of
+/// at least four bytes. The call takes no memory except the stack, with a frame for each level.
+///
+/// `Ok` says that whole items were there, and that the reader failed at the offset of a further item, before a byte of
+/// it came. If the reader fails only if bytes are missing, this is the end of a sequence (RFC 8742). A strict decoder
+/// takes each item only in its shortest spelling (RFC 7049, 3.9).
+///
+/// Assume that a steady reader tells its bytes, that the offset fits, and that no header waits on a strict decoder.
+/// Then `Ok` comes exactly if the bytes are a sequence of items to the depth, for a strict decoder in their shortest
+/// spelling. It has the number of items and of bytes. Otherwise the error has the items before the fault, and the
+/// fault.
+///
+/// In each case the decoder moves on as [`Decoder`] says. The reader fails once if the answer is `Ok` or carries
+/// `Error::Io`, and otherwise it does not fail.
+///
+/// # Errors
+///
+/// [`Stopped`] has the error of `skip_item` on the item after the whole items, and is never the end. The decoder has
+/// consumed what `skip_item` consumes with that error.
+pub fn check<R: Read>(
+    decoder: &mut Decoder<R>,
+    depth: usize,
+    buffer: &mut [u8],
+) -> Result<Sequence<R::Error>, Stopped<R::Error>>
+    requires shallow { depth ≤ MOST_LEVELS }
+    requires room { LEAST_BUFFER ≤ length buffer.old }
+    ensures exactly { (due : List ℕ) → IsReadyToSkip R.Read (length buffer.old) decoder.old due
+        → (IsOk result ↔ IsSequence (strict_of decoder.old) depth due) }
+    ensures number { (due : List ℕ) (count : ℕ) → IsReadyToSkip R.Read (length buffer.old) decoder.old due
+        → AreItems (strict_of decoder.old) depth count due → IfOk result (λ sequence. sequence.items ≡ count) }
+    ensures told { (due : List ℕ) → IsReadyToSkip R.Read (length buffer.old) decoder.old due
+        → ChecksTold R.Read depth due decoder.old result decoder.new }
+    ensures checks { ChecksItems R.Read depth (length buffer.old) decoder.old result decoder.new }
+    ensures failures { CountsCheck result (failures_of R.Read decoder.old) (failures_of R.Read decoder.new) }
+    ensures moves_on { MovesOn R.Read decoder.old decoder.new }
+{
+    let start = decoder.offset();
+    let mut items = 0;
+    // The loop ends: each item takes a byte, and no offset is greater than `usize::MAX`.
+    'items: loop {
+        let place = decoder.offset();
+        match skip_item(decoder, depth, buffer) {
+            Ok(()) => items += 1,
+            Err(error) => return ended(error, items, start, place, decoder.offset()),
+        }
+    }
+}
+
+/// Answers the error that ended the read. The first item begins at `start`, the last item at `place`, and the read
+/// failed at the offset `stop`.
+fn ended<E>(
+    error: SkipError<E>,
+    items: usize,
+    start: usize,
+    place: usize,
+    stop: usize,
+) -> Result<Sequence<E>, Stopped<E>>
+    requires behind { start ≤ place }
+    ensures { EndsSequence error items start place stop result }
+{
+    match error {
+        SkipError::Read(Error::Io(end)) if stop == place => Ok(Sequence {
+            items,
+            bytes: place - start,
+            end,
+        }),
+        error => Err(Stopped {
+            items,
+            place,
+            error,
+        }),
+    }
+}

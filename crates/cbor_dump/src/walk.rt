@@ -1,0 +1,121 @@
+//! Keeps the tags, arrays and maps that a title stands within.
+
+ghost use Rattle.std.specs.Prelude.{◌≡◌, ◌≤◌, ◌<◌, ◌++◌, [], ℕ, Bool, List, IsTrue};
+ghost use Rattle.ciborium_ll_grammar.specs.declared.limits.TheConstants.{MOST_LEVELS};
+
+use cbor_skip::Remaining;
+use ciborium_ll::Header;
+use ciborium_ll::limits::MOST_LEVELS;
+
+/// What a title that begins a level does.
+pub(crate) enum Entered {
+    /// No level is left for it.
+    Deep,
+    /// It has no items, and has ended.
+    Empty,
+    /// It has begun a level, and items are due within it.
+    Within,
+}
+
+/// The tags, arrays and maps that are not closed, and what is due within each.
+#[derive(Drop)]
+pub(crate) struct Walk {
+    levels: [Remaining; MOST_LEVELS],
+    used: usize,
+    depth: usize,
+    ghost shallow: { depth ≤ MOST_LEVELS },
+    ghost within: { used ≤ depth },
+}
+
+impl Walk {
+    ghost use Rattle.ciborium_ll.specs.Title.{IsTitle};
+    ghost use Rattle.ciborium_ll.specs.Items.{IsTakenTitle};
+    ghost use Rattle.cbor_skip.specs.Due.{IsNest};
+    ghost use Rattle.cbor_dump.specs.Walks.{Breaks, Ends, Enters, IsBehindItem, IsDue, IsDueBehind};
+    ghost use Rattle.ciborium_ll_grammar.specs.declared.limits.TheConstants.{MOST_LEVELS};
+
+    /// Makes a walk with no level open, of at most `depth` levels.
+    pub(crate) fn new(depth: usize) -> Walk
+        requires { depth ≤ MOST_LEVELS }
+        ensures { (strict : Bool) → IsDue strict depth 0 result [] }
+    {
+        Walk {
+            levels: [Remaining::Items(0); MOST_LEVELS],
+            used: 0,
+            depth,
+        }
+    }
+
+    /// Returns how many levels are open.
+    pub(crate) fn level(&self) -> usize
+        ensures few { result ≤ MOST_LEVELS }
+        ensures value { result ≡ self.now.used }
+    {
+        self.used
+    }
+
+    /// Takes the title of a tag, an array or a map.
+    pub(crate) fn enter(&mut self, header: Header) -> Entered
+        requires nest { IsNest header }
+        ensures { (strict : Bool) (depth whole : ℕ) (before title : List ℕ) → IsDue strict depth whole self.old before
+            → IsTitle title header → IsTakenTitle strict title header
+            → Enters strict depth whole result self.new before title }
+    {
+        if self.used == self.depth {
+            return Entered::Deep;
+        }
+        let remaining = Remaining::behind(header);
+        if remaining.is_done() {
+            return Entered::Empty;
+        }
+        self.levels[self.used] = remaining;
+        self.used += 1;
+        Entered::Within
+    }
+
+    /// Takes a break, and returns whether it may stand there. If it may, the last level is closed.
+    pub(crate) fn close(&mut self) -> bool
+        ensures { (strict : Bool) (depth whole : ℕ) (before : List ℕ) → IsDue strict depth whole self.old before
+            → Breaks strict depth whole result self.new before }
+    {
+        if self.used == 0 {
+            return false;
+        }
+        if !self.levels[self.used - 1].closes() {
+            return false;
+        }
+        self.used -= 1;
+        true
+    }
+
+    /// Takes the end of an item, and closes each level that ends with it.
+    pub(crate) fn item_done(&mut self)
+        ensures { (strict : Bool) (depth whole : ℕ) (bytes : List ℕ) → IsBehindItem strict depth whole self.old bytes
+            → IsDueBehind strict depth whole self.new bytes }
+    {
+        'levels: while self.ends_level() {}
+    }
+
+    /// Takes the end of an item, and returns whether the last level ends with it. That level is then closed.
+    fn ends_level(&mut self) -> bool
+        ensures ends { (strict : Bool) (depth whole : ℕ) (bytes : List ℕ)
+            → IsBehindItem strict depth whole self.old bytes → Ends strict depth whole result self.new bytes }
+        ensures fewer { IsTrue result → self.new.used < self.old.used }
+    {
+        if self.used == 0 {
+            return false;
+        }
+        let at = self.used - 1;
+        let remaining = self.levels[at];
+        if remaining.is_done() {
+            return false;
+        }
+        let after = remaining.after_item();
+        self.levels[at] = after;
+        if !after.is_done() {
+            return false;
+        }
+        self.used = at;
+        true
+    }
+}

@@ -1,5 +1,0 @@
-use Rattle.std.proofs.Common.{rules}
-use Rattle.cbor_feed.proofs.walk.Walk.is_due.Goals as goal
-
-pub returns : goal.returns
-returns c = search rules

@@ -1,5 +1,0 @@
-use Rattle.cbor_feed_laws.proofs.AnswerLaws.{skip_answers}
-use Rattle.cbor_feed_laws.proofs.laws.skip_answers.Goals as goal
-
-pub returns : goal.returns
-returns g c = λ strict depth fed more fault names. skip_answers strict depth fed more fault names g.R.Read

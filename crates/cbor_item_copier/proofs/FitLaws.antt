@@ -1,0 +1,36 @@
+-- The room that is always enough.
+use Rattle.std.proofs.Common.{◌≡◌, ◌⊎◌, ◌+◌, ◌<◌, ◌≤◌, ℕ, List, [], ◌∷◌, length, ap, inl, inr, subst, arith}
+use Rattle.cbor_copier.proofs.FrontLaws.{few_held}
+use Rattle.cbor_checker.specs.declared.progress.Progress.{Progress as Checked}
+use Rattle.cbor_checker.specs.declared.progress.Progress.TheVariants as f
+use Rattle.cbor_checker.specs.Spots.{Spot}
+use Rattle.cbor_checker.specs.Telling as checker
+use Rattle.cbor_item_copier.specs.declared.copier.ItemCopier.{ItemCopier}
+use Rattle.cbor_item_copier.specs.declared.progress.Progress.{Progress}
+use Rattle.cbor_item_copier.specs.Copying.{held, item_spot, pending}
+use Rattle.cbor_item_copier.specs.Telling.{IsRoom, of_checker, progress_of}
+
+-- a checker has no output
+no_output : (checked : Checked) → IsRoom (of_checker checked) → ⊥
+no_output (f.More due) room = room
+no_output (f.Ended len) room = room
+no_output (f.Fault fault) room = room
+no_output f.TooLong room = room
+
+-- where there is no room something is to be written
+some_pending : (bytes : List ℕ) (spot : Spot) → IsRoom (progress_of bytes spot) → 0 < length bytes
+some_pending [] spot room = absurd (no_output (checker.progress_of spot) room)
+some_pending (byte ∷ bytes) spot room = omega arith
+
+-- where nothing was pending, a room of eight bytes more than there are bytes is enough
+pub never_room : (old new : ItemCopier) (progress : Progress) (bytes room at written : ℕ)
+    → progress ≡ progress_of (pending new) (item_spot new) → (pending new ≡ []) ⊎ (written ≡ room)
+    → written + held new ≤ held old + at → at ≤ bytes
+    → pending old ≡ [] → bytes + 8 ≤ room → IsRoom progress → ⊥
+never_room old new progress bytes room at written is full grown within none fits lacks =
+    let some = some_pending (pending new) (item_spot new) (subst IsRoom is lacks) in
+    let few = few_held old.copier.phase old.copier.front old.copier.room in
+    elim full [
+      | inl given ↦ omega (arith, some, ap length given)
+      | inr all ↦ omega (arith, some, all, grown, within, ap length none, few, fits)
+    ]

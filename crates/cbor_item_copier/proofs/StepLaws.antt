@@ -1,0 +1,188 @@
+-- The steps of a piece through a checker, and through a copier of elements, which does not get the byte at fault.
+use Rattle.std.proofs.Common.{◌≡◌, ℕ, ◌+◌, ◌<◌, ◌≤◌, ◌^◌, ◌⊎◌, Bool, true, List, [], ◌∷◌, ◌++◌, length, take, drop}
+use Rattle.std.proofs.Common.{refl, sym, ap, subst, ◌∙◌, arith, inl, inr, append_assoc, append-nil, length-append}
+use Rattle.std.proofs.Common.{get_or, take-append-drop}
+use Rattle.std.proofs.lemmas.Bool.{cases_lt}
+use Rattle.std.proofs.lemmas.List.{take_all, take_more, length-take-le, take-take}
+use Rattle.ciborium_ll_grammar.specs.Title.{AreBytes}
+use Rattle.ciborium_ll_grammar.proofs.AffixLaws.{AreBytes-append, AreBytes-take}
+use Rattle.ciborium_ll_text.proofs.Lists.{length_zero}
+use Rattle.cbor_copier.specs.declared.copier.Copier.{Copier}
+use Rattle.cbor_copier.specs.declared.phase.Phase.{Phase as CopyPhase}
+use Rattle.cbor_copier.specs.declared.phase.Phase.TheVariants as cp
+use Rattle.cbor_copier.specs.declared.progress.Progress.{Progress as Copied}
+use Rattle.cbor_copier.specs.declared.progress.Progress.TheVariants as cr
+use Rattle.cbor_copier.specs.Copying as copy
+use Rattle.cbor_copier.specs.Copying.{IsCopied}
+use Rattle.cbor_copier.specs.Spots.{putting}
+use Rattle.cbor_copier.specs.Telling as told
+use Rattle.cbor_copier.specs.Telling.{NoneGoOn}
+use Rattle.cbor_copier.proofs.StepLaws as one_copy
+use Rattle.cbor_checker.specs.declared.phase.Phase.{Phase}
+use Rattle.cbor_checker.specs.declared.phase.Phase.TheVariants as p
+use Rattle.cbor_checker.specs.declared.progress.Progress.{Progress}
+use Rattle.cbor_checker.specs.declared.progress.Progress.TheVariants as r
+use Rattle.cbor_checker.specs.Spots.{Spot}
+use Rattle.cbor_checker.specs.Steps.{IsFed}
+use Rattle.cbor_checker.specs.Telling.{is_due, progress_in, IsAnswer, IsMore, Tells, FaultIn, IsAtFault}
+use Rattle.cbor_checker.proofs.OneSpot.{one_spot}
+use Rattle.cbor_item_copier.specs.Copying.{most, AreTaken, AreFed, pending_of}
+use Rattle.cbor_item_copier.proofs.RunLaws.{run_long}
+use Rattle.cbor_item_copier.proofs.StateLaws.{fed_bytes, all_taken, due_sound, sound_goes, before_goes}
+
+back_bytes : (a b : List ℕ) → AreBytes (a ++ b) → AreBytes b
+back_bytes [] b are = are
+back_bytes (x ∷ a) b are = back_bytes a b are.1
+
+-- ---- a checker takes bytes
+
+due_more : (phase : Phase) (spot : Spot) → is_due phase ≡ true → IsMore (progress_in phase spot)
+due_more p.Ended spot due = absurd cc
+due_more (p.Faulted fault) spot due = absurd cc
+due_more phase spot due = tt
+
+-- where it takes none, too many came
+too_many : (progress : Progress) (s : Bool) (d : ℕ) (fed : List ℕ) (spot : Spot) → is_due spot.phase ≡ true
+    → IsAnswer progress spot → (IsMore progress → ⊥) → Tells s d fed progress → 2 ^ 64 ≤ length fed + 1
+too_many r.TooLong s d fed spot on answer never says = says
+too_many progress s d fed spot on answer never says =
+    absurd (never (subst IsMore (sym answer) (due_more spot.phase spot on)))
+
+pub none_taken : (s : Bool) (d : ℕ) (fed bytes : List ℕ) (taken : ℕ) (old new : Spot) (progress : Progress)
+    → 0 < length bytes → taken ≡ 0 → is_due old.phase ≡ true → IsFed s d fed old
+    → IsFed s d (fed ++ take taken bytes) new
+    → Tells s d (fed ++ take taken bytes) progress → IsAnswer progress new → (IsMore progress → taken ≡ length bytes)
+    → IsFed s d fed new × (2 ^ 64 ≤ length fed + 1)
+none_taken s d fed bytes taken old new progress some none due was is says answer all =
+    let same : fed ++ take taken bytes ≡ fed = rw none (append-nil fed) in
+    let now = rw same at is in
+    let on = ap (λ (z : Spot). is_due z.phase) (one_spot s d fed new old now was) ∙ due in
+    (now, too_many progress s d fed new on answer (λ more. omega (arith, none, some, all more)) (rw same at says))
+
+-- ---- a copier of elements takes it too
+
+room_some : (progress : Copied) (bytes : List ℕ) (phase : CopyPhase) → told.IsRoom progress
+    → told.IsAnswer progress bytes phase → bytes ≡ [] → ⊥
+room_some cr.Room [] cp.Ended room answer none = cc
+room_some cr.Room bytes phase room answer none = cc
+room_some progress bytes phase room answer none = room
+
+-- where it takes none of them, none is pending
+none_pending : (fed given out : List ℕ) (old new : Copier) → IsCopied most fed given old → pending_of old ≡ []
+    → IsCopied most fed (given ++ out) new → pending_of new ≡ []
+none_pending fed given out old new was none is =
+    let same = (one_copy.one_spot most fed (given ++ pending_of old) ((given ++ out) ++ pending_of new)
+    (putting [] (copy.spot_of old)) (putting [] (copy.spot_of new)) was is).1 in
+    length_zero (pending_of new) (omega (
+      arith,
+      ap length same,
+      ap length none,
+      length-append given (pending_of old),
+      length-append (given ++ out) (pending_of new),
+      length-append given out,
+    ))
+
+-- where some go on and there is room, more are taken
+takes_more : (now output : List ℕ) (progress : Copied) → (NoneGoOn most now → ⊥) → length now + 1 ≤ most
+    → told.Tells most now output progress → (told.IsRoom progress → ⊥) → (told.IsMore progress → ⊥) → ⊥
+takes_more now output cr.More goes fits says room never = never tt
+takes_more now output cr.Room goes fits says room never = room tt
+takes_more now output cr.Ended goes fits says room never = omega (arith, run_long most now says.marks says.run, fits)
+takes_more now output (cr.Syntax place) goes fits says room never = goes says.0
+takes_more now output cr.TooLong goes fits says room never = omega (arith, says.2, fits)
+
+-- a copier takes a piece whole, where so some elements begin: one byte, or where there is room for it
+module _ (fed given bytes out : List ℕ) (taken room : ℕ) (progress : Copied) (old new : Copier)
+    (within : taken ≤ length bytes) (are : AreBytes bytes) (goes : NoneGoOn most (fed ++ bytes) → ⊥)
+    (counted : length fed + length bytes ≤ most) (fits : (length bytes ≤ 1) ⊎ (length bytes + 8 ≤ room))
+    (was : IsCopied most fed given old) (none : pending_of old ≡ [])
+    (is : IsCopied most (fed ++ take taken bytes) (given ++ out) new)
+    (says : told.Tells most (fed ++ take taken bytes) (given ++ out) progress)
+    (answer : told.IsAnswer progress (pending_of new) (copy.spot_of new).phase)
+    (all : told.IsMore progress → taken ≡ length bytes)
+    (has_room : length bytes + 8 ≤ room → told.IsRoom progress → ⊥) where
+  some_go : NoneGoOn most (fed ++ take taken bytes) → ⊥
+  some_go never =
+      let front = take taken bytes in
+      let rest = drop taken bytes in
+      let sound = back_bytes front rest (rw take-append-drop are) in
+      goes (λ behind are_behind run. never (rest ++ behind) (AreBytes-append rest behind sound are_behind)
+      (rw (append_assoc fed front, ← append_assoc front rest, take-append-drop taken bytes, ← append_assoc fed bytes)
+      run))
+
+  lacks_none : taken < length bytes → told.IsRoom progress → ⊥
+  lacks_none short on =
+      elim fits [
+        | inl one ↦ (
+            let zero : taken ≡ 0 = omega (arith, short, one) in
+            let same : fed ++ take taken bytes ≡ fed = rw zero (append-nil fed) in
+            room_some progress (pending_of new) (copy.spot_of new).phase on answer
+            (none_pending fed given out old new was none (rw same at is))
+            )
+        | inr wide ↦ has_room wide on
+      ]
+
+  pub piece_copied : IsCopied most (fed ++ bytes) (given ++ out) new
+  piece_copied =
+      elim (cases_lt taken (length bytes)) [
+        | inl short ↦ absurd (takes_more (fed ++ take taken bytes) (given ++ out) progress some_go
+            (omega (arith, short, counted, length-take-le taken bytes within, length-append fed (take taken bytes)))
+            says (lacks_none short) (λ on. omega (arith, all on, short)))
+        | inr whole ↦ rw (take_all taken bytes whole) at is
+      ]
+
+-- ---- both
+
+but_one : (phase : Phase) (fed bytes : List ℕ) → FaultIn phase → (b : ℕ) × (fed ≡ bytes ++ b ∷ [])
+    → AreTaken phase fed bytes
+but_one (p.Faulted fault) fed bytes has last = last
+but_one phase fed bytes has last = absurd has
+
+but_none : (phase : Phase) (fed : List ℕ) → (FaultIn phase → ⊥) → AreTaken phase fed fed
+but_none (p.Faulted fault) fed sound = absurd (sound tt)
+but_none phase fed sound = refl
+
+-- so many bytes of those that a checker took are copied: all of them, but the one at fault
+abbrev pub AreKept : Spot → ℕ → ℕ → Type 0
+AreKept new taken kept = (IsAtFault new × (kept + 1 ≡ taken)) ⊎ ((IsAtFault new → ⊥) × (kept ≡ taken))
+
+kept_within : (new : Spot) (taken kept : ℕ) → AreKept new taken kept → kept ≤ taken
+kept_within new taken kept (inl fault) = omega (arith, fault.1)
+kept_within new taken kept (inr sound) = omega (arith, sound.1)
+
+module _ (s : Bool) (d : ℕ) (fed bytes : List ℕ) (taken kept : ℕ) (old new : Spot) (due : is_due old.phase ≡ true)
+    (within : taken ≤ length bytes) (checked : IsFed s d (fed ++ take taken bytes) new) where
+  -- the bytes taken, less their last one
+  less_last : kept + 1 ≡ taken → fed ++ take taken bytes ≡ (fed ++ take kept bytes) ++ get_or bytes kept 0 ∷ []
+  less_last one = rw (← one, take_more bytes kept 0 (omega (arith, one, within)), append_assoc)
+
+  -- some elements go on so
+  step_goes : AreKept new taken kept → NoneGoOn most (fed ++ take kept bytes) → ⊥
+  step_goes (inl fault) never =
+      before_goes s d (fed ++ take taken bytes) new checked (fed ++ take kept bytes) (get_or bytes kept 0)
+      (less_last fault.1) never
+  step_goes (inr sound) never = sound_goes s d (fed ++ take taken bytes) new checked sound.0 (rw sound.1 at never)
+
+  -- by what a copier of elements does to them
+  pub step_fed : AreKept new taken kept → length fed + taken ≤ most → (given out : List ℕ) (copier copier' : Copier)
+      → ((NoneGoOn most (fed ++ take kept bytes) → ⊥) → AreBytes (take kept bytes)
+      → length fed + length (take kept bytes) ≤ most → IsCopied most fed given copier
+      → IsCopied most (fed ++ take kept bytes) (given ++ out) copier')
+      → AreFed s d fed old (putting [] (copy.spot_of copier)) (given ++ pending_of copier)
+      → AreFed s d (fed ++ take taken bytes) new (putting [] (copy.spot_of copier'))
+      ((given ++ out) ++ pending_of copier')
+  step_fed are counted given out copier copier' goes was =
+      let few = kept_within new taken kept are in
+      let all = back_bytes fed (take taken bytes) (fed_bytes s d (fed ++ take taken bytes) new checked) in
+      record {
+        checked = checked;
+        bytes = fed ++ take kept bytes;
+        taken = elim are [
+          | inl fault ↦ but_one new.phase _ _ fault.0 (get_or bytes kept 0, less_last fault.1)
+          | inr sound ↦ rw sound.1 (but_none new.phase (fed ++ take taken bytes) sound.0)
+        ];
+        copied = goes (step_goes are)
+            (rw (take-take kept taken bytes few) at (AreBytes-take kept (take taken bytes) all))
+            (omega (arith, few, length-take-le kept bytes (omega (arith, few, within)), counted))
+            (rw (← all_taken old.phase fed was.bytes (due_sound old.phase due) was.taken) at was.copied);
+      }

@@ -1,0 +1,60 @@
+-- A copier of an item, by the states of its checker and its copier of elements.
+use Rattle.std.specs.Prelude.{◌≡◌, ℕ, Bool, List, [], ◌∷◌, ◌++◌, ◌+◌, length}
+use Rattle.cbor_copier.specs.declared.copier.Copier.{Copier}
+use Rattle.cbor_copier.specs.Copying as copy
+use Rattle.cbor_copier.specs.Spots.{Spot as Elements, putting}
+use Rattle.cbor_copier.specs.Steps.{IsFed as AreElementsFed}
+use Rattle.cbor_checker.specs.declared.phase.Phase.{Phase}
+use Rattle.cbor_checker.specs.declared.phase.Phase.TheVariants as p
+use Rattle.cbor_checker.specs.Checking.{spot_of}
+use Rattle.cbor_checker.specs.Spots.{Spot}
+use Rattle.cbor_checker.specs.Steps.{IsFed}
+use Rattle.cbor_item_copier.specs.declared.copier.ItemCopier.{ItemCopier}
+
+-- As many elements as bytes can be counted. Each element has a byte, so an item ends with them at the latest.
+abbrev pub most : ℕ
+most = 18446744073709551615
+
+-- The bytes that are copied of all bytes so far, by the phase of the checker: all of them except the byte at fault.
+abbrev pub AreTaken : Phase → List ℕ → List ℕ → Type 0
+AreTaken (p.Faulted fault) fed bytes = (byte : ℕ) × (fed ≡ bytes ++ byte ∷ [])
+AreTaken phase fed bytes = fed ≡ bytes
+
+-- `AreFed strict depth fed item elements output`: these bytes came to a copy of one item to the depth. They led a
+-- checker to the spot `item`. The bytes that the checker takes led a copier of elements to the spot `elements`, and put
+-- this output out.
+pub record AreFed (strict : Bool) (depth : ℕ) (fed : List ℕ) (item : Spot) (elements : Elements) (output : List ℕ)
+    : Type 0 where
+  pub checked : IsFed strict depth fed item
+  pub bytes : List ℕ
+  pub taken : AreTaken item.phase fed bytes
+  pub copied : AreElementsFed most bytes elements output
+
+-- The bytes that were put out and are to be written.
+abbrev pub pending_of : Copier → List ℕ
+pending_of copier = (copy.spot_of copier).put
+
+-- How many bytes are to be written, or are held back of a title or a character that is not whole.
+abbrev pub kept_len : Copier → ℕ
+kept_len copier = length (copy.spot_of copier).put + length (copy.spot_of copier).front
+
+-- The bytes that a copier of an item put out and is to write.
+abbrev pub pending : ItemCopier → List ℕ
+pending c = pending_of c.copier
+
+-- How many bytes the copier is to write, or holds back of a title or a character that is not whole.
+abbrev pub held : ItemCopier → ℕ
+held c = kept_len c.copier
+
+-- The state of the checker.
+abbrev pub item_spot : ItemCopier → Spot
+item_spot c = spot_of c.checker
+
+-- The state of the copier of elements, apart from the pending bytes.
+abbrev pub elements_spot : ItemCopier → Elements
+elements_spot c = putting [] (copy.spot_of c.copier)
+
+-- The bytes `fed` came to a copy of one item to the depth, and the bytes `given` were written: all that was put out
+-- except for the pending bytes.
+abbrev pub IsItemCopied : Bool → ℕ → List ℕ → List ℕ → ItemCopier → Type 0
+IsItemCopied strict depth fed given c = AreFed strict depth fed (item_spot c) (elements_spot c) (given ++ pending c)

@@ -1,0 +1,104 @@
+-- The answers of a copier of an item, and the meaning of each for the bytes so far and for the bytes that were written.
+use Rattle.std.specs.Prelude.{◌≡◌, ℕ, ◌<◌, ◌⊎◌, Bool, List, [], ◌∷◌, ◌++◌, length}
+use Rattle.ciborium_ll_grammar.specs.Faults.{Short}
+use Rattle.cbor_copier.specs.Telling.{AreSpelled, ComesTo}
+use Rattle.cbor_checker.specs.declared.progress.Progress.TheVariants as f
+use Rattle.cbor_checker.specs.declared.progress.End.TheVariants as g
+use Rattle.cbor_checker.specs.Telling as checker
+use Rattle.cbor_checker.specs.declared.progress.Progress.{Progress as Checked}
+use Rattle.cbor_checker.specs.declared.progress.End.{End as CheckedEnd}
+use Rattle.cbor_checker.specs.Spots.{Spot}
+use Rattle.cbor_item_copier.specs.declared.progress.Progress.{Progress}
+use Rattle.cbor_item_copier.specs.declared.progress.Progress.TheVariants as r
+use Rattle.cbor_item_copier.specs.declared.progress.End.{End}
+use Rattle.cbor_item_copier.specs.declared.progress.End.TheVariants as e
+
+-- The checker's answer, as an answer of the copier.
+abbrev pub of_checker : Checked → Progress
+of_checker (f.More due) = r.More due
+of_checker (f.Ended len) = r.Ended len
+of_checker (f.Fault fault) = r.Fault fault
+of_checker f.TooLong = r.TooLong
+
+-- The answer, by the pending bytes and the state of the checker.
+abbrev pub progress_of : List ℕ → Spot → Progress
+progress_of [] spot = of_checker (checker.progress_of spot)
+progress_of (byte ∷ bytes) spot = r.Room
+
+-- The checker's answer to an end of the bytes, as an answer of the copier.
+abbrev pub of_end : CheckedEnd → End
+of_end g.Between = e.Between
+of_end (g.Short due) = e.Short due
+of_end (g.Fault fault) = e.Fault fault
+
+-- The answer to an end of the bytes, by the pending bytes and the state of the checker.
+abbrev pub end_of : List ℕ → Spot → End
+end_of [] spot = of_end (checker.end_of spot)
+end_of (byte ∷ bytes) spot = e.Room
+
+-- The answer is that of `progress_of`, unless no more bytes can be counted.
+abbrev pub IsAnswer : Progress → List ℕ → Spot → Type 0
+IsAnswer r.TooLong bytes spot = bytes ≡ []
+IsAnswer progress bytes spot = progress ≡ progress_of bytes spot
+
+-- More bytes are due.
+abbrev pub IsMore : Progress → Type 0
+IsMore (r.More due) = Unit {0}
+IsMore progress = ⊥
+
+-- There is no room for the pending bytes.
+abbrev pub IsRoom : Progress → Type 0
+IsRoom r.Room = Unit {0}
+IsRoom progress = ⊥
+
+-- ---- what is said of all bytes so far
+
+-- The bytes are some number of elements, and the output is their shortest spelling.
+abbrev pub IsSpelled : List ℕ → List ℕ → Type 0
+IsSpelled bytes output = (count : ℕ) × AreSpelled count bytes output
+
+-- A copy of elements has put this output out if the bytes end too early, however many elements are due.
+abbrev pub IsCutCopy : List ℕ → List ℕ → Type 0
+IsCutCopy bytes output = (count : ℕ) → length bytes < count → ComesTo count bytes Short output
+
+-- A copy of elements has put this output out of all the bytes except the last byte.
+pub record IsCutBefore (bytes output : List ℕ) : Type 0 where
+  pub before : List ℕ
+  pub last : ℕ
+  pub is : bytes ≡ before ++ last ∷ []
+  pub cut : IsCutCopy before output
+
+-- The meaning of a checker's answer, and of the output. All that can be put out of a part of an item was put out. A
+-- whole item was put out in its shortest spelling (RFC 7049, 3.9). If no item begins with the bytes, the output is that
+-- of the bytes before the last byte.
+abbrev pub TellsWhole : Bool → ℕ → List ℕ → List ℕ → Progress → Type 0
+TellsWhole strict depth bytes output (r.More due) =
+    checker.Tells strict depth bytes (f.More due) × IsCutCopy bytes output
+TellsWhole strict depth bytes output r.Room = ⊥
+TellsWhole strict depth bytes output (r.Ended len) =
+    checker.Tells strict depth bytes (f.Ended len) × IsSpelled bytes output
+TellsWhole strict depth bytes output (r.Fault fault) =
+    checker.Tells strict depth bytes (f.Fault fault) × IsCutBefore bytes output
+TellsWhole strict depth bytes output r.TooLong = checker.Tells strict depth bytes f.TooLong × IsCutCopy bytes output
+
+-- The output and then some pending bytes have one of these meanings.
+pub record LacksRoom (strict : Bool) (depth : ℕ) (bytes output : List ℕ) : Type 0 where
+  pub pending : List ℕ
+  pub some : 0 < length pending
+  pub progress : Progress
+  pub told : TellsWhole strict depth bytes (output ++ pending) progress
+
+-- The meaning of an answer. There is room for all that is put out, unless the answer is that there is none.
+abbrev pub Tells : Bool → ℕ → List ℕ → List ℕ → Progress → Type 0
+Tells strict depth bytes output r.Room = LacksRoom strict depth bytes output
+Tells strict depth bytes output progress = TellsWhole strict depth bytes output progress
+
+-- The meaning of an end of the bytes. `Between`: no byte came, or the bytes are an item and all of it is written.
+-- `Short`: the bytes are a part of an item.
+abbrev pub TellsEnd : Bool → ℕ → List ℕ → List ℕ → End → Type 0
+TellsEnd strict depth bytes output e.Between =
+    ((bytes ≡ []) × (output ≡ [])) ⊎ (checker.Tells strict depth bytes (f.Ended (length bytes)) × IsSpelled bytes output)
+TellsEnd strict depth bytes output (e.Short due) =
+    (0 < length bytes) × Tells strict depth bytes output (r.More due)
+TellsEnd strict depth bytes output e.Room = LacksRoom strict depth bytes output
+TellsEnd strict depth bytes output (e.Fault fault) = Tells strict depth bytes output (r.Fault fault)

@@ -1,0 +1,360 @@
+//! The copier of an item: it gives bytes to a checker, and those without a fault to a copier of elements.
+
+ghost use Rattle.std.specs.Prelude.{◌≡◌, ◌≢◌, ◌+◌, ◌<◌, ◌≤◌, ◌^◌, ◌⊎◌, ◌++◌, Bool, ℕ, List, [], length, take, drop};
+ghost use Rattle.std.specs.Prelude.{true, false};
+ghost use Rattle.ciborium_ll_grammar.specs.Title.{AreBytes};
+ghost use Rattle.cbor_copier.specs.Copying.{IsCopied};
+ghost use Rattle.cbor_copier.specs.Telling.{NoneGoOn};
+ghost use Rattle.cbor_checker.specs.Checking.{spot_of};
+ghost use Rattle.cbor_checker.specs.Spots.{Spot};
+ghost use Rattle.cbor_checker.specs.Steps.{IsFed};
+ghost use Rattle.cbor_checker.specs.Telling.{IsAtFault, is_due};
+ghost use Rattle.cbor_item_copier.specs.Copying.{kept_len, most, pending_of};
+
+use crate::progress::{Copied, End, Progress};
+use crate::snapshot::Snapshot;
+use cbor_checker::{Checker, End as CheckedEnd, Progress as Checked};
+use cbor_copier::Copier;
+use ciborium_ll_grammar::spelling::Spelling;
+
+/// Returns whether bytes of the spelling are to be written.
+fn lacks_room(copier: &Copier) -> bool
+    ensures yes { result ≡ true → pending_of copier.now ≢ [] }
+    ensures no { result ≡ false → pending_of copier.now ≡ [] }
+{
+    matches!(copier.end(), cbor_copier::End::Room)
+}
+
+/// Returns whether no item begins with the bytes so far.
+fn has_fault(checker: &Checker) -> bool
+    ensures yes { result ≡ true → IsAtFault (spot_of checker.now) }
+    ensures no { result ≡ false → IsAtFault (spot_of checker.now) → ⊥ }
+{
+    matches!(checker.progress(), Checked::Fault(_))
+}
+
+/// Feeds a piece to a checker, and returns how many bytes it takes: up to the end of the item or the byte at fault. It
+/// takes none if no more bytes can be counted.
+fn check(checker: &mut Checker, bytes: &[u8]) -> usize
+    requires some { 0 < length bytes.now }
+    requires due { is_due (spot_of checker.old).phase ≡ true }
+    ensures within { result ≤ length bytes.now }
+    ensures taken { (strict : Bool) (depth : ℕ) (fed : List ℕ) → IsFed strict depth fed (spot_of checker.old)
+        → IsFed strict depth (fed ++ take result bytes.now) (spot_of checker.new) × (length fed + result ≤ most) }
+    ensures none { (strict : Bool) (depth : ℕ) (fed : List ℕ) → IsFed strict depth fed (spot_of checker.old)
+        → result ≡ 0 → IsFed strict depth fed (spot_of checker.new) × (2 ^ 64 ≤ length fed + 1) }
+{
+    checker.feed(bytes).taken
+}
+
+/// Returns how many of the bytes that a checker took are copied: all except the byte at fault.
+fn copied_len(checker: &Checker, taken: usize) -> usize
+    requires { 0 < taken }
+    ensures { (IsAtFault (spot_of checker.now) × (result + 1 ≡ taken))
+        ⊎ ((IsAtFault (spot_of checker.now) → ⊥) × (result ≡ taken)) }
+{
+    if has_fault(checker) { taken - 1 } else { taken }
+}
+
+/// Returns how many of the `left` bytes of a piece go at once: as many as surely have room, and at least one. The bytes
+/// of a title or a character that are held back are at most eight.
+fn step_len(left: usize, room: usize) -> usize
+    requires { 0 < left }
+    ensures some { (0 < result) × (result ≤ left) }
+    ensures fits { (result ≤ 1) ⊎ (result + 8 ≤ room) }
+{
+    left.min(room.saturating_sub(8)).max(1)
+}
+
+/// Copies bytes with which some elements begin, and returns how many bytes were written. All bytes that were put out
+/// before have to be given.
+fn copy(copier: &mut Copier, bytes: &[u8], out: &mut [u8]) -> usize
+    requires given { pending_of copier.old ≡ [] }
+    requires fits { (length bytes.now ≤ 1) ⊎ (length bytes.now + 8 ≤ length out.old) }
+    ensures written { result ≤ length out.old }
+    ensures kept { drop result out.new ≡ drop result out.old }
+    ensures full { (pending_of copier.new ≡ []) ⊎ (result ≡ length out.old) }
+    ensures grown { result + kept_len copier.new ≤ kept_len copier.old + length bytes.now }
+    ensures copied { (fed given : List ℕ) → (NoneGoOn most (fed ++ bytes.now) → ⊥) → AreBytes bytes.now
+        → length fed + length bytes.now ≤ most → IsCopied most fed given copier.old
+        → IsCopied most (fed ++ bytes.now) (given ++ take result out.new) copier.new }
+{
+    copier.feed(bytes, out).written
+}
+
+/// Copies one item of CBOR (RFC 7049, 2.1 to 2.4) whose bytes come in pieces, in its shortest spelling.
+///
+/// The copier takes no memory, and reads and writes nothing by itself. The caller gives the bytes to
+/// [`ItemCopier::feed`], which writes into memory of the caller.
+#[derive(Drop)]
+pub struct ItemCopier {
+    checker: Checker,
+    copier: Copier,
+}
+
+impl ItemCopier {
+    ghost use Rattle.cbor_item_copier.specs.Copying.{IsItemCopied, held, item_spot, pending};
+    ghost use Rattle.std.specs.Prelude.{IfSome};
+    ghost use Rattle.cbor_copier.specs.Spots.{Spot as Elements};
+    ghost use Rattle.cbor_item_copier.specs.Snapshots.{Holds, IsAt, kept_spot};
+    ghost use Rattle.cbor_item_copier.specs.Steps.{Takes, TakesAt};
+    ghost use Rattle.cbor_item_copier.specs.declared.progress.Progress.TheVariants as r;
+    ghost use Rattle.cbor_item_copier.specs.Telling.{IsAnswer, IsMore, IsRoom, Tells, TellsEnd, end_of, progress_of};
+    ghost use Rattle.ciborium_ll_grammar.specs.Spellings.{is_shortest};
+    ghost use Rattle.ciborium_ll_grammar.specs.declared.limits.TheConstants.{MOST_LEVELS};
+
+    /// Makes a copier of an item to which nothing came.
+    ///
+    /// Tags, arrays and maps may be nested at most `depth` levels deep. Each takes a level, also an empty one, and a
+    /// string takes none. `depth` is at most 256.
+    pub fn new(depth: usize) -> ItemCopier
+        requires { depth ≤ MOST_LEVELS }
+        ensures { IsItemCopied false depth [] [] result }
+    {
+        ItemCopier::with_spelling(depth, Spelling::Any)
+    }
+
+    /// Makes a copier of an item that takes the item's shortest spelling alone (RFC 7049, 3.9).
+    ///
+    /// Each title is the shortest of its header, no simple value from 24 to 31 stands there, and strings within an open
+    /// string have a definite length. Any other title is the fault that [`Checker::strict`] names, at the same byte.
+    /// `depth` is that of [`ItemCopier::new`], and at most 256.
+    pub fn strict(depth: usize) -> ItemCopier
+        requires { depth ≤ MOST_LEVELS }
+        ensures { IsItemCopied true depth [] [] result }
+    {
+        ItemCopier::with_spelling(depth, Spelling::Shortest)
+    }
+
+    /// Makes a copier of an item in this spelling, to which nothing came.
+    ///
+    /// With `Any` it is the copier of [`ItemCopier::new`], and with `Shortest` that of [`ItemCopier::strict`]. `depth`
+    /// is at most 256.
+    pub fn with_spelling(depth: usize, spelling: Spelling) -> ItemCopier
+        requires { depth ≤ MOST_LEVELS }
+        ensures { IsItemCopied (is_shortest spelling) depth [] [] result }
+    {
+        ItemCopier {
+            checker: Checker::with_spelling(depth, spelling),
+            copier: Copier::new(usize::MAX),
+        }
+    }
+
+    /// Returns how far the copy has come: the last answer of [`ItemCopier::feed`].
+    ///
+    /// Before the first feed the answer is that one byte is due. After a `TooLong` it is `More`, since bytes are due
+    /// that can't be counted.
+    pub fn progress(&self) -> Progress
+        ensures answers { result ≡ progress_of (pending self.now) (item_spot self.now) }
+        ensures tells { (strict : Bool) (depth : ℕ) (fed given : List ℕ) → IsItemCopied strict depth fed given self.now
+            → Tells strict depth fed given result }
+    {
+        if lacks_room(&self.copier) {
+            return Progress::Room;
+        }
+        match self.checker.progress() {
+            Checked::More(due) => Progress::More(due),
+            Checked::Ended(len) => Progress::Ended(len),
+            Checked::Fault(fault) => Progress::Fault(fault),
+            Checked::TooLong => Progress::TooLong,
+        }
+    }
+
+    /// Returns the meaning of an end of the bytes. The copier stays as it is.
+    ///
+    /// - `Between`: no byte came, or the bytes so far are an item, and all of it is written.
+    /// - `Short`: the item is cut off. At least this many bytes were due, and all that can be written is.
+    /// - `Fault`: no item begins with the bytes so far.
+    /// - `Room`: none of these yet. Bytes are to be written, and [`ItemCopier::feed`] writes them, also with no piece.
+    pub fn end(&self) -> End
+        ensures answers { result ≡ end_of (pending self.now) (item_spot self.now) }
+        ensures tells { (strict : Bool) (depth : ℕ) (fed given : List ℕ) → IsItemCopied strict depth fed given self.now
+            → TellsEnd strict depth fed given result }
+    {
+        if lacks_room(&self.copier) {
+            return End::Room;
+        }
+        match self.checker.end() {
+            CheckedEnd::Between => End::Between,
+            CheckedEnd::Short(due) => End::Short(due),
+            CheckedEnd::Fault(fault) => End::Fault(fault),
+        }
+    }
+
+    /// Writes the pending bytes, as far as there is room, and returns how many.
+    fn give(&mut self, out: &mut [u8]) -> usize
+        ensures written { result ≤ length out.old }
+        ensures kept { drop result out.new ≡ drop result out.old }
+        ensures full { (pending self.new ≡ []) ⊎ (result ≡ length out.old) }
+        ensures grown { result + held self.new ≤ held self.old }
+        ensures copied { (strict : Bool) (depth : ℕ) (fed given : List ℕ)
+            → IsItemCopied strict depth fed given self.old
+            → IsItemCopied strict depth fed (given ++ take result out.new) self.new }
+        ensures none { pending self.old ≡ [] → (result ≡ 0) × (self.new ≡ self.old) }
+    {
+        if !lacks_room(&self.copier) {
+            return 0;
+        }
+        self.copier.feed(&[], out).written
+    }
+
+    /// Takes bytes up to the end of the item or to a fault. Returns how many bytes were taken and how many were
+    /// written, or `None` if no more bytes can be counted.
+    fn step(&mut self, bytes: &[u8], out: &mut [u8]) -> Option<(usize, usize)>
+        requires some { 0 < length bytes.now }
+        requires fits { (length bytes.now ≤ 1) ⊎ (length bytes.now + 8 ≤ length out.old) }
+        requires given { pending self.old ≡ [] }
+        requires due { is_due (item_spot self.old).phase ≡ true }
+        ensures { Takes self.old bytes.now out.old result out.new self.new }
+    {
+        let taken = check(&mut self.checker, bytes);
+        if taken == 0 {
+            return None;
+        }
+        let copied = copied_len(&self.checker, taken);
+        Some((taken, copy(&mut self.copier, &bytes[..copied], out)))
+    }
+
+    /// Takes bytes of a piece from the place `at` on, and writes after the first `written` bytes of `out`. Returns the
+    /// ends of both, or `None` if no more bytes can be counted.
+    fn step_at(
+        &mut self,
+        bytes: &[u8],
+        at: usize,
+        out: &mut [u8],
+        written: usize,
+    ) -> Option<(usize, usize)>
+        requires some { at < length bytes.now }
+        requires room { written ≤ length out.old }
+        requires given { pending self.old ≡ [] }
+        requires due { is_due (item_spot self.old).phase ≡ true }
+        ensures { TakesAt self.old bytes.now at out.old written result out.new self.new }
+    {
+        let len = step_len(bytes.len() - at, out.len() - written);
+        let (taken, more) = self.step(&bytes[at..at + len], &mut out[written..])?;
+        Some((at + taken, written + more))
+    }
+
+    /// Takes a piece of the item's bytes, of any length, and writes their shortest spelling to the beginning of `out`.
+    ///
+    /// The cuts of the input into pieces and the lengths of the outputs change nothing of the bytes that are written in
+    /// all.
+    ///
+    /// Every title becomes the shortest title of its header. The bodies of a string of indefinite length stay the
+    /// segments that they were, in one string: strings within it lose their opens and breaks. Nothing is written of a
+    /// title or a character that isn't whole. If `out` is full within a title or a character, the rest comes with the
+    /// next call.
+    ///
+    /// - `More`: all of the piece was taken, and all that can be written of the bytes so far is. At least this many
+    ///   bytes are due.
+    /// - `Room`: `out` is full, and there is more to write. The caller has to give the rest of the piece again. `Room`
+    ///   never comes if nothing was pending and `out` has eight bytes more than the piece.
+    /// - `Ended`: the item is whole and is written, and this many bytes of it came. The bytes that follow in the piece
+    ///   are not taken.
+    /// - `Fault`: no item begins with the bytes so far. It comes with the first byte that makes this true. That byte
+    ///   counts as taken, and the spelling of the bytes before it is written. A later call takes and writes nothing,
+    ///   and answers the same.
+    /// - `TooLong`: `usize::MAX` bytes came, and the item goes on. No further byte is taken.
+    pub fn feed(&mut self, bytes: &[u8], out: &mut [u8]) -> Copied
+        ensures taken { result.taken ≤ length bytes.now }
+        ensures written { result.written ≤ length out.old }
+        ensures kept { drop result.written out.new ≡ drop result.written out.old }
+        ensures copied { (strict : Bool) (depth : ℕ) (fed given : List ℕ)
+            → IsItemCopied strict depth fed given self.old
+            → IsItemCopied strict depth (fed ++ take result.taken bytes.now) (given ++ take result.written out.new)
+            self.new }
+        ensures tells { (strict : Bool) (depth : ℕ) (fed given : List ℕ) → IsItemCopied strict depth fed given self.old
+            → Tells strict depth (fed ++ take result.taken bytes.now) (given ++ take result.written out.new)
+            result.progress }
+        ensures answers { IsAnswer result.progress (pending self.new) (item_spot self.new) }
+        ensures all { IsMore result.progress → result.taken ≡ length bytes.now }
+        ensures long { result.progress ≡ r.TooLong → result.taken < length bytes.now }
+        ensures cut { (strict : Bool) (depth : ℕ) (fed given : List ℕ) → IsItemCopied strict depth fed given self.old
+            → result.progress ≡ r.TooLong → is_due (item_spot self.new).phase ≡ true }
+        ensures full { IsRoom result.progress → result.written ≡ length out.old }
+        ensures fits { pending self.old ≡ [] → length bytes.now + 8 ≤ length out.old → IsRoom result.progress → ⊥ }
+        ensures grown { result.written + held self.new ≤ held self.old + result.taken }
+        ensures stays { is_due (item_spot self.old).phase ≡ false → pending self.old ≡ []
+            → (result.taken ≡ 0) × (result.written ≡ 0) × (self.new ≡ self.old) }
+    {
+        let mut written = self.give(out);
+        let mut at = 0;
+        'pieces: while at < bytes.len() {
+            match self.progress() {
+                Progress::More(_) => {}
+                progress => {
+                    return Copied {
+                        taken: at,
+                        written,
+                        progress,
+                    };
+                }
+            }
+            match self.step_at(bytes, at, out, written) {
+                Some((next, end)) => {
+                    at = next;
+                    written = end;
+                }
+                None => {
+                    return Copied {
+                        taken: at,
+                        written,
+                        progress: Progress::TooLong,
+                    };
+                }
+            }
+        }
+        Copied {
+            taken: bytes.len(),
+            written,
+            progress: self.progress(),
+        }
+    }
+
+    /// Writes the state into `snapshot` as plain numbers. [`ItemCopier::restore`] makes this copier of them again.
+    ///
+    /// `spare` is 0 in the numbers of the copy of elements.
+    pub fn save(&self, snapshot: &mut Snapshot)
+        ensures holds { Holds snapshot.new (item_spot self.now) (kept_spot self.now) }
+        ensures spare { snapshot.new.copier.spare ≡ 0 }
+    {
+        self.checker.save(&mut snapshot.checker);
+        snapshot.copier = self.copier.save();
+    }
+
+    /// Becomes the copier that [`ItemCopier::save`] wrote, and returns whether there was one.
+    ///
+    /// If the numbers of the checker or those of the copier are no state, the copier stays as it was. Not all memory
+    /// that was overwritten is found out so, as `Snapshot` says.
+    #[inline(always)]
+    pub fn load(&mut self, snapshot: &Snapshot) -> bool
+        ensures some { result ≡ true → Holds snapshot.now (item_spot self.new) (kept_spot self.new) }
+        ensures found { (item : Spot) (elements : Elements) → Holds snapshot.now item elements → result ≡ true }
+        ensures same { (item : Spot) (elements : Elements) → Holds snapshot.now item elements
+            → (item_spot self.new ≡ item) × (kept_spot self.new ≡ elements) }
+        ensures none { result ≡ false → self.new ≡ self.old }
+    {
+        let Some(copier) = Copier::restore(&snapshot.copier) else {
+            return false;
+        };
+        if !self.checker.load(&snapshot.checker) {
+            return false;
+        }
+        self.copier = copier;
+        true
+    }
+
+    /// Returns the copier that [`ItemCopier::save`] wrote, or `None` if [`ItemCopier::load`] finds none.
+    pub fn restore(snapshot: &Snapshot) -> Option<ItemCopier>
+        ensures some { IfSome result (λ copier. Holds snapshot.now (item_spot copier) (kept_spot copier)) }
+        ensures same { (item : Spot) (elements : Elements) → Holds snapshot.now item elements
+            → IsAt result item elements }
+    {
+        let mut copier = ItemCopier::new(0);
+        if copier.load(snapshot) {
+            Some(copier)
+        } else {
+            None
+        }
+    }
+}

@@ -1,6 +1,0 @@
-use Rattle.cbor_look.proofs.RefusedLaws.{mapped_refused}
-use Rattle.cbor_look.proofs.dump.shown.Goals as goal
-
-pub returns-clause-refused : goal.returns-clause-refused
-returns-clause-refused g c =
-    mapped_refused c.row.result c.map_err.result _ _ _ _ c.map_err.ensures.cases c.row.ensures.refused

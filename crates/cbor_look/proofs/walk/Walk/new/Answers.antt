@@ -1,6 +1,0 @@
-use Rattle.std.proofs.Common.{refl}
-use Rattle.cbor_look.proofs.WalkLaws.{due_first}
-use Rattle.cbor_look.proofs.walk.Walk.new.Goals as goal
-
-pub returns : goal.returns
-returns c = λ strict. due_first strict c.args.depth _ refl refl refl

@@ -1,5 +1,0 @@
-use Rattle.std.proofs.Common.{rules}
-use Rattle.cbor_look_verdicts.proofs.check.end_verdict.Goals as goal
-
-pub returns-in-Some-Failed : goal.returns-in-Some-Failed
-returns-in-Some-Failed c = search rules

@@ -1,5 +1,0 @@
-use Rattle.std.proofs.Common.{rules}
-use Rattle.cbor_look_verdicts.proofs.check.fault_of.Goals as goal
-
-pub returns-in-Deep : goal.returns-in-Deep
-returns-in-Deep g c = search rules

@@ -1,5 +1,0 @@
-use Rattle.std.proofs.Common.{rules}
-use Rattle.cbor_look_verdicts.proofs.verdict.Status.code.Goals as goal
-
-pub returns-in-Malformed : goal.returns-in-Malformed
-returns-in-Malformed c = search rules

@@ -1,6 +1,0 @@
-//! Tests of the copiers that are fed, from outside, beside `recode` over the whole.
-
-pub mod answers;
-pub mod items;
-pub mod memory;
-mod rows;

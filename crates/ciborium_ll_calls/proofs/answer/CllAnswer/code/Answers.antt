@@ -1,5 +1,0 @@
-use Rattle.std.proofs.Common.{rules}
-use Rattle.ciborium_ll_calls.proofs.answer.CllAnswer.code.Goals as goal
-
-pub returns-in-BreakDue : goal.returns-in-BreakDue
-returns-in-BreakDue c = search rules

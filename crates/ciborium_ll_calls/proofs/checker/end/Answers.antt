@@ -1,5 +1,0 @@
-use Rattle.std.proofs.Common.{rules}
-use Rattle.ciborium_ll_calls.proofs.checker.end.Goals as goal
-
-pub returns-clause-argument : goal.returns-clause-argument
-returns-clause-argument c = λ none. absurd (none _ (c.load_into.ensures.some (search rules)))

@@ -1,5 +1,0 @@
-use Rattle.ciborium_ll_calls.proofs.cll_checker_feed.Goals as goal
-
-pub returns-clause-fed : goal.returns-clause-fed
-returns-clause-fed c = λ strict depth fed spot is kept.
-    (c.feed.result, c.code.ensures, c.feed.ensures.fed strict depth fed spot is kept)

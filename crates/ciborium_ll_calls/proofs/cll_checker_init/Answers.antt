@@ -1,5 +1,0 @@
-use Rattle.std.proofs.Common.{rules}
-use Rattle.ciborium_ll_calls.proofs.cll_checker_init.Goals as goal
-
-pub returns-clause-set_up : goal.returns-clause-set_up
-returns-clause-set_up c = search rules

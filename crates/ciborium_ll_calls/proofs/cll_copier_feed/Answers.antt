@@ -1,5 +1,0 @@
-use Rattle.ciborium_ll_calls.proofs.cll_copier_feed.Goals as goal
-
-pub returns-clause-fed : goal.returns-clause-fed
-returns-clause-fed c = λ count fed given spot is kept.
-    (c.feed.result, c.code.ensures, c.feed.ensures.fed count fed given spot is kept)

@@ -1,5 +1,0 @@
-use Rattle.std.proofs.Common.{rules}
-use Rattle.ciborium_ll_calls.proofs.copier.told_progress.Goals as goal
-
-pub returns-in-Room-clause-answer : goal.returns-in-Room-clause-answer
-returns-in-Room-clause-answer c = search rules

@@ -1,5 +1,0 @@
-use Rattle.std.proofs.Common.{◌≡◌}
-use Rattle.ciborium_ll_service.proofs.string.segment_lines.Given as goal
-
-abbrev pub invariant-segments : goal.invariant-segments
-invariant-segments g l = l.segments.decoder.ghost_name ≡ l.initial.segments.decoder.ghost_name

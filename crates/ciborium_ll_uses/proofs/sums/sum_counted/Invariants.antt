@@ -1,9 +1,0 @@
-use Rattle.ciborium_ll.specs.Decoding.{MovesOn}
-use Rattle.ciborium_ll_uses.specs.Sums.{ReadsIntegers}
-use Rattle.ciborium_ll_uses.proofs.sums.sum_counted.Given as goal
-
-abbrev pub invariant-numbers : goal.invariant-numbers
-invariant-numbers g l = record {
-  reads : ReadsIntegers g.R.Read l.initial.decoder l._read l.total l.decoder;
-  moves_on : MovesOn g.R.Read l.initial.decoder l.decoder;
-}

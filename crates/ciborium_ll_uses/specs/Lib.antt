@@ -1,6 +1,0 @@
-pub mod Cose
-pub mod Maps
-pub mod Shortest
-pub mod Streams
-pub mod Sums
-pub mod Texts

@@ -1,0 +1,17 @@
+// SPDX-License-Identifier: Apache-2.0
+//! Tests of the crates above the library, from outside: of skips, of the calls that take bytes in pieces, and of the
+//! diagnostic notation.
+#![tactic(auto)]
+
+#[cfg(test)]
+mod copy;
+#[cfg(test)]
+mod cuts;
+#[cfg(test)]
+mod diag;
+#[cfg(test)]
+mod feed;
+#[cfg(test)]
+mod shared;
+#[cfg(test)]
+mod skip;

@@ -1,0 +1,16 @@
+// SPDX-License-Identifier: Apache-2.0
+//! Tests of the calls for C, from outside: each call once for each of its answers.
+#![tactic(auto)]
+
+#[cfg(test)]
+mod calls;
+#[cfg(test)]
+mod copiers;
+#[cfg(test)]
+mod counts;
+#[cfg(test)]
+mod deterministic;
+#[cfg(test)]
+mod item_copiers;
+#[cfg(test)]
+mod told;

@@ -1,0 +1,257 @@
+use crate::checks::{PAIR, holds, holds_at, options_of};
+use std::alloc::Global;
+use std::io;
+use std::io::Read;
+use std::process::Abort;
+use test_support::streams::{PartReader, PartWriter};
+use tool_files::arguments::Options;
+use tool_files::digits::Digits;
+use tool_files::dump::dump_input;
+use tool_verdicts::verdict::Verdict;
+
+// Adds the bytes that the digits of a text spell, and returns whether it has no other digits.
+fn add_bytes_of(bytes: &mut Vec<u8>, text: &[u8]) -> bool {
+    Digits::new(text).read_to_end(bytes).is_ok()
+}
+
+// Dumps the bytes that some digits spell. It returns whether the dump shows all of them: they are items, or end too
+// early.
+fn dumps(alloc: Global, digits: &str, options: Options, colors: bool, text: &mut Vec<u8>) -> bool {
+    let reader = Digits::new(digits.as_bytes());
+    matches!(
+        dump_input(alloc, reader, text, options, colors),
+        Ok(()) | Err(Verdict::Short(_))
+    )
+}
+
+// Returns whether some bytes are shown: all of them if they end too early, and otherwise up to the fault.
+fn are_shown(all: &[u8], shown: &[u8], is_whole: bool) -> bool {
+    all.starts_with(shown) && (shown.len() == all.len() || !is_whole)
+}
+
+// Returns whether the digits of the dump are the bytes that some digits spell.
+pub fn are_digits(alloc: Global, digits: &str) -> bool {
+    let mut text = Vec::new(alloc);
+    let is_whole = dumps(alloc, digits, Options::new(), false, &mut text);
+    let mut all = Vec::new(alloc);
+    let mut shown = Vec::new(alloc);
+    add_bytes_of(&mut all, digits.as_bytes())
+        && add_bytes_of(&mut shown, text.as_slice())
+        && are_shown(all.as_slice(), shown.as_slice(), is_whole)
+}
+
+// Digits after `=`, and the dump of their bytes below them. From the fifth dump on they end within an affix of two
+// bytes and of eight, within bodies, and within a character after 12 others. All are one text, since a proof that names
+// a table of long texts takes far longer.
+static DUMPS: &str = "\
+= 82 1903e8 6161
+82                                  # array 2
+   19 03 e8                         #   1000
+   61                               #   text 1
+      61                            #     \"a\"
+= bf 01 5f42010240ff ff a0
+bf                                  # map *
+   01                               #   1
+   5f                               #   bytes *
+      42                            #     bytes 2
+         01 02
+      40                            #     bytes 0
+   ff                               #   break
+ff                                  # break
+a0                                  # map 0
+= c1 81 f4 20 3bffffffffffffffff f93c00 f0
+c1                                  # tag 1
+   81                               #   array 1
+      f4                            #     false
+20                                  # -1
+3b ff ff ff ff ff ff ff ff          # -18446744073709551616
+f9 3c 00                            # half 3c00
+f0                                  # simple 16
+= 6f 2230313233343536373839f0908591 4100 811c
+6f                                  # text 15
+   22 30 31 32 33 34 35 36 37 38 39 f0 90 85 91 #   \"\\\"0123456789\u{10151}\"
+41                                  # bytes 1
+   00
+81                                  # array 1
+   1c
+# syntax 19
+= 81 19 03
+81                                  # array 1
+   19
+   03
+# short 2
+= 1b 01020304050607
+1b
+01 02 03 04 05 06 07
+# short 1
+= c1 5f 42 01
+c1                                  # tag 1
+   5f                               #   bytes *
+      42                            #     bytes 2
+         01
+# short 3
+= 5820 000102030405060708090a0b0c0d0e0f 101112131415161718191a1b1c1d1e
+58 20                               # bytes 32
+   00 01 02 03 04 05 06 07 08 09 0a 0b 0c 0d 0e 0f
+   10 11 12 13 14 15 16 17 18 19 1a 1b 1c 1d 1e
+# short 18
+= 62 c3
+62                                  # text 2
+   c3
+# short 1
+= 6e 616161616161616161616161c3
+6e                                  # text 14
+   61 61 61 61 61 61 61 61 61 61 61 61 c3
+# short 14
+";
+
+// Returns whether the dump is this, in colors or without.
+fn is_dumped(alloc: Global, digits: &str, options: Options, colors: bool, want: &str) -> bool {
+    let mut text = Vec::new(alloc);
+    let _ = dumps(alloc, digits, options, colors, &mut text);
+    text.as_slice() == want.as_bytes()
+}
+
+// Returns whether a text without its escape sequences, each of which ends with `m`, is this.
+fn is_plainly(text: &[u8], want: &[u8]) -> bool {
+    let mut rest = want;
+    let mut is_within = false;
+    for byte in text {
+        if *byte == 0x1b {
+            is_within = true;
+        }
+        if !is_within {
+            let Some(behind) = rest.strip_prefix(&[*byte]) else {
+                return false;
+            };
+            rest = behind;
+        }
+        if *byte == b'm' {
+            is_within = false;
+        }
+    }
+    rest.is_empty()
+}
+
+// Returns whether the dump is this without its colors.
+fn is_dumped_plainly(alloc: Global, digits: &str, options: Options, want: &str) -> bool {
+    let mut text = Vec::new(alloc);
+    let _ = dumps(alloc, digits, options, true, &mut text);
+    is_plainly(text.as_slice(), want.as_bytes())
+}
+
+// Requires that the dump of the bytes that some digits spell is this, with colors and without.
+fn row(rt: &impl Abort, alloc: Global, options: Options, digits: &str, want: &str) {
+    let is_right = is_dumped(alloc, digits, options, false, want);
+    holds(rt, is_right, "a dump", digits);
+    let is_right = is_dumped_plainly(alloc, digits, options, want);
+    holds(rt, is_right, "in colors", digits);
+}
+
+// Requires that the dump in a part of a text is that of its digits. It returns how many dumps there are: one or none.
+fn part(rt: &impl Abort, alloc: Global, options: Options, part: &str) -> usize {
+    match part.split_once('\n') {
+        Some((digits, want)) => {
+            row(rt, alloc, options, digits, want);
+            1
+        }
+        None => 0,
+    }
+}
+
+// Requires that each dump of a text is that of its digits, and that there are `count` dumps.
+pub fn each_dumped(rt: &impl Abort, alloc: Global, options: Options, text: &str, count: usize) {
+    let mut found = 0usize;
+    for dump in text.split('=') {
+        found = found.saturating_add(part(rt, alloc, options, dump));
+    }
+    holds_at(rt, found == count, "dumps", found);
+}
+
+#[test]
+fn texts_of_dumps(rt: HostRuntime) {
+    each_dumped(&rt, rt.alloc(), Options::new(), DUMPS, 10);
+}
+
+// Texts with escaped characters: a line feed, U+007F, U+009B, and the characters at the bounds of the escaped ranges.
+// Beyond these bounds a space, `~` and U+00A0 stand for themselves.
+static ESCAPED: &str = "\
+= 63 0a6666
+63                                  # text 3
+   0a 66 66                         #   \"\\nff\"
+= 61 7f
+61                                  # text 1
+   7f                               #   \"\\u007f\"
+= 62 c29b
+62                                  # text 2
+   c2 9b                            #   \"\\u009b\"
+= 6a 00090d1f207ec29fc2a0
+6a                                  # text 10
+   00 09 0d 1f 20 7e c2 9f c2 a0    #   \"\\u0000\\t\\r\\u001f ~\\u009f\u{a0}\"
+";
+
+#[test]
+fn escapes_of_dumps(rt: HostRuntime) {
+    each_dumped(&rt, rt.alloc(), Options::new(), ESCAPED, 4);
+}
+
+// Dumps with offsets.
+static OFFSETS: &str = "\
+= 81f6
+     0: 81                                  # array 1
+     1:    f6                               #   null
+= 430102
+     0: 43                                  # bytes 3
+     1:    01 02
+# short 1
+";
+
+#[test]
+fn offsets_of_dumps(rt: HostRuntime) {
+    let offsets = options_of(&rt, rt.alloc(), "dump --offsets");
+    each_dumped(&rt, rt.alloc(), offsets, OFFSETS, 2);
+}
+
+// Returns whether a dump has no colors.
+pub fn has_no_colors(alloc: Global, digits: &str) -> bool {
+    let mut text = Vec::new(alloc);
+    let _ = dumps(alloc, digits, Options::new(), false, &mut text);
+    !text.as_slice().contains(&0x1b)
+}
+
+#[test]
+fn colors_of_dumps(rt: HostRuntime) {
+    let want = "81                                  \u{1b}[36m# array 1\u{1b}[0m
+\u{1b}[31m   1c\u{1b}[0m
+\u{1b}[31m# syntax 1\u{1b}[0m
+";
+    let is_colored = is_dumped(rt.alloc(), "811c", Options::new(), true, want);
+    holds(&rt, is_colored, "colors", "811c");
+}
+
+// Returns whether a failed read is found.
+fn is_failed_read(alloc: Global, call: usize) -> bool {
+    let reader = PartReader::new(PAIR, 1).failing_at(call, io::ErrorKind::TimedOut);
+    let mut text = Vec::new(alloc);
+    matches!(
+        dump_input(alloc, reader, &mut text, Options::new(), false),
+        Err(Verdict::Failed(_))
+    )
+}
+
+// Returns whether a writer that takes no byte is found.
+fn is_failed_write(alloc: Global, call: usize) -> bool {
+    let mut writer = PartWriter::new(alloc, 20).failing_at(call, None);
+    matches!(
+        dump_input(alloc, PAIR, &mut writer, Options::new(), false),
+        Err(Verdict::Output(_))
+    )
+}
+
+#[test]
+fn calls_that_fail(rt: HostRuntime) {
+    for call in 1..=7 {
+        holds_at(&rt, is_failed_read(rt.alloc(), call), "read", call);
+        holds_at(&rt, is_failed_write(rt.alloc(), call), "write", call);
+    }
+}

@@ -1,0 +1,16 @@
+// SPDX-License-Identifier: Apache-2.0
+//! Tests of the program that looks at files: its answers to the words `check`, `dump` and `diag`, and its arguments.
+#![tactic(auto)]
+
+#[cfg(test)]
+mod checks;
+#[cfg(test)]
+mod diags;
+#[cfg(test)]
+mod dumps;
+#[cfg(test)]
+mod ends;
+#[cfg(test)]
+mod pictures;
+#[cfg(test)]
+mod rows;

@@ -1,0 +1,246 @@
+-- What the program's arguments ask for.
+use Rattle.std.specs.Prelude.{◌≡◌, ℕ, ◌≤◌, Bool, true, false, List, [], ◌∷◌, ◌++◌, ◌⊎◌, codes, map, String}
+use Rattle.std.specs.Prelude.{string_bytes}
+use Rattle.std.specs.Borrow.{Bor}
+use Rattle.std.specs.declared.alloc.Global.{Global}
+use Rattle.tool_requests.specs.Number.{IsNumberUpTo, most_depth}
+use Rattle.tool_files.specs.declared.options.Colors.{Colors}
+use Rattle.tool_files.specs.declared.options.Colors.TheVariants as c
+use Rattle.cbor_diag.specs.declared.layout.Layout.{Layout}
+use Rattle.cbor_diag.specs.declared.layout.Layout.TheVariants as l
+use Rattle.tool_files.specs.declared.options.Options.{Options}
+use Rattle.tool_files.specs.declared.arguments.Setting.{Setting}
+use Rattle.tool_files.specs.declared.arguments.Setting.TheVariants as s
+use Rattle.tool_files.specs.declared.options.View.TheVariants as v
+use Rattle.tool_files.specs.declared.request.Request.{Request}
+use Rattle.tool_files.specs.declared.request.Request.TheVariants as r
+use Rattle.tool_files.specs.declared.request.Topic.{Topic}
+use Rattle.tool_files.specs.declared.request.Topic.TheVariants as t
+use Rattle.tool_files.specs.declared.options.Word.{Word}
+use Rattle.tool_files.specs.declared.options.Word.TheVariants as w
+
+-- The first word, by what it asks for.
+abbrev pub word_name : Word → List ℕ
+word_name w.Check = codes "check"
+word_name (w.Show v.Titles) = codes "dump"
+word_name (w.Show v.Notation) = codes "diag"
+
+-- The name of an option.
+abbrev pub setting_name : Setting → List ℕ
+setting_name s.Strict = codes "--strict"
+setting_name s.One = codes "--one"
+setting_name s.Names = codes "--names"
+setting_name s.Hex = codes "--hex"
+setting_name s.Offsets = codes "--offsets"
+setting_name (s.Colors colors) = codes "--color"
+setting_name s.Pretty = codes "--pretty"
+setting_name (s.Depth depth) = codes "--depth"
+
+-- Whether the option takes a value.
+abbrev pub has_value : Setting → Bool
+has_value (s.Depth depth) = true
+has_value (s.Colors colors) = true
+has_value s.Strict = false
+has_value s.One = false
+has_value s.Names = false
+has_value s.Hex = false
+has_value s.Offsets = false
+has_value s.Pretty = false
+
+-- The names of the options that take a value.
+abbrev pub TakesValue : List ℕ → Type 0
+TakesValue name = (name ≡ codes "--depth") ⊎ (name ≡ codes "--color")
+
+-- The first word has this option.
+abbrev pub IsKnown : Word → Setting → Type 0
+IsKnown word s.Strict = Unit {0}
+IsKnown word s.Hex = Unit {0}
+IsKnown word (s.Depth depth) = Unit {0}
+IsKnown w.Check s.One = Unit {0}
+IsKnown (w.Show view) s.One = ⊥
+IsKnown w.Check s.Names = Unit {0}
+IsKnown (w.Show view) s.Names = ⊥
+IsKnown w.Check s.Offsets = ⊥
+IsKnown (w.Show v.Titles) s.Offsets = Unit {0}
+IsKnown (w.Show v.Notation) s.Offsets = ⊥
+IsKnown w.Check (s.Colors colors) = ⊥
+IsKnown (w.Show v.Titles) (s.Colors colors) = Unit {0}
+IsKnown (w.Show v.Notation) (s.Colors colors) = ⊥
+IsKnown w.Check s.Pretty = ⊥
+IsKnown (w.Show v.Titles) s.Pretty = ⊥
+IsKnown (w.Show v.Notation) s.Pretty = Unit {0}
+
+-- A depth is at most the greatest that the program takes.
+abbrev pub IsShallow : Setting → Type 0
+IsShallow (s.Depth depth) = depth ≤ most_depth
+IsShallow setting = Unit {0}
+
+-- The name of colors.
+abbrev pub colors_name : Colors → List ℕ
+colors_name c.Auto = codes "auto"
+colors_name c.Always = codes "always"
+colors_name c.Never = codes "never"
+
+-- The option takes a value, and this text spells it. A depth is a number that is at most the greatest.
+abbrev pub SpellsValue : Setting → List ℕ → Type 0
+SpellsValue (s.Depth depth) value = IsNumberUpTo most_depth value depth
+SpellsValue (s.Colors colors) value = value ≡ colors_name colors
+SpellsValue setting value = ⊥
+
+-- The word has the name of the option, and its value after a `=`.
+abbrev pub JoinsValue : Setting → List ℕ → Type 0
+JoinsValue setting word = (value : List ℕ) × (word ≡ setting_name setting ++ (61 ∷ value)) × SpellsValue setting value
+
+-- `SpellsSetting setting name words behind`: this word, and the words after it, begin with the option, and `behind` has
+-- the words after the option. The value follows a `=`, as in `--depth=3`, or it is the next word, as in `--depth 3`.
+pub data SpellsSetting (setting : Setting) (name : List ℕ) (words behind : List (String Global)) : Type 0 where
+  alone : has_value setting ≡ false → name ≡ setting_name setting → words ≡ behind
+      → SpellsSetting setting name words behind
+  joined : JoinsValue setting name → words ≡ behind → SpellsSetting setting name words behind
+  apart : (value : String Global) → name ≡ setting_name setting → words ≡ value ∷ behind
+      → SpellsValue setting (string_bytes value) → SpellsSetting setting name words behind
+
+-- A hyphen and more: the word is an option. A hyphen alone is a file.
+abbrev pub IsOption : List ℕ → Type 0
+IsOption word = (behind : List ℕ) × (word ≡ 45 ∷ behind) × (behind ≡ [] → ⊥)
+
+-- The option asks for help.
+abbrev pub IsHelp : List ℕ → Type 0
+IsHelp word = (word ≡ codes "--help") ⊎ (word ≡ codes "-h")
+
+-- What options choose.
+pub record Choices : Type 0 where
+  pub strict : Bool
+  pub one : Bool
+  pub names : Bool
+  pub hex : Bool
+  pub offsets : Bool
+  pub colors : Colors
+  pub layout : Layout
+  pub depth : ℕ
+
+-- What holds without options.
+abbrev pub default_choices : Choices
+default_choices = record {
+  strict = false;
+  one = false;
+  names = false;
+  hex = false;
+  offsets = false;
+  colors = c.Auto;
+  layout = l.OneLine;
+  depth = most_depth;
+}
+
+-- The choices with one option more. It changes only its own choice.
+abbrev pub with_setting : Setting → Choices → Choices
+with_setting s.Strict choices = record choices { strict = true }
+with_setting s.One choices = record choices { one = true }
+with_setting s.Names choices = record choices { names = true }
+with_setting s.Hex choices = record choices { hex = true }
+with_setting s.Offsets choices = record choices { offsets = true }
+with_setting (s.Colors colors) choices = record choices { colors = colors }
+with_setting s.Pretty choices = record choices { layout = l.Indented }
+with_setting (s.Depth depth) choices = record choices { depth = depth }
+
+-- The choices that the options hold.
+abbrev pub choices_of : Options → Choices
+choices_of options = record {
+  strict = options.strict;
+  one = options.one;
+  names = options.names;
+  hex = options.hex;
+  offsets = options.offsets;
+  colors = options.colors;
+  layout = options.layout;
+  depth = options.depth;
+}
+
+-- The texts of words that name files.
+abbrev pub texts : List (Bor (List ℕ)) → List (List ℕ)
+texts files = map (λ file. file.now) files
+
+-- What the words after the first word ask for: a look at these files with these choices, or help.
+pub data Wish : Type 0 where
+  look : Choices → List (List ℕ) → Wish
+  help : Wish
+
+-- The same, by whether it is help.
+abbrev pub wish_of : Bool → Choices → List (List ℕ) → Wish
+wish_of true choices files = help
+wish_of false choices files = look choices files
+
+-- What is asked for with one file more, which precedes the others.
+abbrev pub with_file : List ℕ → Wish → Wish
+with_file file (look choices files) = look choices (file ∷ files)
+with_file file help = help
+
+-- The words after the first word ask for this, from these choices on. They are options and files in any order. If two
+-- options say different things, the last option holds. After `--` each word is a file. The words after an option that
+-- asks for help are free.
+pub data AsksWith (word : Word) : Choices → List (String Global) → Wish → Type 0 where
+  ended : {choices : Choices} {words : List (String Global)} {wish : Wish} → words ≡ [] → wish ≡ look choices []
+      → AsksWith word choices words wish
+  option : {choices : Choices} {words : List (String Global)} {wish : Wish} (name : String Global)
+      (rest behind : List (String Global)) (setting : Setting) → words ≡ name ∷ rest → IsOption (string_bytes name)
+      → IsKnown word setting → SpellsSetting setting (string_bytes name) rest behind
+      → AsksWith word (with_setting setting choices) behind wish → AsksWith word choices words wish
+  file : {choices : Choices} {words : List (String Global)} {wish : Wish} (name : String Global)
+      (rest : List (String Global)) (others : Wish) → words ≡ name ∷ rest → (IsOption (string_bytes name) → ⊥)
+      → AsksWith word choices rest others → wish ≡ with_file (string_bytes name) others
+      → AsksWith word choices words wish
+  hyphens : {choices : Choices} {words : List (String Global)} {wish : Wish} (name : String Global)
+      (rest : List (String Global)) → words ≡ name ∷ rest → string_bytes name ≡ codes "--"
+      → wish ≡ look choices (map string_bytes rest) → AsksWith word choices words wish
+  helps : {choices : Choices} {words : List (String Global)} {wish : Wish} (name : String Global)
+      (rest : List (String Global)) → words ≡ name ∷ rest → IsHelp (string_bytes name) → wish ≡ help
+      → AsksWith word choices words wish
+
+-- What the words of a command line ask for.
+pub data Wanted : Type 0 where
+  looks : Word → Choices → List (List ℕ) → Wanted
+  helps_with : Topic → Wanted
+  says_version : Wanted
+
+-- What a request says, with these files.
+abbrev pub wanted_by : Request → List (List ℕ) → Wanted
+wanted_by (r.Look word options) files = looks word (choices_of options) files
+wanted_by (r.Help topic) files = helps_with topic
+wanted_by r.Version files = says_version
+
+-- What is asked for after this first word.
+abbrev pub wanted_with : Word → Wish → Wanted
+wanted_with word (look choices files) = looks word choices files
+wanted_with word help = helps_with (t.Word word)
+
+-- The words after the first word ask for this, beginning with what holds without options.
+abbrev pub AsksOf : Word → List (String Global) → Wanted → Type 0
+AsksOf word words wanted = (wish : Wish) × AsksWith word default_choices words wish × (wanted ≡ wanted_with word wish)
+
+-- The name of a topic.
+abbrev pub topic_name : Topic → List ℕ
+topic_name t.Program = codes "help"
+topic_name (t.Word word) = word_name word
+topic_name t.Recode = codes "recode"
+
+-- The words after a word that asks for help name this topic, or none, and the topic is then the program.
+abbrev pub NamesTopic : List (String Global) → Topic → Type 0
+NamesTopic words about = ((words ≡ []) × (about ≡ t.Program))
+    ⊎ ((name : String Global) × (words ≡ name ∷ []) × (string_bytes name ≡ topic_name about))
+
+-- The first word asks for help.
+abbrev pub IsHelpWord : List ℕ → Type 0
+IsHelpWord word = (word ≡ codes "help") ⊎ IsHelp word
+
+-- A first word that is no word for a look at files asks for this: for the version, or for a text of help.
+pub data AsksAbout (first : List ℕ) (words : List (String Global)) (wanted : Wanted) : Type 0 where
+  version : first ≡ codes "--version" → words ≡ [] → wanted ≡ says_version → AsksAbout first words wanted
+  topic : (about : Topic) → IsHelpWord first → NamesTopic words about
+      → wanted ≡ helps_with about → AsksAbout first words wanted
+
+-- The words ask for this.
+pub data AsksFor (words : List (String Global)) (wanted : Wanted) : Type 0 where
+  of : (name : String Global) (rest : List (String Global)) (word : Word) → words ≡ name ∷ rest
+      → string_bytes name ≡ word_name word → AsksOf word rest wanted → AsksFor words wanted
+  about : (name : String Global) (rest : List (String Global)) → words ≡ name ∷ rest
+      → AsksAbout (string_bytes name) rest wanted → AsksFor words wanted

@@ -1,0 +1,75 @@
+-- How an input is read, and what is found in it.
+use Rattle.std.specs.Prelude.{◌≡◌, ℕ, Bool, true, false, List, [], ◌++◌, length, Option, None, Some}
+use Rattle.ciborium_ll.specs.Types.BufferedReader.{BufferedReader}
+use Rattle.ciborium_ll.specs.Types.Decoder.{Decoder}
+use Rattle.ciborium_ll.specs.Types.Read.{Ghosts}
+use Rattle.ciborium_ll.specs.Decoding.{IsFreshAs}
+use Rattle.ciborium_ll.specs.Items.{AreItems, IsItem}
+use Rattle.ciborium_ll_streams.specs.Buffers.{buffered_read_ahead, buffered_read_fault, buffered_source}
+use Rattle.tool_verdicts.specs.Checking.{SaysVerdict, unless_failed}
+use Rattle.tool_verdicts.specs.declared.verdict.TextFault.{TextFault}
+use Rattle.tool_verdicts.specs.declared.verdict.Verdict.{Verdict}
+use Rattle.tool_verdicts.specs.declared.verdict.Verdict.TheVariants as v
+use Rattle.tool_files.specs.declared.digits.Digits.{Digits}
+use Rattle.tool_files.specs.declared.input.Input.{Input}
+use Rattle.tool_files.specs.declared.input.Input.TheVariants as i
+use Rattle.tool_verdicts.specs.declared.check.TheConstants.{BUFFER_SIZE}
+
+module _ {T : Type 0} where
+  -- A reader of the bytes that the digits of a source spell. None was read, and no fault was found.
+  abbrev pub BeginsDigits : T → Digits T → Type 0
+  BeginsDigits source digits = (digits.source ≡ source) × (digits.fault ≡ None) × (digits.is_ended ≡ false)
+
+  -- A reader of the bytes of a source, or with `--hex` of the bytes that its digits spell. None was read.
+  abbrev pub IsInputOf : Bool → T → Input T → Type 0
+  IsInputOf false source (i.Bytes bytes) = bytes ≡ source
+  IsInputOf true source (i.Digits digits) = BeginsDigits source digits
+  IsInputOf hex source input = ⊥
+
+  -- The fault of the text, if the input is one and a fault was found.
+  abbrev pub input_fault : Input T → Option TextFault
+  input_fault (i.Bytes bytes) = None
+  input_fault (i.Digits digits) = digits.fault
+
+  -- The bytes to come, if the reader tells them. A reader of digits tells none.
+  abbrev pub input_remaining : (T → Option (List ℕ)) → Input T → Option (List ℕ)
+  input_remaining remaining (i.Bytes source) = remaining source
+  input_remaining remaining (i.Digits digits) = None
+
+  -- A decoder at the start of a reader's bytes, through an empty buffer.
+  pub record BeginsInput (strict : Bool) (reader : T) (decoder : Decoder (BufferedReader T)) : Type 0 where
+    pub start : BufferedReader T
+    pub source : buffered_source start ≡ reader
+    pub none_ahead : buffered_read_ahead start ≡ []
+    pub fresh : IsFreshAs strict start 0 decoder
+
+  module _ {E : Type 0} (reads : Ghosts (BufferedReader T) E) where
+    -- What is wanted was checked from the start of the input, and the verdict says what was found. A read that failed
+    -- for another reason than the end takes precedence.
+    pub record ChecksInput (strict one : Bool) (depth : ℕ) (reader : T) (verdict : Verdict) : Type 0 where
+      pub old : Decoder (BufferedReader T)
+      pub new : Decoder (BufferedReader T)
+      pub found : Verdict
+      pub begins : BeginsInput strict reader old
+      pub says : SaysVerdict reads one depth BUFFER_SIZE old found new
+      pub said : verdict ≡ unless_failed (buffered_read_fault new.reader) found
+
+-- A fault of the text takes precedence over what is found in the bytes that it spells.
+abbrev pub text_said : Option TextFault → Verdict → Verdict
+text_said None verdict = verdict
+text_said (Some fault) verdict = v.Text fault
+
+-- The bytes begin with these bytes.
+abbrev pub IsFront : List ℕ → List ℕ → Type 0
+IsFront front bytes = (rest : List ℕ) × (bytes ≡ front ++ rest)
+
+-- The numbers of a verdict are those of items that the bytes begin with: of all items that were read, or of the item
+-- that more bytes follow.
+abbrev pub CountsItems : Bool → Bool → ℕ → List ℕ → Verdict → Type 0
+CountsItems false strict depth bytes (v.Well items count) =
+    (front : List ℕ) × IsFront front bytes × AreItems strict depth items front × (count ≡ length front)
+CountsItems true strict depth bytes (v.Well items count) =
+    (front : List ℕ) × IsFront front bytes × IsItem strict depth front × (items ≡ 1) × (count ≡ length front)
+CountsItems one strict depth bytes (v.More place) =
+    (front : List ℕ) × IsFront front bytes × IsItem strict depth front × (place ≡ length front)
+CountsItems one strict depth bytes verdict = Unit {0}

@@ -1,0 +1,110 @@
+//! The word `diag`.
+
+ghost use Rattle.tool_files.specs.Shows.{ShowsInput};
+
+use crate::arguments::Options;
+use crate::check::ROOM;
+use crate::shared::{Prompt, Shared};
+use ciborium_ll::io::{BufferedReader, BufferedWriter, Read, Write, WriteFault};
+use std::cell::RefCell;
+use std::io;
+use tool_verdicts::check::decoder_of;
+use tool_verdicts::diag::{diag_verdict, items};
+use tool_verdicts::verdict::Verdict;
+
+/// Writes to a writer, and knows whether the last line is open. It flushes only at its end: the reader flushes before
+/// it reads on.
+#[derive(Drop)]
+struct Page<W> {
+    writer: W,
+    is_open: bool,
+}
+
+impl<W: io::Write> Page<W> {
+    /// Ends the last line if it is open, and flushes the writer.
+    fn end(&mut self) -> io::Result<()> {
+        if self.is_open {
+            self.writer.write_all(b"\n")?;
+        }
+        self.writer.flush()
+    }
+}
+
+impl<W: io::Write> io::Write for Page<W> {
+    fn write(&mut self, buf: &[u8]) -> io::Result<usize> {
+        let count = self.writer.write(buf)?;
+        if let Some(last) = buf[..count].last() {
+            self.is_open = *last != b'\n';
+        }
+        Ok(count)
+    }
+
+    fn flush(&mut self) -> io::Result<()> {
+        Ok(())
+    }
+}
+
+/// Writes a reader's bytes in diagnostic notation, up to their end, each item in a line or in lines of its own.
+///
+/// Each whole item is flushed before the reader is asked for more. The text of an item at fault is written up to the
+/// fault.
+///
+/// # Errors
+///
+/// - The verdict on the item at fault, or on a read that failed for another reason than the end.
+/// - `Output`: the writer failed.
+pub fn diag_input<R: io::Read + Drop, W: io::Write + Drop>(
+    reader: R,
+    writer: W,
+    options: Options,
+) -> Result<(), Verdict> {
+    let output = RefCell::new(writer);
+    let mut page = Page {
+        writer: Shared::new(&output),
+        is_open: false,
+    };
+    let outcome = write_page(Prompt::new(reader, &output), &mut page, options);
+    if let Err(Verdict::Output(_)) = &outcome {
+        return outcome;
+    }
+    match page.end() {
+        Ok(()) => outcome,
+        Err(error) => Err(Verdict::Output(error)),
+    }
+}
+
+/// Writes the items on a page, by few writes.
+fn write_page<R: io::Read + Drop, W: io::Write>(
+    reader: R,
+    page: &mut Page<W>,
+    options: Options,
+) -> Result<(), Verdict> {
+    let mut kept = [0; ROOM];
+    let mut writer = BufferedWriter::new(page, &mut kept);
+    let outcome = show_items(reader, &mut writer, options);
+    let _ = writer.flush();
+    let (_, _, fault) = writer.into_parts();
+    match fault {
+        Some(WriteFault::Failed(error)) => Err(Verdict::Output(error)),
+        Some(WriteFault::Zero) => Err(Verdict::Output(io::Error::from(io::ErrorKind::WriteZero))),
+        None => outcome.unwrap_or(Ok(())),
+    }
+}
+
+/// Writes the items of a reader's bytes, from their start, to any writer. The outer error is the writer's.
+fn show_items<R: io::Read + Drop, W: Write>(
+    reader: R,
+    writer: &mut W,
+    options: Options,
+) -> Result<Result<(), Verdict>, W::Error>
+    ensures { ShowsInput ⟦<BufferedReader<'static, R> as Read>⟧ W.Write options.strict options.depth options.layout
+        reader writer.old result writer.new }
+{
+    let mut ahead = [0; ROOM];
+    let reader = BufferedReader::new(reader, &mut ahead);
+    let mut decoder = decoder_of(reader, options.strict);
+    let outcome = items(&mut decoder, writer, options.depth, options.layout);
+    let offset = decoder.offset();
+    let (_, _, fault) = decoder.into_inner().into_parts();
+    diag_verdict(outcome, fault, offset)
+}

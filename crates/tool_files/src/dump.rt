@@ -1,0 +1,195 @@
+//! The word `dump`.
+
+ghost use Rattle.std.specs.Prelude.{◌≤◌, ◌↔◌, ℕ, List, length, IsOk, None};
+ghost use Rattle.ciborium_ll.specs.Decoding.{offset_of};
+ghost use Rattle.cbor_skip.specs.SkippingTold.{IsReadyToSkip};
+ghost use Rattle.cbor_dump.specs.Checking.{ReadsAsCheck};
+ghost use Rattle.cbor_dump.specs.Dumps.{AreRowsTaken};
+ghost use Rattle.cbor_dump.specs.Sequences.{IsSequence};
+ghost use Rattle.cbor_dump.specs.Takings.{IsInMode, most_bytes};
+ghost use Rattle.tool_verdicts.specs.Checking.{FindsBehindRows, dump_said};
+ghost use Rattle.tool_files.specs.Shows.{DumpsInput};
+ghost use Rattle.ciborium_ll.specs.Limits.{MOST_LEVELS};
+
+use crate::arguments::Options;
+use crate::patient::Patient;
+use crate::shared::{Prompt, Shared};
+use cbor_dump::dump::{DumpError, dump};
+use cbor_dump::rows::{Meaning, Row, Rows};
+use ciborium_ll::Decoder;
+use ciborium_ll::io::Read;
+use std::alloc::{AllocError, Global};
+use std::cell::RefCell;
+use std::fmt::Write;
+use std::io;
+use std::io::Write as _;
+use tool_verdicts::check::decoder_of;
+use tool_verdicts::dump::{dump_verdict, left_shown};
+use tool_verdicts::verdict::Verdict;
+
+/// Prints rows, each as a line.
+#[derive(Drop)]
+struct Printer<W> {
+    line: String,
+    writer: W,
+    offsets: bool,
+    colors: bool,
+    /// The level of a part of what the last row has.
+    below: usize,
+}
+
+/// The escape sequence before the meaning of a title or of a part of a text.
+const MEANING: &[u8] = b"\x1b[36m";
+
+/// The escape sequence before bytes at fault, and before what is said of them.
+const FAULT: &[u8] = b"\x1b[31m";
+
+/// The escape sequence after a color.
+const PLAIN: &[u8] = b"\x1b[0m";
+
+impl<W: io::Write> Printer<W> {
+    /// Makes the line of a row.
+    fn set_line(&mut self, row: Row<'_>) -> Result<(), AllocError> {
+        self.line.clear();
+        if self.offsets {
+            write!(self.line, "{:6}: ", row.offset)?;
+        }
+        write!(self.line, "{row}")
+    }
+
+    /// Prints the line. If colors are wanted, the part from the first `#` on has a color, and a fault has one
+    /// throughout.
+    fn put(&mut self, is_fault: bool) -> io::Result<()> {
+        let line = self.line.as_bytes();
+        let (at, color) = if is_fault {
+            (0, FAULT)
+        } else {
+            (first_hash(self.line.as_str()), MEANING)
+        };
+        if self.colors && at < line.len() {
+            self.writer.write_all(&line[..at])?;
+            self.writer.write_all(color)?;
+            self.writer.write_all(&line[at..])?;
+            self.writer.write_all(PLAIN)?;
+        } else {
+            self.writer.write_all(line)?;
+        }
+        self.writer.write_all(b"\n")
+    }
+
+    /// Prints what is found at the end, after the rows.
+    fn end(&mut self, verdict: &Verdict) -> io::Result<()> {
+        self.line.clear();
+        write!(self.line, "# {verdict}")?;
+        self.put(true)
+    }
+}
+
+impl<W: io::Write> Rows for Printer<W> {
+    ghost use Rattle.std.specs.Prelude.{None};
+
+    type Error = io::Error;
+
+    ghost drawn = { λ _. None };
+
+    /// Prints a row as a line.
+    ///
+    /// # Errors
+    ///
+    /// The error is that of the writer, or says that there is no memory for the line.
+    fn row(&mut self, row: Row<'_>) -> io::Result<()> {
+        self.below = level_below(&row);
+        self.set_line(row)?;
+        self.put(matches!(row.meaning, Meaning::Fault))
+    }
+}
+
+/// Returns the level of a part of what a row has: one deeper than a title, and otherwise the level of the row.
+fn level_below(row: &Row<'_>) -> usize {
+    match row.meaning {
+        Meaning::Header(_) => row.level.saturating_add(1),
+        Meaning::Bytes | Meaning::Text | Meaning::Fault => row.level,
+    }
+}
+
+/// Returns the index of the first `#`, or the length of the line if it has none.
+fn first_hash(line: &str) -> usize
+    ensures { result ≤ length line.now }
+{
+    line.find('#').unwrap_or(line.len())
+}
+
+/// Dumps a reader's bytes, up to their end. After a fault of the bytes a line says what it is.
+///
+/// Each whole line is flushed before the reader is asked for more. Colors are escape sequences between the bytes of the
+/// lines, and change none of them.
+///
+/// # Errors
+///
+/// - The verdict of a dump that did not come to the end after whole items.
+/// - `Output`: the writer failed, or there is no memory for a line.
+pub fn dump_input<R: io::Read + Drop, W: io::Write + Drop>(
+    alloc: Global,
+    reader: R,
+    writer: W,
+    options: Options,
+    colors: bool,
+) -> Result<(), Verdict> {
+    let output = RefCell::new(writer);
+    let mut printer = Printer {
+        line: String::new(alloc),
+        writer: Shared::new(&output),
+        offsets: options.offsets,
+        colors,
+        below: 0,
+    };
+    let outcome = dump_rows(Prompt::new(reader, &output), &mut printer, options);
+    let ended = match &outcome {
+        Ok(()) | Err(Verdict::Output(_) | Verdict::Failed(_)) => Ok(()),
+        Err(verdict) => printer.end(verdict),
+    };
+    match (ended, printer.writer.flush()) {
+        (Ok(()), Ok(())) => outcome,
+        (Err(error), _) | (Ok(()), Err(error)) => Err(Verdict::Output(error)),
+    }
+}
+
+/// Prints the rows of a reader's bytes, from their start, and what is left of a title or of a body after them.
+fn dump_rows<R: io::Read + Drop, W: io::Write>(
+    reader: R,
+    printer: &mut Printer<W>,
+    options: Options,
+) -> Result<(), Verdict>
+    ensures { DumpsInput ⟦<Patient<R> as Read>⟧ options.strict options.depth reader result }
+{
+    let mut decoder = decoder_of(Patient::new(reader), options.strict);
+    let outcome = print_rows(&mut decoder, options.depth, options.strict, printer);
+    let offset = decoder.offset();
+    let outcome = left_shown(&mut decoder, outcome, printer.below, printer);
+    let (_, fault) = decoder.into_inner().into_parts();
+    dump_verdict(outcome, fault, offset)
+}
+
+/// Prints the rows of what a decoder reads. The decoder is as strict as the dump.
+///
+/// Assume that every row was printed, that a steady reader tells its bytes, and that the offset fits. Then all is well
+/// exactly if the bytes are a sequence of items to the depth, for a strict dump in their shortest spelling. Otherwise
+/// the first fault after the whole items is named, with its offset.
+fn print_rows<R: Read, W: io::Write>(
+    decoder: &mut Decoder<R>,
+    depth: usize,
+    strict: bool,
+    printer: &mut Printer<W>,
+) -> Result<R::Error, DumpError<R::Error, io::Error>>
+where
+    R::Error: Drop,
+    requires shallow { depth ≤ MOST_LEVELS }
+    requires alike { IsInMode strict decoder.old }
+    ensures exactly { (due : List ℕ) → IsReadyToSkip R.Read most_bytes decoder.old due → AreRowsTaken result
+        → (IsOk result ↔ IsSequence strict depth due) }
+    ensures told { (due : List ℕ) → IsReadyToSkip R.Read most_bytes decoder.old due → AreRowsTaken result
+        → FindsBehindRows strict depth due (offset_of decoder.old) (dump_said result None (offset_of decoder.new)) }
+    ensures reads { AreRowsTaken result → ReadsAsCheck R.Read depth decoder.old result decoder.new }
+{
+    dump(decoder, depth, strict, printer)
+}

@@ -1,0 +1,151 @@
+//! The texts of help. The script `cbor` prints them too, from this file, while no program is built.
+
+use crate::options::{View, Word};
+use crate::request::Topic;
+
+/// The version of the program.
+pub const VERSION: &str = "\
+cbor 0.1.0
+";
+
+/// The words of the program.
+pub const WORDS: [&str; 5] = ["check", "dump", "diag", "recode", "help"];
+
+/// Returns the text of a topic.
+pub fn help_text(topic: Topic) -> &'static str {
+    match topic {
+        Topic::Program => PROGRAM,
+        Topic::Recode => RECODE,
+        Topic::Word(Word::Check) => CHECK,
+        Topic::Word(Word::Show(View::Titles)) => DUMP,
+        Topic::Word(Word::Show(View::Notation)) => DIAG,
+    }
+}
+
+/// How the program is used.
+pub const PROGRAM: &str = "\
+usage: cbor WORD [OPTION..] [FILE..]
+       cbor                     answers the lines of standard input
+
+    check       says whether files are well-formed CBOR
+    dump        shows files title by title
+    diag        writes files in diagnostic notation
+    recode      copies elements as raw bytes, each in its shortest spelling
+    help WORD   lists the options, the statuses and examples of a word, as WORD --help does
+    --version   says the version
+
+Options may precede files, follow them or stand between them. A value follows its option as the next argument, or after
+a =. After -- each argument is a file. - is standard input, which is also read if no file is named.
+
+Each of these lines of standard input has an answer. HEX is an even number of hexadecimal digits, or - for no bytes.
+LIMIT may be * for none.
+
+    heads HEX           the titles, one a line: OFFSET NAME VALUE
+    chunks SIZE HEX     the string that comes first, read through SIZE bytes
+    bytes LIMIT HEX     a byte string of these bytes, in pieces of at most LIMIT bytes
+    text LIMIT HEX      the same of a text string
+    recode COUNT HEX    COUNT elements in their shortest spelling, and the rest
+    strict COUNT HEX    the same, but only the shortest spelling is taken
+    skip DEPTH HEX      where the item that comes first ends, with nests at most DEPTH deep
+
+    $ printf 'heads 820102\\n' | ./cbor
+    0 array 2
+    1 positive 1
+    2 positive 2
+    end 3
+    $ printf 'recode 1 5801ff\\n' | ./cbor
+    41ff rest -
+
+The status is 0 if all is well, 1 after a fault, 2 after other arguments, 3 if the program can't be built or an input or
+the output failed, and 141 if the reader of the output has gone away.
+";
+
+/// How `check` is used.
+pub const CHECK: &str = "\
+usage: cbor check [OPTION..] [FILE..]
+
+Says whether each file is well-formed CBOR, as a sequence of items: ok ITEMS BYTES, or the first fault with its offset.
+The faults are syntax, short, break, deep and more.
+
+    --strict    takes the shortest spelling alone
+    --depth N   takes tags, arrays and maps nested at most N levels deep. N is at most 256, which also holds without it
+    --one       wants exactly one item
+    --names     begins each answer with the name of the file, even if there is one file alone
+    --hex       reads hexadecimal digits, as docs/PROGRAM.md says
+    --help      prints this text, as -h does
+
+    $ printf '\\x82\\x01\\x02\\xf6' | ./cbor check
+    ok 2 4
+    $ printf '82 18' | ./cbor check --names --hex || true
+    -: short 2
+
+The status is 0 if each file is well-formed, 1 if a file is not, 2 after other arguments, 3 if a file can't be read or
+the output can't be written, and 141 if the reader of the output has gone away.
+";
+
+/// How `dump` is used.
+pub const DUMP: &str = "\
+usage: cbor dump [OPTION..] [FILE..]
+
+Shows each title of the files on a line: its bytes as digits, indented by its level, and after a # what it means. The
+bodies of strings follow in lines of at most 16 bytes. A last line says where a file is not well-formed, and why.
+
+    --strict        takes the shortest spelling alone
+    --depth N       takes tags, arrays and maps nested at most N levels deep. N is at most 256, which also holds without
+                    it
+    --offsets       begins each line that has bytes with the offset of the first one
+    --color WHEN    has colors: always, never, or auto, which also holds without it: if the output is a terminal
+    --hex           reads hexadecimal digits, as docs/PROGRAM.md says
+    --help          prints this text, as -h does
+
+    $ printf '\\x82\\x01\\xf6' | ./cbor dump
+    82                                  # array 2
+       01                               #   1
+       f6                               #   null
+    $ printf '6161' | ./cbor dump --offsets --hex
+         0: 61                                  # text 1
+         1:    61                               #   \"a\"
+
+The status is 0 if each file is well-formed, 1 if a file is not, 2 after other arguments, 3 if a file can't be read or
+the output can't be written, and 141 if the reader of the output has gone away.
+";
+
+/// How `diag` is used.
+pub const DIAG: &str = "\
+usage: cbor diag [OPTION..] [FILE..]
+
+Writes the items of the files in diagnostic notation, each on a line.
+
+    --strict    takes the shortest spelling alone
+    --depth N   takes tags, arrays and maps nested at most N levels deep. N is at most 256, which also holds without it
+    --pretty    writes each item that an array or a map contains on a line of its own, indented by its level
+    --hex       reads hexadecimal digits, as docs/PROGRAM.md says
+    --help      prints this text, as -h does
+
+    $ printf '\\x82\\x01\\x02\\xf6' | ./cbor diag
+    [1, 2]
+    null
+    $ printf 'a1 6161 f5' | ./cbor diag --pretty --hex
+    {
+      \"a\": true
+    }
+
+The status is 0 if each file is well-formed, 1 if a file is not, 2 after other arguments, 3 if a file can't be read or
+the output can't be written, and 141 if the reader of the output has gone away.
+";
+
+/// How `recode` is used.
+pub const RECODE: &str = "\
+usage: cbor recode COUNT
+
+Copies COUNT elements from standard input to standard output as raw bytes, each in its shortest spelling. It has no
+options.
+
+    $ printf '\\x58\\x01\\x01' | ./cbor recode 1 | od -An -tx1
+     41 01
+    $ printf '\\x18\\x01\\x19\\x00\\xff' | ./cbor recode 2 | od -An -tx1
+     01 18 ff
+
+The status is 0 if all elements were copied, 1 after a fault, 2 after other arguments, and 3 if the program can't be
+built.
+";

@@ -1,0 +1,57 @@
+//! What the program does, and how.
+
+ghost use Rattle.std.specs.Prelude.{◌≤◌};
+ghost use Rattle.ciborium_ll.specs.Limits.{MOST_LEVELS};
+
+use cbor_diag::Layout;
+
+/// What the program does.
+#[derive(Clone, Copy)]
+pub enum Word {
+    /// It checks the input.
+    Check,
+    /// It shows the input.
+    Show(View),
+}
+
+/// What the program shows of an input.
+#[derive(Clone, Copy)]
+pub enum View {
+    /// Its titles.
+    Titles,
+    /// Its items, in diagnostic notation.
+    Notation,
+}
+
+/// When a dump has colors.
+#[derive(Clone, Copy)]
+pub enum Colors {
+    /// If standard output is a terminal, and the environment has no `NO_COLOR`, or an empty one.
+    Auto,
+    /// Always.
+    Always,
+    /// Never.
+    Never,
+}
+
+/// How the program does it.
+#[derive(Clone, Copy)]
+pub struct Options {
+    /// Whether only the shortest spelling is taken.
+    pub strict: bool,
+    /// Whether exactly one item is wanted.
+    pub one: bool,
+    /// Whether each answer has the file's name, even if there is one file alone.
+    pub names: bool,
+    /// Whether the input is hexadecimal digits.
+    pub hex: bool,
+    /// Whether each line of a dump has its offset.
+    pub offsets: bool,
+    /// When a dump has colors.
+    pub colors: Colors,
+    /// How items in diagnostic notation are laid out.
+    pub layout: Layout,
+    /// How many levels deep tags, arrays and maps may be nested.
+    pub depth: usize,
+    ghost shallow: { depth ≤ MOST_LEVELS },
+}

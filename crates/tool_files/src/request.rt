@@ -1,0 +1,81 @@
+//! What is asked for, or why nothing is.
+
+ghost use Rattle.std.specs.Prelude.{◌≡◌, IfNone, IfSome};
+
+use crate::options::{Options, Word};
+
+/// What a help text is about.
+#[derive(Clone, Copy)]
+pub enum Topic {
+    /// The program.
+    Program,
+    /// A word that looks at files.
+    Word(Word),
+    /// The word `recode`.
+    Recode,
+}
+
+impl Topic {
+    ghost use Rattle.tool_files.specs.Arguments.{topic_name};
+    ghost use Rattle.tool_files.specs.declared.request.Topic.{Topic};
+
+    /// Returns the topic of this name. `help` is the name of the program as a topic.
+    pub fn named(name: &str) -> Option<Topic>
+        ensures some { IfSome result (λ topic. name.now ≡ topic_name topic) }
+        ensures none { IfNone result ((topic : Topic) → name.now ≡ topic_name topic → ⊥) }
+    {
+        match name {
+            "help" => Some(Topic::Program),
+            "recode" => Some(Topic::Recode),
+            _ => match Word::named(name) {
+                Some(word) => Some(Topic::Word(word)),
+                None => None,
+            },
+        }
+    }
+}
+
+/// What words ask for.
+#[derive(Clone, Copy)]
+pub enum Request {
+    /// A look at files.
+    Look {
+        /// What the program does.
+        word: Word,
+        /// How the program does it.
+        options: Options,
+    },
+    /// A help text.
+    Help(Topic),
+    /// The version of the program.
+    Version,
+}
+
+/// Why words ask for nothing. It has the word at fault.
+#[derive(Clone, Copy)]
+pub enum Refusal<'w> {
+    /// There is no word.
+    NoWord,
+    /// No word has this name.
+    UnknownWord(&'w str),
+    /// The word has no option of this name.
+    UnknownOption {
+        /// The word.
+        word: Word,
+        /// What stands as the option.
+        option: &'w str,
+    },
+    /// The option wants a value, and no word follows it.
+    NoValue(&'w str),
+    /// The option takes no value.
+    NeedlessValue(&'w str),
+    /// The option has no value of this text.
+    BadValue {
+        /// The option's name.
+        option: &'w str,
+        /// The text.
+        value: &'w str,
+    },
+    /// Nothing may follow, and this word does.
+    Needless(&'w str),
+}

@@ -1,0 +1,91 @@
+-- What a copy of elements from a reader to a writer does, if both tell their bytes.
+--
+-- `left reader bytes` says that the reader still has these bytes, and `got writer bytes` that the writer has these
+-- bytes.
+use Rattle.std.specs.Prelude.{◌≡◌, ℕ, false, ◌+◌, ◌≤◌, ◌⊎◌, List, ◌++◌, length, drop, Option, Some, Result, Ok, Err}
+use Rattle.ciborium_ll_decoder.specs.declared.dec.Error.TheVariants as e
+use Rattle.ciborium_ll_decoder.specs.declared.copy.RecodeError.{RecodeError}
+use Rattle.ciborium_ll_decoder.specs.declared.copy.RecodeError.TheVariants as r
+use Rattle.ciborium_ll_grammar.specs.Elements.{spelling}
+use Rattle.ciborium_ll_grammar.specs.Faults.{Syntax, BeginsWithElements, HasFault}
+use Rattle.ciborium_ll_decoder.specs.Decoding.{offset_limit}
+use Rattle.ciborium_ll_recode.specs.RecodingTold.{StopInReading, StopInWriting}
+
+-- the bytes are told, and are exactly these
+abbrev pub Tells : {T : Type 0} → (T → Option (List ℕ)) → T → List ℕ → Type 0
+Tells told value bytes = told value ≡ Some bytes
+
+-- the bytes are told, and are these without the first ones, at most `most`, which were read ahead
+abbrev pub TellsBehind : {T : Type 0} → (T → Option (List ℕ)) → ℕ → T → List ℕ → Type 0
+TellsBehind told most value bytes = (lost : List ℕ) × (rest : List ℕ) × (told value ≡ Some rest)
+    × (bytes ≡ lost ++ rest) × (length lost ≤ most)
+
+-- the bytes are told, and are these without some at the end
+abbrev pub TellsFront : {T : Type 0} → (T → Option (List ℕ)) → T → List ℕ → Type 0
+TellsFront told value bytes = (front : List ℕ) × (lost : List ℕ) × (told value ≡ Some front) × (bytes ≡ front ++ lost)
+
+-- nothing is said
+abbrev pub IsAnything : {T : Type 0} → T → List ℕ → Type 0
+IsAnything value bytes = Unit {0}
+
+-- the bytes are told, and are exactly these. If the flush after them failed, they may lack some at the end
+abbrev pub TellsFlushed : {T F : Type 0} → (T → Option (List ℕ)) → Result (Unit {0}) F → T → List ℕ → Type 0
+TellsFlushed told (Ok done) value bytes = Tells told value bytes
+TellsFlushed told (Err fault) value bytes = TellsFront told value bytes
+
+-- how a copy ended with the flush after it: with its own error, otherwise with that of the flush
+abbrev pub flushed_outcome : {E F : Type 0} → Result (Unit {0}) (RecodeError E F) → Result (Unit {0}) F
+    → Result (Unit {0}) (RecodeError E F)
+flushed_outcome (Ok done) (Ok sent) = Ok done
+flushed_outcome (Ok done) (Err fault) = Err (r.Write fault)
+flushed_outcome (Err error) flushed = Err error
+
+module _ {W : Type 0} (got : W → List ℕ → Type 0) where
+  -- the reader failed or the offset was full: the writer got the spelling of a part of the elements
+  pub record ReadsShort (count : ℕ) (due written : List ℕ) (writer : W) : Type 0 where
+    pub stop : StopInReading count due
+    pub output : got writer (written ++ stop.written)
+
+module _ {R W : Type 0} (left : R → List ℕ → Type 0) (got : W → List ℕ → Type 0) where
+  -- the writer failed: it got a beginning of the spelling of all elements, or of a part of them. What was not read is
+  -- left
+  pub record WritesShort (count : ℕ) (due written : List ℕ) (reader : R) (writer : W) : Type 0 where
+    pub stop : StopInWriting count 64 due
+    pub output : got writer (written ++ stop.written)
+    pub rest : left reader stop.rest
+
+  -- a syntax stopped the copy: the writer got what is written before that fault, and what follows the fault is left
+  pub record MeetsSyntax (count place : ℕ) (due written : List ℕ) (reader : R) (writer : W) : Type 0 where
+    pub fault : HasFault false count due
+    pub answered : fault.answer ≡ Syntax place
+    pub output : got writer (written ++ fault.written)
+    pub rest : left reader (drop fault.consumed fault.ahead)
+
+  -- all elements were copied: the writer got their shortest spelling, and what follows them is left
+  pub record CopiesCount (count : ℕ) (due written : List ℕ) (reader : R) (writer : W) : Type 0 where
+    pub front : BeginsWithElements false count due
+    pub output : got writer (written ++ spelling front.marks)
+    pub rest : left reader front.rest
+
+module _ {R W E F : Type 0} (left : R → List ℕ → Type 0) (got : W → List ℕ → Type 0) where
+  -- what a copy of `count` elements does, through a buffer of 64 bytes, by its answer. After `Io` and `TooLong` nothing
+  -- is said of what is left
+  abbrev pub CopiesRaw : ℕ → List ℕ → List ℕ → Result (Unit {0}) (RecodeError E F) → R → W → Type 0
+  CopiesRaw count due written (Ok done) reader writer = CopiesCount left got count due written reader writer
+  CopiesRaw count due written (Err (r.Read (e.Io fault))) reader writer = ReadsShort got count due written writer
+  CopiesRaw count due written (Err (r.Read (e.Syntax place))) reader writer =
+      MeetsSyntax left got count place due written reader writer
+  CopiesRaw count due written (Err (r.Read e.TooLong)) reader writer =
+      (short : ReadsShort got count due written writer) ×
+      (offset_limit ≤ length short.stop.before + short.stop.consumed + 64)
+  CopiesRaw count due written (Err (r.Read e.Waiting)) reader writer = ⊥
+  CopiesRaw count due written (Err (r.Write fault)) reader writer =
+      WritesShort left got count due written reader writer
+
+  -- the same of a copy and the flush after it, by one answer: `Write` may also be the flush's, after a whole copy
+  abbrev pub CopiesFlushed : ℕ → List ℕ → List ℕ → Result (Unit {0}) (RecodeError E F) → R → W → Type 0
+  CopiesFlushed count due written (Ok done) reader writer = CopiesCount left got count due written reader writer
+  CopiesFlushed count due written (Err (r.Read error)) reader writer =
+      CopiesRaw count due written (Err (r.Read error)) reader writer
+  CopiesFlushed count due written (Err (r.Write fault)) reader writer =
+      WritesShort left got count due written reader writer ⊎ CopiesCount left got count due written reader writer

@@ -1,0 +1,67 @@
+-- What the loop over the items of a show read and wrote.
+use Rattle.std.proofs.Common.{◌≡◌, ℕ, ◌+◌, Result, Ok, Err, ◌∙◌, ap, sym, subst}
+use Rattle.ciborium_ll.specs.Types.Read.{Ghosts}
+use Rattle.ciborium_ll.specs.Types.Write.{Ghosts as Sink}
+use Rattle.ciborium_ll.specs.Sides.{Sides}
+use Rattle.ciborium_ll.specs.Types.Decoder.{Decoder}
+use Rattle.cbor_skip.specs.Skipping.{SkipsItem}
+use Rattle.cbor_diag.specs.declared.DiagError.{DiagError}
+use Rattle.cbor_diag.specs.declared.DiagError.TheVariants as d
+use Rattle.cbor_diag.specs.Showing.{CountsShown, OnReading}
+use Rattle.cbor_dump.specs.Sequences.{IsEnd, ReadsItems}
+use Rattle.cbor_diag.specs.declared.layout.Layout.{Layout}
+use Rattle.cbor_diag.specs.ItemStops.{ItemStops}
+use Rattle.tool_verdicts.specs.Showing.{CountsItems}
+use Rattle.tool_verdicts.specs.Showing.{EndsShow, IsEndOfItems, ShowsItems, ShowsLines, WritesItems, at_item}
+
+module _ {R E F : Type 0} (source : Ghosts R E) where
+  -- the error of the show behind whole items, as it ends
+  pub show_ends : (depth count place stop : ℕ) (old between new : Decoder R) (error : DiagError E F)
+      (result : Result E (DiagError E F)) → ReadsItems source depth count old between
+      → OnReading {T = Unit {0}} (λ answer. SkipsItem source depth 64 between answer new) (Err error)
+      → EndsShow error place stop result → place ≡ between.offset → stop ≡ new.offset
+      → ShowsItems source depth old result new
+  show_ends depth count place stop old between new error (Ok fault) reads fails is here there = record {
+    count = count;
+    between = between;
+    reads = reads;
+    fails =
+        subst (λ (x : DiagError E F). OnReading {T = Unit {0}} (λ answer. SkipsItem source depth 64 between answer new)
+        (Err x)) is.0 fails;
+    still = sym there ∙ (is.1 ∙ here);
+  }
+  show_ends depth count place stop old between new error (Err (d.Read stops)) reads fails is here there = record {
+    count = count;
+    between = between;
+    reads = reads;
+    fails =
+        subst (λ (x : DiagError E F). OnReading {T = Unit {0}} (λ answer. SkipsItem source depth 64 between answer new)
+        (Err x)) (sym is.0) fails;
+    no_end = λ is_end. is.1 (subst (λ (x : DiagError E F). IsEndOfItems x place stop) is.0
+        (subst (λ (n : ℕ). IsEnd stops place n) (sym there)
+        (subst (λ (n : ℕ). IsEnd stops n new.offset) (sym here) is_end)));
+  }
+  show_ends depth count place stop old between new error (Err (d.Write fault)) reads fails is here there = tt
+
+-- how often the reader failed in the show, as it ends
+pub show_failures : {E F : Type 0} (error : DiagError E F) (place stop old between new : ℕ)
+    (result : Result E (DiagError E F)) → EndsShow error place stop result → between ≡ old
+    → CountsShown {T = Unit {0}} (Err error) between new → CountsItems result old new
+show_failures error place stop old between new (Ok fault) is same counts =
+    let P : DiagError _ _ → Type 0 = λ x. CountsShown {T = Unit {0}} (Err x) between new in
+    let once : new ≡ between + 1 = subst P is.0 counts in
+    once ∙ ap (λ (n : ℕ). n + 1) same
+show_failures error place stop old between new (Err other) is same counts =
+    subst (λ (n : ℕ). CountsShown {T = Unit {0}} (Err other) n new) same
+    (subst (λ (x : DiagError _ _). CountsShown {T = Unit {0}} (Err x) between new) (sym is.0) counts)
+
+module _ {R E W F : Type 0} (source : Ghosts R E) (sink : Sink W F) (layout : Layout) where
+  -- behind whole lines the show of one more item ended, by what its error says
+  pub lines_end : (count place stop : ℕ) (old between new : Sides R W) (error : DiagError E F)
+      (result : Result E (DiagError E F)) → ShowsLines source sink layout count old between
+      → ItemStops source sink layout between error new → EndsShow error place stop result
+      → WritesItems source sink layout old result new
+  lines_end count place stop old between new error (Ok fault) lines stops is = at_item count between lines
+      (subst (λ (x : DiagError E F). ItemStops source sink layout between x new) is.0 stops)
+  lines_end count place stop old between new error (Err other) lines stops is = at_item count between lines
+      (subst (λ (x : DiagError E F). ItemStops source sink layout between x new) (sym is.0) stops)

@@ -1,0 +1,91 @@
+use Rattle.std.proofs.Common.{suc, Err, arith, refl, sym, subst, ◌∙◌}
+use Rattle.ciborium_ll.proofs.DecodingLaws.{MovesOn-none, MovesOn-then}
+use Rattle.cbor_skip.specs.Skipping.{ReadsItem, SkipsItem, strictness}
+use Rattle.ciborium_ll.specs.Sides.{sides}
+use Rattle.cbor_diag.specs.Showing.{OnReading}
+use Rattle.cbor_diag.specs.ItemStops.{ItemStops}
+use Rattle.cbor_dump.proofs.ItemRows.{items_counted}
+use Rattle.cbor_dump.proofs.SequenceLaws.{none_read, one_more}
+use Rattle.tool_verdicts.specs.Showing.{at_end, more, none}
+use Rattle.tool_verdicts.proofs.ShowLaws.{lines_end, show_ends, show_failures}
+use Rattle.tool_verdicts.proofs.diag.items.Goals as goal
+
+pub items-init : goal.items-init
+items-init g c = record {
+  count = 0;
+  reads = none_read g.R.Read c.args.depth c.args.decoder.now;
+  lines = none;
+  moves_on = MovesOn-none g.R.Read c.args.decoder.now;
+}
+
+pub returns-in-Err-clause-reads : goal.returns-in-Err-clause-reads
+returns-in-Err-clause-reads g c =
+    let new = c.offset.new.self in
+    let fails : OnReading {T = Unit {0}} (λ answer. SkipsItem g.R.Read c.args.depth 64 c.items.decoder answer new)
+    (Err c.in-Err.error) =
+    subst (λ x. OnReading {T = Unit {0}} (λ answer. SkipsItem g.R.Read c.args.depth 64 c.items.decoder answer x)
+    (Err c.in-Err.error)) (sym c.offset.ensures.same)
+    (subst (λ x. OnReading {T = Unit {0}} (λ answer. SkipsItem g.R.Read c.args.depth 64 x answer c.diagnose.new.decoder)
+    (Err c.in-Err.error)) c.offset-place.ensures.same c.in-Err.ensures.reads.reads) in
+    show_ends g.R.Read c.args.depth c.items.invariant.count c.offset-place.result c.offset.result c.args.decoder.now
+    c.items.decoder new c.in-Err.error c.ended.result c.items.invariant.reads fails c.ended.ensures
+    c.offset-place.ensures.value (rw c.offset.ensures.same c.offset.ensures.value)
+
+-- each item takes a byte
+pub items-smaller : goal.items-smaller
+items-smaller g c =
+    let item : ReadsItem g.R.Read c.args.depth c.items.decoder c.diagnose.new.decoder =
+    rw c.offset-place.ensures.same at c.in_default.ensures.reads.reads in
+    let some = items_counted (strictness c.items.decoder) c.args.depth 1 item.item item.is_item in
+    omega (arith, some, item.passed.offset)
+
+pub items-preserved : goal.items-preserved
+items-preserved g c =
+    let item : ReadsItem g.R.Read c.args.depth c.items.decoder c.diagnose.new.decoder =
+    rw c.offset-place.ensures.same at c.in_default.ensures.reads.reads in
+    record {
+      count = suc c.items.invariant.count;
+      reads = one_more g.R.Read c.args.depth c.items.invariant.count _ _ _ c.items.invariant.reads item;
+      lines = more c.items.invariant.lines (rw c.offset-place.ensures.same at c.in_default.ensures.shown)
+          c.in_default-line_ended.ensures;
+      moves_on = MovesOn-then g.R.Read _ _ _ c.items.invariant.moves_on
+          (rw c.offset-place.ensures.same at c.diagnose.ensures.reads.moves_on);
+    }
+
+pub returns-in-Err-clause-writes : goal.returns-in-Err-clause-writes
+returns-in-Err-clause-writes g c =
+    let new = c.offset.new.self in
+    let writer = c.diagnose.new.writer in
+    let stops : ItemStops g.R.Read g.W.Write c.args.layout (sides c.items.decoder c.items.writer) c.in-Err.error
+    (sides new writer) =
+    subst (λ x. ItemStops g.R.Read g.W.Write c.args.layout (sides c.items.decoder c.items.writer) c.in-Err.error
+    (sides x writer)) (sym c.offset.ensures.same) (rw c.offset-place.ensures.same at c.in-Err.ensures.shown) in
+    lines_end g.R.Read g.W.Write c.args.layout c.items.invariant.count c.offset-place.result c.offset.result _ _ _
+    c.in-Err.error c.ended.result c.items.invariant.lines stops c.ended.ensures
+
+pub returns-in-Err-line_ended-clause-writes : goal.returns-in-Err-line_ended-clause-writes
+returns-in-Err-line_ended-clause-writes g c =
+    at_end c.items.invariant.count _ _ _ c.items.invariant.lines
+    (rw c.offset-place.ensures.same at c.in_default.ensures.shown) c.in-Err-line_ended.ensures refl
+
+-- ---- how the decoder is left
+
+pub returns-in-Err-clause-moves_on : goal.returns-in-Err-clause-moves_on
+returns-in-Err-clause-moves_on g c =
+    rw c.offset.ensures.same (MovesOn-then g.R.Read _ _ _ c.items.invariant.moves_on
+    (rw c.offset-place.ensures.same at c.diagnose.ensures.reads.moves_on))
+
+pub returns-in-Err-line_ended-clause-moves_on : goal.returns-in-Err-line_ended-clause-moves_on
+returns-in-Err-line_ended-clause-moves_on g c =
+    MovesOn-then g.R.Read _ _ _ c.items.invariant.moves_on
+    (rw c.offset-place.ensures.same at c.diagnose.ensures.reads.moves_on)
+
+pub returns-in-Err-clause-failures : goal.returns-in-Err-clause-failures
+returns-in-Err-clause-failures g c =
+    rw c.offset.ensures.same (show_failures c.in-Err.error _ _ _ _ _ c.ended.result c.ended.ensures
+    c.items.invariant.reads.passed.failures
+    (rw c.offset-place.ensures.same at c.in-Err.ensures.reads.failures))
+
+pub returns-in-Err-line_ended-clause-failures : goal.returns-in-Err-line_ended-clause-failures
+returns-in-Err-line_ended-clause-failures g c =
+    (rw c.offset-place.ensures.same at c.in_default.ensures.reads.failures) ∙ c.items.invariant.reads.passed.failures

@@ -1,0 +1,156 @@
+-- What `check` finds in bytes, and the word for each answer of the libraries.
+use Rattle.std.specs.Prelude.{◌≡◌, ℕ, ◌+◌, Bool, true, false, List, [], ◌++◌, length, Option, Some, None}
+use Rattle.std.specs.Prelude.{Result, Ok, Err}
+use Rattle.std.specs.declared.io.Error.{Error}
+use Rattle.ciborium_ll.specs.Types.Read.{Ghosts}
+use Rattle.ciborium_ll.specs.Types.ReadFault.{ReadFault}
+use Rattle.ciborium_ll.specs.Types.ReadFault.TheVariants as r
+use Rattle.ciborium_ll.specs.Types.Decoder.{Decoder}
+use Rattle.ciborium_ll.specs.Types.Error.TheVariants as e
+use Rattle.ciborium_ll.specs.Items.{AreItems, IsItem}
+use Rattle.ciborium_ll.specs.Faults.{Short, Syntax}
+use Rattle.cbor_skip.specs.declared.SkipError.{SkipError}
+use Rattle.cbor_skip.specs.declared.SkipError.TheVariants as s
+use Rattle.cbor_skip.specs.ItemFaults.{HasDeepNest, HasEarlyBreak, HasItemFault, BeginsWithItem}
+use Rattle.cbor_diag.specs.declared.DiagError.{DiagError}
+use Rattle.cbor_diag.specs.declared.DiagError.TheVariants as d
+use Rattle.cbor_dump.specs.declared.dump.DumpError.{DumpError}
+use Rattle.cbor_dump.specs.declared.dump.DumpError.TheVariants as u
+use Rattle.cbor_dump.specs.declared.sequence.Sequence.{Sequence}
+use Rattle.cbor_dump.specs.declared.sequence.Stopped.{Stopped}
+use Rattle.cbor_dump.specs.declared.single.NotOne.{NotOne}
+use Rattle.cbor_dump.specs.declared.single.NotOne.TheVariants as n
+use Rattle.cbor_dump.specs.Sequences.{IsSequence, ChecksItems}
+use Rattle.cbor_dump.specs.Singles.{ChecksOne}
+use Rattle.tool_verdicts.specs.declared.verdict.Verdict.{Verdict}
+use Rattle.tool_verdicts.specs.declared.verdict.Verdict.TheVariants as v
+
+-- ---- what the libraries answer, as the program says it
+
+-- What stopped the read of an item. A read that failed stopped at this offset.
+abbrev pub fault_said : {E : Type 0} → SkipError E → ℕ → Verdict
+fault_said (s.Break place) offset = v.Break place
+fault_said (s.Deep place) offset = v.Deep place
+fault_said (s.Read (e.Syntax place)) offset = v.Syntax place
+fault_said (s.Read (e.Io error)) offset = v.Short offset
+fault_said (s.Read e.TooLong) offset = v.TooLong
+fault_said (s.Read e.Waiting) offset = v.TooLong
+
+-- The verdict for the answer of `check`.
+abbrev pub sequence_said : {E : Type 0} → Result (Sequence E) (Stopped E) → ℕ → Verdict
+sequence_said (Ok sequence) offset = v.Well sequence.items sequence.bytes
+sequence_said (Err stopped) offset = fault_said stopped.error offset
+
+-- The verdict for the answer of `check_one`.
+abbrev pub single_said : {E : Type 0} → Result (Sequence E) (NotOne E) → ℕ → Verdict
+single_said (Ok sequence) offset = v.Well sequence.items sequence.bytes
+single_said (Err (n.Item error)) offset = fault_said error offset
+single_said (Err (n.More place next)) offset = v.More place
+
+module _ {R E : Type 0} (source : Ghosts R E) where
+  -- `check` gave an answer, and the verdict says it.
+  pub record SaysItems (depth room : ℕ) (old : Decoder R) (verdict : Verdict) (new : Decoder R) : Type 0 where
+    pub answer : Result (Sequence E) (Stopped E)
+    pub checks : ChecksItems source depth room old answer new
+    pub said : verdict ≡ sequence_said answer new.offset
+
+  -- `check_one` gave an answer, and the verdict says it.
+  pub record SaysOne (depth room : ℕ) (old : Decoder R) (verdict : Verdict) (new : Decoder R) : Type 0 where
+    pub answer : Result (Sequence E) (NotOne E)
+    pub checks : ChecksOne source depth room old answer new
+    pub said : verdict ≡ single_said answer new.offset
+
+  -- The verdict says the answer of `check_one` or of `check`, as is wanted.
+  abbrev pub SaysVerdict : Bool → ℕ → ℕ → Decoder R → Verdict → Decoder R → Type 0
+  SaysVerdict true depth room old verdict new = SaysOne depth room old verdict new
+  SaysVerdict false depth room old verdict new = SaysItems depth room old verdict new
+
+-- A read that failed for another reason than the end takes precedence over what is found.
+abbrev pub unless_failed : Option ReadFault → Verdict → Verdict
+unless_failed None verdict = verdict
+unless_failed (Some r.End) verdict = verdict
+unless_failed (Some (r.Failed error)) verdict = v.Failed error
+
+-- What `dump` and `diag` find after whole items: the end, or a read that failed for another reason.
+abbrev pub end_said : Option ReadFault → Result (Unit {0}) Verdict
+end_said None = Ok tt
+end_said (Some r.End) = Ok tt
+end_said (Some (r.Failed error)) = Err (v.Failed error)
+
+-- A dump stopped since its reader failed within an item.
+abbrev pub IsCutShort : {E F : Type 0} → Result E (DumpError E F) → Type 0
+IsCutShort (Err (u.Item (s.Read (e.Io error)))) = Unit {0}
+IsCutShort outcome = ⊥
+
+-- What is said for the answer of `dump`.
+abbrev pub dump_said : {E : Type 0} → Result E (DumpError E Error) → Option ReadFault → ℕ
+    → Result (Unit {0}) Verdict
+dump_said (Ok ended) fault offset = end_said fault
+dump_said (Err (u.Item error)) fault offset = Err (unless_failed fault (fault_said error offset))
+dump_said (Err (u.Rows error)) fault offset = Err (v.Output error)
+
+-- What is said for the answer of `diag`, or the error of its writer.
+abbrev pub diag_said : {E F : Type 0} → Result E (DiagError E F) → Option ReadFault → ℕ
+    → Result (Result (Unit {0}) Verdict) F
+diag_said (Ok ended) fault offset = Ok (end_said fault)
+diag_said (Err (d.Read error)) fault offset = Ok (Err (unless_failed fault (fault_said error offset)))
+diag_said (Err (d.Write error)) fault offset = Err error
+
+-- ---- what is found of bytes that are told
+
+-- All is well.
+abbrev pub FoundWell : Verdict → Type 0
+FoundWell (v.Well items bytes) = Unit {0}
+FoundWell verdict = ⊥
+
+-- The bytes are what is wanted: with `--one` one item, otherwise a sequence of items (RFC 8742, 2), and with `--strict`
+-- in their shortest spelling (RFC 7049, 3.9).
+abbrev pub IsWanted : Bool → Bool → ℕ → List ℕ → Type 0
+IsWanted true strict depth due = IsItem strict depth due
+IsWanted false strict depth due = IsSequence strict depth due
+
+-- `StopsAsNamed strict depth due start verdict`: these bytes begin at the offset `start`, and something stops the read
+-- of an item there. The verdict names it, with its offset (RFC 7049, 2.1 to 2.4). `1c` at the offset 0 is `syntax 0`.
+abbrev pub StopsAsNamed : Bool → ℕ → List ℕ → ℕ → Verdict → Type 0
+StopsAsNamed strict depth due start (v.Syntax place) = (fault : HasItemFault strict depth due) × (at : ℕ)
+    × (fault.answer ≡ Syntax at) × (place ≡ start + at)
+StopsAsNamed strict depth due start (v.Short place) = (fault : HasItemFault strict depth due)
+    × (fault.answer ≡ Short) × (place ≡ start + length fault.before + fault.consumed)
+StopsAsNamed strict depth due start (v.Break place) = (fault : HasEarlyBreak strict depth due) × (place ≡ start + length fault.before)
+StopsAsNamed strict depth due start (v.Deep place) = (fault : HasDeepNest strict depth due) × (place ≡ start + length fault.before)
+StopsAsNamed strict depth due start verdict = ⊥
+
+-- `count` items, and bytes after them in which the read of a further item stops. The verdict names the fault.
+pub record StopsBehind (strict : Bool) (depth count : ℕ) (due : List ℕ) (start : ℕ) (verdict : Verdict) : Type 0 where
+  pub before : List ℕ
+  pub ahead : List ℕ
+  pub are_items : AreItems strict depth count before
+  pub is : due ≡ before ++ ahead
+  pub stops : StopsAsNamed strict depth ahead (start + length before) verdict
+
+-- One item, and more bytes after it from this offset on.
+pub record IsFollowed (strict : Bool) (depth : ℕ) (due : List ℕ) (start place : ℕ) : Type 0 where
+  pub front : BeginsWithItem strict depth due
+  pub some : front.rest ≡ [] → ⊥
+  pub at : place ≡ start + length front.item
+
+-- What is found in a sequence from this offset on: all its items and bytes, or the first fault.
+abbrev pub FindsAll : Bool → ℕ → List ℕ → ℕ → Verdict → Type 0
+FindsAll strict depth due start (v.Well items bytes) = AreItems strict depth items due × (bytes ≡ length due)
+FindsAll strict depth due start verdict = (count : ℕ) × StopsBehind strict depth count due start verdict
+
+-- What is found after the rows of a dump: the end of a sequence, or its first fault.
+abbrev pub FindsBehindRows : Bool → ℕ → List ℕ → ℕ → Result (Unit {0}) Verdict → Type 0
+FindsBehindRows strict depth due start (Ok done) = IsSequence strict depth due
+FindsBehindRows strict depth due start (Err verdict) = (count : ℕ) × StopsBehind strict depth count due start verdict
+
+-- What is found if one item is wanted.
+abbrev pub FindsOne : Bool → ℕ → List ℕ → ℕ → Verdict → Type 0
+FindsOne strict depth due start (v.Well items bytes) = (items ≡ 1) × IsItem strict depth due × (bytes ≡ length due)
+FindsOne strict depth due start (v.More place) = IsFollowed strict depth due start place
+FindsOne strict depth due start verdict = StopsBehind strict depth 0 due start verdict
+
+-- What is found in one item or in a sequence, as is wanted.
+abbrev pub Finds : Bool → Bool → ℕ → List ℕ → ℕ → Verdict → Type 0
+Finds true strict depth due start verdict = FindsOne strict depth due start verdict
+Finds false strict depth due start verdict = FindsAll strict depth due start verdict

@@ -1,0 +1,106 @@
+-- What `diag` reads and writes of a sequence of items (RFC 8742), and how a line ends.
+use Rattle.std.specs.Prelude.{◌≡◌, ℕ, zero, suc, ◌+◌, ◌⊎◌, [], ◌∷◌, Result, Ok, Err, IsSome}
+use Rattle.ciborium_ll.specs.Types.Read.{Ghosts}
+use Rattle.ciborium_ll.specs.Types.Write.{Ghosts as Sink}
+use Rattle.ciborium_ll.specs.Encoding.{WritesAll, WritesFront}
+use Rattle.ciborium_ll.specs.Sides.{Sides, sides}
+use Rattle.ciborium_ll.specs.Types.Decoder.{Decoder}
+use Rattle.ciborium_ll.specs.Types.Error.TheVariants as e
+use Rattle.cbor_skip.specs.declared.SkipError.{SkipError}
+use Rattle.cbor_skip.specs.declared.SkipError.TheVariants as s
+use Rattle.cbor_skip.specs.Skipping.{SkipsItem}
+use Rattle.cbor_diag.specs.declared.DiagError.{DiagError}
+use Rattle.cbor_diag.specs.declared.DiagError.TheVariants as d
+use Rattle.cbor_diag.specs.declared.layout.Layout.{Layout}
+use Rattle.cbor_diag.specs.ItemTexts.{ItemShown}
+use Rattle.cbor_diag.specs.ItemStops.{ItemStops}
+use Rattle.cbor_diag.specs.Showing.{CountsShown}
+use Rattle.cbor_dump.specs.Sequences.{IsEnd, ReadsItems}
+use Rattle.cbor_diag.specs.declared.strings.TheConstants.{BUFFER_SIZE}
+
+module _ {E F : Type 0} where
+  -- The error says that the reader failed before a byte of an item came.
+  abbrev pub IsEndOfItems : DiagError E F → ℕ → ℕ → Type 0
+  IsEndOfItems (d.Read error) place stop = IsEnd error place stop
+  IsEndOfItems (d.Write fault) place stop = ⊥
+
+  -- What an error after whole items says, of a show that began at the place and stopped at `stop`.
+  abbrev pub EndsShow : DiagError E F → ℕ → ℕ → Result E (DiagError E F) → Type 0
+  EndsShow error place stop (Ok fault) = (error ≡ d.Read (s.Read (e.Io fault))) × (stop ≡ place)
+  EndsShow error place stop (Err other) = (other ≡ error) × (IsEndOfItems error place stop → ⊥)
+
+  -- How often the reader failed, by the answer: once at the end, and before the end once if the error of the read says
+  -- so.
+  abbrev pub CountsItems : Result E (DiagError E F) → ℕ → ℕ → Type 0
+  CountsItems (Ok fault) old new = new ≡ old + 1
+  CountsItems (Err error) old new = CountsShown {T = Unit {0}} (Err error) old new
+
+module _ {W F : Type 0} (sink : Sink W F) where
+  -- A line feed was written, and the writer passed on what it had kept back. A writer that tells its room keeps nothing
+  -- back, and so has exactly that byte more.
+  pub record EndsLine (old new : W) : Type 0 where
+    pub between : W
+    pub ends : WritesAll sink old (10 ∷ []) between
+    pub passed_on : sink.flushed between new
+    pub just : IsSome (sink.room old) → WritesAll sink old (10 ∷ []) new
+
+  -- A line feed was written, and the writer did not pass on what it had kept back. If the writer tells its room, the
+  -- bytes and the room are as the line feed left them.
+  pub record KeepsLine (old new : W) : Type 0 where
+    pub between : W
+    pub ends : WritesAll sink old (10 ∷ []) between
+    pub fails : sink.failures new ≡ sink.failures between + 1
+    pub bytes : IsSome (sink.room old) → sink.written new ≡ sink.written between
+    pub room : IsSome (sink.room old) → sink.room new ≡ sink.room between
+
+  -- The end of a line, by the answer. If one of the two calls failed, it was the last call: the line feed was not
+  -- written, or it was written and kept back.
+  abbrev pub EndsOrFails : {T : Type 0} → W → Result T F → W → Type 0
+  EndsOrFails old (Ok done) new = EndsLine old new
+  EndsOrFails old (Err fault) new = WritesFront sink old (10 ∷ []) new ⊎ KeepsLine old new
+
+module _ {R E : Type 0} (source : Ghosts R E) where
+  -- Items were read, and the reader failed at a further item before it consumed a byte.
+  pub record EndsItems (depth : ℕ) (old : Decoder R) (fault : E) (new : Decoder R) : Type 0 where
+    pub count : ℕ
+    pub between : Decoder R
+    pub reads : ReadsItems source depth count old between
+    pub fails : SkipsItem source depth BUFFER_SIZE between (Err (s.Read (e.Io fault))) new
+    pub still : new.offset ≡ between.offset
+
+  -- Items were read, and the read of a further item failed. The failure is not an end.
+  pub record StopsItems (depth : ℕ) (old : Decoder R) (error : SkipError E) (new : Decoder R) : Type 0 where
+    pub count : ℕ
+    pub between : Decoder R
+    pub reads : ReadsItems source depth count old between
+    pub fails : SkipsItem source depth BUFFER_SIZE between (Err error) new
+    pub no_end : IsEnd error between.offset new.offset → ⊥
+
+  -- The show of a sequence, by its answer: whole items, up to the end or to a further item whose read failed (RFC
+  -- 8742).
+  abbrev pub ShowsItems : {F : Type 0} → ℕ → Decoder R → Result E (DiagError E F) → Decoder R → Type 0
+  ShowsItems depth old (Ok fault) new = EndsItems depth old fault new
+  ShowsItems depth old (Err (d.Read error)) new = StopsItems depth old error new
+  ShowsItems depth old (Err (d.Write fault)) new = Unit {0}
+
+module _ {R E W F : Type 0} (source : Ghosts R E) (sink : Sink W F) (layout : Layout) where
+  -- `count` items were shown, each on a line of its own: its text, and an end of the line.
+  pub data ShowsLines : ℕ → Sides R W → Sides R W → Type 0 where
+    none : {now : Sides R W} → ShowsLines zero now now
+    more : {count : ℕ} {old now : Sides R W} {between : Decoder R} {shown new : W} → ShowsLines count old now
+        → ItemShown source sink layout now (sides between shown) → EndsLine sink shown new
+        → ShowsLines (suc count) old (sides between new)
+
+  -- After whole lines the show of one more item ended with this error, or its line could not be ended.
+  pub data StopsLines (old : Sides R W) (error : DiagError E F) (new : Sides R W) : Type 0 where
+    at_item : (count : ℕ) (between : Sides R W) → ShowsLines count old between
+        → ItemStops source sink layout between error new → StopsLines old error new
+    at_end : (count : ℕ) (between : Sides R W) (shown : W) (fault : F) → ShowsLines count old between
+        → ItemShown source sink layout between (sides new.decoder shown)
+        → EndsOrFails sink {T = Unit {0}} shown (Err fault) new.writer → error ≡ d.Write fault
+        → StopsLines old error new
+
+  -- The show of a sequence, by its answer. The fault of a read that consumed nothing is that of a further item.
+  abbrev pub WritesItems : Sides R W → Result E (DiagError E F) → Sides R W → Type 0
+  WritesItems old (Ok fault) new = StopsLines old (d.Read (s.Read (e.Io fault))) new
+  WritesItems old (Err error) new = StopsLines old error new

@@ -1,0 +1,63 @@
+-- What the program says of an input, and how it ends.
+use Rattle.std.specs.Prelude.{ℕ, List, ◌++◌, Option, Some, None, codes, decimal}
+use Rattle.std.specs.IoError.{error_kind}
+use Rattle.std.specs.declared.io.ErrorKind.{ErrorKind}
+use Rattle.std.specs.declared.io.ErrorKind.TheVariants as k
+use Rattle.tool_verdicts.specs.declared.verdict.TextFault.{TextFault}
+use Rattle.tool_verdicts.specs.declared.verdict.TextReason.{TextReason}
+use Rattle.tool_verdicts.specs.declared.verdict.TextReason.TheVariants as t
+use Rattle.tool_verdicts.specs.declared.verdict.Status.{Status}
+use Rattle.tool_verdicts.specs.declared.verdict.Status.TheVariants as s
+use Rattle.tool_verdicts.specs.declared.verdict.Verdict.{Verdict}
+use Rattle.tool_verdicts.specs.declared.verdict.Verdict.TheVariants as v
+
+-- The number that a script sees.
+abbrev pub status_code : Status → ℕ
+status_code s.Well = 0
+status_code s.Malformed = 1
+status_code s.Usage = 2
+status_code s.Failed = 3
+status_code s.Gone = 141
+
+-- How the program ends after a write to its output failed. A shell says 141 of a program that a closed pipe ended.
+abbrev pub output_status : ErrorKind → Status
+output_status k.BrokenPipe = s.Gone
+output_status kind = s.Failed
+
+-- How the program ends. Malformed input is malformed by its own bytes. After a failure this is not known.
+abbrev pub verdict_status : Verdict → Status
+verdict_status (v.Well items bytes) = s.Well
+verdict_status (v.Syntax place) = s.Malformed
+verdict_status (v.Short place) = s.Malformed
+verdict_status (v.Break place) = s.Malformed
+verdict_status (v.Deep place) = s.Malformed
+verdict_status (v.More place) = s.Malformed
+verdict_status v.TooLong = s.Failed
+verdict_status (v.Failed error) = s.Failed
+verdict_status (v.Text fault) = s.Malformed
+verdict_status (v.Output error) = output_status (error_kind error)
+
+-- What is said of a text that spells no bytes.
+abbrev pub reason_text : TextReason → List ℕ
+reason_text t.NoDigit = codes "no hexadecimal digit"
+reason_text t.HalfByte = codes "half a byte"
+reason_text t.OpenComment = codes "a comment without an end"
+reason_text t.OpenQuotes = codes "quotes without an end"
+
+-- The line of a fault in a text: `line 2, column 5: half a byte`.
+abbrev pub text_fault_text : TextFault → List ℕ
+text_fault_text fault = codes "line " ++ (decimal fault.line ++ (codes ", column " ++ (decimal fault.column
+    ++ (codes ": " ++ reason_text fault.reason))))
+
+-- The line of what is found: `ok 2 3` for two items in three bytes. The text of std's own error is open.
+abbrev pub verdict_text : Verdict → Option (List ℕ)
+verdict_text (v.Well items bytes) = Some (codes "ok " ++ (decimal items ++ (codes " " ++ decimal bytes)))
+verdict_text (v.Syntax place) = Some (codes "syntax " ++ decimal place)
+verdict_text (v.Short place) = Some (codes "short " ++ decimal place)
+verdict_text (v.Break place) = Some (codes "break " ++ decimal place)
+verdict_text (v.Deep place) = Some (codes "deep " ++ decimal place)
+verdict_text (v.More place) = Some (codes "more " ++ decimal place)
+verdict_text (v.Text fault) = Some (text_fault_text fault)
+verdict_text v.TooLong = Some (codes "too long")
+verdict_text (v.Failed error) = None
+verdict_text (v.Output error) = None

@@ -1,0 +1,148 @@
+//! What a check finds in an input, and the word for each answer of the library.
+
+ghost use Rattle.std.specs.Prelude.{◌≡◌, ◌≤◌, ◌↔◌, ℕ, List};
+ghost use Rattle.ciborium_ll.specs.Decoding.{IsFreshAs, offset_of, strict_of};
+ghost use Rattle.ciborium_ll.specs.Items.{IsItem};
+ghost use Rattle.cbor_skip.specs.SkippingTold.{IsReadyToSkip};
+ghost use Rattle.cbor_dump.specs.Sequences.{IsSequence};
+ghost use Rattle.tool_verdicts.specs.Checking.{Finds, FindsAll, FindsOne, IsWanted, FoundWell, SaysVerdict, SaysItems, SaysOne};
+ghost use Rattle.tool_verdicts.specs.Checking.{end_said, fault_said, sequence_said, single_said, unless_failed};
+ghost use Rattle.ciborium_ll.specs.Limits.{MOST_LEVELS};
+ghost use Rattle.tool_verdicts.specs.declared.check.TheConstants.{BUFFER_SIZE};
+
+use crate::verdict::Verdict;
+use cbor_dump::sequence::{Sequence, Stopped, check};
+use cbor_dump::single::{NotOne, check_one};
+use cbor_skip::SkipError;
+use ciborium_ll::io::{Read, ReadFault};
+use ciborium_ll::{Decoder, Error, Spelling};
+
+/// How many bytes of a string are read at once.
+pub const BUFFER_SIZE: usize = 512;
+
+/// Makes a decoder at the start of a reader's bytes, a strict one if `strict`.
+pub fn decoder_of<R: Read>(reader: R, strict: bool) -> Decoder<R>
+    ensures { IsFreshAs strict reader 0 result }
+{
+    Decoder::with_spelling(reader, Spelling::shortest_if(strict), 0)
+}
+
+/// Returns what was found, or the error of a read that failed for another reason than the end. A read that fails meets
+/// no fault of the bytes.
+pub fn failed_or(fault: Option<ReadFault>, verdict: Verdict) -> Verdict
+    ensures { result ≡ unless_failed fault verdict }
+{
+    match fault {
+        Some(ReadFault::Failed(error)) => Verdict::Failed(error),
+        Some(ReadFault::End) | None => verdict,
+    }
+}
+
+/// Returns what is found at the end of whole items: nothing, or the error of a read that failed for another reason than
+/// the end.
+pub fn end_verdict(fault: Option<ReadFault>) -> Result<(), Verdict>
+    ensures { result ≡ end_said fault }
+{
+    match fault {
+        Some(ReadFault::Failed(error)) => Err(Verdict::Failed(error)),
+        Some(ReadFault::End) | None => Ok(()),
+    }
+}
+
+/// Checks one item or a sequence of items, as `one` says, and returns what it finds.
+///
+/// Tags, arrays and maps nest at most `depth` levels deep, and the depth is at most 256. The verdict says the library's
+/// answer as it is: the numbers of items and bytes, or the fault with its offset.
+///
+/// Assume that a steady reader tells its bytes, that the offset fits, and that no header waits on a strict decoder.
+/// Then all is well exactly if the bytes are what is wanted, to the depth, for a strict decoder in their shortest
+/// spelling. The verdict has their numbers. Otherwise it names the first fault after the whole items, with its offset.
+/// If one item is wanted and bytes follow it, the verdict names the offset from which they follow.
+pub fn wanted<R: Read>(decoder: &mut Decoder<R>, one: bool, depth: usize) -> Verdict
+where
+    R::Error: Drop,
+    requires { depth ≤ MOST_LEVELS }
+    ensures exactly { (due : List ℕ) → IsReadyToSkip R.Read BUFFER_SIZE decoder.old due
+        → (FoundWell result ↔ IsWanted one (strict_of decoder.old) depth due) }
+    ensures told { (due : List ℕ) → IsReadyToSkip R.Read BUFFER_SIZE decoder.old due
+        → Finds one (strict_of decoder.old) depth due (offset_of decoder.old) result }
+    ensures says { SaysVerdict R.Read one depth BUFFER_SIZE decoder.old result decoder.new }
+{
+    if one {
+        single(decoder, depth)
+    } else {
+        all(decoder, depth)
+    }
+}
+
+/// Checks a sequence of items.
+fn all<R: Read>(decoder: &mut Decoder<R>, depth: usize) -> Verdict
+where
+    R::Error: Drop,
+    requires { depth ≤ MOST_LEVELS }
+    ensures says { SaysItems R.Read depth BUFFER_SIZE decoder.old result decoder.new }
+    ensures exactly { (due : List ℕ) → IsReadyToSkip R.Read BUFFER_SIZE decoder.old due
+        → (FoundWell result ↔ IsSequence (strict_of decoder.old) depth due) }
+    ensures told { (due : List ℕ) → IsReadyToSkip R.Read BUFFER_SIZE decoder.old due
+        → FindsAll (strict_of decoder.old) depth due (offset_of decoder.old) result }
+{
+    let mut buffer = [0; BUFFER_SIZE];
+    let answer = check(decoder, depth, &mut buffer);
+    sequence_verdict(answer, decoder.offset())
+}
+
+/// Returns what is found in a sequence. A read that failed stopped at this offset.
+fn sequence_verdict<E: Drop>(answer: Result<Sequence<E>, Stopped<E>>, offset: usize) -> Verdict
+    ensures { result ≡ sequence_said answer offset }
+{
+    match answer {
+        Ok(sequence) => Verdict::Well {
+            items: sequence.items,
+            bytes: sequence.bytes,
+        },
+        Err(stopped) => fault_of(stopped.error, offset),
+    }
+}
+
+/// Checks one item, and that nothing follows it.
+fn single<R: Read>(decoder: &mut Decoder<R>, depth: usize) -> Verdict
+where
+    R::Error: Drop,
+    requires { depth ≤ MOST_LEVELS }
+    ensures says { SaysOne R.Read depth BUFFER_SIZE decoder.old result decoder.new }
+    ensures exactly { (due : List ℕ) → IsReadyToSkip R.Read BUFFER_SIZE decoder.old due
+        → (FoundWell result ↔ IsItem (strict_of decoder.old) depth due) }
+    ensures told { (due : List ℕ) → IsReadyToSkip R.Read BUFFER_SIZE decoder.old due
+        → FindsOne (strict_of decoder.old) depth due (offset_of decoder.old) result }
+{
+    let mut buffer = [0; BUFFER_SIZE];
+    let answer = check_one(decoder, depth, &mut buffer);
+    single_verdict(answer, decoder.offset())
+}
+
+/// Returns what is found in one item. A read that failed stopped at this offset.
+fn single_verdict<E: Drop>(answer: Result<Sequence<E>, NotOne<E>>, offset: usize) -> Verdict
+    ensures { result ≡ single_said answer offset }
+{
+    match answer {
+        Ok(sequence) => Verdict::Well {
+            items: sequence.items,
+            bytes: sequence.bytes,
+        },
+        Err(NotOne::Item(error)) => fault_of(error, offset),
+        Err(NotOne::More(place, _)) => Verdict::More(place),
+    }
+}
+
+/// Returns what stopped the read of an item, at this offset.
+pub fn fault_of<E: Drop>(error: SkipError<E>, offset: usize) -> Verdict
+    ensures { result ≡ fault_said error offset }
+{
+    match error {
+        SkipError::Break(place) => Verdict::Break(place),
+        SkipError::Deep(place) => Verdict::Deep(place),
+        SkipError::Read(Error::Syntax(place)) => Verdict::Syntax(place),
+        SkipError::Read(Error::Io(_)) => Verdict::Short(offset),
+        SkipError::Read(Error::TooLong | Error::Waiting) => Verdict::TooLong,
+    }
+}

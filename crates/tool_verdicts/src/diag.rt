@@ -1,0 +1,93 @@
+//! Items in diagnostic notation, one after the other, and what is found after them.
+
+ghost use Rattle.std.specs.Prelude.{◌≡◌, ◌≤◌};
+ghost use Rattle.ciborium_ll.specs.Decoding.{MovesOn, failures_of};
+ghost use Rattle.ciborium_ll.specs.Sides.{sides};
+ghost use Rattle.tool_verdicts.specs.Checking.{diag_said};
+ghost use Rattle.tool_verdicts.specs.Showing.{CountsItems, EndsOrFails, EndsShow, ShowsItems, WritesItems};
+ghost use Rattle.ciborium_ll.specs.Limits.{MOST_LEVELS};
+
+use crate::check::{end_verdict, failed_or, fault_of};
+use crate::verdict::Verdict;
+use cbor_diag::{DiagError, Layout, diagnose};
+use cbor_skip::SkipError;
+use ciborium_ll::io::{Read, ReadFault, Write};
+use ciborium_ll::{Decoder, Error};
+
+/// Returns what a show found. A read that failed stopped at this offset, with this fault.
+///
+/// The verdict says the library's answer as it is. A read that failed for another reason than the end takes precedence.
+///
+/// # Errors
+///
+/// The writer's error, if the writer failed.
+pub fn diag_verdict<E: Drop, F>(
+    outcome: Result<E, DiagError<E, F>>,
+    fault: Option<ReadFault>,
+    offset: usize,
+) -> Result<Result<(), Verdict>, F>
+    ensures { result ≡ diag_said outcome fault offset }
+{
+    match outcome {
+        Ok(_) => Ok(end_verdict(fault)),
+        Err(DiagError::Read(error)) => Ok(Err(failed_or(fault, fault_of(error, offset)))),
+        Err(DiagError::Write(error)) => Err(error),
+    }
+}
+
+/// Writes items in diagnostic notation, each with a line end, and returns the reader's error at the end.
+///
+/// Tags, arrays and maps nest at most `depth` levels deep. The depth is at most 256. If the writer does not fail, the
+/// call reads whole items, each as `skip_item` reads it. It stops if the reader fails at a further item before a byte
+/// came, or if that item stops as `skip_item` says.
+///
+/// The text of each whole item is written as `diagnose` says, and then a line feed, which is passed on at once. After
+/// the last whole line stands what `diagnose` says of the item at which it stopped, or a line that could not be ended.
+///
+/// In each case the decoder moves on as [`Decoder`] says. The reader fails once if the answer is `Ok` or carries
+/// `Error::Io`, and otherwise it does not fail.
+///
+/// # Errors
+///
+/// The error of `diagnose` on the last item, or `Write` if a line could not be ended.
+pub fn items<R: Read, W: Write>(
+    decoder: &mut Decoder<R>,
+    writer: &mut W,
+    depth: usize,
+    layout: Layout,
+) -> Result<R::Error, DiagError<R::Error, W::Error>>
+    requires { depth ≤ MOST_LEVELS }
+    ensures reads { ShowsItems R.Read depth decoder.old result decoder.new }
+    ensures writes { WritesItems R.Read W.Write layout (sides decoder.old writer.old) result
+        (sides decoder.new writer.new) }
+    ensures failures { CountsItems result (failures_of R.Read decoder.old) (failures_of R.Read decoder.new) }
+    ensures moves_on { MovesOn R.Read decoder.old decoder.new }
+{
+    'items: loop {
+        let place = decoder.offset();
+        if let Err(error) = diagnose(decoder, writer, depth, layout) {
+            return ended(error, place, decoder.offset());
+        }
+        if let Err(fault) = line_ended(writer) {
+            return Err(DiagError::Write(fault));
+        }
+    }
+}
+
+/// Ends the line of an item and flushes the writer.
+fn line_ended<W: Write>(writer: &mut W) -> Result<(), W::Error>
+    ensures { EndsOrFails W.Write writer.old result writer.new }
+{
+    writer.write_all(b"\n")?;
+    writer.flush()
+}
+
+/// Answers the error of a show of an item that begins at this place. The show ended at the offset `stop`.
+fn ended<E, F>(error: DiagError<E, F>, place: usize, stop: usize) -> Result<E, DiagError<E, F>>
+    ensures { EndsShow error place stop result }
+{
+    match error {
+        DiagError::Read(SkipError::Read(Error::Io(end))) if stop == place => Ok(end),
+        error => Err(error),
+    }
+}

@@ -1,0 +1,9 @@
+mod CoseLaws
+pub mod MapLaws
+mod PairLaws
+pub mod SettingsLaws
+mod ShortestLaws
+mod Steps
+mod StreamLaws
+mod SumLaws
+mod TextLaws

@@ -1,0 +1,10 @@
+use Rattle.std.proofs.Common.{length, take}
+use Rattle.uses.proofs.ShortestLaws.{Spelled}
+use Rattle.uses.proofs.shortest.shortest_item_len.Given as goal
+
+abbrev pub invariant-elements : goal.invariant-elements
+invariant-elements l = Spelled (take l.len l.fn.bytes) l.rest
+
+-- an element has a byte at least
+abbrev pub decreases-elements : goal.decreases-elements
+decreases-elements l = length l.rest

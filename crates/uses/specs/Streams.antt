@@ -1,0 +1,148 @@
+-- The effect of a copy of a stream to its shortest spelling.
+use Rattle.std.specs.Prelude.{◌≡◌, ℕ, ◌+◌, ◌<◌, ◌≤◌, ◌^◌, ◌⊎◌, false, List, ◌++◌, length, drop, IsTrue, IsSome, Some}
+use Rattle.std.specs.Prelude.{Result, Ok, Err, OnOk, OnErr}
+use Rattle.ciborium_ll.specs.Types.Read.{Ghosts as Reader}
+use Rattle.ciborium_ll.specs.Types.Write.{Ghosts as Writer}
+use Rattle.ciborium_ll.specs.Types.Decoder.{Decoder}
+use Rattle.ciborium_ll.specs.Types.Error.TheVariants as e
+use Rattle.ciborium_ll.specs.Types.RecodeError.{RecodeError}
+use Rattle.ciborium_ll.specs.Types.RecodeError.TheVariants as r
+use Rattle.ciborium_ll.specs.Decoding.{IsFresh, reader_of}
+use Rattle.ciborium_ll.specs.Elements.{spelling}
+use Rattle.ciborium_ll.specs.Faults.{Answer, Short, Syntax, HasFault, BeginsWithElements}
+use Rattle.ciborium_ll.specs.Recoding.{Recodes}
+use Rattle.ciborium_ll.specs.RecodingTold.{StopInReading, StopInWriting}
+use Rattle.ciborium_ll.specs.Sides.{sides}
+
+-- ---- over any reader and writer
+
+module _ {W F : Type 0} (sink : Writer W F) where
+  -- The writer was flushed, with this answer. A writer that tells its room keeps its bytes.
+  pub record Flushes (old : W) (result : Result (Unit {0}) F) (new : W) : Type 0 where
+    pub flushed : OnOk result (sink.flushed old new)
+    pub ok : OnOk result (sink.failures new ≡ sink.failures old)
+    pub err : OnErr result (sink.failures new ≡ sink.failures old + 1)
+    pub bytes : IsSome (sink.room old) → sink.written new ≡ sink.written old
+    pub room : IsSome (sink.room old) → sink.room new ≡ sink.room old
+    pub target : sink.target new ≡ sink.target old
+
+  -- The writer was flushed, and an error is the error of the flush.
+  abbrev pub FlushesSo : {E : Type 0} → W → Result (Unit {0}) (RecodeError E F) → W → Type 0
+  FlushesSo old (Ok done) new = Flushes old (Ok done) new
+  FlushesSo old (Err (r.Write fault)) new = Flushes old (Err fault) new
+  FlushesSo old (Err (r.Read error)) new = ⊥
+
+module _ {R E W F : Type 0} (source : Reader R E) (sink : Writer W F) where
+  -- `recode` copied `count` elements to the writer, with this answer, by a new decoder over the reader and a buffer of
+  -- 64 bytes. The reader is as that decoder left it.
+  pub record RecodesFrom (count : ℕ) (reader : R) (writer : W) (result : Result (Unit {0}) (RecodeError E F))
+      (reader' : R) (writer' : W) : Type 0 where
+    pub decoder : Decoder R
+    pub fresh : IsFresh reader 0 decoder
+    pub behind : Decoder R
+    pub recodes : Recodes source sink count 64 (sides decoder writer) result (sides behind writer')
+    pub left : reader' ≡ reader_of behind
+
+  -- All elements were copied, and then the writer was flushed, with this answer.
+  pub record FlushesBehind (count : ℕ) (reader : R) (writer : W) (result : Result (Unit {0}) F) (reader' : R)
+      (writer' : W) : Type 0 where
+    pub between : W
+    pub copies : RecodesFrom count reader writer (Ok tt) reader' between
+    pub flushes : Flushes sink between result writer'
+
+  -- The effect of `normalise`, by its answer: a copy and then a flush, or a copy that failed.
+  abbrev pub CopiesAndFlushes : ℕ → R → W → Result (Unit {0}) (RecodeError E F) → R → W → Type 0
+  CopiesAndFlushes count reader writer (Ok done) reader' writer' =
+      FlushesBehind count reader writer (Ok done) reader' writer'
+  CopiesAndFlushes count reader writer (Err (r.Read error)) reader' writer' =
+      RecodesFrom count reader writer (Err (r.Read error)) reader' writer'
+  CopiesAndFlushes count reader writer (Err (r.Write fault)) reader' writer' =
+      RecodesFrom count reader writer (Err (r.Write fault)) reader' writer' ⊎
+      FlushesBehind count reader writer (Err fault) reader' writer'
+
+  -- ---- what is asked where bytes are told
+
+  -- The reader tells its bytes, and the writer tells the bytes written.
+  pub record TellBytes (reader : R) (writer : W) (due written : List ℕ) : Type 0 where
+    pub ahead : source.ahead reader ≡ Some due
+    pub output : sink.written writer ≡ Some written
+
+  -- Both tell their bytes, the reader fails only if bytes are missing, the offset fits, and the writer has room. The
+  -- room covers the spelling of the elements if they are next, and otherwise all bytes due.
+  pub record AreReady (count : ℕ) (reader : R) (writer : W) (due written : List ℕ) : Type 0 where
+    pub tell : TellBytes reader writer due written
+    pub steady : IsTrue (source.steady reader)
+    pub room : ℕ
+    pub room-told : sink.room writer ≡ Some room
+    pub enough : ((front : BeginsWithElements false count due) × (length (spelling front.marks) ≤ room)) ⊎ (length due ≤ room)
+    pub fits : length due + 64 < 2 ^ 64
+
+  -- ---- the copy
+
+  -- The bytes began with `count` elements. Their shortest spelling was appended, and exactly the bytes after them are
+  -- left.
+  pub record CopiesSo (count : ℕ) (due written : List ℕ) (reader : R) (writer : W) : Type 0 where
+    pub front : BeginsWithElements false count due
+    pub output : sink.written writer ≡ Some (written ++ spelling front.marks)
+    pub left : source.ahead reader ≡ Some front.rest
+
+  -- The bytes began with fewer elements, and the first fault stopped the copy. The writer has everything written before
+  -- the fault, and the reader the bytes after those that the fault consumes.
+  pub record StopsAtFault (count : ℕ) (due written : List ℕ) (answer : Answer) (reader : R) (writer : W) : Type 0 where
+    pub fault : HasFault false count due
+    pub answered : fault.answer ≡ answer
+    pub fewer : BeginsWithElements false count due → ⊥
+    pub output : sink.written writer ≡ Some (written ++ fault.written)
+    pub left : source.ahead reader ≡ Some (drop fault.consumed fault.ahead)
+
+  -- The reader failed, or the offset is full. A part of the elements was read, and written but for the kept bytes.
+  pub record FailsToRead (count : ℕ) (due written : List ℕ) (writer : W) : Type 0 where
+    pub stop : StopInReading count due
+    pub output : sink.written writer ≡ Some (written ++ stop.written)
+
+  -- A write failed. A part of the elements was read, and a beginning of its spelling was written.
+  pub record FailsToWrite (count : ℕ) (due written : List ℕ) (reader : R) (writer : W) : Type 0 where
+    pub stop : StopInWriting count 64 due
+    pub output : sink.written writer ≡ Some (written ++ stop.written)
+    pub left : source.ahead reader ≡ Some stop.rest
+
+  -- ---- the flush behind it
+
+  -- All elements were copied, and their writer was flushed.
+  pub record Normalises (count : ℕ) (due written : List ℕ) (reader : R) (writer : W) : Type 0 where
+    pub copied : W
+    pub copies : CopiesSo count due written reader copied
+    pub flushed : sink.flushed copied writer
+
+  -- All elements were copied, and the flush failed. A writer that tells its room still has them.
+  pub record FailsToFlush (count : ℕ) (due written : List ℕ) (reader : R) (writer : W) : Type 0 where
+    pub copied : W
+    pub copies : CopiesSo count due written reader copied
+    pub kept : IsSome (sink.room copied) → sink.written writer ≡ sink.written copied
+
+  -- ---- both, by the answer
+
+  -- The effect of `normalise` if all is ready. An error `Read` names the first fault, and an error `Write` is the error
+  -- of the flush.
+  abbrev pub IsNormalised : ℕ → List ℕ → List ℕ → Result (Unit {0}) (RecodeError E F) → R → W → Type 0
+  IsNormalised count due written (Ok done) reader writer = Normalises count due written reader writer
+  IsNormalised count due written (Err (r.Read (e.Io fault))) reader writer =
+      StopsAtFault count due written Short reader writer
+  IsNormalised count due written (Err (r.Read (e.Syntax place))) reader writer =
+      StopsAtFault count due written (Syntax place) reader writer
+  IsNormalised count due written (Err (r.Read e.TooLong)) reader writer = ⊥
+  IsNormalised count due written (Err (r.Read e.Waiting)) reader writer = ⊥
+  IsNormalised count due written (Err (r.Write fault)) reader writer = CopiesSo count due written reader writer
+
+  -- The effect of `normalise` if any call may fail.
+  abbrev pub NormalisesAnyhow : ℕ → List ℕ → List ℕ → Result (Unit {0}) (RecodeError E F) → R → W → Type 0
+  NormalisesAnyhow count due written (Ok done) reader writer = Normalises count due written reader writer
+  NormalisesAnyhow count due written (Err (r.Read (e.Io fault))) reader writer = FailsToRead count due written writer
+  NormalisesAnyhow count due written (Err (r.Read (e.Syntax place))) reader writer =
+      StopsAtFault count due written (Syntax place) reader writer
+  NormalisesAnyhow count due written (Err (r.Read e.TooLong)) reader writer =
+      (stops : FailsToRead count due written writer)
+      × (2 ^ 64 ≤ length stops.stop.before + stops.stop.consumed + 64)
+  NormalisesAnyhow count due written (Err (r.Read e.Waiting)) reader writer = ⊥
+  NormalisesAnyhow count due written (Err (r.Write fault)) reader writer =
+      FailsToWrite count due written reader writer ⊎ FailsToFlush count due written reader writer

@@ -1,0 +1,21 @@
+// SPDX-License-Identifier: Apache-2.0
+//! Callers of the library, as a user writes them. The contract of each function says what the function is for.
+#![tactic(auto)]
+
+mod cose;
+mod maps;
+mod settings;
+mod shortest;
+mod streams;
+mod sums;
+mod texts;
+
+pub use self::cose::{CoseError, MAP_DEPTH, Sign1, Span, read_sign1};
+pub use self::maps::{Entry, write_strings};
+pub use self::settings::{
+    LONGEST_HOST, SETTINGS_DEPTH, Settings, SettingsError, read_settings, write_settings,
+};
+pub use self::shortest::{DEPTH, shortest_item_len};
+pub use self::streams::normalise;
+pub use self::sums::{SumError, sum_numbers};
+pub use self::texts::{TextError, read_string};

@@ -1,0 +1,67 @@
+//! A stream, copied in its shortest spelling.
+
+ghost use Rattle.std.specs.Prelude.{ℕ, List};
+ghost use Rattle.uses.specs.Streams.{AreReady, CopiesAndFlushes, FlushesSo, IsNormalised, NormalisesAnyhow};
+ghost use Rattle.uses.specs.Streams.{TellBytes};
+
+use ciborium_ll::io::{Read, Write};
+use ciborium_ll::recode::recode;
+use ciborium_ll::{Decoder, Encoder, RecodeError};
+
+/// Copies `count` elements from a reader to a writer, each in its shortest spelling, flushes the writer, and returns
+/// both.
+///
+/// An element is a header that begins no string, or a whole string (RFC 7049, 2.1 and 2.2).
+///
+/// Over any reader and writer, the copy is the copy of `recode` by a new decoder and a buffer of 64 bytes. After all
+/// elements the call flushes the writer. The reader comes back as `recode` left it, and so does the writer, but for the
+/// flush. The elements read are consumed, and the writer has their copy. A writer that tells its room keeps the copy
+/// after a failed flush too.
+///
+/// If both sides tell their bytes, `Ok` says that the writer got the shortest spelling of `count` elements and was
+/// flushed. The reader then has the bytes that follow the elements.
+///
+/// Let the reader also be steady, the offset fit and the writer have room: for the spelling of the elements if that
+/// many are next, and otherwise for all bytes due. `Read` then comes exactly if the bytes begin with fewer elements,
+/// and names the first fault. `Write` is then the error of the flush alone, with all elements written.
+///
+/// # Errors
+///
+/// These are the errors of `recode`, after which nothing is flushed, and `Write` with the error of the flush. If both
+/// sides tell their bytes:
+///
+/// - `Read(Syntax(offset))`: the first fault, with its place. The writer has everything that is written before the
+///   fault, and the reader the bytes after those that the fault consumes.
+/// - `Read(Io)`, `Read(TooLong)`: the writer has the spelling of a part of the elements.
+/// - `Write`: the writer has a beginning of this spelling, and the reader the bytes after those read. Or the writer has
+///   everything, and the flush failed.
+pub fn normalise<R: Read, W: Write>(
+    reader: R,
+    writer: W,
+    count: usize,
+) -> (R, W, Result<(), RecodeError<R::Error, W::Error>>)
+    ensures exactly { (due written : List ℕ) → AreReady R.Read W.Write count reader writer due written
+        → IsNormalised R.Read W.Write count due written result.2 result.0 result.1 }
+    ensures anyhow { (due written : List ℕ) → TellBytes R.Read W.Write reader writer due written
+        → NormalisesAnyhow R.Read W.Write count due written result.2 result.0 result.1 }
+    ensures copied { CopiesAndFlushes R.Read W.Write count reader writer result.2 result.0 result.1 }
+{
+    let mut buffer = [0; 64];
+    let mut decoder = Decoder::from(reader);
+    let mut encoder = Encoder::from(writer);
+    let copied = recode(&mut decoder, &mut encoder, count, &mut buffer);
+    let reader = decoder.into_inner();
+    let mut writer = encoder.into_inner();
+    let outcome = match copied {
+        Ok(()) => flushed(&mut writer),
+        Err(error) => Err(error),
+    };
+    (reader, writer, outcome)
+}
+
+/// Flushes the writer.
+fn flushed<E, W: Write>(writer: &mut W) -> Result<(), RecodeError<E, W::Error>>
+    ensures { FlushesSo W.Write writer.old result writer.new }
+{
+    writer.flush().map_err(|fault| RecodeError::Write(fault))
+}
