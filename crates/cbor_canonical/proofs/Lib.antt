@@ -1,0 +1,11 @@
+pub mod Narrowing
+pub mod NarrowRuns
+pub mod TitleRuns
+pub mod StringRuns
+pub mod SortRuns
+pub mod ItemRuns
+pub mod PairRuns
+pub mod FailRuns
+pub mod SameLaws
+pub mod MapRuns
+pub mod CanonicalLaws

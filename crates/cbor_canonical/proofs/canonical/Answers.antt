@@ -1,0 +1,18 @@
+use Rattle.cbor_canonical.proofs.CanonicalLaws.{no_simple, duplicate_key, item_there}
+use Rattle.cbor_canonical.proofs.canonical.Goals as goal
+
+pub returns-in-Err-NoSimple : goal.returns-in-Err-NoSimple
+returns-in-Err-NoSimple c =
+    no_simple c.args.depth c.in-Err-NoSimple.left c.args.bytes.now c.in-Err-NoSimple.field-0 c.refused.result
+    c.refused.ensures c.in_ok-check_item.ensures c.in-Err-NoSimple.field-0-is c.in-Err-NoSimple.ensures
+
+pub returns-in-Err-Duplicate : goal.returns-in-Err-Duplicate
+returns-in-Err-Duplicate c =
+    duplicate_key c.args.depth c.in-Err-Duplicate.left c.args.bytes.now c.in-Err-Duplicate.field-0
+    c.refused-in-Err-Duplicate.result c.refused-in-Err-Duplicate.ensures c.in_ok-check_item.ensures
+    c.in-Err-Duplicate.field-0-is c.in-Err-Duplicate.ensures
+
+pub unreachable-requires : goal.unreachable-requires
+unreachable-requires c =
+    item_there c.args.depth c.args.bytes.now c.in-Err-Malformed.field-0 c.in_ok-check_item.ensures
+    c.in-Err-Malformed.field-0-is c.in-Err-Malformed.ensures

@@ -1,0 +1,51 @@
+//! Whether an item begins some bytes, before it is rewritten.
+
+ghost use Rattle.std.specs.Prelude.{◌≤◌, MatchResult, false, length};
+ghost use Rattle.cbor_skip.specs.ItemFaults.{BeginsWithItem};
+ghost use Rattle.cbor_canonical.specs.Refusals.{HasRefusal, IsRefusalOf};
+
+use crate::{Refusal, Why};
+use cbor_deterministic::MAX_DEPTH;
+use cbor_skip::{SkipError, skip_item};
+use ciborium_ll_decoder::dec::{Decoder, Error};
+use ciborium_ll_io::io::{EndOfFile, SliceReader};
+
+/// How many bytes of a string are read at a time, at most.
+const BUFFER_SIZE: usize = 256;
+
+/// Why and where no item to the depth begins the bytes, if none does.
+pub(crate) fn check_item(bytes: &[u8], depth: usize) -> Result<(), Refusal>
+    requires shallow { depth ≤ MAX_DEPTH }
+    ensures { MatchResult result (λ done. BeginsWithItem false depth bytes.now)
+        (λ refusal. HasRefusal depth bytes.now refusal.why refusal.place) }
+{
+    let mut buffer = [0; BUFFER_SIZE];
+    let mut decoder = Decoder::from(SliceReader::new(bytes));
+    let skipped = skip_item(&mut decoder, depth, &mut buffer);
+    refusal_of(skipped, bytes.len())
+}
+
+/// Returns the refusal for an error of a skip over `len` bytes.
+fn refusal_of(skipped: Result<(), SkipError<EndOfFile>>, len: usize) -> Result<(), Refusal>
+    ensures { IsRefusalOf len skipped result }
+{
+    match skipped {
+        Ok(()) => Ok(()),
+        Err(SkipError::Break(place)) => Err(Refusal {
+            why: Why::Break,
+            place,
+        }),
+        Err(SkipError::Deep(place)) => Err(Refusal {
+            why: Why::Deep,
+            place,
+        }),
+        Err(SkipError::Read(Error::Syntax(place))) => Err(Refusal {
+            why: Why::Malformed,
+            place,
+        }),
+        Err(SkipError::Read(_)) => Err(Refusal {
+            why: Why::Cut,
+            place: len,
+        }),
+    }
+}

@@ -1,0 +1,33 @@
+//! Laws of the rewriting, each the contract of an empty function. Each holds for both orders of keys.
+
+ghost use Rattle.std.specs.Prelude.{◌≡◌, ◌++◌, ℕ, List, false};
+ghost use Rattle.ciborium_ll_grammar.specs.Items.{IsItem};
+ghost use Rattle.cbor_deterministic.specs.declared.Order.{Order as AnyOrder};
+ghost use Rattle.cbor_deterministic.specs.Deterministic.{IsDeterministic};
+ghost use Rattle.cbor_deterministic.specs.Spellings.{Encodes};
+ghost use Rattle.cbor_deterministic.specs.Values.{Value, Same};
+ghost use Rattle.cbor_canonical.specs.declared.Why.{Why as AnyWhy};
+ghost use Rattle.cbor_canonical.specs.Canonical.{IsRewritten, IsFittingSpelling};
+ghost use Rattle.cbor_canonical.specs.Refusals.{HasRefusal};
+
+/// What is written for an item is the one deterministic encoding: each item in it that is a spelling of the same value
+/// is the same bytes, whatever the order in which the pairs of maps are listed.
+pub fn rewritten_is_the_encoding()
+    ensures { (order : AnyOrder) (depth other : ℕ) (value same : Value) (item written others : List ℕ)
+        → IsRewritten order depth item written → Encodes value item → Same value same
+        → IsDeterministic order other others → Encodes same others → written ≡ others }
+{}
+
+/// A second run changes nothing: what is written for an item in the deterministic encoding is that item.
+pub fn written_again()
+    ensures { (order : AnyOrder) (depth other : ℕ) (item written : List ℕ) → IsDeterministic order other item
+        → IsRewritten order depth item written → written ≡ item }
+{}
+
+/// Bytes are refused only if they begin with no item to the depth that is a spelling of a value in which no map has a
+/// key twice.
+#[tactic(auto, using(crate::proofs::CanonicalLaws::refused_has_none))]
+pub fn refused_has_none()
+    ensures { (depth place : ℕ) (bytes item rest : List ℕ) (why : AnyWhy) → HasRefusal depth bytes why place
+        → IsItem false depth item → IsFittingSpelling item → bytes ≡ item ++ rest → ⊥ }
+{}

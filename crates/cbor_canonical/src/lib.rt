@@ -1,0 +1,150 @@
+// SPDX-License-Identifier: Apache-2.0
+//! The deterministic encoding of any well-formed item (RFC 8949, 4.2).
+//!
+//! [`canonical`] reads an item of any spelling, and writes the one deterministic encoding of the same value.
+//! [`narrow::narrowest`] gives a float in the smallest width that has it. [`laws`] says what the encoding keeps.
+#![tactic(auto)]
+
+ghost use Rattle.std.specs.Prelude.{◌≡◌, ◌≤◌, MatchResult};
+ghost use Rattle.cbor_canonical.specs.Canonical.{IsCanonical};
+ghost use Rattle.cbor_canonical.specs.Refusals.{HasWhy, IsUnwritten};
+
+mod check;
+pub mod laws;
+pub mod narrow;
+mod rewrite;
+mod strings;
+mod title;
+
+use crate::check::check_item;
+use crate::rewrite::rewrite_item;
+use cbor_deterministic::{MAX_DEPTH, Order};
+use std::alloc::{AllocError, Global};
+
+/// Why bytes are refused.
+#[derive(Clone, Copy, Debug, PartialEq, Eq)]
+pub enum Why {
+    /// They end too early.
+    Cut,
+    /// A title that is none or may not stand within its string, or a text that is not UTF-8.
+    Malformed,
+    /// A break in place of an item.
+    Break,
+    /// A tag, an array or a map for which no level is left.
+    Deep,
+    /// A simple value from 24 to 31 (RFC 8949, 3.3). The item stands for no value.
+    NoSimple,
+    /// A key that its map has already (RFC 8949, 5.6).
+    DuplicateKey,
+}
+
+/// Why and where no item that has a deterministic encoding begins some bytes.
+#[derive(Clone, Copy, Debug, PartialEq, Eq, Drop)]
+pub struct Refusal {
+    /// Why the bytes are refused.
+    pub why: Why,
+    /// The offset of the place, in bytes.
+    pub place: usize,
+}
+
+/// Why nothing is written.
+#[derive(Clone, Copy, Debug, PartialEq, Eq, Drop)]
+pub enum CanonicalError {
+    /// The bytes are refused.
+    Refused(Refusal),
+    /// No memory is left.
+    Memory,
+}
+
+/// Why a call stops.
+#[derive(Clone, Copy, Drop)]
+pub(crate) enum Stop {
+    /// No item to the depth stands at the beginning.
+    Malformed,
+    /// A simple value from 24 to 31, and how many bytes are left from its title on.
+    NoSimple(usize),
+    /// A key that its map has already, and how many bytes are left from the key on.
+    Duplicate(usize),
+    /// No memory is left.
+    Memory,
+}
+
+impl From<AllocError> for Stop {
+    ghost use Rattle.cbor_canonical.specs.declared.Stop.TheVariants.{Memory as NoMemory};
+
+    ghost from_gives = { λ refused stop. stop ≡ NoMemory };
+
+    fn from(_refused: AllocError) -> Stop {
+        Stop::Memory
+    }
+}
+
+impl From<Refusal> for CanonicalError {
+    ghost use Rattle.cbor_canonical.specs.declared.CanonicalError.TheVariants.{Refused};
+
+    ghost from_gives = { λ refusal error. error ≡ Refused refusal };
+
+    fn from(refusal: Refusal) -> CanonicalError {
+        CanonicalError::Refused(refusal)
+    }
+}
+
+/// Writes the deterministic encoding of the item at the beginning of the bytes, and gives the encoding and the rest of
+/// the bytes.
+///
+/// The encoding is that of RFC 8949, 4.2.1, or, for [`Order::LengthFirst`], of 4.2.3. The item may have any spelling: a
+/// title of any width, a string, an array or a map of indefinite length, and the keys of a map in any order. Tags,
+/// arrays and maps are nested at most `depth` levels deep, and `depth` is at most [`MAX_DEPTH`]. A string takes no
+/// level.
+///
+/// The encoding stands for the same value. A float keeps its value, a zero its sign, and a NaN its sign and payload. No
+/// integer is taken for a float, and no tag is looked into.
+///
+/// # Errors
+///
+/// - `Refused` with [`Why::Cut`]: the place is the end of the bytes.
+/// - `Refused` with [`Why::Malformed`], [`Why::Break`] or [`Why::Deep`]: the place is the one that
+///   `cbor_skip::skip_item` names.
+/// - `Refused` with [`Why::NoSimple`]: an item is there, and it stands for no value. The place is a simple value from
+///   24 to 31.
+/// - `Refused` with [`Why::DuplicateKey`]: an item is there, and a map in it has a key twice. The place is the later
+///   key.
+/// - `Memory`: no memory is left.
+///
+/// The contract leaves the places of `NoSimple` and `DuplicateKey` open. Tests compare them.
+///
+/// # Time and memory
+///
+/// The bytes are read twice. The pairs of a map are sorted, in `n * log n` comparisons of keys. A byte is copied once
+/// for each map and each array of indefinite length that contains it. Each key and each value takes a vector of its own
+/// until its map is written. The stack takes the frames of five calls a level.
+pub fn canonical(
+    alloc: Global,
+    bytes: &[u8],
+    depth: usize,
+    order: Order,
+) -> Result<(Vec<u8>, &[u8]), CanonicalError>
+    requires shallow { depth ≤ MAX_DEPTH }
+    ensures { MatchResult result (λ found. IsCanonical order depth bytes.now found.1.now found.0.items)
+        (IsUnwritten depth bytes.now) }
+{
+    check_item(bytes, depth)?;
+    let mut out = Vec::new(alloc);
+    match rewrite_item(alloc, bytes, depth, order, &mut out) {
+        Ok(rest) => Ok((out, rest)),
+        Err(Stop::NoSimple(left)) => Err(refused(Why::NoSimple, bytes.len(), left)),
+        Err(Stop::Duplicate(left)) => Err(refused(Why::DuplicateKey, bytes.len(), left)),
+        Err(Stop::Memory) => Err(CanonicalError::Memory),
+        Err(Stop::Malformed) => unreachable!(),
+    }
+}
+
+/// Returns the error for bytes of which `left` are left from the refused place on.
+fn refused(why: Why, len: usize, left: usize) -> CanonicalError
+    ensures { HasWhy why result }
+{
+    CanonicalError::Refused(Refusal {
+        why,
+        place: len.saturating_sub(left),
+    })
+}

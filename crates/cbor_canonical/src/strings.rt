@@ -1,0 +1,184 @@
+//! Strings of any form, written after a title that has their length.
+
+ghost use Rattle.std.specs.Prelude.{◌≡◌, ◌↔◌, ◌<◌, ◌++◌, ◌^◌, ℕ, Option, IsTrue, OnOk, MatchOption, MatchResult};
+ghost use Rattle.std.specs.Prelude.{length};
+ghost use Rattle.ciborium_ll_grammar.specs.Strings.{kind_header, IsWritable};
+ghost use Rattle.ciborium_ll_grammar.specs.Elements.{body_spelling};
+ghost use Rattle.ciborium_ll_text.specs.Text.{IsCharacters};
+ghost use Rattle.cbor_canonical.specs.Runs.{Turns};
+ghost use Rattle.cbor_canonical.specs.Strings.{kind_of, IsStep, HasNoStep, Gathers, IsBody, HasNoBody, IsStringTurned};
+ghost use Rattle.cbor_canonical.specs.Strings.{FailsGather, FailsString};
+
+use crate::Stop;
+use crate::title::{next_title, put_title};
+use ciborium_ll_grammar::hdr::Header;
+use ciborium_ll_text::state::{State, text_front};
+use std::alloc::{AllocError, Global};
+
+/// The two kinds of string.
+#[derive(Clone, Copy)]
+pub(crate) enum StringKind {
+    /// A byte string.
+    Bytes,
+    /// A text string.
+    Text,
+}
+
+/// What stands at the beginning of the bytes within an open string.
+#[derive(Clone, Copy)]
+enum Step<'a> {
+    /// The break that ends it. The rest follows.
+    Closed(&'a [u8]),
+    /// A further open. The rest follows.
+    Opened(&'a [u8]),
+    /// A string whose length is told, with this body. The rest follows.
+    Chunk(&'a [u8], &'a [u8]),
+}
+
+impl StringKind {
+    /// The header of a string of this kind.
+    fn header(self, len: Option<usize>) -> Header
+        ensures { result ≡ kind_header (kind_of self) len }
+    {
+        match self {
+            StringKind::Bytes => Header::Bytes(len),
+            StringKind::Text => Header::Text(len),
+        }
+    }
+
+    /// The length that the header of a string of this kind tells, or the indefinite form. No other header has one.
+    fn len_of(self, header: Header) -> Option<Option<usize>>
+        ensures { MatchOption result ((len : Option ℕ) → header ≡ kind_header (kind_of self) len → ⊥)
+            (λ len. header ≡ kind_header (kind_of self) len) }
+    {
+        match (self, header) {
+            (StringKind::Bytes, Header::Bytes(len)) => Some(len),
+            (StringKind::Text, Header::Text(len)) => Some(len),
+            _ => None,
+        }
+    }
+}
+
+/// Whether the bytes are text.
+fn is_text(bytes: &[u8]) -> bool
+    ensures { IsTrue result ↔ IsCharacters bytes.now }
+{
+    text_front(bytes, 0, State::Between).0.len() == bytes.len()
+}
+
+/// Whether the bytes may be the body of a string of this kind.
+fn is_body(kind: StringKind, bytes: &[u8]) -> bool
+    ensures { IsTrue result ↔ IsWritable (kind_of kind) bytes.now }
+{
+    match kind {
+        StringKind::Bytes => true,
+        StringKind::Text => is_text(bytes),
+    }
+}
+
+/// The body of this length at the beginning, and the rest.
+fn take_body(kind: StringKind, bytes: &[u8], len: usize) -> Option<(&[u8], &[u8])>
+    ensures { MatchOption result (HasNoBody (kind_of kind) len bytes.now)
+        (λ found. IsBody (kind_of kind) len bytes.now found.0.now found.1.now) }
+{
+    match bytes.split_at_checked(len) {
+        Some((body, rest)) => {
+            if is_body(kind, body) {
+                Some((body, rest))
+            } else {
+                None
+            }
+        }
+        None => None,
+    }
+}
+
+/// What stands at the beginning of the bytes within an open string.
+fn next_step(kind: StringKind, bytes: &[u8]) -> Option<Step<'_>>
+    ensures { MatchOption result (HasNoStep (kind_of kind) bytes.now) (IsStep (kind_of kind) bytes.now) }
+{
+    let Some((header, rest)) = next_title(bytes) else {
+        return None;
+    };
+    if let Header::Break = header {
+        return Some(Step::Closed(rest));
+    }
+    match kind.len_of(header) {
+        Some(Some(len)) => match take_body(kind, rest, len) {
+            Some((body, after)) => Some(Step::Chunk(body, after)),
+            None => None,
+        },
+        Some(None) => Some(Step::Opened(rest)),
+        None => None,
+    }
+}
+
+/// Joins the bodies of the strings up to the break that ends their open, and gives the rest.
+fn gather<'a>(kind: StringKind, bytes: &'a [u8], body: &mut Vec<u8>) -> Result<&'a [u8], Stop>
+    ensures { MatchResult result (λ rest. Gathers (kind_of kind) bytes.now rest.now body.old.items body.new.items)
+        (FailsGather (kind_of kind) bytes.now) }
+{
+    let mut rest = bytes;
+    let mut opens: usize = 0;
+    let mut due = bytes.len();
+    'steps: while due > 0 {
+        due -= 1;
+        match next_step(kind, rest) {
+            Some(Step::Closed(after)) => {
+                if opens == 0 {
+                    return Ok(after);
+                }
+                opens -= 1;
+                rest = after;
+            }
+            Some(Step::Opened(after)) => {
+                opens += 1;
+                rest = after;
+            }
+            Some(Step::Chunk(chunk, after)) => {
+                body.extend_from_slice(chunk)?;
+                rest = after;
+            }
+            None => return Err(Stop::Malformed),
+        }
+    }
+    Err(Stop::Malformed)
+}
+
+/// Writes the string with this body.
+fn put_string(kind: StringKind, body: &[u8], out: &mut Vec<u8>) -> Result<(), AllocError>
+    ensures written { OnOk result (out.new.items ≡ out.old.items ++ body_spelling (kind_of kind) body.now) }
+    ensures range { length body.now < 2 ^ 64 }
+{
+    put_title(kind.header(Some(body.len())), out)?;
+    out.extend_from_slice(body)
+}
+
+/// Writes the string whose title told this length, and gives the rest.
+pub(crate) fn rewrite_string<'a>(
+    alloc: Global,
+    kind: StringKind,
+    len: Option<usize>,
+    bytes: &'a [u8],
+    out: &mut Vec<u8>,
+) -> Result<&'a [u8], Stop>
+    ensures { MatchResult result (λ rest.
+        Turns (IsStringTurned (kind_of kind) len) bytes.now rest.now out.old.items out.new.items)
+        (FailsString (kind_of kind) len bytes.now) }
+{
+    match len {
+        Some(len) => {
+            let Some((body, rest)) = take_body(kind, bytes, len) else {
+                return Err(Stop::Malformed);
+            };
+            put_string(kind, body, out)?;
+            Ok(rest)
+        }
+        None => {
+            let mut body = Vec::new(alloc);
+            let rest = gather(kind, bytes, &mut body)?;
+            put_string(kind, body.as_slice(), out)?;
+            Ok(rest)
+        }
+    }
+}

@@ -1,0 +1,220 @@
+// Items of any spelling, and their deterministic encodings.
+
+ghost use Rattle.std.specs.Prelude.{◌≤◌};
+
+use crate::shared::{MOST, decoded, holds};
+use cbor_canonical::{CanonicalError, Refusal, Why, canonical};
+use cbor_deterministic::Order;
+use std::alloc::Global;
+use std::process::Abort;
+
+// How many levels an item may have here.
+const DEPTH: usize = 16;
+
+// The encodings of RFC 8949, appendix A, that are not deterministic ones, and the deterministic encoding of each. The
+// bytes follow from 4.2.1.
+static APPENDIX: [(&str, &str); 15] = [
+    // Infinity, NaN and -Infinity, in 32 and in 64 bits.
+    ("fa7f800000", "f97c00"),
+    ("fa7fc00000", "f97e00"),
+    ("faff800000", "f9fc00"),
+    ("fb7ff0000000000000", "f97c00"),
+    ("fb7ff8000000000000", "f97e00"),
+    ("fbfff0000000000000", "f9fc00"),
+    // The items of indefinite length.
+    ("5f42010243030405ff", "450102030405"),
+    ("7f657374726561646d696e67ff", "6973747265616d696e67"),
+    ("9fff", "80"),
+    ("9f018202039f0405ffff", "8301820203820405"),
+    ("83018202039f0405ff", "8301820203820405"),
+    (
+        "9f0102030405060708090a0b0c0d0e0f101112131415161718181819ff",
+        "98190102030405060708090a0b0c0d0e0f101112131415161718181819",
+    ),
+    ("bf61610161629f0203ffff", "a26161016162820203"),
+    ("826161bf61626163ff", "826161a161626163"),
+    ("bf6346756ef563416d7421ff", "a263416d74216346756ef5"),
+];
+
+// Longer titles, floats in a greater width, and strings in strings, worked by hand.
+static SPELLINGS: [(&str, &str); 24] = [
+    ("1800", "00"),
+    ("190017", "17"),
+    ("1a00000018", "1818"),
+    ("1b0000000000000100", "190100"),
+    ("3a000000ff", "38ff"),
+    ("580100", "4100"),
+    ("5900026162", "426162"),
+    ("78016b", "616b"),
+    ("980100", "8100"),
+    ("b90001010a", "a1010a"),
+    ("d80100", "c100"),
+    ("da0000ffff00", "d9ffff00"),
+    ("5fff", "40"),
+    ("5f5f4101ff41025f5f4103ff4104ffff", "4401020304"),
+    ("7f7f6161ff62c3a9ff", "6361c3a9"),
+    // 1.0, 65504.0, the greatest finite float of 32 bits, and 1.1, which no smaller width has.
+    ("fa3f800000", "f93c00"),
+    ("fb40effc0000000000", "f97bff"),
+    ("fb47efffffe0000000", "fa7f7fffff"),
+    ("fb3ff199999999999a", "fb3ff199999999999a"),
+    // 0.0, -0.0, and the least and the greatest subnormal floats of 16 bits.
+    ("fb0000000000000000", "f90000"),
+    ("fb8000000000000000", "f98000"),
+    ("fa33800000", "f90001"),
+    ("fb3e70000000000000", "f90001"),
+    ("fa387fc000", "f903ff"),
+];
+
+// Maps, and what is wanted of each in the bytewise order and with the shorter keys first.
+static MAPS: [(&str, &str, &str); 6] = [
+    // The keys of RFC 8949, 4.2.1 and 4.2.3: false, "aa", -1, [100], 10 in three bytes, [-1], "z" and 100.
+    (
+        "bff4006261610020008118640019000a00812000617a00186400ff",
+        "a80a001864002000617a006261610081186400812000f400",
+        "a80a002000f400186400617a008120006261610081186400",
+    ),
+    (
+        "a8f4006261610020008118640019000a00812000617a00186400",
+        "a80a001864002000617a006261610081186400812000f400",
+        "a80a002000f400186400617a008120006261610081186400",
+    ),
+    // Keys that are maps: {2: 0, 1: 0} and {1: 0}.
+    (
+        "a2a20200010000a1010000",
+        "a2a1010000a20100020000",
+        "a2a1010000a20100020000",
+    ),
+    // A map as a value: {1: {-1: 0, 256: 0}}.
+    (
+        "a101a2200019010000",
+        "a101a2190100002000",
+        "a101a2200019010000",
+    ),
+    // 1.0, -0.0, 0.0 and 1 are four keys.
+    (
+        "a4fa3f80000000f9800000f90000000100",
+        "a40100f9000000f93c0000f9800000",
+        "a40100f9000000f93c0000f9800000",
+    ),
+    // NaNs of different payloads are two keys.
+    (
+        "a2fa7fc0200000f97e0000",
+        "a2f97e0000f97e0100",
+        "a2f97e0000f97e0100",
+    ),
+];
+
+// What is refused: why, and where.
+static REFUSED: [(&str, Why, usize); 22] = [
+    ("", Why::Cut, 0),
+    ("8201", Why::Cut, 2),
+    ("9f01", Why::Cut, 2),
+    ("5f4101", Why::Cut, 3),
+    ("1c", Why::Malformed, 0),
+    ("811f", Why::Malformed, 1),
+    ("5f6100ff", Why::Malformed, 1),
+    ("8161ff", Why::Malformed, 1),
+    ("ff", Why::Break, 0),
+    ("8201ff", Why::Break, 2),
+    ("bf01ff", Why::Break, 2),
+    ("f818", Why::NoSimple, 0),
+    ("8201f81f", Why::NoSimple, 2),
+    ("a100f81800", Why::NoSimple, 2),
+    ("a201000100", Why::DuplicateKey, 3),
+    ("a20100180100", Why::DuplicateKey, 3),
+    ("a3020001000200", Why::DuplicateKey, 5),
+    ("a2f93c0000fa3f80000000", Why::DuplicateKey, 5),
+    ("8201a201000100", Why::DuplicateKey, 5),
+    ("bf7f6161ff00616100ff", Why::DuplicateKey, 6),
+    // Keys that are the same map in another order of its pairs.
+    ("a2a20100020000a20200010000", Why::DuplicateKey, 7),
+    // The same pair twice.
+    ("82a10000a200010001", Why::DuplicateKey, 7),
+];
+
+// What the call writes is this, and nothing is left.
+fn is_written(alloc: Global, bytes: &[u8], order: Order, want: &[u8]) -> bool {
+    match canonical(alloc, bytes, DEPTH, order) {
+        Ok((written, rest)) => written.as_slice() == want && rest.is_empty(),
+        Err(_error) => false,
+    }
+}
+
+// The bytes that digits say are rewritten so, and what is written is written again.
+fn written_row(rt: &impl Abort, alloc: Global, digits: &str, order: Order, want: &str) {
+    let mut space = [0; MOST];
+    let mut wanted = [0; MOST];
+    let bytes = decoded(rt, digits, &mut space);
+    let want = decoded(rt, want, &mut wanted);
+    holds(rt, is_written(alloc, bytes, order, want), digits);
+    holds(rt, is_written(alloc, want, order, want), digits);
+}
+
+// Whether the bytes are refused for this reason at this offset.
+fn is_refused(alloc: Global, bytes: &[u8], depth: usize, why: Why, place: usize) -> bool
+    requires { depth ≤ DEPTH }
+{
+    match canonical(alloc, bytes, depth, Order::Bytewise) {
+        Ok(_written) => false,
+        Err(error) => error == CanonicalError::Refused(Refusal { why, place }),
+    }
+}
+
+#[test]
+fn encodings_of_the_appendix(rt: HostRuntime) {
+    for &(digits, want) in &APPENDIX {
+        written_row(&rt, rt.alloc(), digits, Order::Bytewise, want);
+        written_row(&rt, rt.alloc(), digits, Order::LengthFirst, want);
+    }
+}
+
+#[test]
+fn spellings(rt: HostRuntime) {
+    for &(digits, want) in &SPELLINGS {
+        written_row(&rt, rt.alloc(), digits, Order::Bytewise, want);
+        written_row(&rt, rt.alloc(), digits, Order::LengthFirst, want);
+    }
+}
+
+#[test]
+fn maps(rt: HostRuntime) {
+    for &(digits, bytewise, length_first) in &MAPS {
+        written_row(&rt, rt.alloc(), digits, Order::Bytewise, bytewise);
+        written_row(&rt, rt.alloc(), digits, Order::LengthFirst, length_first);
+    }
+}
+
+#[test]
+fn refused(rt: HostRuntime) {
+    for &(digits, why, place) in &REFUSED {
+        let mut space = [0; MOST];
+        let bytes = decoded(&rt, digits, &mut space);
+        holds(
+            &rt,
+            is_refused(rt.alloc(), bytes, DEPTH, why, place),
+            digits,
+        );
+    }
+}
+
+// Tags, arrays and maps take a level each, and strings take none.
+#[test]
+fn levels(rt: HostRuntime) {
+    let nest = [0x9f, 0xc1, 0xbf, 0x00, 0x5f, 0x40, 0xff, 0xff, 0xff];
+    let is_taken = canonical(rt.alloc(), &nest, 3, Order::Bytewise).is_ok();
+    holds(&rt, is_taken, "three levels");
+    holds(&rt, is_refused(rt.alloc(), &nest, 2, Why::Deep, 2), "two");
+    holds(&rt, is_refused(rt.alloc(), &nest, 0, Why::Deep, 0), "none");
+}
+
+// What follows the item is given back.
+#[test]
+fn bytes_after_the_item(rt: HostRuntime) {
+    let is_rest = match canonical(rt.alloc(), &[0x18, 0x01, 0xff, 0x1c], 0, Order::Bytewise) {
+        Ok((written, rest)) => written.as_slice() == [0x01].as_slice()
+            && rest == [0xff, 0x1c].as_slice(),
+        Err(_error) => false,
+    };
+    holds(&rt, is_rest, "a rest");
+}
