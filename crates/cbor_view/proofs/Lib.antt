@@ -1,0 +1,6 @@
+pub mod NestLaws
+pub mod OpenLaws
+pub mod ParseLaws
+pub mod SearchLaws
+pub mod SegmentLaws
+pub mod TitleLaws

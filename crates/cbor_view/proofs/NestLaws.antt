@@ -1,0 +1,282 @@
+-- The items of an array and the pairs of a map, one after the other.
+use Rattle.std.proofs.Common.{◌≡◌, ℕ, zero, suc, ◌+◌, ◌-◌, ◌*◌, ◌<◌, false, List, [], ◌∷◌, ◌++◌, length, take, refl}
+use Rattle.std.proofs.Common.{Option, Some, None, IfSome, sym, ◌∙◌, ap, subst, append_assoc, append-nil, arith}
+use Rattle.std.proofs.Common.{length-append, true}
+use Rattle.std.proofs.lemmas.Grind.{not_there}
+use Rattle.std.proofs.Math.Logic.{∥∥₁_map, ∥∥₁_elim}
+use Rattle.std.proofs.Math.Seq.{take-append_seam}
+use Rattle.std.proofs.Props.{props}
+use Rattle.ciborium_ll_grammar.specs.declared.hdr.Header.TheVariants as h
+use Rattle.ciborium_ll_grammar.specs.Items.{Completes, array, pairs, open_array, open_pairs}
+use Rattle.ciborium_ll_grammar.specs.Items.{AreItems, no_items, more_items, IsItem}
+use Rattle.ciborium_ll_grammar.proofs.AloneLaws.{title_some}
+use Rattle.ciborium_ll_grammar.proofs.ItemLaws.{one_item}
+use Rattle.ciborium_ll_text.proofs.Lists.{same_front}
+use Rattle.cbor_skip.specs.ItemFaults.{BeginsWithItem}
+use Rattle.cbor_view.specs.Views.{HasItems, HasPairs, closed, one_less}
+use Rattle.cbor_view.specs.Nexts.{CountsDown}
+
+-- ---- the first item of some
+
+-- the first one of some items, and the others
+pub record FirstItem (e n : ℕ) (w : List ℕ) : Type 0 where
+  pub first : List ℕ
+  pub others : List ℕ
+  pub is_item : IsItem false e first
+  pub are : AreItems false e (n - 1) others
+  pub whole : w ≡ first ++ others
+
+pub first_item : (e n : ℕ) (w : List ℕ) → AreItems false e n w → 0 < n → FirstItem e n w
+first_item e n w no_items l = absurd (omega arith)
+first_item e n w (more_items {count = m} {title = t} {rest = r} {others = a} p k c i) l =
+    let less : m ≡ suc m - 1 = omega arith in
+    record {
+      first = t ++ r;
+      others = a;
+      is_item = subst (λ (v : List ℕ). IsItem false e (t ++ v)) (append-nil r) (more_items p k c no_items);
+      are = subst (λ (d : ℕ). AreItems false e d a) less i;
+      whole = sym (append_assoc t r a);
+    }
+
+pub some_items : (e n : ℕ) (w : List ℕ) → AreItems false e n w → 0 < length w → 0 < n
+some_items e n w no_items l = absurd (omega arith)
+some_items e n w (more_items p k c i) l = omega arith
+
+pub items_some : (e n : ℕ) (w : List ℕ) → AreItems false e n w → 0 < n → 0 < length w
+items_some e n w no_items l = absurd (omega arith)
+items_some e n w (more_items {title = t} {rest = r} {others = a} {header = x} p k c i) l =
+    omega (arith, title_some t x p, length-append t (r ++ a))
+
+pub in_front : (e n : ℕ) (w : List ℕ) → AreItems false e n w → 0 < n → BeginsWithItem false e w
+in_front e n w i l =
+    let f = first_item e n w i l in record { item = f.first; rest = f.others; is_item = f.is_item; is = f.whole }
+
+-- what follows the first item are the others
+pub others_left : (e n : ℕ) (w item rest : List ℕ) → AreItems false e n w → 0 < n → IsItem false e item
+    → w ≡ item ++ rest → AreItems false e (n - 1) rest
+others_left e n w item rest i l is z =
+    let f = first_item e n w i l in
+    let one = one_item false false e e item f.first rest f.others is f.is_item (sym z ∙ f.whole) in
+    subst (λ (v : List ℕ). AreItems false e (n - 1) v) (sym one.1) f.are
+
+-- an item takes a byte at least
+pub item_takes : (e : ℕ) (w item rest : List ℕ) → IsItem false e item → w ≡ item ++ rest → length rest < length w
+item_takes e w item rest is z =
+    omega (arith, items_some e (suc zero) item is (omega arith), ap length z, length-append item rest)
+
+pub counts_down : (due : Option ℕ) → IfSome due (λ n. 0 < n) → CountsDown due (one_less due)
+counts_down (Some n) l = omega arith
+counts_down None l = tt
+
+-- a pair takes a byte at least
+pub pair_takes : (e : ℕ) (w key value rest last : List ℕ) → IsItem false e key → w ≡ key ++ rest
+    → IsItem false e value → rest ≡ value ++ last → length last < length w
+pair_takes e w key value rest last is z iv y =
+    omega (arith, item_takes e w key rest is z, item_takes e rest value last iv y)
+
+pub false_true : false ≡ true → ⊥
+false_true z = cc
+
+-- ---- the items of an array
+
+items_there_go : (e : ℕ) (due : Option ℕ) (w : List ℕ) → HasItems e due w → 0 < length w → BeginsWithItem false e w
+items_there_go e (Some n) w i l = in_front e n w i (some_items e n w i l)
+items_there_go e None w i l = in_front e i.0 w i.1 (some_items e i.0 w i.1 l)
+
+pub items_there : (e : ℕ) (due : Option ℕ) (w : List ℕ) → ∥ HasItems e due w ∥₁ → 0 < length w
+    → (BeginsWithItem false e w → ⊥) → ⊥
+items_there e due w t l f = not_there t (λ i. f (items_there_go e due w i l))
+
+pub items_due : (e : ℕ) (due : Option ℕ) (w : List ℕ) → ∥ HasItems e due w ∥₁ → 0 < length w
+    → IfSome due (λ n. 0 < n)
+items_due e None w t l = tt
+items_due e (Some zero) w t l = absurd (not_there t (λ i. absurd_zero (some_items e zero w i l)))
+  where
+    absurd_zero : 0 < zero → ⊥
+    absurd_zero z = omega arith
+items_due e (Some (suc n)) w t l = omega arith
+
+pub items_done : (e : ℕ) (due : Option ℕ) (w : List ℕ) → ∥ HasItems e due w ∥₁ → length w ≡ 0
+    → IfSome due (λ n. n ≡ 0)
+items_done e None w t z = tt
+items_done e (Some zero) w t z = refl
+items_done e (Some (suc n)) w t z =
+    absurd (not_there t (λ i. none (items_some e (suc n) w i (omega arith))))
+  where
+    none : 0 < length w → ⊥
+    none l = omega arith
+
+items_left_go : (e : ℕ) (due : Option ℕ) (w item rest : List ℕ) → HasItems e due w → 0 < length w
+    → IsItem false e item → w ≡ item ++ rest → HasItems e (one_less due) rest
+items_left_go e (Some n) w item rest i l is z = others_left e n w item rest i (some_items e n w i l) is z
+items_left_go e None w item rest i l is z =
+    (i.0 - 1, others_left e i.0 w item rest i.1 (some_items e i.0 w i.1 l) is z)
+
+pub items_left : (e : ℕ) (due : Option ℕ) (w item rest : List ℕ) → ∥ HasItems e due w ∥₁ → 0 < length w
+    → IsItem false e item → w ≡ item ++ rest → ∥ HasItems e (one_less due) rest ∥₁
+items_left e due w item rest t l is z = ∥∥₁_map t (λ i. items_left_go e due w item rest i l is z)
+
+-- ---- the pairs of a map
+
+-- the first pair of some, and the others
+pub record FirstPair (e n : ℕ) (w : List ℕ) : Type 0 where
+  pub key : List ℕ
+  pub value : List ℕ
+  pub others : List ℕ
+  pub is_key : IsItem false e key
+  pub is_value : IsItem false e value
+  pub are : AreItems false e (2 * (n - 1)) others
+  pub whole : w ≡ key ++ (value ++ others)
+
+pub first_pair : (e n : ℕ) (w : List ℕ) → AreItems false e (2 * n) w → 0 < n → FirstPair e n w
+first_pair e n w i l =
+    let f = first_item e (2 * n) w i (omega arith) in
+    let g = first_item e (2 * n - 1) f.others f.are (omega arith) in
+    let less : 2 * n - 1 - 1 ≡ 2 * (n - 1) = omega arith in
+    record {
+      key = f.first;
+      value = g.first;
+      others = g.others;
+      is_key = f.is_item;
+      is_value = g.is_item;
+      are = subst (λ (d : ℕ). AreItems false e d g.others) less g.are;
+      whole = f.whole ∙ ap (λ (v : List ℕ). f.first ++ v) g.whole;
+    }
+
+pub some_pairs : (e n : ℕ) (w : List ℕ) → AreItems false e (2 * n) w → 0 < length w → 0 < n
+some_pairs e n w i l = let some = some_items e (2 * n) w i l in omega arith
+
+-- how many pairs there are, with their first one
+pub record SomePairs (e : ℕ) (due : Option ℕ) (w : List ℕ) : Type 0 where
+  pub count : ℕ
+  pub some : 0 < count
+  pub are : AreItems false e (2 * count) w
+  pub left : (v : List ℕ) → AreItems false e (2 * (count - 1)) v → HasPairs e (one_less due) v
+
+pub pairs_there : (e : ℕ) (due : Option ℕ) (w : List ℕ) → HasPairs e due w → 0 < length w → SomePairs e due w
+pairs_there e (Some n) w i l =
+    record { count = n; some = some_pairs e n w i l; are = i; left = λ v is. is }
+pairs_there e None w i l =
+    record { count = i.0; some = some_pairs e i.0 w i.1 l; are = i.1; left = λ v is. (i.0 - 1, is) }
+
+pub key_there : (e : ℕ) (due : Option ℕ) (w : List ℕ) → ∥ HasPairs e due w ∥₁ → 0 < length w
+    → (BeginsWithItem false e w → ⊥) → ⊥
+key_there e due w t l f = not_there t (λ i.
+    let s = pairs_there e due w i l in
+    f (in_front e (2 * s.count) w s.are (omega (arith, s.some))))
+
+pub value_there : (e : ℕ) (due : Option ℕ) (w key rest : List ℕ) → ∥ HasPairs e due w ∥₁ → 0 < length w
+    → IsItem false e key → w ≡ key ++ rest → (BeginsWithItem false e rest → ⊥) → ⊥
+value_there e due w key rest t l is z f = not_there t (λ i.
+    let s = pairs_there e due w i l in
+    let are = others_left e (2 * s.count) w key rest s.are (omega (arith, s.some)) is z in
+    f (in_front e (2 * s.count - 1) rest are (omega (arith, s.some))))
+
+pairs_left_go : (e : ℕ) (due : Option ℕ) (w key value rest last : List ℕ) → HasPairs e due w → 0 < length w
+    → IsItem false e key → w ≡ key ++ rest → IsItem false e value → rest ≡ value ++ last
+    → HasPairs e (one_less due) last
+pairs_left_go e due w key value rest last i l is z iv y =
+    let s = pairs_there e due w i l in
+    let are = others_left e (2 * s.count) w key rest s.are (omega (arith, s.some)) is z in
+    let left = others_left e (2 * s.count - 1) rest value last are (omega (arith, s.some)) iv y in
+    let less : 2 * s.count - 1 - 1 ≡ 2 * (s.count - 1) = omega (arith, s.some) in
+    s.left last (subst (λ (d : ℕ). AreItems false e d last) less left)
+
+pub pairs_left : (e : ℕ) (due : Option ℕ) (w key value rest last : List ℕ) → ∥ HasPairs e due w ∥₁ → 0 < length w
+    → IsItem false e key → w ≡ key ++ rest → IsItem false e value → rest ≡ value ++ last
+    → ∥ HasPairs e (one_less due) last ∥₁
+pairs_left e due w key value rest last t l is z iv y =
+    ∥∥₁_map t (λ i. pairs_left_go e due w key value rest last i l is z iv y)
+
+pub pairs_due : (e : ℕ) (due : Option ℕ) (w : List ℕ) → ∥ HasPairs e due w ∥₁ → 0 < length w
+    → IfSome due (λ n. 0 < n)
+pairs_due e None w t l = tt
+pairs_due e (Some zero) w t l = absurd (not_there t (λ i. absurd_zero (some_pairs e zero w i l)))
+  where
+    absurd_zero : 0 < zero → ⊥
+    absurd_zero z = omega arith
+pairs_due e (Some (suc n)) w t l = omega arith
+
+pub pairs_done : (e : ℕ) (due : Option ℕ) (w : List ℕ) → ∥ HasPairs e due w ∥₁ → length w ≡ 0
+    → IfSome due (λ n. n ≡ 0)
+pairs_done e None w t z = tt
+pairs_done e (Some zero) w t z = refl
+pairs_done e (Some (suc n)) w t z =
+    absurd (not_there t (λ i. none (items_some e (2 * suc n) w i (omega arith))))
+  where
+    none : 0 < length w → ⊥
+    none l = omega arith
+
+-- ---- the contents of an array and of a map
+
+-- what stands before the break that ends an indefinite form
+before_break : (items w : List ℕ) → w ≡ items ++ 0xff ∷ [] → w ≡ take (length w - 1) w ++ 0xff ∷ []
+before_break items w z =
+    let l : length w - 1 ≡ length items = omega (arith, ap length z, length-append items (0xff ∷ [])) in
+    let front : take (length w - 1) w ≡ items =
+    ap (λ (n : ℕ). take n w) l ∙ ap (λ (v : List ℕ). take (length items) v) z
+    ∙ take-append_seam items (0xff ∷ []) in
+    z ∙ ap (λ (v : List ℕ). v ++ 0xff ∷ []) (sym front)
+
+pub same_before : (items rest : List ℕ) → items ++ 0xff ∷ [] ≡ rest ++ 0xff ∷ [] → items ≡ rest
+same_before items rest z =
+    (same_front items rest (0xff ∷ []) (0xff ∷ [])
+    (omega (arith, ap length z, length-append items (0xff ∷ []), length-append rest (0xff ∷ []))) z).0
+
+array_flat : (due : Option ℕ) (w : List ℕ) → Completes false zero (h.Array due) w → ⊥
+array_flat due w c = elim c [ ]
+
+map_flat : (due : Option ℕ) (w : List ℕ) → Completes false zero (h.Map due) w → ⊥
+map_flat due w c = elim c [ ]
+
+array_open : (e : ℕ) (w : List ℕ) → Completes false e (h.Array None) w → w ≡ take (length w - 1) w ++ 0xff ∷ []
+array_open e w (open_array {items = a} i) = before_break a (a ++ 0xff ∷ []) refl
+
+map_open : (e : ℕ) (w : List ℕ) → Completes false e (h.Map None) w → w ≡ take (length w - 1) w ++ 0xff ∷ []
+map_open e w (open_pairs {items = a} n i) = before_break a (a ++ 0xff ∷ []) refl
+
+pub array_break : (e : ℕ) (due : Option ℕ) (w : List ℕ) → ∥ Completes false e (h.Array due) w ∥₁ → due ≡ None
+    → w ≡ take (length w - 1) w ++ 0xff ∷ []
+array_break e due w t z =
+    ∥∥₁_elim (subst (λ (d : Option ℕ). ∥ Completes false e (h.Array d) w ∥₁) z t) (hlevel props) (array_open e w)
+
+pub map_break : (e : ℕ) (due : Option ℕ) (w : List ℕ) → ∥ Completes false e (h.Map due) w ∥₁ → due ≡ None
+    → w ≡ take (length w - 1) w ++ 0xff ∷ []
+map_break e due w t z =
+    ∥∥₁_elim (subst (λ (d : Option ℕ). ∥ Completes false e (h.Map d) w ∥₁) z t) (hlevel props) (map_open e w)
+
+pub array_level : (e : ℕ) (due : Option ℕ) (w : List ℕ) → ∥ Completes false e (h.Array due) w ∥₁ → 0 < e
+array_level zero due w t = absurd (not_there t (array_flat due w))
+array_level (suc e) due w t = omega arith
+
+pub map_level : (e : ℕ) (due : Option ℕ) (w : List ℕ) → ∥ Completes false e (h.Map due) w ∥₁ → 0 < e
+map_level zero due w t = absurd (not_there t (map_flat due w))
+map_level (suc e) due w t = omega arith
+
+of_array : (e : ℕ) (due : Option ℕ) (w rest : List ℕ) → Completes false (suc e) (h.Array due) w
+    → w ≡ closed due rest → HasItems e due rest
+of_array e (Some n) w rest (array i) z = subst (λ (v : List ℕ). AreItems false e n v) z i
+of_array e None w rest (open_array {count = n} {items = a} i) z =
+    (n, subst (λ (v : List ℕ). AreItems false e n v) (same_before a rest z) i)
+
+of_map : (e : ℕ) (due : Option ℕ) (w rest : List ℕ) → Completes false (suc e) (h.Map due) w
+    → w ≡ closed due rest → HasPairs e due rest
+of_map e (Some n) w rest (pairs i) z = subst (λ (v : List ℕ). AreItems false e (2 * n) v) z i
+of_map e None w rest (open_pairs {items = a} n i) z =
+    (n, subst (λ (v : List ℕ). AreItems false e (2 * n) v) (same_before a rest z) i)
+
+pub array_items : (e : ℕ) (due : Option ℕ) (w rest : List ℕ) → ∥ Completes false e (h.Array due) w ∥₁
+    → w ≡ closed due rest → ∥ HasItems (e - 1) due rest ∥₁
+array_items e due w rest t z =
+    let l = array_level e due w t in
+    let s : e ≡ suc (e - 1) = omega arith in
+    ∥∥₁_map (subst (λ (d : ℕ). ∥ Completes false d (h.Array due) w ∥₁) s t)
+    (λ c. of_array (e - 1) due w rest c z)
+
+pub map_pairs : (e : ℕ) (due : Option ℕ) (w rest : List ℕ) → ∥ Completes false e (h.Map due) w ∥₁
+    → w ≡ closed due rest → ∥ HasPairs (e - 1) due rest ∥₁
+map_pairs e due w rest t z =
+    let l = map_level e due w t in
+    let s : e ≡ suc (e - 1) = omega arith in
+    ∥∥₁_map (subst (λ (d : ℕ). ∥ Completes false d (h.Map due) w ∥₁) s t)
+    (λ c. of_map (e - 1) due w rest c z)

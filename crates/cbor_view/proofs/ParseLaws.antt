@@ -1,0 +1,94 @@
+-- What a skip over memory says of the bytes.
+use Rattle.std.proofs.Common.{◌≡◌, ℕ, ◌+◌, ◌<◌, ◌∙◌, IsTrue, Bool, false, List, length, Option, Some, None, Result, Err}
+use Rattle.std.proofs.Common.{ap, sym, subst, refl, arith}
+use Rattle.ciborium_ll_io.specs.declared.io.Read.{Ghosts}
+use Rattle.ciborium_ll_grammar.specs.declared.hdr.Header.{Header}
+use Rattle.ciborium_ll_grammar.specs.Faults.{Syntax as IsSyntax}
+use Rattle.ciborium_ll_decoder.specs.declared.dec.Decoder.{Decoder}
+use Rattle.ciborium_ll_decoder.specs.declared.dec.Error.TheVariants as e
+use Rattle.ciborium_ll_decoder.specs.Decoding.{IsFresh, behind_waiting, offset_limit}
+use Rattle.cbor_skip.specs.declared.SkipError.{SkipError}
+use Rattle.cbor_skip.specs.declared.SkipError.TheVariants as s
+use Rattle.cbor_skip.specs.SkippingTold.{IsReadyToSkip, SkipsTold}
+use Rattle.cbor_view.specs.declared.parse.Fault.{Fault}
+use Rattle.cbor_view.specs.declared.parse.Fault.TheVariants.{Short, Syntax, Break, Deep}
+use Rattle.cbor_view.specs.Faults.{HasFault, IsOfBytes, NamesFault}
+
+view_none : (w : Option Header) (ahead : Option (List ℕ)) → w ≡ None → behind_waiting w ahead ≡ ahead
+view_none w ahead z = subst (λ (o : Option Header). behind_waiting o ahead ≡ ahead) (sym z) refl
+
+module _ {R E : Type 0} (source : Ghosts R E) where
+  pub ready : (room : ℕ) (reader : R) (decoder : Decoder R) (due : List ℕ) → IsFresh reader 0 decoder
+      → IsTrue (source.steady reader) → source.ahead reader ≡ Some due
+      → length due + 8 < offset_limit → length due + room < offset_limit → IsReadyToSkip source room decoder due
+  ready room reader decoder due fresh steady ahead title chunk = record {
+    none_waits = λ on. fresh.none_waits;
+    steady = subst (λ (r : R). IsTrue (source.steady r)) (sym fresh.reader) steady;
+    told = view_none decoder.waiting (source.ahead decoder.reader) fresh.none_waits ∙ ap source.ahead fresh.reader
+        ∙ ahead;
+    fits-title = omega (arith, fresh.offset, title);
+    fits-chunk = omega (arith, fresh.offset, chunk);
+  }
+
+  of_bytes : (depth : ℕ) (due : List ℕ) (old new : Decoder R) (error : SkipError E)
+      → SkipsTold source false depth due old (Err error) new → IsOfBytes error
+  of_bytes depth due old new (s.Read (e.Io fault)) told = tt
+  of_bytes depth due old new (s.Read (e.Syntax place)) told = tt
+  of_bytes depth due old new (s.Read e.TooLong) told = absurd told
+  of_bytes depth due old new (s.Read e.Waiting) told = absurd told
+  of_bytes depth due old new (s.Break place) told = tt
+  of_bytes depth due old new (s.Deep place) told = tt
+
+  named_short : (depth : ℕ) (due : List ℕ) (old new : Decoder R) (cause : E) (fault : Fault)
+      → SkipsTold source false depth due old (Err (s.Read (e.Io cause))) new → fault ≡ Short → HasFault depth due fault
+  named_short depth due old new cause fault told n =
+      subst (λ (f : Fault). HasFault depth due f) (sym n) (told.fault, told.answered)
+
+  named_syntax : (depth : ℕ) (due : List ℕ) (old new : Decoder R) (place : ℕ) (fault : Fault)
+      → SkipsTold source false depth due old (Err (s.Read (e.Syntax place))) new → old.offset ≡ 0
+      → fault ≡ Syntax place → HasFault depth due fault
+  named_syntax depth due old new place fault told start n =
+      let at : told.0 ≡ place = omega (arith, told.1, start) in
+      subst (λ (f : Fault). HasFault depth due f) (sym n) (told.2.fault, told.2.answered ∙ ap IsSyntax at)
+
+  named_break : (depth : ℕ) (due : List ℕ) (old new : Decoder R) (place : ℕ) (fault : Fault)
+      → SkipsTold source false depth due old (Err (s.Break place)) new → old.offset ≡ 0
+      → fault ≡ Break place → HasFault depth due fault
+  named_break depth due old new place fault told start n =
+      let at : place ≡ length told.fault.before = omega (arith, told.place, start) in
+      subst (λ (f : Fault). HasFault depth due f) (sym n) (told.fault, at)
+
+  named_deep : (depth : ℕ) (due : List ℕ) (old new : Decoder R) (place : ℕ) (fault : Fault)
+      → SkipsTold source false depth due old (Err (s.Deep place)) new → old.offset ≡ 0
+      → fault ≡ Deep place → HasFault depth due fault
+  named_deep depth due old new place fault told start n =
+      let at : place ≡ length told.fault.before = omega (arith, told.place, start) in
+      subst (λ (f : Fault). HasFault depth due f) (sym n) (told.fault, at)
+
+  fault_named : (depth : ℕ) (due : List ℕ) (old new : Decoder R) (error : SkipError E) (fault : Fault)
+      → SkipsTold source false depth due old (Err error) new → old.offset ≡ 0 → NamesFault error fault
+      → HasFault depth due fault
+  fault_named depth due old new (s.Read (e.Io cause)) fault told start n =
+      named_short depth due old new cause fault told n
+  fault_named depth due old new (s.Read (e.Syntax place)) fault told start n =
+      named_syntax depth due old new place fault told start n
+  fault_named depth due old new (s.Read e.TooLong) fault told start n = absurd n
+  fault_named depth due old new (s.Read e.Waiting) fault told start n = absurd n
+  fault_named depth due old new (s.Break place) fault told start n =
+      named_break depth due old new place fault told start n
+  fault_named depth due old new (s.Deep place) fault told start n =
+      named_deep depth due old new place fault told start n
+
+  -- the same of a decoder that is not strict, as a fact of it
+  pub told_of_bytes : (strict : Bool) (depth : ℕ) (due : List ℕ) (old new : Decoder R) (error : SkipError E)
+      → strict ≡ false → SkipsTold source strict depth due old (Err error) new → IsOfBytes error
+  told_of_bytes strict depth due old new error z told =
+      of_bytes depth due old new error
+      (subst (λ (b : Bool). SkipsTold source b depth due old (Err error) new) z told)
+
+  pub told_fault : (strict : Bool) (depth : ℕ) (due : List ℕ) (old new : Decoder R) (error : SkipError E)
+      (fault : Fault) → strict ≡ false → SkipsTold source strict depth due old (Err error) new → old.offset ≡ 0
+      → NamesFault error fault → HasFault depth due fault
+  told_fault strict depth due old new error fault z told start n =
+      fault_named depth due old new error fault
+      (subst (λ (b : Bool). SkipsTold source b depth due old (Err error) new) z told) start n

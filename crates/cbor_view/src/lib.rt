@@ -1,0 +1,25 @@
+// SPDX-License-Identifier: Apache-2.0
+//! An item of CBOR (RFC 7049, 2.1 to 2.4) as it stands in memory, in any spelling. No call takes memory.
+//!
+//! [`Item::parse`] checks that bytes begin with an item. The calls of [`Item`] look into it: an array gives its items
+//! one by one, a map its pairs, and a string its segments.
+//!
+//! A call that passes an item reads each byte of the item once. Each level takes a frame of the stack in that call.
+#![tactic(auto)]
+
+mod item;
+mod messages;
+mod nests;
+mod parse;
+mod search;
+mod segments;
+mod title;
+
+pub use self::item::Item;
+pub use self::nests::{Elements, Entries};
+pub use self::parse::Fault;
+pub use self::segments::{Segments, TextSegments};
+use ciborium_ll_grammar::limits::MOST_LEVELS;
+
+/// The greatest depth of tags, arrays and maps, in levels.
+pub const MAX_DEPTH: usize = MOST_LEVELS;
