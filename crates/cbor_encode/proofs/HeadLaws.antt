@@ -1,0 +1,52 @@
+-- Titles with marks.
+use Rattle.std.proofs.Common.{◌≡◌, ℕ, Bool, true, false, List, ◌++◌, Some, refl, sym, subst, ap, ◌∙◌, arith}
+use Rattle.std.proofs.Common.{append_assoc}
+use Rattle.ciborium_ll_grammar.specs.declared.hdr.Header.{Header}
+use Rattle.ciborium_ll_grammar.specs.declared.hdr.Minor.{Minor}
+use Rattle.ciborium_ll_grammar.specs.Title.{IsTitle, IsSmallSimple, IsInRange, shortest_title, Major, Size}
+use Rattle.ciborium_ll_grammar.specs.Title.{Small, One, Two, Four, Eight, numbered_header}
+use Rattle.ciborium_ll_grammar.specs.Parts.{IsMinor, minor_number, parts_bytes}
+use Rattle.ciborium_ll_grammar.specs.Items.{IsTakenTitle}
+use Rattle.ciborium_ll_grammar.proofs.TitleLaws.{IsTitle-shortest}
+use Rattle.ciborium_ll_grammar.proofs.PartsLaws.{means, means_title}
+use Rattle.cbor_encode.specs.Adding.{Adds, IsHead, HasBody, HasNumber}
+
+numbered_means : (major : Major) (minor : Minor) (number : ℕ) (header : Header) → minor_number minor ≡ Some number
+    → ((size : Size) → numbered_header major size number ≡ header) → means major minor ≡ Some header
+numbered_means major minor number header same reads =
+    grind (arith, reads Small, reads One, reads Two, reads Four, reads Eight)
+
+-- a minor with the number of a header makes a title of it
+pub marked_title : (header : Header) (code number : ℕ) (minor : Minor) → HasNumber header code number → IsMinor minor
+    → minor_number minor ≡ Some number → IsTitle (parts_bytes code minor) header
+marked_title header code number minor has is same =
+    subst (λ (z : ℕ). IsTitle (parts_bytes z minor) header) has.same
+    (means_title has.major minor header is (numbered_means has.major minor number header same has.reads))
+
+shortest_taken : (strict : Bool) (header : Header) (bytes : List ℕ) → (IsSmallSimple header → ⊥)
+    → bytes ≡ shortest_title header → IsTakenTitle strict bytes header
+shortest_taken true header bytes meant same = record { shortest = same; meant = meant }
+shortest_taken false header bytes meant same = tt
+
+-- the shortest title is taken in each mode
+pub shortest_head : (strict : Bool) (header : Header) (bytes : List ℕ) → (IsSmallSimple header → ⊥) → IsInRange header
+    → bytes ≡ shortest_title header → IsHead strict header bytes
+shortest_head strict header bytes meant range same = record {
+  title = subst (λ (z : List ℕ). IsTitle z header) (sym same) (IsTitle-shortest header range);
+  taken = shortest_taken strict header bytes meant same;
+}
+
+-- a title of any length is taken if any titles are
+pub loose_head : (strict : Bool) (header : Header) (bytes : List ℕ) → strict ≡ false → IsTitle bytes header
+    → IsHead strict header bytes
+loose_head strict header bytes loose title = rw loose (record { title = title; taken = tt })
+
+-- a title and a body, which two calls add
+pub body_added : (strict : Bool) (header : Header) (title body before within after : List ℕ)
+    → IsHead strict header title → within ≡ before ++ title → after ≡ within ++ body
+    → Adds (HasBody strict header body) before after
+body_added strict header title body before within after head first second = record {
+  added = title ++ body;
+  parts = second ∙ ap (λ (z : List ℕ). z ++ body) first ∙ append_assoc before title body;
+  is = record { title = title; head = head; parts = refl };
+}

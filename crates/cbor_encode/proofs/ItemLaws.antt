@@ -1,0 +1,140 @@
+-- A title and what completes it are an item, and an item more.
+use Rattle.std.proofs.Common.{◌≡◌, ℕ, suc, ◌+◌, ◌*◌, Bool, List, [], ◌∷◌, ◌++◌, sym, subst}
+use Rattle.std.proofs.Common.{append_assoc, append-nil, Some, None, arith, Result, Ok, Err}
+use Rattle.std.specs.Result.{OnOk}
+use Rattle.ciborium_ll_grammar.specs.declared.hdr.Header.{Header}
+use Rattle.ciborium_ll_grammar.specs.declared.hdr.Header.TheVariants as h
+use Rattle.ciborium_ll_grammar.specs.Title.{IsSmallSimple}
+use Rattle.ciborium_ll_grammar.specs.Items.{Completes, positive, negative, float, simple, AreItems, no_items}
+use Rattle.ciborium_ll_grammar.specs.Items.{tag, array, pairs, open_array, open_pairs, more_items, IsItem}
+use Rattle.cbor_encode.specs.Adding.{Adds, IsHead, HasBody}
+use Rattle.cbor_encode.specs.Scalars.{IsScalar}
+
+-- a title and what completes it are an item
+pub one_item : (strict : Bool) (depth : ℕ) (header : Header) (title body : List ℕ) → IsHead strict header title
+    → Completes strict depth header body → IsItem strict depth (title ++ body)
+one_item strict depth header title body head completes =
+    subst (λ (z : List ℕ). IsItem strict depth (title ++ z)) (append-nil body)
+    (more_items head.title head.taken completes no_items)
+
+-- so is what a call adds
+pub item_added : (strict : Bool) (depth : ℕ) (header : Header) (body before after : List ℕ)
+    → Adds (HasBody strict header body) before after → Completes strict depth header body
+    → Adds (IsItem strict depth) before after
+item_added strict depth header body before after adds completes = record {
+  added = adds.added;
+  parts = adds.parts;
+  is = subst (IsItem strict depth) (sym adds.is.parts)
+      (one_item strict depth header adds.is.title body adds.is.head completes);
+}
+
+-- items and an item
+items_then : (strict : Bool) (depth count : ℕ) (items item : List ℕ) → AreItems strict depth count items
+    → IsItem strict depth item → AreItems strict depth (suc count) (items ++ item)
+items_then strict depth count items item no_items i = i
+items_then strict depth count items item (more_items {others = others} title taken completes are) i =
+    simp append_assoc (more_items title taken completes (items_then strict depth _ others item are i))
+
+-- items, and an item that a call adds
+pub items_more : (strict : Bool) (depth count : ℕ) (before after : List ℕ) → AreItems strict depth count before
+    → Adds (IsItem strict depth) before after → AreItems strict depth (count + 1) after
+items_more strict depth count before after are adds =
+    subst (λ (z : List ℕ). AreItems strict depth (count + 1) z) (sym adds.parts)
+    (let next : AreItems strict depth (suc count) (before ++ adds.added) =
+    items_then strict depth count before adds.added are adds.is in
+    let same : suc count ≡ count + 1 = omega arith in rw same at next)
+
+-- pairs, and a key and a value that two calls add
+pub pairs_more : (strict : Bool) (depth count : ℕ) (before key after : List ℕ)
+    → AreItems strict depth (2 * count) before → Adds (IsItem strict depth) before key
+    → Adds (IsItem strict depth) key after → AreItems strict depth (2 * (count + 1)) after
+pairs_more strict depth count before key after are first second =
+    let next = items_more strict depth (2 * count + 1) key after
+    (items_more strict depth (2 * count) before key are first) second in
+    let same : 2 * count + 1 + 1 ≡ 2 * (count + 1) = omega arith in
+    rw same at next
+
+-- an item that a call adds to nothing
+pub item_alone : (strict : Bool) (depth : ℕ) (before after : List ℕ) → before ≡ []
+    → Adds (IsItem strict depth) before after → IsItem strict depth after
+item_alone strict depth before after none adds =
+    subst (IsItem strict depth) (sym (rw none at adds.parts)) adds.is
+
+-- a scalar is an item by itself
+pub scalar_completes : (strict : Bool) (depth : ℕ) (header : Header) → IsScalar header
+    → Completes strict depth header []
+scalar_completes strict depth (h.Positive number) is = positive
+scalar_completes strict depth (h.Negative number) is = negative
+scalar_completes strict depth (h.Float value) is = float
+scalar_completes strict depth (h.Simple number) is = simple
+scalar_completes strict depth (h.Tag number) is = absurd is
+scalar_completes strict depth h.Break is = absurd is
+scalar_completes strict depth (h.Bytes len) is = absurd is
+scalar_completes strict depth (h.Text len) is = absurd is
+scalar_completes strict depth (h.Array len) is = absurd is
+scalar_completes strict depth (h.Map len) is = absurd is
+
+-- and has a meaning
+pub scalar_meant : (header : Header) → IsScalar header → IsSmallSimple header → ⊥
+scalar_meant (h.Positive number) is small = small
+scalar_meant (h.Negative number) is small = small
+scalar_meant (h.Float value) is small = small
+scalar_meant (h.Simple number) is small = is small
+scalar_meant (h.Tag number) is small = small
+scalar_meant h.Break is small = small
+scalar_meant (h.Bytes len) is small = small
+scalar_meant (h.Text len) is small = small
+scalar_meant (h.Array len) is small = small
+scalar_meant (h.Map len) is small = small
+
+-- ---- what nests contain completes them
+
+pub tag_completes : (strict : Bool) (depth inner number : ℕ) (item : List ℕ) → suc inner ≡ depth
+    → IsItem strict inner item → Completes strict depth (h.Tag number) item
+tag_completes strict depth inner number item level is =
+    subst (λ (z : ℕ). Completes strict z (h.Tag number) item) level (tag is)
+
+pub array_completes : (strict : Bool) (depth inner count : ℕ) (items : List ℕ) → suc inner ≡ depth
+    → AreItems strict inner count items → Completes strict depth (h.Array (Some count)) items
+array_completes strict depth inner count items level are =
+    subst (λ (z : ℕ). Completes strict z (h.Array (Some count)) items) level (array are)
+
+pub map_completes : (strict : Bool) (depth inner count : ℕ) (items : List ℕ) → suc inner ≡ depth
+    → AreItems strict inner (2 * count) items → Completes strict depth (h.Map (Some count)) items
+map_completes strict depth inner count items level are =
+    subst (λ (z : ℕ). Completes strict z (h.Map (Some count)) items) level (pairs are)
+
+pub open_array_completes : (strict : Bool) (depth inner count : ℕ) (items : List ℕ) → suc inner ≡ depth
+    → AreItems strict inner count items → Completes strict depth (h.Array None) (items ++ 0xff ∷ [])
+open_array_completes strict depth inner count items level are =
+    subst (λ (z : ℕ). Completes strict z (h.Array None) (items ++ 0xff ∷ [])) level (open_array are)
+
+pub open_map_completes : (strict : Bool) (depth inner count : ℕ) (items : List ℕ) → suc inner ≡ depth
+    → AreItems strict inner (2 * count) items → Completes strict depth (h.Map None) (items ++ 0xff ∷ [])
+open_map_completes strict depth inner count items level are =
+    subst (λ (z : ℕ). Completes strict z (h.Map None) (items ++ 0xff ∷ [])) level (open_pairs count are)
+
+-- ---- a call that may fail
+
+-- a title and a body are an item if the body completes the title
+pub whole_added : {T E : Type 0} (strict : Bool) (header : Header) (body before after : List ℕ) (result : Result T E)
+    → OnOk result (Adds (HasBody strict header body) before after)
+    → OnOk result ((depth : ℕ) → Completes strict depth header body → Adds (IsItem strict depth) before after)
+whole_added strict header body before after (Ok x) adds = λ depth completes.
+    item_added strict depth header body before after adds completes
+whole_added strict header body before after (Err e) adds = adds
+
+pub completed : {T E : Type 0} (strict : Bool) (depth : ℕ) (header : Header) (body before after : List ℕ)
+    (result : Result T E)
+    → OnOk result ((depth : ℕ) → Completes strict depth header body → Adds (IsItem strict depth) before after)
+    → Completes strict depth header body → OnOk result (Adds (IsItem strict depth) before after)
+completed strict depth header body before after (Ok x) adds completes = adds depth completes
+completed strict depth header body before after (Err e) adds completes = adds
+
+pub completed_always : {T E : Type 0} (strict : Bool) (header : Header) (body before after : List ℕ)
+    (result : Result T E)
+    → OnOk result ((depth : ℕ) → Completes strict depth header body → Adds (IsItem strict depth) before after)
+    → ((depth : ℕ) → Completes strict depth header body)
+    → OnOk result ((depth : ℕ) → Adds (IsItem strict depth) before after)
+completed_always strict header body before after (Ok x) adds completes = λ depth. adds depth (completes depth)
+completed_always strict header body before after (Err e) adds completes = adds

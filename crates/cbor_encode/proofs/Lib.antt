@@ -1,0 +1,4 @@
+pub mod HeadLaws
+pub mod ItemLaws
+pub mod LooseLaws
+pub mod StringLaws

@@ -1,0 +1,28 @@
+-- What a call adds to the end of bytes, and the titles that it adds.
+use Rattle.std.specs.Prelude.{◌≡◌, ℕ, Bool, List, ◌++◌}
+use Rattle.ciborium_ll_grammar.specs.declared.hdr.Header.{Header}
+use Rattle.ciborium_ll_grammar.specs.Title.{IsTitle, Major, major_code, Size, numbered_header}
+use Rattle.ciborium_ll_grammar.specs.Items.{IsTakenTitle}
+
+-- The bytes after a call are the bytes before it, and then bytes for which P holds.
+pub record Adds (P : List ℕ → Type 0) (before after : List ℕ) : Type 0 where
+  pub added : List ℕ
+  pub parts : after ≡ before ++ added
+  pub is : P added
+
+-- The bytes are a title of the header. If `strict` is true, they are its shortest title (RFC 8949, 3 and 4.1).
+pub record IsHead (strict : Bool) (header : Header) (bytes : List ℕ) : Type 0 where
+  pub title : IsTitle bytes header
+  pub taken : IsTakenTitle strict bytes header
+
+-- The bytes are a title of the header, and then the body.
+pub record HasBody (strict : Bool) (header : Header) (body bytes : List ℕ) : Type 0 where
+  pub title : List ℕ
+  pub head : IsHead strict header title
+  pub parts : bytes ≡ title ++ body
+
+-- The header has this major type and this number, in each size of its title (RFC 8949, 3).
+pub record HasNumber (header : Header) (code number : ℕ) : Type 0 where
+  pub major : Major
+  pub same : major_code major ≡ code
+  pub reads : (size : Size) → numbered_header major size number ≡ header

@@ -1,0 +1,12 @@
+-- How much of the text is left.
+use Rattle.std.specs.Prelude.{ℕ, ◌≤◌, length}
+use Rattle.cbor_encode.specs.declared.cursor.Cursor.{Cursor}
+use Rattle.cbor_encode.specs.declared.cursor.Stop.{Stop}
+
+-- The number of bytes that are left.
+abbrev pub left_of : Cursor → ℕ
+left_of cursor = length cursor.rest.now
+
+-- At the stop, at most this many bytes are left.
+abbrev pub IsWithin : ℕ → Stop → Type 0
+IsWithin left stop = stop.left ≤ left

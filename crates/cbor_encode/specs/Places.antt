@@ -1,0 +1,28 @@
+-- The line and the column of a place in a text.
+use Rattle.std.specs.Prelude.{◌≡◌, ℕ, ◌+◌, ◌≤◌, ◌==◌, nat_lt, List, [], ◌∷◌, length, take, if◌then◌else◌}
+use Rattle.cbor_encode.specs.declared.NotationError.{NotationError}
+
+-- The line after a byte: a line feed, which is 10, begins a line.
+abbrev pub next_line : ℕ → ℕ → ℕ
+next_line line byte = if byte == 10 then line + 1 else line
+
+-- The column after a byte: each character takes one. A byte from 80 to bf is not the first byte of its character.
+abbrev pub next_column : ℕ → ℕ → ℕ
+next_column column byte =
+    if byte == 10 then 1 else (if nat_lt byte 128 then column + 1 else (if nat_lt byte 192 then column else column + 1))
+
+-- The line after these bytes.
+abbrev pub line_after : ℕ → List ℕ → ℕ
+line_after line [] = line
+line_after line (byte ∷ bytes) = line_after (next_line line byte) bytes
+
+-- The column after these bytes.
+abbrev pub column_after : ℕ → List ℕ → ℕ
+column_after column [] = column
+column_after column (byte ∷ bytes) = column_after (next_column column byte) bytes
+
+-- The place of the error is within the text, and its line and its column are those of the place, both from 1.
+pub record IsFaultIn (text : List ℕ) (error : NotationError) : Type 0 where
+  pub within : error.place ≤ length text
+  pub line : error.line ≡ line_after 1 (take error.place text)
+  pub column : error.column ≡ column_after 1 (take error.place text)
