@@ -1,4 +1,4 @@
--- Sixteen lanes, lane by lane.
+-- Lemmas about blocks of sixteen bytes, lane by lane.
 use Rattle.std.proofs.Common.{◌≡◌, ℕ, zero, suc, ◌+◌, ◌-◌, ◌*◌, ◌/◌, ◌%◌, ◌^◌, ◌<◌, ◌≤◌, Bool, true, false, not, cond}
 use Rattle.std.proofs.Common.{eqb, List, [], ◌∷◌, map, length, get_or, replicate, bit_and, bit_or, bit_xor, refl, sym}
 use Rattle.std.proofs.Common.{ap, ◌∙◌, arith, w8, Fits, subst, eqb-true}
@@ -14,14 +14,14 @@ use Rattle.simdutf8.specs.Tables.{first_high, first_low, second_high}
 use Rattle.simdutf8.proofs.Lanes.{lane_fits}
 use Rattle.simdutf8.proofs.Pairs.{fault, fault-Step, lookup_class}
 
--- sixteen bytes
+-- The list is a block: sixteen bytes.
 abbrev pub IsBlock : List ℕ → Type 0
 IsBlock v = (length v ≡ 16) × Each1 (Fits w8) v
 
 abbrev pub down : ℕ → ℕ → ℕ
 down a b = a / 2 ^ b
 
--- the upper halves are places of a table
+-- The upper halves of a block are places in a table of sixteen.
 pub high_ok : (v : List ℕ) → IsBlock v → SwzOk w8 16 16 0 (zip2 down v (replicate 16 4))
 high_ok v fits =
     let small = Each1-weaker (λ a. a < 256) (λ a. a / 16 < 16) (λ a h. omega arith) v (below_from_Fits w8 v fits.1) in
@@ -29,7 +29,7 @@ high_ok v fits =
     (omega (arith, length-zip2 down v (replicate 16 4) fits.0))
     (Each1-zip2 down (λ j. j < 16) v (replicate 16 4) (Each2-splat (λ a b. down a b < 16) v 16 4 small))
 
--- so are the lower halves
+-- The lower halves of a block are places in a table of sixteen.
 pub low_ok : (v : List ℕ) → IsBlock v → SwzOk w8 16 16 0 (zip2 bit_and v (replicate 16 15))
 low_ok v fits =
     let small = Each1-all (λ a. bit_and a 15 < 16) (λ a. omega (arith, and_le_r a 15)) v in
@@ -37,7 +37,7 @@ low_ok v fits =
     (omega (arith, length-zip2 bit_and v (replicate 16 15) fits.0))
     (Each1-zip2 bit_and (λ j. j < 16) v (replicate 16 15) (Each2-splat (λ a b. bit_and a b < 16) v 16 15 small))
 
--- a table of sixteen read at places below 16
+-- A look-up at places below 16 gives the entry of the table for each byte.
 pub looked_up : (t : List ℕ) (g : ℕ → ℕ) (v js : List ℕ) → IsBlock v → js ≡ map g v
     → ((x : ℕ) → x < 256 → g x < 16) → swz_l w8 16 t 0 js ≡ map (λ x. get_or t (g x) 0) v
 looked_up t g v js fits e small =
@@ -51,7 +51,7 @@ looked_up t g v js fits e small =
     get_or-swz_l_below w8 16 t 0 js i (omega arith) below
     ∙ ap (λ k. get_or t k 0) (place ∙ is) ∙ sym (get_or-map (λ x. get_or t (g x) 0) v i 0 0 within))
 
--- one lane of two vectors
+-- A lane of the combined vector is the function of both lanes.
 pub lane : (f : ℕ → ℕ → ℕ) (xs ys : List ℕ) → length xs ≡ 16 → length ys ≡ 16 → (i : ℕ) → i < 16
     → get_or (zip2 f xs ys) i 0 ≡ f (get_or xs i 0) (get_or ys i 0)
 lane f xs ys p q i h = get_or-zip2 f xs ys i 0 0 0 (omega arith) (omega arith)
@@ -59,7 +59,7 @@ lane f xs ys p q i h = get_or-zip2 f xs ys i 0 0 0 (omega arith) (omega arith)
 pub long : (f : ℕ → ℕ → ℕ) (xs ys : List ℕ) → length xs ≡ 16 → length ys ≡ 16 → length (zip2 f xs ys) ≡ 16
 long f xs ys p q = length-zip2 f xs ys (p ∙ sym q) ∙ p
 
--- the classes of sixteen pairs
+-- The three look-ups combined are the classes of sixteen pairs.
 pub classes_are : (first second a b c : List ℕ) → IsBlock first → IsBlock second → a ≡ map first_high first
     → b ≡ map first_low first → c ≡ map second_high second
     → (length (zip2 bit_and (zip2 bit_and a b) c) ≡ 16)
@@ -84,7 +84,7 @@ classes_are first second a b c p q ea eb ec =
           (lookup_class _ _ (lane_fits first i p.1) (lane_fits second i q.1)),
     )
 
--- ---- no lane but zeros
+-- ---- all lanes are 0
 
 abbrev pub differs : ℕ → ℕ → ℕ
 differs a b = cond (not (eqb a b)) 255 0
@@ -110,7 +110,7 @@ zero_of_mask xs l t =
     (omega (arith, length-map lanes (top 7), length-zip2 differs xs (replicate 16 0) (l ∙ refl), l)) in
     none_differ xs (ap (λ n. mask_l (map (top 7) (zip2 differs xs (replicate n 0)))) l ∙ sym short ∙ eqb-true _ _ t)
 
--- where the lanes of the test are 0, each byte may follow the three before it
+-- If all lanes of the test are 0, each byte may follow the three before it.
 pub steps_are : (x y z b classes third fourth : List ℕ) → IsBlock x → IsBlock y → IsBlock z → IsBlock b
     → length classes ≡ 16 → length third ≡ 16 → length fourth ≡ 16
     → ((i : ℕ) → i < 16 → IsClass (get_or z i 0) (get_or b i 0) (get_or classes i 0))
@@ -136,7 +136,7 @@ steps_are x y z b classes third fourth px py pz pb lc l3 l4 class three two zero
     (lane_fits y i py.1) (lane_fits z i pz.1) (lane_fits b i pb.1) (class i h)).0
     (sym is ∙ zeros i)
 
--- lanes of loads at neighbouring places are the bytes there
+-- The lanes of four loads at neighbouring places are the bytes at these places.
 pub moved : (x : List ℕ) (at i : ℕ) → 3 ≤ at → at ≤ i → i < at + 16
     → Step (get_or (chunk (at - 3) 16 x) (i - at) 0) (get_or (chunk (at - 2) 16 x) (i - at) 0)
     (get_or (chunk (at - 1) 16 x) (i - at) 0) (get_or (chunk at 16 x) (i - at) 0)

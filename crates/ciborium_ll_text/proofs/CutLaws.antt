@@ -1,4 +1,4 @@
--- A full cut has the fewest members, and is the only one.
+-- A text has one full cut at most, and no cut has fewer members.
 use Rattle.std.proofs.lemmas.Bool.Decides.{nat_tests}
 use Rattle.std.proofs.Common.{◌≡◌, ℕ, ◌+◌, ◌<◌, ◌≤◌, List, [], ◌∷◌, ◌++◌, length, refl, sym, ap, ◌∙◌, subst, inl, inr}
 use Rattle.std.proofs.Common.{arith, append_assoc}
@@ -13,7 +13,7 @@ use Rattle.ciborium_ll_text.proofs.Lists.{same_front, front_of_front}
 use Rattle.ciborium_ll_text.proofs.Utf8Laws.{written}
 use Rattle.ciborium_ll_text.proofs.TextLaws.{IsCharacters-append, IsCharacters-rest, IsCharacters-nil}
 
--- no character begins another one
+-- No character begins another character.
 pub one_character : (x y r s : List ℕ) → IsCharacter x → IsCharacter y → x ++ r ≡ y ++ s → x ≡ y
 one_character x y r s p q e =
     let a = written x p in
@@ -22,23 +22,23 @@ one_character x y r s p q e =
     ∙ (e ∙ ap (λ (z : List ℕ). z ++ s) (sym b.is)) in
     sym a.is ∙ (ap encode ((encode_same a.char b.char r s same).0) ∙ b.is)
 
--- a text that isn't empty begins with a character
+-- The list begins with a character.
 pub record Starts (t : List ℕ) : Type 0 where
   pub char : List ℕ
   pub ok : IsCharacter char
   pub rest : List ℕ
   pub is : t ≡ char ++ rest
 
--- characters joined start with the first one
+-- Joined characters that are not empty begin with a character.
 starts_at : (t : List ℕ) (cs : List (List ℕ)) → AllByRecursion IsCharacter cs → t ≡ joined cs → 0 < length t → Starts t
 starts_at t [] all e l = absurd (omega (arith, ap length e))
 starts_at t (c ∷ cs) all e l = record { char = c; ok = all.0; rest = joined cs; is = e }
 
--- a text that isn't empty starts with a character
+-- A text that is not empty begins with a character.
 pub starts : (t : List ℕ) → IsCharacters t → 0 < length t → Starts t
 starts t u l = starts_at t u.characters u.each u.whole l
 
--- what goes past the end of a full member is too long
+-- A filled member and a text that begins the members after it are longer than the limit together.
 passes : (m : ℕ) (c q rest : List ℕ) (cs : List (List ℕ)) → AllByRecursion (IsMember m) cs
     → AllByRecursion IsNonempty cs
     → AreFilled m (c ∷ cs) → IsCharacters q → 0 < length q → joined cs ≡ q ++ rest → m < length c + length q
@@ -54,12 +54,12 @@ passes m c q rest (d ∷ cs) each full filled u l e =
     let room = filled.0 a.char a.rest a.ok a.is in
     omega (arith, ap length same, ap length b.is, length-append b.char b.rest)
 
--- what is filled stays so without the first member
+-- Members stay filled without the first member.
 AreFilled-rest : (m : ℕ) (c : List ℕ) (cs : List (List ℕ)) → AreFilled m (c ∷ cs) → AreFilled m cs
 AreFilled-rest m c [] f = tt
 AreFilled-rest m c (d ∷ cs) f = f.1
 
--- ds has the text that cs has, behind some text r
+-- If `ds` joined are a text and then `cs` joined, `ds` has at least as many members as `cs`.
 fewest_behind : (m : ℕ) (cs ds : List (List ℕ)) (r : List ℕ) → IsCharacters r → AllByRecursion (IsMember m) cs
     → AllByRecursion IsNonempty cs → AreFilled m cs → AllByRecursion (IsMember m) ds → r ++ joined cs ≡ joined ds
     → length cs ≤ length ds
@@ -85,14 +85,14 @@ fewest_behind m (c ∷ cs) (d ∷ ds) r u each full filled each' e =
           omega arith)
     ]
 
--- no cut has fewer members than a full one
+-- No cut has fewer members than a full cut of the same text.
 pub fewest : (t : List ℕ) (m : ℕ) (cs ds : List (List ℕ)) → IsFullCut t m cs → IsCut t m ds → length cs ≤ length ds
 fewest t m cs ds f c = fewest_behind m cs ds [] IsCharacters-nil f.cut.each f.nonempty f.filled c.each
     (sym f.cut.whole ∙ c.whole)
 
--- ---- there is one
+-- ---- a text has one full cut at most
 
--- members that are filled are the only ones of their text
+-- Two lists of filled members with the same text are the same.
 same_members : (m : ℕ) (cs ds : List (List ℕ)) → AllByRecursion (IsMember m) cs → AllByRecursion IsNonempty cs
     → AreFilled m cs
     → AllByRecursion (IsMember m) ds → AllByRecursion IsNonempty ds → AreFilled m ds → joined cs ≡ joined ds → cs ≡ ds
@@ -126,6 +126,6 @@ same_members m (c ∷ cs) (d ∷ ds) a b f a' b' f' e =
           | inr l ↦ l
         ]
 
--- a text has one full cut at most
+-- A text has one full cut at most.
 pub one_full : (t : List ℕ) (m : ℕ) (cs ds : List (List ℕ)) → IsFullCut t m cs → IsFullCut t m ds → cs ≡ ds
 one_full t m cs ds f g = grind (arith, nat_tests, same_members)

@@ -5,31 +5,31 @@ use Rattle.ciborium_ll_text.specs.declared.state.State.{State}
 use Rattle.ciborium_ll_text.specs.declared.state.State.TheVariants as s
 use Rattle.ciborium_ll_text.specs.States.{is_from, after_first, after_next, after, after_byte, tail_due, may_end}
 
--- a damaged text never ends
+-- A text that may end is not damaged.
 pub not_damaged : (state : State) (n : ℕ) → may_end state n ≡ true → state ≡ s.Damaged → ⊥
 not_damaged state n may e = grind arith
 
--- a byte less is due
+-- A text that may end `n` bytes after the next byte may end `n + 1` bytes from here.
 pub one_more_due : (state : State) (b n : ℕ) → may_end (after_byte state b) n ≡ true → may_end state (suc n) ≡ true
 unfolding is_from after_first after_next
 one_more_due state b n may = grind (arith, nat_tests)
 
--- a text that ends may end
+-- If bytes lead to the end of a character, the text may end after this number of bytes.
 pub text_may_end : (state : State) (body : List ℕ) → after state body ≡ s.Between → may_end state (length body) ≡ true
 text_may_end state [] e = rw e (le-leb 0 0 (omega arith))
 text_may_end state (b ∷ body) e = one_more_due state b (length body) (text_may_end (after_byte state b) body e)
 
--- with no byte more only whole characters may end
+-- If a text may end after no more bytes, its state is between two characters.
 pub none_left : (state : State) → may_end state 0 ≡ true → state ≡ s.Between
 none_left state may = grind (arith, nat_tests)
 
--- what may end behind bytes may end in front of them
+-- If a text may end `left` bytes after `xs`, it may end `length xs + left` bytes from the first state.
 pub may_back : (xs : List ℕ) (state : State) (left k : ℕ) → k ≡ length xs + left → may_end (after state xs) left ≡ true
     → may_end state k ≡ true
 may_back [] state left k e may = let same : left ≡ k = omega (arith, e) in rw same at may
 may_back (x ∷ xs) state left k e may =
     grind (arith, nat_tests, one_more_due, may_back xs (after_byte state x) left (length xs + left) refl may)
 
--- and those that may are no fewer than are due
+-- A text may end only after at least as many bytes as are due.
 pub tail_fits : (state : State) (n : ℕ) → may_end state n ≡ true → tail_due state ≤ n
 tail_fits state n may = grind (arith, nat_tests)

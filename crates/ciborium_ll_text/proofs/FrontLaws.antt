@@ -7,12 +7,12 @@ use Rattle.ciborium_ll_text.specs.Text.{IsFront, IsStuck, BeginsNoText}
 use Rattle.ciborium_ll_text.proofs.Lists.{length_zero}
 use Rattle.ciborium_ll_text.proofs.TextLaws.{IsCharacters-append, IsCharacters-nil, front_of_valid}
 
--- nothing is stuck
+-- The empty list is stuck.
 pub IsStuck-nil : IsStuck []
 IsStuck-nil [] rest e text = refl
 IsStuck-nil (byte ∷ front) rest e text = cc
 
--- what is behind the longest front is stuck
+-- The rest after the longest front is stuck.
 pub IsStuck-rest : (bytes front rest : List ℕ) → IsFront bytes front rest → IsStuck rest
 IsStuck-rest bytes front rest f other more e text =
     let longer : bytes ≡ (front ++ other) ++ more = f.parts ∙ ap (λ (z : List ℕ). front ++ z) e
@@ -20,11 +20,11 @@ IsStuck-rest bytes front rest f other more e text =
     let least = f.longest (front ++ other) more longer (IsCharacters-append front other f.text text) in
     length_zero other (omega (arith, least, length-append front other))
 
--- bytes that are stuck have an empty front
+-- Stuck bytes have an empty longest front.
 pub IsFront-stuck : (bytes : List ℕ) → IsStuck bytes → IsFront (bytes ++ []) [] bytes
 IsFront-stuck bytes stuck = grind (arith, nat_tests, append-nil, IsCharacters-nil)
 
--- the front that std finds
+-- The front that std finds is the longest front.
 pub IsFront-valid : (bytes text : List ℕ) (n : ℕ) → text ≡ take n bytes → n ≤ length bytes → IsValidUpTo bytes n
     → IsFront bytes text (drop (length text) bytes)
 IsFront-valid bytes text n e within valid =
@@ -32,6 +32,6 @@ IsFront-valid bytes text n e within valid =
     subst (λ (z : List ℕ). IsFront bytes z (drop (length text) bytes)) (sym e)
     (subst (λ (k : ℕ). IsFront bytes (take n bytes) (drop k bytes)) (sym counted) (front_of_valid bytes n valid))
 
--- bytes that begin no text begin none with more behind them
+-- If no text begins with some bytes, no text begins with these bytes and more.
 pub no_text_behind : (read more : List ℕ) → BeginsNoText read → BeginsNoText (read ++ more)
 no_text_behind read more none = grind (arith, nat_tests, append_assoc)

@@ -1,4 +1,4 @@
--- A text has a full cut for each limit that the longest character fits.
+-- A text has a full cut for each limit of at least 4 bytes.
 use Rattle.std.proofs.lemmas.Bool.Decides.{nat_tests}
 use Rattle.std.proofs.Common.{◌≡◌, ℕ, ◌+◌, ◌<◌, ◌≤◌, List, [], ◌∷◌, ◌++◌, length, refl, sym, ap, ◌∙◌, subst, inl, inr}
 use Rattle.std.proofs.Common.{arith, append_assoc}
@@ -10,7 +10,7 @@ use Rattle.ciborium_ll_text.specs.Cuts.{IsMember, IsNonempty, IsFilled, AreFille
 use Rattle.ciborium_ll_text.proofs.TextLaws.{character_length, character_is_text, IsCharacters-append}
 use Rattle.ciborium_ll_text.proofs.CutLaws.{one_character}
 
--- a full cut of a text that begins with the bytes of one member so far, and goes on with characters
+-- A full cut of the member so far and the characters after it. Its first member begins with the member so far.
 record Filling (limit : ℕ) (member : List ℕ) (characters : List (List ℕ)) : Type 0 where
   first : List ℕ
   others : List (List ℕ)
@@ -21,13 +21,13 @@ record Filling (limit : ℕ) (member : List ℕ) (characters : List (List ℕ)) 
   nonempty : AllByRecursion IsNonempty (first ∷ others)
   filled : AreFilled limit (first ∷ others)
 
--- the next member begins with a character that has no room in this one
+-- A member is filled if the first character of the next member has no room.
 no_room : (limit : ℕ) (member character rest following : List ℕ) → IsCharacter character → following ≡ character ++ rest
     → limit < length member + length character
     → IsFilled limit member following
 no_room limit member character rest following p e l x r q f = grind (arith, nat_tests, one_character)
 
--- one member so far and the characters behind it give a full cut
+-- The member so far and the characters after it have a full cut.
 filling : (limit : ℕ) → 4 ≤ limit → (member : List ℕ) → IsMember limit member → IsNonempty member → (cs : List (List ℕ))
     → AllByRecursion IsCharacter cs → Filling limit member cs
 filling limit four member ok some [] all = record {
@@ -71,7 +71,7 @@ filling limit four member ok some (c ∷ cs) all =
           })
     ]
 
--- characters joined have a full cut
+-- Joined characters have a full cut.
 full_cut_of : (limit : ℕ) → 4 ≤ limit → (cs : List (List ℕ)) → AllByRecursion IsCharacter cs
     → (members : List (List ℕ)) × IsFullCut (joined cs) limit members
 full_cut_of limit four [] all = ([], record { cut = record { whole = refl; each = tt }; nonempty = tt; filled = tt })
@@ -87,7 +87,7 @@ full_cut_of limit four (c ∷ cs) all =
       },
     )
 
--- a text has a full cut for each limit that the longest character fits
+-- A text has a full cut for each limit of at least 4 bytes.
 pub full_cut : (text : List ℕ) (limit : ℕ) → IsCharacters text → 4 ≤ limit → (members : List (List ℕ))
     × IsFullCut text limit members
 full_cut text limit u four =

@@ -1,5 +1,5 @@
--- The end of the last character of some bytes: it is the end of the longest front that is text, and at most three bytes
--- back.
+-- The end of the last character of some bytes is the end of the longest front that is text. Inside a further character
+-- it is at most three bytes back.
 use Rattle.std.proofs.Common.{◌≡◌, ℕ, zero, suc, ◌+◌, ◌-◌, ◌<◌, ◌≤◌, List, length, take, drop, get_or, refl, sym}
 use Rattle.std.proofs.Common.{ap, ◌∙◌, arith}
 use Rattle.std.proofs.lemmas.Bool.Decides.{nat_tests}
@@ -12,49 +12,50 @@ use Rattle.ciborium_ll_text.proofs.TextLaws.{front_at}
 use Rattle.ciborium_ll_text.proofs.StateLaws.{after-run, after-rest}
 use Rattle.ciborium_ll_text.proofs.StateLaws.{text_ends, text_from}
 
--- ---- where the last character ends
+-- ---- the end of the last character
 
--- the front is what ends with the last character
+-- The bytes up to the last end are the longest front.
 pub front_at_end : (x : List ℕ) (n : ℕ) → IsLastEnd x n → IsFront x (take n x) (drop n x)
 front_at_end x n l =
     front_at x n l.within (text_from (take n x) l.ends) (λ m k r u. l.last m k r (text_ends (take m x) u))
 
--- the byte behind which some are due: a first byte, or a later one
+-- The byte after which `left` bytes are due begins a character or continues one.
 pub data Back (state : State) (b : ℕ) (left : ℕ) : Type 0 where
   begins : 0xc0 ≤ b → state ≡ s.Between → Back state b left
   goes_on : b < 0xc0 → tail_due state ≡ left + 1 → Back state b left
 
--- each is
+-- Each byte after which bytes are due begins a character or continues one.
 pub back : (state : State) (b : ℕ) → 0 < tail_due (after_byte state b) → Back state b (tail_due (after_byte state b))
 unfolding is_from after_first after_next
 back state b d = grind (arith, nat_tests, begins, goes_on)
 
--- the state is inside a character
+-- Bytes are due in each state but `Between` and `Damaged`.
 pub inside_due : (state : State) → (state ≡ s.Between → ⊥) → (state ≡ s.Damaged → ⊥) → 0 < tail_due state
 inside_due state n d = grind arith
 
--- at most three bytes are due
+-- At most three bytes are due.
 due-le : (state : State) → tail_due state ≤ 3
 due-le state = grind arith
 
 module _ (x : List ℕ) where
-  -- how many bytes are due behind so many
+  -- The number of bytes that are due after the first `i` bytes.
   abbrev due : ℕ → ℕ
   due i = tail_due (after s.Between (take i x))
 
-  -- where some are due, some are there
+  -- Bytes are due only after at least one byte.
   some_at : (i : ℕ) → 0 < due i → 0 < i
   some_at zero d = absurd (omega arith)
   some_at (suc i) d = omega arith
 
-  -- the byte behind which some are due
+  -- The last byte before a place at which bytes are due begins a character or continues one.
   last_byte : (i j : ℕ) → i ≡ j + 1 → i ≤ length x → 0 < due i
       → Back (after s.Between (take j x)) (get_or x j 0) (due i)
   last_byte i j e l d =
       let same = ap (λ (z : ℕ). after s.Between (take z x)) e ∙ after-run s.Between x j (omega arith) in
       rw same (back (after s.Between (take j x)) (get_or x j 0) (rw same at d))
 
-  -- it begins the character, or one more is due in front of it
+  -- If the last byte is at least c0, the state before it is between two characters. Otherwise one byte more is due
+  -- before it.
   begins_at : (i j : ℕ) → i ≡ j + 1 → i ≤ length x → 0 < due i → 0xc0 ≤ get_or x j 0
       → after s.Between (take j x) ≡ s.Between
   begins_at i j e l d h = let b = last_byte i j e l d in grind arith
@@ -62,12 +63,12 @@ module _ (x : List ℕ) where
   later_at : (i j : ℕ) → i ≡ j + 1 → i ≤ length x → 0 < due i → get_or x j 0 < 0xc0 → due j ≡ due i + 1
   later_at i j e l d h = let b = last_byte i j e l d in grind arith
 
-  -- the last end, where some are due behind each later byte
+  -- A place between two characters is the last end if bytes are due at each later place.
   ends_at : (n : ℕ) → n ≤ length x → after s.Between (take n x) ≡ s.Between
       → ((m : ℕ) → n < m → m ≤ length x → 0 < due m) → IsLastEnd x n
   ends_at n l e d = record { within = l; ends = e; last = λ m k r f. omega (arith, d m k r, ap tail_due f) }
 
--- the character that is cut, by how many bytes it has: the last byte begins it, the one before, or the one before that
+-- The last end before a cut character, which begins with the last byte, the one before, or the one before that.
 pub record CutCharacter (x : List ℕ) : Type 0 where
   pub some : 0 < length x
   pub one : 0xc0 ≤ get_or x (length x - 1) 0 → IsLastEnd x (length x - 1)
@@ -76,7 +77,7 @@ pub record CutCharacter (x : List ℕ) : Type 0 where
   pub most : get_or x (length x - 1) 0 < 0xc0 → get_or x (length x - 2) 0 < 0xc0 → 2 < length x
   pub three : get_or x (length x - 1) 0 < 0xc0 → get_or x (length x - 2) 0 < 0xc0 → IsLastEnd x (length x - 3)
 
--- a character is cut
+-- Bytes that end inside a character end with a cut character.
 pub cut_character : (x : List ℕ) → 0 < tail_due (after s.Between x) → CutCharacter x
 cut_character x d =
     let n = length x in
@@ -115,30 +116,30 @@ cut_character x d =
           (λ m a b. grind arith);
     }
 
--- the last end moves to a character's
+-- If a character ends with the next byte, the last end moves there.
 pub end_moves : (x : List ℕ) (i : ℕ) → i < length x → after s.Between (take (i + 1) x) ≡ s.Between
     → IsLastEnd (take (i + 1) x) (i + 1)
 end_moves x i l e = grind (arith, length-take-le, take-take)
 
--- else it stays
+-- If no character ends with the next byte, the last end stays.
 pub end_stays : (x : List ℕ) (i e : ℕ) → i < length x → IsLastEnd (take i x) e
     → (after s.Between (take (i + 1) x) ≡ s.Between → ⊥) → IsLastEnd (take (i + 1) x) e
 end_stays x i e l last inner = grind (arith, length-take-le, take-take)
 
--- a text is its own last end
+-- The last end of a text is its length.
 pub end_of_text : (x : List ℕ) → after s.Between x ≡ s.Between → IsLastEnd x (length x)
 end_of_text x e = grind (arith, take_all)
 
--- what ends with the last character is the front
+-- The bytes up to the last end are the longest front, and the bytes after it are the rest.
 pub front_of_end : (x : List ℕ) (n : ℕ) → IsLastEnd x n → IsFront x (take n x) (drop (length (take n x)) x)
 front_of_end x n l = rw (length-take-le n x l.within) (front_at_end x n l)
 
--- and the rest leads to the same state as the whole
+-- The bytes after the last end lead to the same state as all bytes.
 pub state_of_end : (x : List ℕ) (n : ℕ) → IsLastEnd x n
     → after s.Between x ≡ after s.Between (drop (length (take n x)) x)
 state_of_end x n l = rw (length-take-le n x l.within) (after-rest x n l.ends)
 
--- in bytes that are stuck no character ends
+-- In bytes that are stuck, no character ends.
 pub stuck_end : (x : List ℕ) → IsStuck x → IsLastEnd x 0
 stuck_end x stuck = record {
   within = omega arith;

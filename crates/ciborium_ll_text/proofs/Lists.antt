@@ -1,11 +1,11 @@
--- Fronts and rests of lists, empty ones, and lists of bytes.
+-- Fronts and rests of lists, empty lists, and lists of bytes.
 use Rattle.std.proofs.lemmas.Bool.Decides.{nat_tests}
 use Rattle.std.proofs.Common.{◌≡◌, ℕ, suc, ◌+◌, ◌-◌, ◌<◌, ◌≤◌, min, List, [], ◌∷◌, ◌++◌, length, take, drop, get_or}
 use Rattle.std.proofs.Common.{refl, ap, ◌∙◌, arith, length-drop}
 use Rattle.std.proofs.lemmas.List.{get_or-take, length-take-le, take_rest}
 use Rattle.std.proofs.Math.Seq.{take-append_seam, take-append-add}
 
--- two fronts of a list that are as long as each other are the same, and so are the rests
+-- Two fronts of a list with the same length are the same, and so are the rests.
 pub same_front : (a b v v' : List ℕ) → length a ≡ length b → a ++ v ≡ b ++ v' → (a ≡ b) × (v ≡ v')
 same_front [] [] v v' l e = (refl, e)
 same_front [] (y ∷ b) v v' l e = absurd (omega arith)
@@ -17,7 +17,7 @@ same_front (x ∷ a) (y ∷ b) v v' l e =
     let ab : a ≡ b = h.0 in
     (cc (heads, ab), h.1)
 
--- the shorter of two fronts of a list begins the longer
+-- The shorter of two fronts of a list begins the longer one.
 pub front_of_front : (a b r s : List ℕ) → a ++ r ≡ b ++ s → length a ≤ length b → (m : List ℕ) × (b ≡ a ++ m)
     × (r ≡ m ++ s)
 front_of_front [] b r s e l = (b, refl, e)
@@ -29,39 +29,39 @@ front_of_front (x ∷ a) (y ∷ b) r s e l =
     let hb : b ≡ a ++ h.0 = h.1 in
     (h.0, cc (heads, hb), h.2)
 
--- no bytes, by the length
+-- A list of length 0 is empty.
 pub length_zero : (bytes : List ℕ) → length bytes ≡ 0 → bytes ≡ []
 length_zero [] e = refl
 length_zero (byte ∷ bytes) e = absurd (omega arith)
 
--- a first byte is counted where there is one
+-- `drop (min 1 (length rest))` drops the first byte, if there is one.
 pub first_counted : (rest : List ℕ) → drop (min 1 (length rest)) rest ≡ drop 1 rest
 first_counted [] = refl
 first_counted (b ∷ rest) = grind (arith, nat_tests)
 
--- a list as long as the front asked for is that front
+-- If the bytes read are `len` bytes, they are the front of this length.
 pub front_of : (len : ℕ) (rest read more : List ℕ) → rest ≡ read ++ more → length read ≡ len → take len rest ≡ read
 front_of len rest read more e l = grind (arith, nat_tests, take-append_seam)
 
--- a front that goes on behind what was read
+-- If the bytes read are at most `len` bytes, the front of this length begins with them.
 pub front_behind : (len : ℕ) (rest read more : List ℕ) → rest ≡ read ++ more → length read ≤ len → take len rest
     ≡ read ++ take (len - length read) more
 front_behind len rest read more e l =
     let sum : len ≡ length read + (len - length read) = omega (arith, l) in
     ap (take len) e ∙ ap (λ (n : ℕ). take n (read ++ more)) sum ∙ take-append-add read more (len - length read)
 
--- how many are left behind some
+-- From index `at` on there are `length xs - at` elements.
 pub rest_long : (xs : List ℕ) (at : ℕ) → length (take (length xs - at) (drop at xs)) ≡ length xs - at
 rest_long xs at = ap length (take_rest xs at) ∙ length-drop at xs
 
--- each is a byte
+-- Each element is a byte.
 abbrev pub Below : List ℕ → Type 0
 Below xs = (i : ℕ) → i < length xs → get_or xs i 0 < 256
 
--- and so is each behind the first
+-- If each element is a byte, so is each element after the first.
 pub below_rest : (x : ℕ) (xs : List ℕ) → Below (x ∷ xs) → Below xs
 below_rest x xs below = λ i less. below (suc i) (omega (arith, less))
 
--- and each of a front
+-- If each element is a byte, so is each element of a front.
 pub below_take : (n : ℕ) (xs : List ℕ) → n ≤ length xs → Below xs → Below (take n xs)
 below_take n xs le below = grind (arith, nat_tests, length-take-le, get_or-take)

@@ -1,4 +1,4 @@
--- The states of a text: the state after each byte. A list is text exactly if its end is between two characters.
+-- Bytes are text exactly if the state after them is between two characters.
 use Rattle.std.proofs.Common.{◌≡◌, ℕ, zero, suc, ◌+◌, ◌-◌, ◌<◌, ◌≤◌, ◌⊎◌, List, [], ◌∷◌, ◌++◌, length, take, drop}
 use Rattle.std.proofs.Common.{get_or, refl, sym, ap, ◌∙◌, arith, length-append}
 use Rattle.std.proofs.lemmas.Bool.Decides.{nat_tests}
@@ -16,7 +16,7 @@ use Rattle.ciborium_ll_text.proofs.TextLaws.{IsCharacters-append, IsCharacters-n
 
 -- ---- one byte
 
--- a first byte and the state behind it: the byte is of a row of the table, or of none
+-- A first byte and the state after it, by the rows of the table. A byte of no row damages the text.
 pub data First : ℕ → State → Type 0 where
   ascii : {a : ℕ} → IsFrom 0x00 0x7f a → First a s.Between
   two : {a : ℕ} → IsFrom 0xc2 0xdf a → First a s.OneDue
@@ -29,17 +29,17 @@ pub data First : ℕ → State → Type 0 where
   f4 : {a : ℕ} → IsFrom 0xf4 0xf4 a → First a s.BehindF4
   none : {a : ℕ} → (a < 0xc2) ⊎ (0xf4 < a) → First a s.Damaged
 
--- each first byte is of a row, or of none
+-- Each byte is the first byte of a row, or of none.
 pub first_view : (a : ℕ) → First a (after_first a)
 unfolding is_from after_first
 first_view a = grind (arith, nat_tests, ascii, two, e0, three_low, ed, three_high, f0, four, f4, none)
 
--- a later byte and the state behind it: the byte is within its range, or no text goes on
+-- A later byte and the state after it: the byte is within its range, or it damages the text.
 pub data Next (lowest highest : ℕ) (state : State) (b : ℕ) : State → Type 0 where
   inside : IsFrom lowest highest b → Next lowest highest state b state
   outside : Next lowest highest state b s.Damaged
 
--- each later byte is so
+-- Each later byte is within its range or outside it.
 pub next_view : (lowest highest : ℕ) (state : State) (b : ℕ)
     → Next lowest highest state b (after_next lowest highest state b)
 unfolding is_from after_next
@@ -47,40 +47,40 @@ next_view lowest highest state b = grind (arith, nat_tests, inside, outside)
 
 -- ---- lists
 
--- behind two lists
+-- The second list leads on from the state after the first list.
 pub after-append : (state : State) (x y : List ℕ) → after state (x ++ y) ≡ after (after state x) y
 after-append state [] y = refl
 after-append state (b ∷ x) y = after-append (after_byte state b) x y
 
--- a damage stays
+-- A damaged text stays damaged.
 pub after-damaged : (x : List ℕ) → after s.Damaged x ≡ s.Damaged
 after-damaged [] = refl
 after-damaged (b ∷ x) = after-damaged x
 
--- one byte more, from any state
+-- The byte at index `i` leads from the state after `i` bytes to the state after `i + 1` bytes.
 pub after-run : (state : State) (x : List ℕ) (i : ℕ) → i < length x
     → after state (take (i + 1) x) ≡ after_byte (after state (take i x)) (get_or x i 0)
 after-run state x i l = ap (after state) (take_more x i 0 l) ∙ after-append state (take i x) (get_or x i 0 ∷ [])
 
--- behind kept bytes and new ones
+-- The new bytes lead from the state after the kept bytes to the state after all bytes.
 pub after-whole : (x : List ℕ) (k : ℕ) (state : State) → state ≡ after s.Between (take k x)
     → after state (drop k x) ≡ after s.Between x
 after-whole x k state e =
     ap (λ (z : State). after z (drop k x)) e
     ∙ (sym (after-append s.Between (take k x) (drop k x)) ∙ ap (after s.Between) (take-append-drop k x))
 
--- behind a text the state is as it was
+-- The bytes after a text lead to the same state as all bytes.
 pub after-rest : (x : List ℕ) (n : ℕ) → after s.Between (take n x) ≡ s.Between
     → after s.Between x ≡ after s.Between (drop n x)
 after-rest x n e = sym (after-whole x n s.Between (sym e))
 
--- the state of a loop goes on by a byte
+-- One step of a loop gives the state after one more byte.
 pub run_on : (state so_far next : State) (x : List ℕ) (i : ℕ) → next ≡ after_byte so_far (get_or x i 0)
     → so_far ≡ after state (take i x) → i < length x
     → next ≡ after state (take (i + 1) x)
 run_on state so_far next x i e f l = grind (arith, nat_tests, after-run)
 
--- the state behind the new bytes is that behind all
+-- The state after the new bytes is the state after all bytes.
 pub told_whole : (x : List ℕ) (k : ℕ) (state behind : State)
     → behind ≡ after state (take (length x - k) (drop k x)) → state ≡ after s.Between (take k x)
     → behind ≡ after s.Between x
@@ -88,7 +88,7 @@ told_whole x k state behind e f = e ∙ (ap (after state) (take_rest x k) ∙ af
 
 -- ---- a text ends between two characters
 
--- one character does
+-- A character leads from `Between` to `Between`.
 character_ends : (x : List ℕ) → IsCharacter x → after s.Between x ≡ s.Between
 unfolding is_from after_first after_next
 character_ends x (row1 {a} p) = grind (arith, nat_tests)
@@ -101,20 +101,20 @@ character_ends x (row7 {a} {b} {c} {d} p q r t) = grind (arith, nat_tests)
 character_ends x (row8 {a} {b} {c} {d} p q r t) = grind (arith, nat_tests)
 character_ends x (row9 {a} {b} {c} {d} p q r t) = grind (arith, nat_tests)
 
--- joined characters do
+-- Joined characters lead from `Between` to `Between`.
 characters_end : (cs : List (List ℕ)) → AllByRecursion IsCharacter cs → after s.Between (joined cs) ≡ s.Between
 characters_end [] each = refl
 characters_end (c ∷ cs) each =
     after-append s.Between c (joined cs)
     ∙ (ap (λ (z : State). after z (joined cs)) (character_ends c each.0) ∙ characters_end cs each.1)
 
--- a text does
+-- A text leads from `Between` to `Between`.
 pub text_ends : (t : List ℕ) → IsCharacters t → after s.Between t ≡ s.Between
 text_ends t u = ap (after s.Between) u.whole ∙ characters_end u.characters u.each
 
--- ---- what ends between two characters is a text
+-- ---- bytes that end between two characters are a text
 
--- from where to where each byte is that is due, and behind a damage no byte
+-- The ranges of the bytes that are due in a state. No byte is in the range of a damaged text.
 abbrev ranges : State → List (ℕ × ℕ)
 ranges s.Between = []
 ranges s.OneDue = (0x80, 0xbf) ∷ []
@@ -126,13 +126,13 @@ ranges s.BehindF0 = (0x90, 0xbf) ∷ (0x80, 0xbf) ∷ (0x80, 0xbf) ∷ []
 ranges s.BehindF4 = (0x80, 0x8f) ∷ (0x80, 0xbf) ∷ (0x80, 0xbf) ∷ []
 ranges s.Damaged = (1, 0) ∷ []
 
--- a byte in each range
+-- Each byte is in its range.
 data AreWithin : List (ℕ × ℕ) → List ℕ → Type 0 where
   nil : AreWithin [] []
   cons : {range : ℕ × ℕ} {others : List (ℕ × ℕ)} {b : ℕ} {x : List ℕ} → IsFrom range.0 range.1 b
       → AreWithin others x → AreWithin (range ∷ others) (b ∷ x)
 
--- the bytes that are due come, and behind them what ends between two characters
+-- The bytes are those that are due, and then bytes that end between two characters.
 record Comes (due : List (ℕ × ℕ)) (x : List ℕ) : Type 0 where
   tail : List ℕ
   rest : List ℕ
@@ -140,11 +140,11 @@ record Comes (due : List (ℕ × ℕ)) (x : List ℕ) : Type 0 where
   within : AreWithin due tail
   ends : after s.Between rest ≡ s.Between
 
--- a damaged text has no end
+-- A damaged text never ends between two characters.
 no_end : {A : Type 0} → (x : List ℕ) → after s.Damaged x ≡ s.Between → A
 no_end x e = let d = after-damaged x in absurd (cc (d, e))
 
--- a byte of the first range comes, and then the others
+-- From a state inside a character, a byte of the first range comes, and then bytes of the other ranges.
 comes_first : {lowest highest : ℕ} {others : List (ℕ × ℕ)} {to : State} (state : State) (x : List ℕ)
     → (state ≡ s.Between → ⊥) → ((b : ℕ) → after_byte state b ≡ after_next lowest highest to b)
     → ((y : List ℕ) → after to y ≡ s.Between → Comes others y) → after state x ≡ s.Between
@@ -160,7 +160,7 @@ comes_first {lowest} {highest} {others} {to} state (b ∷ x) inner step more e =
         record { tail = b ∷ m.tail; rest = m.rest; is = cc m.is; within = cons p m.within; ends = m.ends }
     go next outside e = no_end x e
 
--- none is due, or one, or two
+-- If bytes end between two characters, they begin with the bytes that are due: none, one or two.
 comes_none : (x : List ℕ) → after s.Between x ≡ s.Between → Comes (ranges s.Between) x
 comes_none x e = record { tail = []; rest = x; is = refl; within = nil; ends = e }
 
@@ -170,7 +170,7 @@ comes_one x e = comes_first s.OneDue x (λ e. cc) (λ b. refl) comes_none e
 comes_two : (x : List ℕ) → after s.TwoDue x ≡ s.Between → Comes (ranges s.TwoDue) x
 comes_two x e = comes_first s.TwoDue x (λ e. cc) (λ b. refl) comes_one e
 
--- from each state on
+-- From each state, bytes that end between two characters begin with the bytes that are due.
 comes : (state : State) (x : List ℕ) → after state x ≡ s.Between → Comes (ranges state) x
 comes s.Between x e = comes_none x e
 comes s.OneDue x e = comes_one x e
@@ -182,7 +182,7 @@ comes s.BehindF0 x e = comes_first s.BehindF0 x (λ e. cc) (λ b. refl) comes_tw
 comes s.BehindF4 x e = comes_first s.BehindF4 x (λ e. cc) (λ b. refl) comes_two e
 comes s.Damaged x e = no_end x e
 
--- a first byte and those that are due behind it are of one row
+-- A first byte and the bytes that are due after it are a character.
 one_row : (a : ℕ) (state : State) (tail : List ℕ) → First a state → AreWithin (ranges state) tail
     → IsCharacter (a ∷ tail)
 one_row a s.Between tail (ascii p) nil = row1 p
@@ -196,7 +196,7 @@ one_row a s.ThreeDue tail (four p) (cons q (cons r (cons t nil))) = row8 p q r t
 one_row a s.BehindF4 tail (f4 p) (cons q (cons r (cons t nil))) = row9 p q r t
 one_row a s.Damaged tail (none p) (cons q nil) = absurd (omega (arith, q))
 
--- what ends between two characters is a text, up to a length
+-- Bytes that end between two characters are a text, by induction on their length.
 text_within : (n : ℕ) (x : List ℕ) → length x ≤ n → after s.Between x ≡ s.Between → IsCharacters x
 text_within n [] l e = IsCharacters-nil
 text_within zero (a ∷ x) l e = absurd (omega arith)
@@ -206,21 +206,21 @@ text_within (suc n) (a ∷ x) l e =
     rw m.is (IsCharacters-append (a ∷ m.tail) m.rest (character_is_text (a ∷ m.tail) character)
     (text_within n m.rest (omega (arith, ap length m.is, length-append m.tail m.rest)) m.ends))
 
--- what ends between two characters is a text
+-- Bytes that end between two characters are a text.
 pub text_from : (x : List ℕ) → after s.Between x ≡ s.Between → IsCharacters x
 text_from x e = text_within (length x) x (omega arith) e
 
--- ASCII leaves the state between two characters
+-- ASCII bytes lead from `Between` to `Between`.
 pub ascii_stays : (x : List ℕ) → IsAscii x → s.Between ≡ after s.Between x
 ascii_stays x a = sym (text_ends x (from_std x (IsUtf8-from_ascii x a)))
 
--- ---- what the states say of a text that goes on
+-- ---- texts that begin with given bytes
 
--- behind a damage none does
+-- No text begins with bytes that lead to `Damaged`.
 pub none_goes_on : (x more : List ℕ) → after s.Between x ≡ s.Damaged → IsCharacters (x ++ more) → ⊥
 none_goes_on x more e u = cc (after-append s.Between x more, e, after-damaged more, text_ends (x ++ more) u)
 
--- bytes that lead to the end of a character, from any state but a damage
+-- From each state but `Damaged`, some bytes lead to the end of a character.
 to_end : (state : State) → (state ≡ s.Damaged → ⊥) → (more : List ℕ) × (after state more ≡ s.Between)
 unfolding is_from after_next
 to_end s.Between n = ([], refl)
@@ -233,7 +233,7 @@ to_end s.BehindF0 n = (0x90 ∷ 0x80 ∷ 0x80 ∷ [], refl)
 to_end s.BehindF4 n = (0x80 ∷ 0x80 ∷ 0x80 ∷ [], refl)
 to_end s.Damaged n = absurd (n refl)
 
--- behind any other state one does
+-- A text begins with any bytes that do not lead to `Damaged`.
 pub some_goes_on : (x : List ℕ) → (after s.Between x ≡ s.Damaged → ⊥) → (more : List ℕ) × IsCharacters (x ++ more)
 some_goes_on x n =
     let end = to_end (after s.Between x) n in

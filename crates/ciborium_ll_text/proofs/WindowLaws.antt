@@ -1,4 +1,4 @@
--- A text by windows: each byte may follow the three before it.
+-- If each byte may follow the three before it, the last three bytes give the state.
 use Rattle.std.proofs.Common.{◌≡◌, ℕ, zero, suc, ◌+◌, ◌-◌, ◌<◌, ◌≤◌, ◌⊎◌, List, length, take, get_or, sym, ap, ◌∙◌}
 use Rattle.std.proofs.Common.{subst, arith}
 use Rattle.std.proofs.lemmas.Bool.Decides.{nat_tests}
@@ -13,22 +13,22 @@ use Rattle.ciborium_ll_text.proofs.StateLaws.{first_view, after-run}
 
 -- ---- one byte more
 
--- where no character is open
+-- If no character is open after three bytes, their state is `Between`.
 closed : (x y z : ℕ) → x < 0xf0 → y < 0xe0 → z < 0xc0 → after_window x y z ≡ s.Between
 unfolding after_window
 closed x y z p q r = grind (arith, nat_tests)
 
--- a byte that begins a character
+-- A byte that begins a character gives the state by itself.
 begun : (y z b : ℕ) → (b < 0x80) ⊎ (0xc0 ≤ b) → after_first b ≡ after_window y z b
 unfolding is_from after_first after_window
 begun y z b p = grind (arith, nat_tests)
 
--- behind a byte that begins a character of several
+-- After a last byte of at least c0, the window gives the state after this byte.
 window_first : (x y z : ℕ) → 0xc0 ≤ z → after_window x y z ≡ after_first z
 unfolding after_window
 window_first x y z p = grind (arith, nat_tests)
 
--- a second byte
+-- A second byte in its range moves the window on by one byte.
 second_goes : (y z b : ℕ) (state : State) → First z state → (0xc2 ≤ z) × (z ≤ 0xf4)
     → (least_after z ≤ b) × (b ≤ most_after z) → after_byte state b ≡ after_window y z b
 unfolding is_from after_next after_window
@@ -43,20 +43,20 @@ second_goes y z b s.ThreeDue (four p) r t = grind (arith, nat_tests)
 second_goes y z b s.BehindF4 (f4 p) r t = grind (arith, nat_tests)
 second_goes y z b s.Damaged (none p) r t = absurd (omega (arith, p))
 
--- a later byte
+-- A later byte moves the window on by one byte.
 later_goes : (x y z b : ℕ) → (0xf0 ≤ x) ⊎ (0xe0 ≤ y) → IsContinuation z → IsContinuation b → (0xf0 ≤ x → y < 0xc0)
     → after_byte (after_window x y z) b ≡ after_window y z b
 unfolding is_from after_next after_window
 later_goes x y z b p q r inv = grind (arith, nat_tests)
 
--- a byte that may follow the three before it moves the window
+-- A byte that may follow the three before it moves the window on by one byte.
 window_step : (x y z b : ℕ) → Step x y z b → (0xf0 ≤ x → y < 0xc0)
     → after_byte (after_window x y z) b ≡ after_window y z b
 window_step x y z b (first p q) inv = ap (λ (t : State). after_byte t b) (closed x y z p.0 p.1 p.2) ∙ begun y z b q
 window_step x y z b (second p q r) inv = grind (arith, nat_tests, window_first, second_goes, first_view)
 window_step x y z b (later p q r) inv = later_goes x y z b p q r inv
 
--- behind it a byte that follows a first byte of four is a later one
+-- If `b` may follow `x`, `y` and `z`, and `y` is at least f0, `z` is below c0.
 window_later : (x y z b : ℕ) → Step x y z b → 0xf0 ≤ y → z < 0xc0
 window_later x y z b (first p q) h = p.2
 window_later x y z b (second p q r) h = absurd (omega arith)
@@ -64,7 +64,8 @@ window_later x y z b (later p q r) h = q.1
 
 -- ---- whole lists
 
--- the state behind so many bytes, by the last three
+-- The last three bytes give the state after the first `i` bytes. The byte after a third last byte of at least f0 is
+-- below c0.
 pub record IsWindow (state : State) (x : List ℕ) (i : ℕ) : Type 0 where
   pub told : after state (take i x) ≡ after_window (get_or x (i - 3) 0) (get_or x (i - 2) 0) (get_or x (i - 1) 0)
   pub later : 0xf0 ≤ get_or x (i - 3) 0 → get_or x (i - 2) 0 < 0xc0
@@ -78,7 +79,7 @@ back_again i = omega arith
 back_here : (i : ℕ) → i + 1 - 1 ≡ i
 back_here i = omega arith
 
--- one byte more
+-- If the window gives the state after `i` bytes, it gives the state after `i + 1` bytes.
 window_more : (state : State) (x : List ℕ) (i : ℕ) → i < length x → IsWindow state x i
     → Step (get_or x (i - 3) 0) (get_or x (i - 2) 0) (get_or x (i - 1) 0) (get_or x i 0) → IsWindow state x (i + 1)
 window_more state x i l w st = record {
@@ -91,7 +92,7 @@ window_more state x i l w st = record {
       (get_or x i 0) st h);
 }
 
--- so many bytes more
+-- If the window gives the state after three bytes, it gives the state after `k` bytes more.
 windows_on : (state : State) (x : List ℕ) (k : ℕ) → 3 + k ≤ length x → IsWindow state x 3
     → MayFollow x 3 (length x) → IsWindow state x (3 + k)
 windows_on state x zero l w all = w
@@ -101,7 +102,7 @@ windows_on state x (suc k) l w all =
     subst (λ (z : ℕ). IsWindow state x z) (sym next)
     (window_more state x (3 + k) (omega arith) before (all (3 + k) (omega arith) (omega arith)))
 
--- the state behind all bytes
+-- The last three bytes give the state after all bytes.
 pub windows_whole : (state : State) (x : List ℕ) → 3 ≤ length x → IsWindow state x 3 → MayFollow x 3 (length x)
     → after state x ≡ after_window (get_or x (length x - 3) 0) (get_or x (length x - 2) 0) (get_or x (length x - 1) 0)
 windows_whole state x l w all =

@@ -3,7 +3,7 @@ use Rattle.std.specs.Prelude.{ℕ, ◌==◌, Option, Some, None, if◌then◌els
 use Rattle.ciborium_ll_text.specs.declared.state.State.{State}
 use Rattle.ciborium_ll_text.specs.declared.state.State.TheVariants as s
 
--- The state that has this number.
+-- The state that has this number. The number 1 is `OneDue`, and 9 is no state.
 abbrev pub state_in : ℕ → Option State
 state_in text =
     if text == 0 then Some s.Between else

@@ -3,7 +3,7 @@ use Rattle.std.specs.Prelude.{ℕ}
 use Rattle.ciborium_ll_text.specs.declared.state.State.{State}
 use Rattle.ciborium_ll_text.specs.declared.state.State.TheVariants as s
 
--- The first of the six bits that a row of the table has for this state.
+-- The first of the six bits that a row of the table has for this state. `TwoDue` has the bits 12 to 17.
 abbrev pub shift_of : State → ℕ
 shift_of s.Between = 0
 shift_of s.OneDue = 6

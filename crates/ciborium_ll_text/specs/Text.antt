@@ -2,11 +2,11 @@
 use Rattle.std.specs.Prelude.{◌≡◌, ℕ, ◌≤◌, List, [], ◌∷◌, ◌++◌, length}
 use Rattle.std.specs.List.{AllByRecursion}
 
--- The byte is from the lowest to the highest, both included.
+-- The byte is from the lowest to the highest, both included. `a4` is from `80` to `bf`.
 abbrev pub IsFrom : ℕ → ℕ → ℕ → Type 0
 IsFrom lowest highest byte = (lowest ≤ byte) × (byte ≤ highest)
 
--- The byte may be the last of a character of two or more bytes (Unicode, Table 3-7).
+-- The byte may be the last of a character of two or more bytes (Unicode, Table 3-7). `a4` is the last byte of `c3 a4`.
 abbrev pub IsTail : ℕ → Type 0
 IsTail byte = IsFrom 0x80 0xbf byte
 
@@ -25,27 +25,29 @@ pub data IsCharacter : List ℕ → Type 0 where
   row9 : {a b c d : ℕ} → IsFrom 0xf4 0xf4 a → IsFrom 0x80 0x8f b → IsTail c → IsTail d
       → IsCharacter (a ∷ b ∷ c ∷ d ∷ [])
 
--- The lists, joined.
+-- The lists, joined. `61` and `c3 a4` joined are `61 c3 a4`.
 abbrev pub joined : List (List ℕ) → List ℕ
 joined [] = []
 joined (list ∷ lists) = list ++ joined lists
 
--- The bytes are text: characters, joined (Unicode, Table 3-7). By the law `same_text`, this is std's UTF-8.
+-- The bytes are text: characters, joined (Unicode, Table 3-7). By the law `same_text`, this is std's UTF-8. `61 c3 a4`
+-- is a text of two characters.
 pub record IsCharacters (bytes : List ℕ) : Type 0 where
   pub characters : List (List ℕ)
   pub each : AllByRecursion IsCharacter characters
   pub whole : bytes ≡ joined characters
 
--- The bytes are a front that is text, and a rest. No longer front of the bytes is text.
+-- The bytes are a front that is text, and a rest. No longer front of the bytes is text. `61 e2 82` has the front `61`
+-- and the rest `e2 82`.
 pub record IsFront (bytes front rest : List ℕ) : Type 0 where
   pub parts : bytes ≡ front ++ rest
   pub text : IsCharacters front
   pub longest : (other more : List ℕ) → bytes ≡ other ++ more → IsCharacters other → length other ≤ length front
 
--- No front of the bytes but the empty one is text.
+-- No front of the bytes but the empty one is text. `e2 82` is stuck.
 abbrev pub IsStuck : List ℕ → Type 0
 IsStuck bytes = (front rest : List ℕ) → bytes ≡ front ++ rest → IsCharacters front → front ≡ []
 
--- No text begins with the bytes.
+-- No text begins with the bytes. `c0` begins no text, and `ed a0` begins none.
 abbrev pub BeginsNoText : List ℕ → Type 0
 BeginsNoText bytes = (more : List ℕ) → IsCharacters (bytes ++ more) → ⊥

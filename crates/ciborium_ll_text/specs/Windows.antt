@@ -12,8 +12,8 @@ MayFollow bytes from to =
     (i : ℕ) → from ≤ i → i < to
     → Step (slice_index bytes (i - 3)) (slice_index bytes (i - 2)) (slice_index bytes (i - 1)) (slice_index bytes i)
 
--- The state after bytes that follow one another so, from their last three. The last of the three that begins a
--- character gives the state, with its distance from the end (Unicode, Table 3-7).
+-- The state after bytes that follow one another so, from their last three (Unicode, Table 3-7). The last of the three
+-- that begins a character gives the state. After `61 e2 82`, it is `OneDue`.
 unfoldable pub after_window : ℕ → ℕ → ℕ → State
 after_window x y z =
     if nat_lt z 0x80 then s.Between

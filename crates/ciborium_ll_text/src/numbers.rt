@@ -6,7 +6,7 @@ ghost use Rattle.ciborium_ll_text.specs.Numbers.{state_in};
 use crate::state::State;
 
 impl State {
-    /// Returns the number of the state, below 9.
+    /// Returns the state's number, from 0 to 8.
     pub fn number(self) -> u8
         ensures { state_in result ≡ Some self }
     {
@@ -23,7 +23,7 @@ impl State {
         }
     }
 
-    /// Returns the state that has this number, or `None` if the number is above 8.
+    /// Returns the state with this number, or `None` above 8.
     pub fn of_number(number: u8) -> Option<State>
         ensures { result ≡ state_in number }
     {

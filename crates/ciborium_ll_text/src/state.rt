@@ -1,4 +1,4 @@
-//! The state of a text after some of its bytes (Unicode, Table 3-7), and the longest front of bytes that is text.
+//! Texts that come in chunks (Unicode, Table 3-7).
 
 ghost use Rattle.std.specs.Prelude.{◌≡◌, ◌≢◌, ◌≤◌, length, take, drop};
 ghost use Rattle.ciborium_ll_text.specs.States.{after, may_end, IsLastEnd};
@@ -9,16 +9,16 @@ ghost use Rattle.ciborium_ll_text.specs.declared.state.State.TheVariants.{Betwee
 use crate::blocks::{LEAST_LEN, all_follow};
 use simdutf8::basic;
 
-/// The state after the bytes so far: between two characters, inside a character, or damaged.
+/// The state of a text after the bytes so far.
 #[derive(Clone, Copy)]
 pub enum State {
     /// Between two characters.
     Between,
-    /// Inside a character: one byte is due, from 80 to bf.
+    /// One byte of a character is due, from 80 to bf.
     OneDue,
-    /// Inside a character: two bytes are due, each from 80 to bf.
+    /// Two bytes of a character are due, each from 80 to bf.
     TwoDue,
-    /// Inside a character: three bytes are due, each from 80 to bf.
+    /// Three bytes of a character are due, each from 80 to bf.
     ThreeDue,
     /// After e0: two bytes are due, the next from a0 to bf.
     BehindE0,
@@ -33,7 +33,7 @@ pub enum State {
 }
 
 impl State {
-    /// Tells if a text in this state may end after `left` more bytes.
+    /// Tells if `left` more bytes may end the text.
     #[inline(always)]
     pub fn may_end(self, left: usize) -> bool
         ensures { result ≡ may_end self left }
@@ -63,8 +63,7 @@ impl State {
         self.run_blocks(bytes)
     }
 
-    /// Returns the state after more bytes, sixteen at once. It goes byte by byte if they do not follow one another as
-    /// in a text.
+    /// Returns the state after more bytes, sixteen at once, or byte by byte if one may not follow the others.
     fn run_blocks(self, bytes: &[u8]) -> State
         requires { 19 ≤ length bytes.now }
         ensures { result ≡ after self bytes.now }
@@ -85,7 +84,7 @@ impl State {
         behind_window(bytes[len - 3], bytes[len - 2], bytes[len - 1])
     }
 
-    /// Returns the end of the last character of the bytes. `behind` is the state after all of them.
+    /// Returns the end of the last character of the bytes, which lead to the state `behind`.
     ///
     /// `self` is the state after the first `kept` bytes, in which no character ends.
     #[inline(always)]
@@ -103,8 +102,9 @@ impl State {
         }
     }
 
-    /// Returns the end of the last character of the bytes, by a search from the first new byte on. `self` is the state
-    /// after the first `kept` bytes, in which no character ends.
+    /// Returns the end of the last character of the bytes, by a search from the byte at index `kept` on.
+    ///
+    /// `self` is the state after the first `kept` bytes, in which no character ends.
     #[cold]
     #[inline(never)]
     fn last_end(self, bytes: &[u8], kept: usize) -> usize
@@ -168,7 +168,7 @@ fn behind_window(x: u8, y: u8, z: u8) -> State
     }
 }
 
-/// Returns the bytes, which are text, as a `&str`. It reads them once more.
+/// Reads a text's bytes once more, and returns them as a `&str`.
 #[inline(always)]
 pub fn text_of(bytes: &[u8]) -> &str
     requires { IsCharacters bytes.now }
@@ -180,7 +180,7 @@ pub fn text_of(bytes: &[u8]) -> &str
     }
 }
 
-/// Returns the longest front of the bytes that is text, and the state after all bytes.
+/// Returns the longest front that is text, and the state after all bytes.
 ///
 /// `state` is the state after the first `kept` bytes, in which no character ends.
 #[inline(always)]
