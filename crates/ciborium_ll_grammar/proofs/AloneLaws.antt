@@ -1,4 +1,4 @@
--- Titles of one byte: the meaning of the minor 31.
+-- Titles of the minor 31, which have one byte.
 use Rattle.std.specs.Prelude.{is_none}
 use Rattle.std.proofs.Common.{◌≡◌, ℕ, ◌<◌, Bool, true, false, List, length, None, arith}
 use Rattle.ciborium_ll_grammar.specs.declared.hdr.Header.{Header}
@@ -8,7 +8,7 @@ use Rattle.ciborium_ll_grammar.specs.Strings.{Kind, kind_header}
 use Rattle.ciborium_ll_grammar.proofs.TitleLaws.{shortest_or_longer, shortest_some}
 use Rattle.ciborium_ll_grammar.proofs.AffixLaws.{announced}
 
--- a header that minor 31 means
+-- The minor 31 means this header.
 abbrev pub is_alone : Header → Bool
 is_alone h.Break = true
 is_alone (h.Bytes len) = is_none len
@@ -20,11 +20,11 @@ is_alone header = false
 not_alone : (m : Major) (s : Size) (n : ℕ) → is_alone (numbered_header m s n) ≡ false
 not_alone m s n = grind arith
 
--- a title has a byte
+-- A title has at least one byte.
 pub title_some : (w : List ℕ) (x : Header) → IsTitle w x → 0 < length w
 title_some w x t = grind (arith, announced w x t)
 
--- a header that minor 31 means has one title
+-- A header of the minor 31 has one title.
 pub alone_bytes : (w : List ℕ) (x : Header) → IsTitle w x → is_alone x ≡ true → w ≡ shortest_title x
 alone_bytes w x t e = grind (arith, not_alone, shortest_or_longer x w t, shortest_some x)
 
@@ -34,6 +34,6 @@ open_alone k = grind arith
 pub open_length : (k : Kind) → length (shortest_title (kind_header k None)) ≡ 1
 open_length k = grind arith
 
--- an open has no number
+-- The header of an open is in range.
 pub open_in_range : (k : Kind) → IsInRange (kind_header k None)
 open_in_range k = grind arith

@@ -1,4 +1,4 @@
--- At a fault, the part that is due cannot come, or a decoder refuses it because only the shortest spelling is taken.
+-- At a fault, the part that is due cannot come, or a strict decoder refuses it.
 use Rattle.std.proofs.Common.{◌≡◌, ℕ, ◌<◌, ◌⊎◌, Bool, true, false, List, ◌++◌, length, None, refl, [], ◌∷◌}
 use Rattle.std.proofs.Common.{append_assoc, length-append, arith, inl, inr}
 use Rattle.ciborium_ll_grammar.specs.declared.hdr.Header.{Header}
@@ -21,12 +21,12 @@ pub meant_right : (ms ns : List Mark) → AllByRecursion IsNoSmallSimple (ms ++ 
 meant_right [] ns p = p
 meant_right (m ∷ ms) ns p = meant_right ms ns p.1
 
--- an element and elements behind it that are spelled shortest are so each
+-- If an element and a run together are their spelling, each is its own spelling.
 next_same : (x y : List ℕ) (ns os : List Mark) (m : ℕ) → IsElement x ns → IsRun m y os → x ++ y ≡ spelling (ns ++ os)
     → (x ≡ spelling ns) × (y ≡ spelling os)
 next_same x y ns os m a r e = grind (arith, least_element, least_run, spelling-append ns os, length-append {A = ℕ})
 
--- the next element of a longer run stands behind a shorter one, and is its own spelling where the run is
+-- After a shorter run, a longer run continues with an element. The element is its own spelling if the longer run is.
 pub record Follows (run : List ℕ) (all : List Mark) (x : List ℕ) : Type 0 where
   pub word : List ℕ
   pub marks : List Mark
@@ -41,7 +41,7 @@ follow : {run : List ℕ} {all : List Mark} {x : List ℕ} (word : List ℕ) (ma
 follow word marks ok rest is spelled =
     record { word = word; marks = marks; ok = ok; rest = rest; is = is; spelled = spelled }
 
--- of two runs in front of one list the longer goes on with an element
+-- If two runs begin the same bytes, the longer run continues with an element.
 pub follows : (i : ℕ) (u : List ℕ) (ms : List Mark) → IsRun i u ms → (n : ℕ) (w : List ℕ) (ns : List Mark)
     → IsRun n w ns → i < n → (x v : List ℕ) → u ++ x ≡ w ++ v → Follows w ns x
 follows i u ms done n w ns done l x v e = absurd (omega arith)
@@ -55,13 +55,13 @@ follows i u ms (next {rest = b} p r) n w ns (next {first = a'} {rest = b'} {mark
     follow z.word z.marks z.ok z.rest z.is
     (λ same meant. z.spelled (next_same a' b' os' ps' _ p' r' same).1 (meant_right os' ps' meant))
 
--- what is due can't come
+-- The part that is due cannot come.
 pub data Stuck : Point → List ℕ → Type 0 where
   stop : {s : List ℕ} → Stop s → Stuck Due s
   halt : {s : List ℕ} (k : Kind) → Halt k s → Stuck (In k) s
   bad_body : {s : List ℕ} {k : Kind} {l p : ℕ} → IsBad k l s → Stuck (BodyDue k l p) s
 
--- no run of n elements stands in front where what is due cannot come
+-- If the part that is due cannot come, no run of `n` elements begins the bytes.
 pub reach_stuck : (n : ℕ) (u : List ℕ) (ms : List Mark) (at : Point) → Reaches n u ms at → (s : List ℕ) → Stuck at s
     → (w v : List ℕ) (ns : List Mark) → IsRun n w ns → u ++ s ≡ w ++ v → ⊥
 reach_stuck n u ms at (due l r) s (stop f) w v ns r' e =
@@ -75,19 +75,19 @@ reach_stuck n u ms at (body {bytes = a} {title = t} k r p) s (bad_body f) w v ns
 reach_stuck n u ms at (body_inside {bytes = a} {title = t} {kind = k} r p) s (bad_body f) w v ns r' e =
     reach_stuck n a ms (In k) r (t ++ s) (halt k (halt_bad s _ p f refl)) w v ns r' (simp append_assoc at e)
 
--- a body that is too short is bad
+-- A body that is too short is bad.
 pub too_short : (k : Kind) (l : ℕ) (s : List ℕ) → length s < l → IsBad k l s
 too_short Bytes l s f = f
 too_short Text l s f = inl f
 
--- a title that is refused only where the shortest spelling alone is taken
+-- A strict decoder alone refuses the title.
 pub data Refuses (strict : Bool) : Point → List ℕ → Type 0 where
   long : {at : Point} {s t : List ℕ} (x : Header) (r : List ℕ) → IsAtTitle at → IsTitle t x
       → (IsTakenTitle strict t x → ⊥) → s ≡ t ++ r → Refuses strict at s
   nested : {k : Kind} {s t : List ℕ} (r : List ℕ) → strict ≡ true → IsTitle t (kind_header k None) → s ≡ t ++ r
       → Refuses strict (In k) s
 
--- elsewhere none is
+-- A decoder that takes any spelling refuses no such title.
 pub none_refused : (at : Point) (s : List ℕ) → Refuses false at s → ⊥
 none_refused at s (long x r d p untaken e) = untaken tt
 none_refused at s (nested r on p e) = absurd (let o = on in cc)
@@ -96,10 +96,10 @@ pub lenient_misplaced : (k : Kind) (x : Header) → IsRefusedIn false k x → Is
 lenient_misplaced k x (inl f) = f
 lenient_misplaced k x (inr further) = absurd (let on = further.0 in cc)
 
--- why what is due can't come, or is refused
+-- The reasons for which the part that is due cannot come, or is refused.
 ruleset reasons = (stop, halt, bad_body, long, nested, stop_cut, stop_refused, halt_cut, halt_refused, halt_misplaced)
 
--- at a fault what is due can't come, or is refused
+-- At a fault, the part that is due cannot come, or a strict decoder refuses it.
 pub stuck_or_refused : (strict : Bool) (u : List ℕ) (ms : List Mark) (at : Point) (s : List ℕ) (a : Answer)
     (out : List ℕ) (c : ℕ) → FirstFault strict u ms at s a out c → Stuck at s ⊎ Refuses strict at s
 stuck_or_refused strict u ms at s a out c f = grind (arith, reasons, too_short)

@@ -11,17 +11,17 @@ use Rattle.ciborium_ll_text.proofs.Lists.{same_front}
 use Rattle.ciborium_ll_grammar.proofs.TitleLaws.{one_title}
 use Rattle.ciborium_ll_grammar.proofs.StringLaws.{one_strings_then, break_title}
 
--- the same bytes and the same rest
+-- The bytes and the rests are the same.
 abbrev Same : List ℕ → List ℕ → List ℕ → List ℕ → Type 0
 Same w w' v v' = (w ≡ w') × (v ≡ v')
 
--- no item begins with a break
+-- No item begins with a break.
 title_break : (s : Bool) (e : ℕ) (t r u v : List ℕ) (x : Header) → IsTitle t x → Completes s e x r → t ++ u ≡ 0xff ∷ v
     → ⊥
 title_break s e t r u v x p c z = grind (arith, one_title t (0xff ∷ []) u v x h.Break p break_title z)
 
 mutual
-  -- of what completes items of one header none begins another
+  -- No completion of a header begins another completion of the header.
   one_completion : (s s' : Bool) (e : ℕ) (x : Header) (r : List ℕ) → Completes s e x r → (e' : ℕ) (r' v v' : List ℕ)
       → Completes s' e' x r' → r ++ v ≡ r' ++ v' → Same r r' v v'
   one_completion s s' e x r positive e' r' v v' positive z = (refl, z)
@@ -42,7 +42,7 @@ mutual
   one_completion s s' e x r (open_pairs {items = w} j i) e' r' v v' (open_pairs {items = w'} j' i') z =
       grind (arith, ended_items s s' _ _ w i _ _ w' v v' i' (simp append_assoc at z))
 
-  -- of as many items none begins another
+  -- No list of items begins another list of as many items.
   same_items : (s s' : Bool) (e n : ℕ) (w : List ℕ) → AreItems s e n w → (e' : ℕ) (w' v v' : List ℕ)
       → AreItems s' e' n w' → w ++ v ≡ w' ++ v' → Same w w' v v'
   same_items s s' e n w no_items e' w' v v' no_items z = (refl, z)
@@ -53,7 +53,7 @@ mutual
       let j = same_items s s' e _ a i e' a' v v' i' g.1 in
       grind arith
 
-  -- of items in front of a break none begins another
+  -- If items and a break begin the same bytes as other items and a break, both are the same.
   ended_items : (s s' : Bool) (e n : ℕ) (w : List ℕ) → AreItems s e n w → (e' n' : ℕ) (w' v v' : List ℕ)
       → AreItems s' e' n' w' → w ++ 0xff ∷ v ≡ w' ++ 0xff ∷ v' → Same w w' v v'
   ended_items s s' e n w no_items e' n' w' v v' no_items z = (refl, cc)
@@ -68,7 +68,7 @@ mutual
       let j = ended_items s s' e _ a i e' _ a' v v' i' g.1 in
       grind arith
 
--- no item begins another one, whatever their depths and spellings
+-- No item begins another item, whatever their depths and spellings.
 pub one_item : (s s' : Bool) (e e' : ℕ) (w w' v v' : List ℕ) → IsItem s e w → IsItem s' e' w' → w ++ v ≡ w' ++ v'
     → Same w w' v v'
 one_item s s' e e' w w' v v' i i' z = same_items s s' e (suc zero) w i e' w' v v' i' z

@@ -1,4 +1,4 @@
--- The titles that are the shortest of their header, by their parts.
+-- The parts of a title tell if the title is strict.
 use Rattle.std.proofs.Common.{◌≡◌, ℕ, ◌<◌, true, false, Option, Some, None, refl, arith}
 use Rattle.ciborium_ll_grammar.specs.declared.hdr.Header.{Header}
 use Rattle.ciborium_ll_grammar.specs.declared.hdr.Minor.{Minor}
@@ -9,7 +9,7 @@ use Rattle.ciborium_ll_grammar.specs.Parts.{IsMinor, parts_bytes, refused_when_s
 use Rattle.ciborium_ll_grammar.proofs.PartsLaws.{means, means_title, means_back}
 use Rattle.ciborium_ll_grammar.proofs.AffixLaws.{major_with}
 
--- a number as it stands in a size
+-- The minor of a number in a size.
 abbrev pub minor_as : Size → ℕ → Minor
 minor_as Small n = m.Small n
 minor_as One n = m.One n
@@ -17,7 +17,7 @@ minor_as Two n = m.Two n
 minor_as Four n = m.Four n
 minor_as Eight n = m.Eight n
 
--- parts that are not found longer are a strict title of the header that they mean
+-- Parts that a strict decoder does not refuse are a strict title of their header.
 strict_parts : (k : Major) (b : Minor) (x : Header) → IsMinor b → means k b ≡ Some x
     → refused_when_strict (major_code k) b ≡ false → IsStrictTitle (parts_bytes (major_code k) b) x
 strict_parts k (m.Small n) x p e f = grind arith
@@ -27,12 +27,12 @@ strict_parts k (m.Four n) x p e f = grind arith
 strict_parts k (m.Eight n) x p e f = grind arith
 strict_parts k m.Open x p e f = grind arith
 
--- those that are, are none
+-- Parts that a strict decoder refuses are no strict title of their header.
 loose_parts : (k : Major) (b : Minor) (x : Header) → IsMinor b → means k b ≡ Some x
     → refused_when_strict (major_code k) b ≡ true → IsStrictTitle (parts_bytes (major_code k) b) x → ⊥
 loose_parts k b x p e f strict = grind arith
 
--- and mean a header
+-- Parts that a strict decoder refuses mean a header.
 some_header : (k : Major) (b : Minor) (o : Option Header) → means k b ≡ o → refused_when_strict (major_code k) b ≡ true
     → (x : Header) × (means k b ≡ Some x)
 some_header k b None e f = absurd (grind arith)
@@ -46,21 +46,21 @@ pub refused : (k : Major) (s : Size) (n : ℕ) → n < size_limit s → refused_
     → IsStrictTitle (numbered_title k s n) (numbered_header k s n) → ⊥
 refused k s n p e strict = grind arith
 
--- a title in parts that is not found longer is strict
+-- If a strict decoder does not refuse the parts of a title, the title is strict.
 pub parts_taken : (major : ℕ) (b : Minor) (x : Header) → major < 8 → IsMinor b → IsTitle (parts_bytes major b) x
     → refused_when_strict major b ≡ false → IsStrictTitle (parts_bytes major b) x
 parts_taken major b x l p q e =
     let k = major_with major l in
     rw k.1 at (strict_parts k.0 b x p (means_back k.0 b x p (rw (← k.1) at q)) (rw (← k.1) at e))
 
--- and one that is, is not
+-- If a strict decoder refuses the parts of a title, the title is not strict.
 pub parts_refused : (major : ℕ) (b : Minor) (x : Header) → major < 8 → IsMinor b → IsTitle (parts_bytes major b) x
     → refused_when_strict major b ≡ true → IsStrictTitle (parts_bytes major b) x → ⊥
 parts_refused major b x l p q e strict =
     let k = major_with major l in
     loose_parts k.0 b x p (means_back k.0 b x p (rw (← k.1) at q)) (rw (← k.1) at e) (rw (← k.1) at strict)
 
--- parts that are found longer are a title of some header
+-- Parts that a strict decoder refuses are a title of some header.
 pub parts_header : (major : ℕ) (b : Minor) → major < 8 → IsMinor b → refused_when_strict major b ≡ true → (x : Header)
     × IsTitle (parts_bytes major b) x
 parts_header major b l p e =

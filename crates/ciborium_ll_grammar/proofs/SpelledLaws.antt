@@ -20,11 +20,11 @@ open_meant k bs = (tt, meant_append (pieces k bs) (Close ∷ []) (pieces_meant k
 pub spelled_none : IsStrictSpelling [] [] []
 spelled_none = record { same = refl; meant = tt }
 
--- no more behind the spelling
+-- If no more bytes follow the spelling, the bytes are the spelling of the marks.
 pub spelled_alone : (bytes : List ℕ) (marks : List Mark) → IsStrictSpelling bytes marks [] → bytes ≡ spelling marks
 spelled_alone bytes marks s = s.same ∙ append-nil (spelling marks)
 
--- marks more
+-- Bytes that are their spelling stay so with more marks in their spelling after them.
 pub spelled_then : (bytes : List ℕ) (marks : List Mark) (more : List ℕ) (others : List Mark)
     → IsStrictSpelling bytes marks [] → more ≡ spelling others → AllByRecursion IsNoSmallSimple others
     → IsStrictSpelling (bytes ++ more) (marks ++ others) []
@@ -33,7 +33,7 @@ spelled_then bytes marks more others s e meant = record {
   meant = meant_append marks others s.meant meant;
 }
 
--- a title of a body more
+-- Bytes that are their spelling stay so with the title of a body after them.
 pub spelled_title : (bytes : List ℕ) (marks : List Mark) (title more : List ℕ) → IsStrictSpelling bytes marks []
     → title ≡ more → IsStrictSpelling (bytes ++ title) marks more
 spelled_title bytes marks title more s e = record { same = cc (spelled_alone bytes marks s); meant = s.meant }

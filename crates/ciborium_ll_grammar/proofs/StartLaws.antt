@@ -10,7 +10,7 @@ use Rattle.ciborium_ll_grammar.specs.Starts.{start_of}
 use Rattle.ciborium_ll_grammar.proofs.AffixLaws.{major_with}
 use Rattle.ciborium_ll_grammar.proofs.PartsLaws.{means_back}
 
--- numbers, which have no indefinite form
+-- A title of the major type 0 or 1 is a value.
 value_of : (major : Major) (minor : Minor) (header : Header) → major_code major < 2 → IsMinor minor
     → IsTitle (parts_bytes (major_code major) minor) header → start_of header ≡ s.Value
 value_of major minor header below p t = grind (arith, means_back major minor header p t)
@@ -21,7 +21,7 @@ number_value major minor header below p t =
     let k = major_with major (omega arith) in
     value_of k.0 minor header (rw k.1 below) p (rw (← k.1) at t)
 
--- simple values and floats
+-- The title of a simple value or of a float is a value.
 pub other_value : (minor : Minor) (header : Header) → IsMinor minor → (minor ≡ m.Open → ⊥)
     → IsTitle (parts_bytes 7 minor) header → start_of header ≡ s.Value
 other_value minor header p some t = grind (arith, means_back Other minor header p t)

@@ -25,7 +25,7 @@ use Rattle.ciborium_ll_grammar.proofs.FaultLaws.{none_refused}
 
 -- ---- titles
 
--- a title in front of the same bytes as a strict one is that one
+-- A title that begins the same bytes as a strict title is a strict title.
 same_strictly : (t w r q : List ℕ) (x y : Header) → IsTitle t x → IsTitle w y → w ≡ shortest_title y
     → (IsSmallSimple y → ⊥) → t ++ r ≡ w ++ q → IsStrictTitle t x
 same_strictly t w r q x y p p' s m e = grind (arith, one_title t w r q x y p p' e)
@@ -33,14 +33,14 @@ same_strictly t w r q x y p p' s m e = grind (arith, one_title t w r q x y p p' 
 kind_meant : (k : Kind) (o : Option ℕ) → IsSmallSimple (kind_header k o) → ⊥
 kind_meant k o f = grind arith
 
--- a title of a string that is spelled shortest is the shortest
+-- If a string is its own spelling, its title is the shortest.
 string_first : (k : Kind) (y b : List ℕ) → IsTitle y (kind_header k (Some (length b)))
     → y ++ b ≡ spelling (Whole k b ∷ []) → y ≡ shortest_title (kind_header k (Some (length b)))
 string_first k y b p s = tight_title y _ p (omega (arith, ap length s, length-append {A = ℕ}))
 
--- ---- where an element is due
+-- ---- places at which an element is due
 
--- a title in front of the same bytes as a strict element is a strict one
+-- A title that begins the same bytes as a strict element is a strict title.
 element_begins : (w : List ℕ) (ms : List Mark) → IsElement w ms → w ≡ spelling ms → AllByRecursion IsNoSmallSimple ms
     → (t r q : List ℕ) (x : Header) → IsTitle t x → t ++ r ≡ w ++ q → IsStrictTitle t x
 element_begins w ms (plain y p f) s m t r q x c e = same_strictly t w r q x y c p (simp append-nil at s) m.0 e
@@ -51,21 +51,21 @@ element_begins w ms (string k (indefinite {title = y} p g) f) s m t r q x c e =
 
 -- ---- within a string
 
--- strings that are their spelling
+-- The strings are their own spelling.
 abbrev IsTight : Kind → List ℕ → List (List ℕ) → Type 0
 IsTight k w bs = w ≡ spelling (pieces k bs)
 
--- are so each
+-- If joined strings are their own spelling, so are the first string and the others.
 tight_parts : (k : Kind) (x y : List ℕ) (cs ds : List (List ℕ)) → IsString k x cs → AreStrings k y ds
     → IsTight k (x ++ y) (cs ++ ds) → IsTight k x cs × IsTight k y ds
 tight_parts k x y cs ds s ss l =
     grind (arith, respell_one k x cs s, respell_all k y ds ss, pieces_spelled k cs ds, length-append {A = ℕ})
 
--- a strict title, and no open
+-- The title is strict, and its header is no open.
 abbrev IsInner : Kind → List ℕ → Header → Type 0
 IsInner k t x = IsStrictTitle t x × (x ≡ kind_header k None → ⊥)
 
--- a title in front of the same bytes as a string that is its spelling is a strict one, and no open
+-- If a string is its own spelling, a title that begins the same bytes is strict and no open.
 inner_string : (k : Kind) (a : List ℕ) (cs : List (List ℕ)) → IsString k a cs → IsTight k a cs → (t r q : List ℕ)
     (x : Header) → IsTitle t x → t ++ r ≡ a ++ q → IsInner k t x
 inner_string k a cs (definite {title = y} {body = b} p) l t r q x c e =
@@ -85,14 +85,14 @@ inner_title k w bs none l t r v x c e =
 inner_title k w bs (more {first = a} {rest = y} s ss) l t r v x c e =
     inner_string k a _ s (tight_parts k a y _ _ s ss l).0 t r (y ++ 0xff ∷ v) x c (simp append_assoc at e)
 
--- the spelling of what is inside a string is strings
+-- The spelling of the pieces inside a string is strings with the same bodies.
 inside_strings : (k : Kind) (u : List ℕ) (bs : List (List ℕ)) → IsInside k u bs
     → AreStrings k (spelling (pieces k bs)) bs
 inside_strings k u bs (opened {strings = y} p s) = (respell_all k y bs s).strings
 inside_strings k u bs (deeper {outer = x} {inner = y} i j) =
     rw pieces_spelled (AreStrings-append k _ _ (inside_strings k x _ i) _ _ (inside_strings k y _ j))
 
--- and is no longer
+-- An open and the spelling of the pieces inside a string are no longer than the bytes.
 pub inside_shorter : (k : Kind) (u : List ℕ) (bs : List (List ℕ)) → IsInside k u bs
     → title_len (kind_header k None) + length (spelling (pieces k bs)) ≤ length u
 inside_shorter k u bs (opened {title = t} {strings = y} p s) =
@@ -100,7 +100,8 @@ inside_shorter k u bs (opened {title = t} {strings = y} p s) =
 inside_shorter k u bs (deeper {outer = x} {inner = y} {bodies = cs} {others = ds} i j) = omega
     (arith, inside_shorter k x cs i, inside_shorter k y ds j, ap length (pieces_spelled k cs ds), length-append {A = ℕ})
 
--- a title behind an open and strings, in front of the same bytes as a strict element
+-- If an open, strings and a title begin the same bytes as an element in its own spelling, the title is strict and no
+-- open.
 element_goes : (w : List ℕ) (ms : List Mark) → IsElement w ms → w ≡ spelling ms → (k : Kind) (o y : List ℕ)
     (bs : List (List ℕ)) → IsTitle o (kind_header k None) → AreStrings k y bs → (t r q : List ℕ) (x : Header)
     → IsTitle t x → (o ++ y) ++ (t ++ r) ≡ w ++ q → IsInner k t x
@@ -115,7 +116,7 @@ element_goes w ms (string j (indefinite {title = z} {strings = a} {bodies = cs} 
     (rw (← b.0) at g) (rw (← b.0) at tight) b.3 in
     inner_title k z.strings z.bodies z.ok z.holds t r q x c z.is
 
--- what is inside a string behind elements is its spelling, where all of it is
+-- If a run and the bytes inside a string are their spelling, the bytes inside are their own spelling.
 inside_same : (i : ℕ) (k : Kind) (a b : List ℕ) (os : List Mark) (bs : List (List ℕ)) → IsRun i a os → IsInside k b bs
     → a ++ b ≡ spelling (os ++ Open k ∷ pieces k bs) → b ≡ shortest_title (kind_header k None) ++ spelling (pieces k bs)
 inside_same i k a b os bs r n e =
@@ -128,9 +129,9 @@ inside_same i k a b os bs r n e =
       length-append {A = ℕ},
     )) s).1
 
--- ---- a beginning of a strict run, and a title behind it
+-- ---- a front of a strict run, and a title after it
 
--- within a string the header is no open
+-- Within a string, the header is no open.
 abbrev IsNoOpen : Point → Header → Type 0
 IsNoOpen Due x = Unit {0}
 IsNoOpen (In k) x = x ≡ kind_header k None → ⊥
@@ -156,7 +157,7 @@ at_title_spelled : (point : Point) (bytes : List ℕ) (marks : List Mark) → Is
     → IsStrictSpelling bytes marks (due_title point) → bytes ≡ spelling marks
 at_title_spelled point bytes marks d spelled = grind (arith, append-nil)
 
--- no strict run of n elements stands in front where a title is refused
+-- If a strict decoder refuses a title, no strict run of `n` elements begins the bytes.
 strictly_stuck : (n : ℕ) (u : List ℕ) (ms : List Mark) (at : Point) → Reaches n u ms at
     → IsStrictSpelling u ms (due_title at) → (s : List ℕ) → Refuses true at s
     → (w v : List ℕ) (ns : List Mark) → IsStrictRun n w ns → u ++ s ≡ w ++ v → ⊥
@@ -174,7 +175,7 @@ refused_none true n x r f refuses =
     strictly_stuck n f.before f.marks f.point f.reach (f.spelled refl) f.ahead refuses r.elements r.rest r.marks
     (record { run = r.run; same = spelled_alone r.elements r.marks run; meant = run.meant }) (sym f.is ∙ r.is)
 
--- where a run of n elements stands in front, there is no fault
+-- Bytes that begin with `n` elements have no fault.
 pub no_fault : (strict : Bool) (n : ℕ) (x : List ℕ) → BeginsWithElements strict n x → HasFault strict n x → ⊥
 no_fault strict n x r f =
     let from : f.before ++ f.ahead ≡ r.elements ++ r.rest = sym f.is ∙ r.is in

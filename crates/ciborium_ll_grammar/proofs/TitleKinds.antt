@@ -1,4 +1,4 @@
--- The kind of a first byte, and the titles that begin with a byte that announces others.
+-- The kind of a first byte, and the titles whose first byte announces an affix.
 use Rattle.std.proofs.Common.{◌≡◌, ℕ, ◌/◌, ◌%◌, ◌<◌, ◌≤◌, List, [], ◌∷◌, length, refl, arith, slice_index, drop}
 use Rattle.std.proofs.lemmas.Bool.Decides.{nat_tests}
 use Rattle.ciborium_ll_grammar.specs.declared.hdr.Header.{Header}
@@ -23,14 +23,14 @@ kind_of Map = t.Map
 kind_of Tag = t.Tag
 kind_of Other = t.Other
 
--- the kind that a first byte has which announces others
+-- A first byte has the kind of its major type if the byte is not refused.
 pub kind_names : (m : Major) (major minor : ℕ) → major_code m ≡ major → (NamesNoTitle major minor → ⊥)
     → IsTitleKind (kind_of m) major minor
 kind_names m major minor e some = grind arith
 
--- ---- titles that begin with a byte that announces others
+-- ---- titles whose first byte announces an affix
 
--- such a title is one of a number
+-- The title is the title of a number.
 pub record Numbered (byte : ℕ) (x : Header) : Type 0 where
   pub major : Major
   pub size : Size
@@ -50,11 +50,11 @@ pub kind_at : (kind : TitleKind) (byte : ℕ) (m : Major) → major_code m ≡ b
     → IsTitleKind kind (byte / 32) (byte % 32) → kind ≡ kind_of m
 kind_at kind byte m e more i = grind (arith, refused_affix)
 
--- no byte announces more than eight
+-- No byte announces more than eight bytes.
 pub affix_most : (minor : ℕ) → affix_len minor ≤ 8
 affix_most minor = grind (arith, nat_tests)
 
--- a first byte, and the others
+-- A list that is not empty is its first element and the others.
 pub parted : (xs : List ℕ) → 0 < length xs → xs ≡ slice_index xs 0 ∷ drop 1 xs
 parted [] l = absurd (omega arith)
 parted (x ∷ xs) l = refl

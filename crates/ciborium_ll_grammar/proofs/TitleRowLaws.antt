@@ -10,7 +10,7 @@ use Rattle.ciborium_ll_grammar.specs.declared.hdr.table.TheConstants.{ROWS, POSI
 use Rattle.ciborium_ll_grammar.specs.TitleRows.{IsAffix, IsTitleKind, IsRow}
 use Rattle.std.proofs.lemmas.Bool.Decides.{nat_tests}
 
--- the definitions as tests
+-- The definitions as tests.
 
 abbrev reserved_test : ℕ → Bool
 reserved_test minor = leb 28 minor && leb minor 30
@@ -47,7 +47,7 @@ affix_test a.Reserved minor = reserved_test minor
 abbrev row_test : ℕ → Row → Bool
 row_test first row = kind_test row.kind (first / 32) (first % 32) && affix_test row.affix (first % 32)
 
--- each test tells its definition
+-- A definition holds if its test succeeds.
 
 affix_tells : (affix : Affix) (minor : ℕ) → affix_test affix minor ≡ true → IsAffix affix minor
 affix_tells affix minor e = grind (arith, nat_tests)
@@ -55,7 +55,7 @@ affix_tells affix minor e = grind (arith, nat_tests)
 kind_tells : (kind : TitleKind) (major minor : ℕ) → kind_test kind major minor ≡ true → IsTitleKind kind major minor
 kind_tells kind major minor e = grind (arith, nat_tests)
 
--- a row that passes its test says what the byte does
+-- If a row passes its test, it is right for the byte.
 row_tells : (first : ℕ) (row : Row) → row_test first row ≡ true → IsRow first row
 row_tells first row e =
     let parts = and_parts (kind_test row.kind (first / 32) (first % 32)) (affix_test row.affix (first % 32)) e in
@@ -64,7 +64,7 @@ row_tells first row e =
       affix = affix_tells row.affix (first % 32) parts.1;
     }
 
--- each of the 256 rows passes it
+-- Each of the 256 rows is right for its byte.
 pub row_says : (first : ℕ) → first < 256 → IsRow first (get_or ROWS first POSITIVE)
 row_says first l =
     row_tells first (get_or ROWS first POSITIVE) (agree_below_at (λ (b : ℕ). row_test b (get_or ROWS b POSITIVE))

@@ -12,7 +12,7 @@ use Rattle.ciborium_ll_grammar.specs.Items.{IsTakenTitle}
 -- ---- how far a copy comes
 
 -- The bytes are within strings that are not closed: opens of the kind, each with strings after it. The bodies are the
--- bodies so far (RFC 7049, 2.2.2).
+-- bodies so far (RFC 7049, 2.2.2). `5f 41 01` is within a byte string, with the body `01`.
 pub data IsInside (kind : Kind) : List ℕ → List (List ℕ) → Type 0 where
   opened : {title strings : List ℕ} {bodies : List (List ℕ)} → IsTitle title (kind_header kind None)
       → AreStrings kind strings bodies
@@ -22,13 +22,14 @@ pub data IsInside (kind : Kind) : List ℕ → List (List ℕ) → Type 0 where
       → IsInside kind (outer ++ inner) (bodies ++ others)
 
 -- A point in elements, by the part due there: an element; within a string of the kind, a further string or its end; or
--- a body of this length. The last number is the place of the body's fault.
+-- a body of this length. The last number is the place of the body's fault. After `62`, a body of two bytes is due.
 pub data Point : Type 0 where
   Due : Point
   In : Kind → Point
   BodyDue : Kind → ℕ → ℕ → Point
 
 -- `Reaches count bytes marks point`: the bytes are a part of `count` elements, left the marks, and lead to the point.
+-- If `count` is 2, the bytes `81 62` lead to a body of two bytes.
 pub data Reaches (count : ℕ) : List ℕ → List Mark → Point → Type 0 where
   due : {before : ℕ} {bytes : List ℕ} {marks : List Mark} → before < count → IsRun before bytes marks
       → Reaches count bytes marks Due
@@ -53,7 +54,8 @@ IsAtTitle Due = Unit {0}
 IsAtTitle (In kind) = Unit {0}
 IsAtTitle (BodyDue kind len start) = ⊥
 
--- A decoder refuses this header within a string of the kind. A strict decoder refuses a further open too.
+-- A decoder refuses this header within a string of the kind. A strict decoder refuses a further open too. After `5f`, a
+-- decoder refuses the title `01`, and a strict decoder refuses `5f` too.
 abbrev pub IsRefusedIn : Bool → Kind → Header → Type 0
 IsRefusedIn strict kind header = IsMisplaced kind header ⊎ ((strict ≡ true) × (header ≡ kind_header kind None))
 
@@ -63,13 +65,13 @@ pub data Answer : Type 0 where
   Syntax : ℕ → Answer
 
 -- The bytes that a copy has written within a body: the spelling of the marks, the shortest title of a string of this
--- length, and a front of the body.
+-- length, and a front of the body. For the front `61` of a text of three bytes, and no marks, they are `63 61`.
 abbrev pub with_front : List Mark → Kind → ℕ → List ℕ → List ℕ
 with_front marks kind len front = spelling marks ++ (shortest_title (kind_header kind (Some len)) ++ front)
 
 -- `FirstFault strict before marks point ahead answer written consumed`: the bytes before left the marks, and the bytes
 -- ahead are at fault at this point. `written` is everything written, and `consumed` counts the bytes ahead that are
--- consumed (RFC 7049, 2.1, 2.2.2, 2.3 and 3.9).
+-- consumed (RFC 7049, 2.1, 2.2.2, 2.3 and 3.9). After `81`, the byte `1c` has the answer `Syntax 1`.
 pub data FirstFault (strict : Bool) (before : List ℕ) (marks : List Mark) :
     Point → List ℕ → Answer → List ℕ → ℕ → Type 0 where
   -- A title is due, and the bytes end before it or within it.
@@ -108,7 +110,8 @@ pub data FirstFault (strict : Bool) (before : List ℕ) (marks : List Mark) :
 
 -- ---- both over whole lists
 
--- The bytes begin with `count` elements, in their shortest spelling if only this is taken.
+-- The bytes begin with `count` elements, in their shortest spelling if only this is taken. `81 01 02` begins with two
+-- elements and has the rest `02`.
 pub record BeginsWithElements (strict : Bool) (count : ℕ) (bytes : List ℕ) : Type 0 where
   pub elements : List ℕ
   pub marks : List Mark
@@ -117,15 +120,16 @@ pub record BeginsWithElements (strict : Bool) (count : ℕ) (bytes : List ℕ) :
   pub is : bytes ≡ elements ++ rest
   pub spelled : strict ≡ true → IsStrictSpelling elements marks []
 
--- The shortest title of a body that is due, which alone is taken if `strict` is true.
+-- The shortest title of a body that is due, which alone is taken if `strict` is true. For a byte string of 256 bytes it
+-- is `59 01 00`.
 abbrev pub due_title : Point → List ℕ
 due_title Due = []
 due_title (In kind) = []
 due_title (BodyDue kind len start) = shortest_title (kind_header kind (Some len))
 
 -- A fault stops a copy of `count` elements. If `strict` is true, everything before it is in its shortest spelling. By
--- the laws `run_or_fault` and `no_fault`, any bytes begin with `count` elements (`BeginsWithElements`) or have a fault, never
--- both.
+-- the laws `run_or_fault` and `no_fault`, any bytes begin with `count` elements (`BeginsWithElements`) or have a fault,
+-- never both. If `count` is 2, `81` has a fault, and `81 01` has none.
 pub record HasFault (strict : Bool) (count : ℕ) (bytes : List ℕ) : Type 0 where
   pub before : List ℕ
   pub marks : List Mark

@@ -9,13 +9,14 @@ use Rattle.ciborium_ll_grammar.specs.Strings.{Kind, Bytes, Text, AreStrings, IsW
 use Rattle.ciborium_ll_grammar.specs.Elements.{AreWritable}
 use Rattle.ciborium_ll_grammar.specs.StrictElements.{AreFlat}
 
--- The title is strict, if only the shortest spelling is taken (RFC 7049, 2.3 and 3.9).
+-- The title is strict, if only the shortest spelling is taken (RFC 7049, 2.3 and 3.9). `18 01` is taken only if
+-- `strict` is false.
 abbrev pub IsTakenTitle : Bool → List ℕ → Header → Type 0
 IsTakenTitle true title header = IsStrictTitle title header
 IsTakenTitle false title header = Unit {0}
 
 -- If only the shortest spelling is taken, these strings within an open have definite lengths and strict titles (RFC
--- 7049, 2.2.2 and 3.9).
+-- 7049, 2.2.2 and 3.9). `41 01` is taken, and `58 01 01` only if `strict` is false.
 abbrev pub AreTakenStrings : Bool → Kind → List ℕ → List (List ℕ) → Type 0
 AreTakenStrings true kind strings bodies = AreFlat kind strings bodies
 AreTakenStrings false kind strings bodies = Unit {0}
@@ -23,6 +24,7 @@ AreTakenStrings false kind strings bodies = Unit {0}
 mutual
   -- `Completes strict depth header rest`: after a title of the header, the rest completes an item. It is nothing, a
   -- body, one item, the counted items or pairs, or any number of items or pairs and a break (RFC 7049, 2.1 to 2.4).
+  -- After `82`, the bytes `01 02` complete an item of depth 1.
   pub data Completes (strict : Bool) : ℕ → Header → List ℕ → Type 0 where
     positive : {depth number : ℕ} → Completes strict depth (h.Positive number) []
     negative : {depth number : ℕ} → Completes strict depth (h.Negative number) []
@@ -47,14 +49,16 @@ mutual
     open_pairs : {depth : ℕ} {items : List ℕ} (count : ℕ) → AreItems strict depth (2 * count) items
         → Completes strict (suc depth) (h.Map None) (items ++ 0xff ∷ [])
 
-  -- `AreItems strict depth count bytes`: the bytes are `count` items, joined (RFC 7049, 2.1).
+  -- `AreItems strict depth count bytes`: the bytes are `count` items, joined (RFC 7049, 2.1). `05 82 01 02` are two
+  -- items of depth 1.
   pub data AreItems (strict : Bool) : ℕ → ℕ → List ℕ → Type 0 where
     no_items : {depth : ℕ} → AreItems strict depth zero []
     more_items : {depth count : ℕ} {title rest others : List ℕ} {header : Header} → IsTitle title header
         → IsTakenTitle strict title header → Completes strict depth header rest
         → AreItems strict depth count others → AreItems strict depth (suc count) (title ++ (rest ++ others))
 
--- The bytes are one item (RFC 7049, 2.1 to 2.4), with tags, arrays and maps nested at most `depth` deep, and if
--- `strict` is true, in its shortest spelling (3.9). Strings take no depth.
+-- The bytes are one item, with tags, arrays and maps nested at most `depth` deep (RFC 7049, 2.1 to 2.4). If `strict` is
+-- true, the item is in its shortest spelling (3.9). Strings take no depth. `82 01 02` needs a depth of 1, and
+-- `81 82 01 02` of 2.
 abbrev pub IsItem : Bool → ℕ → List ℕ → Type 0
 IsItem strict depth bytes = AreItems strict depth (suc zero) bytes

@@ -7,7 +7,7 @@ use Rattle.ciborium_ll_grammar.specs.declared.hdr.Minor.TheVariants as m
 use Rattle.ciborium_ll_grammar.specs.declared.hdr.Title.{Title}
 use Rattle.ciborium_ll_grammar.specs.Title.{Small, One, Two, Four, Eight, size_limit, byte_of, minor_of, affix_of}
 
--- The minor in the lower five bits of the first byte, as `minor_of` defines it (RFC 7049, 2.1).
+-- The minor in the lower five bits of the first byte, as `minor_of` defines it (RFC 7049, 2.1). For `One 200` it is 24.
 abbrev pub minor_code : Minor → ℕ
 minor_code (m.Small n) = minor_of Small n
 minor_code (m.One n) = minor_of One n
@@ -16,7 +16,7 @@ minor_code (m.Four n) = minor_of Four n
 minor_code (m.Eight n) = minor_of Eight n
 minor_code m.Open = 31
 
--- The bytes of the affix, as `affix_of` defines them (RFC 7049, 2.1).
+-- The bytes of the affix, as `affix_of` defines them (RFC 7049, 2.1). For `Two 256` they are `01 00`.
 abbrev pub minor_affix : Minor → List ℕ
 minor_affix (m.Small n) = affix_of Small n
 minor_affix (m.One n) = affix_of One n
@@ -25,7 +25,7 @@ minor_affix (m.Four n) = affix_of Four n
 minor_affix (m.Eight n) = affix_of Eight n
 minor_affix m.Open = []
 
--- The number that a minor and its affix hold, or `None` for the minor 31 (RFC 7049, 2.1).
+-- The number that a minor and its affix hold, or `None` for the minor 31 (RFC 7049, 2.1). In `18 c8` it is 200.
 abbrev pub minor_number : Minor → Option ℕ
 minor_number (m.Small n) = Some n
 minor_number (m.One n) = Some n
@@ -34,7 +34,8 @@ minor_number (m.Four n) = Some n
 minor_number (m.Eight n) = Some n
 minor_number m.Open = None
 
--- The minor's number is below the `size_limit` of its size (RFC 7049, 2.1).
+-- The minor's number is below the `size_limit` of its size (RFC 7049, 2.1). `Small 23` is a minor, and `Small 24` is
+-- none.
 abbrev pub IsMinor : Minor → Type 0
 IsMinor (m.Small n) = n < size_limit Small
 IsMinor (m.One n) = n < size_limit One
@@ -43,11 +44,12 @@ IsMinor (m.Four n) = n < size_limit Four
 IsMinor (m.Eight n) = n < size_limit Eight
 IsMinor m.Open = Unit {0}
 
--- The first byte of a title in parts (RFC 7049, 2.1).
+-- The first byte of a title in parts (RFC 7049, 2.1). For the major type 2 and `Small 3` it is `43`.
 abbrev pub parts_first : ℕ → Minor → ℕ
 parts_first major minor = byte_of major (minor_code minor)
 
--- The bytes of a title in parts: the first byte and the affix (RFC 7049, 2.1).
+-- The bytes of a title in parts: the first byte and the affix (RFC 7049, 2.1). For the major type 0 and `One 200` they
+-- are `18 c8`.
 abbrev pub parts_bytes : ℕ → Minor → List ℕ
 parts_bytes major minor = parts_first major minor ∷ minor_affix minor
 
@@ -61,7 +63,7 @@ pub record IsParts (t : Title) : Type 0 where
   pub minor : IsMinor t.minor
 
 -- A smaller form holds the number, or the minor is a simple value below 32 in two bytes (RFC 7049, 2.3 and 3.9). By a
--- lemma, these are exactly the parts of the titles that are not strict.
+-- lemma, these are exactly the parts of the titles that are not strict. `18 17` and `f8 1f` are such titles.
 abbrev pub refused_when_strict : ℕ → Minor → Bool
 refused_when_strict major (m.Small n) = false
 refused_when_strict major (m.One n) = nat_lt n (if major == 7 then 32 else 24)

@@ -7,7 +7,8 @@ use Rattle.std.specs.Prelude.{length}
 use Rattle.std.specs.Int.{to_be_bytes, w8, w16, w32, w64}
 use Rattle.ciborium_ll_text.specs.Text.{IsCharacters}
 
--- The number that the lower five bits of a first byte and the affix give (RFC 7049, 2.1).
+-- The number that the lower five bits of a first byte and the affix give (RFC 7049, 2.1). The minor 24 and the affix
+-- `c8` give 200.
 pub data SaysNumber : ℕ → List ℕ → ℕ → Type 0 where
   small : {n : ℕ} → n < 24 → SaysNumber n [] n
   one : {n : ℕ} → n < 2 ^ 8 → SaysNumber 24 (to_be_bytes w8 n) n
@@ -16,7 +17,7 @@ pub data SaysNumber : ℕ → List ℕ → ℕ → Type 0 where
   eight : {n : ℕ} → n < 2 ^ 64 → SaysNumber 27 (to_be_bytes w64 n) n
 
 -- The bytes are a title of the major type with the number. If `shortest` is true, no title of the two has fewer bytes
--- (RFC 7049, 2.1 and 3.9).
+-- (RFC 7049, 2.1 and 3.9). `17` and `18 17` are titles of the integer 23, and `17` is the shortest.
 pub record IsNumberTitle (shortest : Bool) (major n : ℕ) (title : List ℕ) : Type 0 where
   pub minor : ℕ
   pub affix : List ℕ
@@ -25,20 +26,21 @@ pub record IsNumberTitle (shortest : Bool) (major n : ℕ) (title : List ℕ) : 
   pub fewest : shortest ≡ true → (minor : ℕ) (other : List ℕ) → SaysNumber minor other n
       → length affix ≤ length other
 
--- The body of a string may be these bytes: any bytes, or UTF-8 for a text (RFC 7049, 2.1).
+-- The body of a string may be these bytes: any bytes, or UTF-8 for a text (RFC 7049, 2.1). `c3` is a body of a byte
+-- string, but not of a text.
 pub data IsBody : ℕ → List ℕ → Type 0 where
   bytes : {body : List ℕ} → IsBody 2 body
   text : {body : List ℕ} → IsCharacters body → IsBody 3 body
 
 -- A string of a definite length, and the same body after its shortest title. A strict decoder takes this title alone
--- (RFC 7049, 2.1 and 3.9).
+-- (RFC 7049, 2.1 and 3.9). `58 01 05` becomes `41 05`.
 pub data ShortensString (strict : Bool) (major : ℕ) : List ℕ → List ℕ → Type 0 where
   titled : {title shortest body : List ℕ} → IsNumberTitle strict major (length body) title
       → IsNumberTitle true major (length body) shortest → IsBody major body
       → ShortensString strict major (title ++ body) (shortest ++ body)
 
 -- Strings within an open, joined, and the copy of them. The copy of a string of indefinite length is the copy of the
--- strings within it. A strict decoder refuses it (RFC 7049, 2.2.2).
+-- strings within it. A strict decoder refuses it (RFC 7049, 2.2.2). `41 01 5f 41 02 ff` becomes `41 01 41 02`.
 pub data ShortensStrings (strict : Bool) (major : ℕ) : List ℕ → List ℕ → Type 0 where
   no_more : ShortensStrings strict major [] []
   definite_more : {first rest written more : List ℕ} → ShortensString strict major first written
@@ -49,7 +51,7 @@ pub data ShortensStrings (strict : Bool) (major : ℕ) : List ℕ → List ℕ �
 
 -- An element, and its copy (RFC 7049, 2.1 to 2.3). The element is the title of an integer, array, map or tag, a simple
 -- value (a strict decoder refuses 24 to 31), or a float. Or it is an open array, an open map or a break. Or it is a
--- string of a definite or an indefinite length.
+-- string of a definite or an indefinite length. `19 00 05` becomes `05`.
 pub data ShortensElement (strict : Bool) : List ℕ → List ℕ → Type 0 where
   number : {major n : ℕ} {title shortest : List ℕ} → (major < 2) ⊎ ((3 < major) × (major < 7))
       → IsNumberTitle strict major n title → IsNumberTitle true major n shortest
@@ -66,7 +68,7 @@ pub data ShortensElement (strict : Bool) : List ℕ → List ℕ → Type 0 wher
       → ShortensElement strict ((32 * major + 31) ∷ (strings ++ 0xff ∷ [])) ((32 * major + 31) ∷ (written ++ 0xff ∷ []))
 
 -- `Shortens strict count bytes written rest`: the bytes begin with `count` elements, whose copy is `written`, and then
--- have `rest`.
+-- have `rest`. If `count` is 1, `18 05 06` has the copy `05` and the rest `06`.
 pub data Shortens (strict : Bool) : ℕ → List ℕ → List ℕ → List ℕ → Type 0 where
   done : {rest : List ℕ} → Shortens strict zero rest [] rest
   next : {count : ℕ} {element bytes written more rest : List ℕ} → ShortensElement strict element written

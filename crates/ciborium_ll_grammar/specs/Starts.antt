@@ -5,7 +5,7 @@ use Rattle.ciborium_ll_grammar.specs.declared.hdr.start.Start.{Start}
 use Rattle.ciborium_ll_grammar.specs.declared.hdr.start.Start.TheVariants as s
 
 -- The role of a title of the header: a value, a string with its length, a *nest* or the end of an indefinite form. A
--- nest is a tag, an array or a map, which items follow (RFC 7049, 2.1 to 2.4).
+-- nest is a tag, an array or a map, which items follow (RFC 7049, 2.1 to 2.4). `01` is a value, and `82` is a nest.
 abbrev pub start_of : Header → Start
 start_of (h.Positive number) = s.Value
 start_of (h.Negative number) = s.Value

@@ -8,12 +8,13 @@ use Rattle.ciborium_ll_grammar.specs.declared.hdr.table.Affix.{Affix}
 use Rattle.ciborium_ll_grammar.specs.declared.hdr.table.Affix.TheVariants as a
 use Rattle.ciborium_ll_grammar.specs.Title.{IsReserved, NamesNoTitle}
 
--- The major type is `code`, and some title has this major type and minor (RFC 7049, 2.1 and 2.2).
+-- The major type is `code`, and some title has this major type and minor (RFC 7049, 2.1 and 2.2). `83` has the major
+-- type 4 and the minor 3.
 abbrev pub NamesTitle : ℕ → ℕ → ℕ → Type 0
 NamesTitle code major minor = (major ≡ code) × ¬ (NamesNoTitle major minor)
 
 -- The kind of the titles with this major type and minor, or `Refused` exactly if there are none (RFC 7049, 2.1 and
--- 2.2).
+-- 2.2). `83` is of the kind `Array`, and `9c` is `Refused`.
 abbrev pub IsTitleKind : TitleKind → ℕ → ℕ → Type 0
 IsTitleKind k.Positive major minor = NamesTitle 0 major minor
 IsTitleKind k.Negative major minor = NamesTitle 1 major minor
@@ -26,7 +27,8 @@ IsTitleKind k.Other major minor = NamesTitle 7 major minor
 IsTitleKind k.Refused major minor = NamesNoTitle major minor
 
 -- The place of the number of titles with this minor: the minor itself (below 24), or an affix of 1, 2, 4 or 8 bytes (24
--- to 27). The minor 31 has no number, and 28 to 30 are reserved (RFC 7049, 2.1).
+-- to 27). The minor 31 has no number, and 28 to 30 are reserved (RFC 7049, 2.1). `19` has the minor 25 and the place
+-- `Two`.
 abbrev pub IsAffix : Affix → ℕ → Type 0
 IsAffix a.Within minor = minor < 24
 IsAffix a.One minor = minor ≡ 24
@@ -36,7 +38,8 @@ IsAffix a.Eight minor = minor ≡ 27
 IsAffix a.Open minor = minor ≡ 31
 IsAffix a.Reserved minor = IsReserved minor
 
--- The row is right for the first byte, by its major type and its minor (RFC 7049, 2.1).
+-- The row is right for the first byte, by its major type and its minor (RFC 7049, 2.1). The row of `83` has `Array` and
+-- `Within`.
 pub record IsRow (first : ℕ) (row : Row) : Type 0 where
   pub kind : IsTitleKind row.kind (first / 32) (first % 32)
   pub affix : IsAffix row.affix (first % 32)

@@ -1,4 +1,4 @@
-//! Headers, and the parts of a title.
+//! Titles and their headers.
 
 ghost use Rattle.std.specs.Prelude.{ℕ, Option, ◌≡◌, ◌+◌, ◌*◌, ◌<◌, length, IfSome, IfNone, [], ◌∷◌};
 ghost use Rattle.ciborium_ll_grammar.specs.Title.{IsInRange, IsTitle, IsNeverOpen, Major};
@@ -16,9 +16,9 @@ pub mod table;
 pub use self::start::Start;
 use crate::hdr::table::TitleKind;
 
-/// A float, as its width and its raw bits (RFC 7049, 2.3).
+/// A float, as its width and raw bits (RFC 7049, 2.3).
 ///
-/// Floats are equal if widths and bits are equal: a NaN equals itself, and +0.0 differs from -0.0.
+/// A NaN equals itself, and +0.0 differs from -0.0.
 #[derive(Clone, Copy, Debug, PartialEq, Eq)]
 pub enum Float {
     /// The 16 bits of a half-precision float.
@@ -29,16 +29,16 @@ pub enum Float {
     Double(u64),
 }
 
-/// The meaning of a title (RFC 7049, 2.1 to 2.3), without a body.
+/// The meaning of a title, without a body (RFC 7049, 2.1 to 2.3).
 ///
-/// A length or a count of `None` is the indefinite form, which a `Break` ends.
+/// `None` is the indefinite form, which a `Break` ends.
 #[derive(Clone, Copy, Debug, PartialEq, Eq)]
 pub enum Header {
     /// An unsigned integer.
     Positive(u64),
     /// The negative integer -1 - n.
     Negative(u64),
-    /// A float, as its width and its raw bits.
+    /// A float.
     Float(Float),
     /// A simple value.
     Simple(u8),
@@ -46,9 +46,9 @@ pub enum Header {
     Tag(u64),
     /// The end of an indefinite string, array or map.
     Break,
-    /// A byte string with a body of this many bytes.
+    /// A byte string of this many bytes.
     Bytes(Option<usize>),
-    /// A text string with a body of this many bytes.
+    /// A text string of this many bytes.
     Text(Option<usize>),
     /// An array of this many items.
     Array(Option<usize>),
@@ -57,8 +57,6 @@ pub enum Header {
 }
 
 /// The lower five bits of a first byte, with the number that they hold or announce.
-///
-/// Each number is a `u64`, so a `Minor` is a variant and at most one number.
 #[derive(Clone, Copy)]
 pub enum Minor {
     /// The number itself, below 24.
@@ -129,7 +127,7 @@ impl Minor {
         }
     }
 
-    /// Returns the lower five bits of the first byte, from 0 to 31.
+    /// Returns the lower five bits of the first byte.
     pub fn code(self) -> u8
         requires { IsMinor self }
         ensures value { result ≡ minor_code self }
@@ -145,7 +143,7 @@ impl Minor {
         }
     }
 
-    /// Tells if a strict decoder refuses this minor under a major type (RFC 7049, 2.3 and 3.9).
+    /// Tells if a strict decoder refuses this minor (RFC 7049, 2.3 and 3.9).
     ///
     /// It refuses a number that a smaller form holds, and a simple value below 32 in two bytes.
     pub fn is_refused_when_strict(self, major: u8) -> bool
@@ -208,7 +206,7 @@ impl Minor {
     }
 }
 
-/// The element that a title begins (RFC 7049, 2.1 and 2.2): a string, or the title alone.
+/// The element that a title begins (RFC 7049, 2.1 and 2.2).
 #[derive(Clone, Copy)]
 pub enum Element {
     /// A byte string of this many bytes, or of indefinite length.
@@ -219,12 +217,12 @@ pub enum Element {
     Plain,
 }
 
-/// A title in its parts: the major type, below 8, and the minor.
+/// A title in its parts.
 #[derive(Clone, Copy)]
 pub struct Title {
-    /// The major type, which the upper three bits of the first byte give (RFC 7049, 2.1).
+    /// The major type, below 8: the upper three bits of the first byte (RFC 7049, 2.1).
     pub major: u8,
-    /// The minor, which the lower five bits and the affix give.
+    /// The minor: the lower five bits and the affix.
     pub minor: Minor,
 }
 
@@ -237,9 +235,7 @@ impl Title {
         self.major * 32 + self.minor.code()
     }
 
-    /// Returns the header that the title means. `kind` is the title's kind.
-    ///
-    /// `None` means that the minor is 31 and the major type has no indefinite form (RFC 7049, 2.2).
+    /// Returns the title's header, or `None` for the minor 31 of a major type without indefinite form (RFC 7049, 2.2).
     #[inline(always)]
     pub fn header(self, kind: TitleKind) -> Option<Header>
         requires parts { IsParts self }
@@ -265,8 +261,7 @@ impl Title {
         })
     }
 
-    /// Tells if the title begins a string, with kind and length. It looks at the parts alone, so a copy makes no
-    /// header.
+    /// Returns the element that the title begins, from the parts alone.
     #[inline(always)]
     pub fn element(self) -> Element
         requires { IsParts self }
@@ -284,9 +279,7 @@ impl Title {
         }
     }
 
-    /// Returns the shortest title of the header that this title means (RFC 7049, 3.9). A float keeps its width.
-    ///
-    /// It looks at the parts alone, so a copy does not tell the kinds of headers apart.
+    /// Returns the shortest title of the same header (RFC 7049, 3.9). A float keeps its width.
     #[inline(always)]
     pub fn shortest(self) -> Title
         requires { IsParts self }
@@ -339,7 +332,7 @@ fn other_header(minor: Minor) -> Header
 }
 
 impl Header {
-    /// Returns the length in bytes of the header's shortest title, from 1 to 9.
+    /// Returns the shortest title's length, in bytes.
     #[inline(always)]
     pub fn title_len(&self) -> usize
         ensures value { result ≡ title_len self.now }
@@ -351,7 +344,7 @@ impl Header {
     }
 }
 
-/// Returns the shortest title of a header, in its parts (RFC 7049, 3.9).
+/// Returns the header's shortest title (RFC 7049, 3.9).
 #[inline(always)]
 pub fn shortest(header: Header) -> Title
     ensures parts { IsParts result }

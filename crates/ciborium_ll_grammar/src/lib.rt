@@ -1,7 +1,8 @@
 // SPDX-License-Identifier: Apache-2.0
-//! The meaning of bytes in CBOR (RFC 7049, 2.1 to 2.3): headers and titles, strings, elements, items and faults.
+//! The meaning of bytes in CBOR (RFC 7049, 2.1 to 2.3): titles, strings, elements, items and faults, without input or
+//! output.
 //!
-//! This crate reads and writes nothing. It is a part of `ciborium_ll`, which exports the names that users need.
+//! `ciborium_ll` exports the names that users need.
 #![tactic(auto)]
 
 pub mod hdr;

@@ -5,7 +5,7 @@ ghost use Rattle.ciborium_ll_grammar.specs.Spellings.{is_shortest};
 
 /// The titles that a decoder, a checker or a copier takes.
 ///
-/// For example, `01` and `18 01` are titles of the number 1. `Any` takes both, and `Shortest` takes `01` alone.
+/// `01` and `18 01` are titles of the number 1. `Shortest` takes `01` alone.
 #[derive(Clone, Copy, Debug, PartialEq, Eq)]
 pub enum Spelling {
     /// Each title that is well-formed (RFC 7049, 2.1 to 2.3).
@@ -16,7 +16,7 @@ pub enum Spelling {
 }
 
 impl Spelling {
-    /// Returns `Shortest` if `strict` holds, and otherwise `Any`.
+    /// Returns `Shortest` if `strict` is true, and otherwise `Any`.
     pub fn shortest_if(strict: bool) -> Spelling
         ensures { is_shortest result ≡ strict }
     {
@@ -27,7 +27,7 @@ impl Spelling {
         }
     }
 
-    /// Returns whether shortest titles alone are taken.
+    /// Tells if this is `Shortest`.
     pub fn is_shortest(self) -> bool
         ensures { result ≡ is_shortest self }
     {

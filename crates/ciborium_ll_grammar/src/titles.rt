@@ -1,4 +1,4 @@
-//! Titles whose bytes are all in memory, as checkers and copiers read them. A decoder reads titles byte by byte.
+//! Titles whose bytes are all in memory, for checkers and copiers.
 
 ghost use Rattle.std.specs.Prelude.{◌≡◌, ◌+◌, ◌%◌, ◌<◌, ◌≤◌, IfSome, IfNone, length, slice_index, true, false};
 ghost use Rattle.std.specs.Int.{to_be_bytes, w16, w32, w64};
@@ -9,7 +9,7 @@ ghost use Rattle.ciborium_ll_grammar.specs.TitleRows.{IsAffix, IsTitleKind};
 use crate::hdr::table::{Affix, TitleKind, row_of};
 use crate::hdr::{Minor, Title};
 
-/// Tells if the bytes are too few for the title that they begin. An empty slice is too short.
+/// Tells if the bytes are too few for their title.
 #[inline(always)]
 pub fn are_begun(bytes: &[u8]) -> bool
     ensures yes { result ≡ true → length bytes.now ≤ affix_len (slice_index bytes.now 0 % 32) }
@@ -70,9 +70,7 @@ fn eight_bytes(bytes: &[u8]) -> u64
     ])
 }
 
-/// Returns a title in its parts, and its kind. `bytes` are the whole title: the first byte and its affix.
-///
-/// `None` means that no title begins with the first byte: its minor is reserved (RFC 7049, 2.1).
+/// Returns the whole title in `bytes` and its kind, or `None` for a reserved minor (RFC 7049, 2.1).
 #[inline(always)]
 pub fn title_of(bytes: &[u8]) -> Option<(Title, TitleKind)>
     requires { length bytes.now ≡ 1 + affix_len (slice_index bytes.now 0 % 32) }

@@ -23,9 +23,7 @@ pub enum Start {
 }
 
 impl Title {
-    /// Returns the role of the title. `header` is its meaning.
-    ///
-    /// It looks at the parts alone, so a skip makes headers of tags, arrays and maps only.
+    /// Returns the role of the title, whose meaning is `header`.
     #[inline(always)]
     pub fn start(self, header: Header) -> Start
         requires parts { IsParts self }

@@ -1,10 +1,10 @@
-//! A table of the first bytes of titles (RFC 7049, 2.1 to 2.3).
+//! A table of first bytes (RFC 7049, 2.1 to 2.3).
 
 ghost use Rattle.std.specs.Prelude.{ℕ, ◌≡◌};
 ghost use Rattle.ciborium_ll_grammar.specs.Title.{affix_len};
 ghost use Rattle.ciborium_ll_grammar.specs.TitleRows.{IsAffix, IsRow};
 
-/// The meaning of a title without its number: its major type (RFC 7049, 2.1).
+/// The meaning of a title without its number (RFC 7049, 2.1).
 #[derive(Clone, Copy)]
 pub enum TitleKind {
     /// An unsigned integer: the major type 0.
@@ -42,7 +42,7 @@ pub enum Affix {
     Eight,
     /// No number: an indefinite form or a break.
     Open,
-    /// No number: the minors 28 to 30 are reserved. Nothing is read after them.
+    /// No number: the minors 28 to 30 are reserved.
     Reserved,
 }
 
@@ -50,7 +50,7 @@ pub enum Affix {
 const AFFIX_LENS: [usize; 7] = [0, 1, 2, 4, 8, 0, 0];
 
 impl Affix {
-    /// Returns the number of bytes of the affix.
+    /// Returns the affix's length, in bytes.
     #[inline(always)]
     pub fn len(self) -> usize
         ensures { (minor : ℕ) → IsAffix self minor → result ≡ affix_len minor }
@@ -59,12 +59,12 @@ impl Affix {
     }
 }
 
-/// The entry of the table for one first byte.
+/// The table's entry for one first byte.
 #[derive(Clone, Copy)]
 pub struct Row {
     /// The meaning of a title with this first byte, or `Refused`.
     pub kind: TitleKind,
-    /// The place of the title's number, and thereby the number of bytes of the affix.
+    /// The place of the title's number.
     pub affix: Affix,
 }
 

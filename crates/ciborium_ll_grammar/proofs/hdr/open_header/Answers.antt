@@ -6,7 +6,7 @@ use Rattle.ciborium_ll_grammar.specs.Title.{IsNeverOpen, alone, ByteString, Text
 use Rattle.ciborium_ll_grammar.specs.TitleRows.{IsTitleKind}
 use Rattle.ciborium_ll_grammar.proofs.hdr.open_header.Goals as goal
 
--- kinds with no indefinite form
+-- The major type of these kinds has no indefinite form.
 never_open : (kind : TitleKind) (major : ℕ)
     → (kind ≡ k.Positive) ⊎ ((kind ≡ k.Negative) ⊎ ((kind ≡ k.Tag) ⊎ (kind ≡ k.Refused))) → IsTitleKind kind major 31
     → IsNeverOpen major

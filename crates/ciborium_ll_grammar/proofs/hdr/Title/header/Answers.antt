@@ -11,12 +11,12 @@ use Rattle.ciborium_ll_grammar.specs.TitleRows.{IsTitleKind}
 use Rattle.ciborium_ll_grammar.proofs.PartsLaws.{numbered_parts}
 use Rattle.ciborium_ll_grammar.proofs.hdr.Title.header.Goals as goal
 
--- a minor that was read is no reserved one, and where it has a number, some title has it
+-- If a minor has a number, some title has this major type and minor.
 never_refused : (major : ℕ) (minor : Minor) (n : ℕ) → IsMinor minor → minor_number minor ≡ Some n
     → NamesNoTitle major (minor_code minor) → ⊥
 never_refused major minor n small some refused = grind arith
 
--- a minor with no number is 31
+-- A minor with no number is `Open`.
 open_minor : (minor : Minor) → minor_number minor ≡ None → minor ≡ m.Open
 open_minor minor e = grind arith
 
