@@ -1,4 +1,4 @@
--- Bytes begin with n elements, or a fault stops them.
+-- Bytes begin with `n` elements, or a fault stops them.
 use Rattle.std.proofs.Common.{◌≡◌, ℕ, zero, suc, ◌%◌, ◌<◌, ◌≤◌, ◌⊎◌, Bool, true, List, [], ◌∷◌}
 use Rattle.std.proofs.Common.{◌++◌, length, take, drop, Some, None, refl, sym, ap, ◌∙◌, append_assoc, arith}
 use Rattle.std.proofs.Common.{inl, inr}
@@ -27,13 +27,13 @@ use Rattle.ciborium_ll_text.proofs.TextLaws.{IsCharacters-nil}
 use Rattle.ciborium_ll_text.proofs.Utf8Laws.{text_or_none}
 use Rattle.ciborium_ll_grammar.proofs.StepLaws.{add_string, add_open, close_inner, close_last, counted, add_element}
 
--- what stands in front
+-- The bytes are a cut title, begin with a refused byte, or begin with a title.
 data Sight (y : List ℕ) : Type 0 where
   ends : IsCutTitle y → Sight y
   refuses : BeginsRefused y → Sight y
   titled : (t rest : List ℕ) (x : Header) → IsTitle t x → y ≡ t ++ rest → Sight y
 
--- what stands in front of any bytes
+-- Any bytes are one of these three cases.
 sight : (y : List ℕ) → AreBytes y → Sight y
 sight [] f = ends tt
 sight (b ∷ y) f =
@@ -56,18 +56,18 @@ taken_or_not : (strict : Bool) (t : List ℕ) (x : Header) → IsTitle t x
     → IsTakenTitle strict t x ⊎ (IsTakenTitle strict t x → ⊥)
 taken_or_not strict t x p = let small = small_or_not x in let shortest = shortest_or_longer x t p in grind arith
 
--- the bytes of a body behind its shortest title
+-- If the title of a body is the shortest, the title and the body are the spelling of the body.
 body_same : {l : ℕ} {t : List ℕ} (k : Kind) (b : List ℕ) → t ≡ shortest_title (kind_header k (Some l)) → length b ≡ l
     → t ++ b ≡ body_spelling k b ++ []
 body_same k b s len = rw (s, ← len) (sym (append-nil _))
 
--- a header by what it begins
+-- A header is plain, a string of a definite length, or an open.
 data View : Header → Type 0 where
   is_plain : {x : Header} → IsPlain x → View x
   is_definite : (k : Kind) (l : ℕ) → View (kind_header k (Some l))
   is_open : (k : Kind) → View (kind_header k None)
 
--- each header begins one of the three
+-- Each header is one of these three cases.
 view_of : (x : Header) → View x
 view_of (h.Bytes None) = is_open Bytes
 view_of (h.Bytes (Some l)) = is_definite Bytes l
@@ -75,14 +75,14 @@ view_of (h.Text None) = is_open Text
 view_of (h.Text (Some l)) = is_definite Text l
 view_of x = is_plain tt
 
--- a header by what it is within a string of the kind
+-- Within a string of the kind, a header is a break, a string of a definite length, an open, or misplaced.
 data ViewIn (k : Kind) : Header → Type 0 where
   in_break : ViewIn k h.Break
   in_definite : (l : ℕ) → ViewIn k (kind_header k (Some l))
   in_open : ViewIn k (kind_header k None)
   in_misplaced : {x : Header} → IsMisplaced k x → ViewIn k x
 
--- each header is one of the four
+-- Each header is one of these four cases.
 view_in : (k : Kind) (x : Header) → ViewIn k x
 view_in Bytes (h.Bytes None) = in_open
 view_in Bytes (h.Bytes (Some l)) = in_definite l
@@ -93,12 +93,12 @@ view_in Text (h.Text (Some l)) = in_definite l
 view_in Text h.Break = in_break
 view_in Text x = in_misplaced tt
 
--- no bytes may be written of any body
+-- A copy may write the empty front of any body.
 part_nil : (k : Kind) → IsWritable k []
 part_nil Bytes = tt
 part_nil Text = IsCharacters-nil
 
--- a body may be written, or is no text
+-- A copy may write a body, or the body is of a text string and no text.
 writable_or_not : (k : Kind) (b : List ℕ) → IsWritable k b ⊎ ((k ≡ Text) × (IsCharacters b → ⊥))
 writable_or_not Bytes b = inl tt
 writable_or_not Text b = elim (text_or_none b) [ inl text ↦ inl text | inr never ↦ inr (refl, never) ]
@@ -110,18 +110,18 @@ AreBytes-rest (x ∷ a) b f = AreBytes-rest a b f.1
 -- ---- one step
 
 module _ (strict : Bool) (n : ℕ) where
-  -- where the shortest spelling alone is taken, the bytes are that of the marks
+  -- If only the shortest spelling is taken, the bytes are the spelling of the marks.
   abbrev Spelled : List ℕ → List Mark → List ℕ → Type 0
   Spelled u ms more = strict ≡ true → IsStrictSpelling u ms more
 
-  -- n elements are under way, and u is taken
+  -- The bytes are a part of `n` elements: a run, or a run and a string that is not closed.
   data Going : List ℕ → Type 0 where
     between : {u : List ℕ} (i : ℕ) (ms : List Mark) → i ≤ n → IsRun i u ms → Spelled u ms [] → Going u
     within : {u v : List ℕ} (i j : ℕ) (ms : List Mark) (bs : List (List ℕ)) (k : Kind) → i < n → IsRun i u ms
         → IsInsideAt k (suc j) v bs → AreWritable k bs → (strict ≡ true → j ≡ 0)
         → Spelled (u ++ v) (ms ++ Open k ∷ pieces k bs) [] → Going (u ++ v)
 
-  -- what one step over a title comes to: a run, a fault, or fewer bytes ahead
+  -- One step over a title gives `n` elements, a fault, or fewer bytes ahead.
   data Step (u s : List ℕ) : Type 0 where
     whole : BeginsWithElements strict n (u ++ s) → Step u s
     fails : HasFault strict n (u ++ s) → Step u s
@@ -131,7 +131,7 @@ module _ (strict : Bool) (n : ℕ) where
       → Spelled u ms (due_title at) → FirstFault strict u ms at s a out c → HasFault strict n (u ++ s)
   faulty {u = u} {s = s} reach sp fault = let is : u ++ s ≡ u ++ s = refl in search
 
-  -- the step where a title is due, by what a title that is taken leads to
+  -- The step at a place where a title is due, if there is a step over each title that is taken.
   title_step : {u s : List ℕ} {ms : List Mark} {at : Point} → Reaches n u ms at → IsAtTitle at
       → Spelled u ms (due_title at)
       → ((t rest : List ℕ) (x : Header) → IsTitle t x → IsTakenTitle strict t x → s ≡ t ++ rest → Step u s) → Sight s
@@ -144,7 +144,7 @@ module _ (strict : Bool) (n : ℕ) where
         | inr untaken ↦ fails (faulty reach sp (LongTitle x rest d p untaken q))
       ]
 
-  -- the step over the title of a body, by what a body that may be written leads to
+  -- The step over the title of a body, if there is a step over each body that may be written.
   body_step : {u s : List ℕ} {ms : List Mark} {k : Kind} {l p : ℕ} (t rest : List ℕ)
       → Reaches n (u ++ t) ms (BodyDue k l p) → Spelled (u ++ t) ms (shortest_title (kind_header k (Some l)))
       → s ≡ t ++ rest → ((b more : List ℕ) → s ≡ (t ++ b) ++ more → length b ≡ l → IsWritable k b → Step u s) → Step u s
@@ -161,7 +161,7 @@ module _ (strict : Bool) (n : ℕ) where
         ]
       ]
 
-  -- the step over a title that is taken, where an element is due
+  -- The step over a title that is taken, at a place where an element is due.
   due_titled : {i : ℕ} {u s t : List ℕ} {ms : List Mark} {x : Header} (rest : List ℕ) → View x → i < n → IsRun i u ms
       → Spelled u ms [] → IsTitle t x → IsTakenTitle strict t x → s ≡ t ++ rest → Step u s
   due_titled {i = i} {u = u} {t = t} {ms = ms} {x = x} rest (is_plain o) l r sp p taken q =
@@ -181,7 +181,7 @@ module _ (strict : Bool) (n : ℕ) where
       spelled_then u ms (t ++ b) (Whole k b ∷ []) (sp on) (body_same k b d.shortest len) (tt, tt))) e
       (omega (arith, title_some t _ p, length-append t b)))
 
-  -- the step over a break
+  -- The step over a break.
   break_step : {i : ℕ} {u v s rest : List ℕ} {ms : List Mark} {bs : List (List ℕ)} {k : Kind} (j : ℕ) → i < n
       → IsRun i u ms → IsInsideAt k (suc j) v bs → AreWritable k bs → (strict ≡ true → j ≡ 0)
       → Spelled (u ++ v) (ms ++ Open k ∷ pieces k bs) [] → s ≡ 0xff ∷ rest → Step (u ++ v) s
@@ -196,14 +196,14 @@ module _ (strict : Bool) (n : ℕ) where
       (λ on. absurd (let never = single on in omega arith)) (λ on. absurd (let never = single on in omega arith)))) q
       (omega arith)
 
-  -- within a string
+  -- The steps within a string.
   module _ {i j : ℕ} {u v : List ℕ} {ms : List Mark} {bs : List (List ℕ)} {k : Kind} (l : i < n) (r : IsRun i u ms)
       (ia : IsInsideAt k (suc j) v bs) (ok : AreWritable k bs) (single : strict ≡ true → j ≡ 0)
       (sp : Spelled (u ++ v) (ms ++ Open k ∷ pieces k bs) []) where
     reach : Reaches n (u ++ v) (ms ++ Open k ∷ pieces k bs) (In k)
     reach = inside l r (counted k (suc j) v bs ia) ok
 
-    -- the step over a title that is taken
+    -- The step over a title that is taken, within a string.
     in_titled : {s t : List ℕ} {x : Header} (rest : List ℕ) → ViewIn k x → IsTitle t x → IsTakenTitle strict t x
         → s ≡ t ++ rest → Step (u ++ v) s
     in_titled {x = x} rest (in_misplaced f) p taken q =
@@ -227,7 +227,7 @@ module _ (strict : Bool) (n : ℕ) where
         (t ++ b) (Piece k b ∷ []) (sp on) (body_same k b d.shortest len) (tt, tt)))))) e
         (omega (arith, title_some t _ p, length-append t b)))
 
-  -- the step anywhere
+  -- The step at any place.
   step : {u : List ℕ} → Going u → (s : List ℕ) → AreBytes s → Step u s
   step {u = u} (between i ms l r sp) s f =
       elim (cases_lt i n) [
@@ -244,7 +244,7 @@ module _ (strict : Bool) (n : ℕ) where
 
   -- ---- all steps
 
-  -- all steps, by the bytes that are ahead
+  -- All steps, by induction on the number of bytes ahead.
   all_steps : (fuel : ℕ) {u : List ℕ} (s : List ℕ) → length s < fuel → Going u → AreBytes s
       → BeginsWithElements strict n (u ++ s) ⊎ HasFault strict n (u ++ s)
   all_steps zero s l g f = absurd (omega arith)
@@ -258,7 +258,7 @@ module _ (strict : Bool) (n : ℕ) where
             )
       ]
 
--- in any bytes a run of n elements stands in front, or a fault stops it
+-- Any bytes begin with a run of `n` elements, or a fault stops it.
 pub complete : (strict : Bool) (n : ℕ) (x : List ℕ) → AreBytes x → BeginsWithElements strict n x ⊎ HasFault strict n x
 complete strict n x f =
     all_steps strict n (suc (length x)) x (omega arith) (between 0 [] (omega arith) done (λ on. spelled_none)) f

@@ -4,7 +4,7 @@ ghost use Rattle.std.specs.Prelude.{◌≡◌, ◌≤◌, ℕ, List, length};
 ghost use Rattle.ciborium_ll_text.specs.Text.{IsCharacters};
 ghost use Rattle.ciborium_ll_text.specs.Cuts.{IsCut, IsFullCut};
 
-/// A text has exactly one full cut for a limit of at least 4, and no cut has fewer members.
+/// A text has exactly one full cut, and no cut has fewer members.
 pub fn full_cuts()
     ensures exists { (text : List ℕ) (limit : ℕ) → IsCharacters text → 4 ≤ limit
         → (members : List (List ℕ)) × IsFullCut text limit members }

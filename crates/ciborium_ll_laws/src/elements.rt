@@ -3,21 +3,21 @@
 ghost use Rattle.std.specs.Prelude.{◌≡◌, ◌≤◌, ℕ, ◌++◌, List, length};
 ghost use Rattle.ciborium_ll_grammar.specs.Elements.{Mark, IsElement, IsRun, spelling};
 
-/// No element begins another element, and no element has two lists of marks.
+/// No element begins another, and each has one list of marks.
 pub fn one_element()
     ensures { (element other rest more : List ℕ) (marks others : List Mark) → IsElement element marks
         → IsElement other others
         → element ++ rest ≡ other ++ more → (element ≡ other) × (marks ≡ others) × (rest ≡ more) }
 {}
 
-/// Bytes begin with at most one run of `count` elements, which has one list of marks.
+/// Bytes begin with at most one run of `count` elements, with one list of marks.
 pub fn one_run()
     ensures { (count : ℕ) (run other rest more : List ℕ) (marks others : List Mark) → IsRun count run marks
         → IsRun count other others
         → run ++ rest ≡ other ++ more → (run ≡ other) × (marks ≡ others) × (rest ≡ more) }
 {}
 
-/// The spelling of a run's marks is a run of the same marks, and is no longer.
+/// A run's spelling is a run of the same marks, and no longer.
 pub fn spelled_run()
     ensures again { (count : ℕ) (run : List ℕ) (marks : List Mark) → IsRun count run marks
         → IsRun count (spelling marks) marks }

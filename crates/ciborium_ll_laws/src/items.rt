@@ -3,7 +3,7 @@
 ghost use Rattle.std.specs.Prelude.{◌≡◌, ℕ, Bool, ◌++◌, List};
 ghost use Rattle.ciborium_ll_grammar.specs.Items.{IsItem};
 
-/// No item begins another item, whatever their depths, and whether or not their spelling is the shortest.
+/// No item begins another, whatever their depths and spellings.
 pub fn one_item()
     ensures { (strict shortest : Bool) (depth limit : ℕ) (item other rest more : List ℕ) → IsItem strict depth item
         → IsItem shortest limit other → item ++ rest ≡ other ++ more

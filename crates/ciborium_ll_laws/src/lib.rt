@@ -1,8 +1,7 @@
 // SPDX-License-Identifier: Apache-2.0
-//! The laws of texts, titles, strings, elements, runs, faults and items: empty functions, whose contracts are the laws.
+//! The contract of each function is a law about the definitions alone.
 //!
-//! The laws are about the definitions alone, so no code needs them. This crate is a part of `ciborium_ll`, which hands
-//! them on.
+//! `ciborium_ll` exports the laws.
 #![tactic(auto)]
 
 mod cuts;

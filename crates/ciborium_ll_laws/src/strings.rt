@@ -3,7 +3,7 @@
 ghost use Rattle.std.specs.Prelude.{◌≡◌, ℕ, ◌++◌, List};
 ghost use Rattle.ciborium_ll_grammar.specs.Strings.{Kind, IsString};
 
-/// No string begins another string of its kind, and each string has one list of bodies.
+/// No string begins another of its kind, and each has one list of bodies.
 pub fn one_string()
     ensures { (kind : Kind) (string other rest more : List ℕ) (bodies others : List (List ℕ))
         → IsString kind string bodies

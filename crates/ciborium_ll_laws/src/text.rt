@@ -9,12 +9,12 @@ ghost use Rattle.ciborium_ll_text.specs.declared.state.State.TheVariants.{Betwee
 
 use simdutf8::compat;
 
-/// Bytes are joined characters exactly if std has them as UTF-8.
+/// Bytes are text exactly if they are UTF-8 for std.
 pub fn same_text()
     ensures { (bytes : List ℕ) → (IsCharacters bytes ↔ IsUtf8 bytes) }
 {}
 
-/// `simdutf8` accepts exactly the texts. For other bytes it gives the longest front that is text.
+/// Returns the text, or the longest front that is text, as `simdutf8` finds it.
 pub fn text_or_front(bytes: &[u8]) -> Result<&str, &str>
     ensures accepted { IsOk result ↔ IsCharacters bytes.now }
     ensures whole { IfOk result (λ text. text.now ≡ bytes.now) }
@@ -34,12 +34,12 @@ pub fn joined_texts()
     ensures { (text other : List ℕ) → IsCharacters text → IsCharacters other → IsCharacters (text ++ other) }
 {}
 
-/// If a text and the bytes after it are a text, these bytes are a text.
+/// Bytes that continue a text to a text are a text.
 pub fn rest_of_text()
     ensures { (text rest : List ℕ) → IsCharacters text → IsCharacters (text ++ rest) → IsCharacters rest }
 {}
 
-/// Bytes have exactly one longest front that is text. It is the front that std finds.
+/// Bytes have exactly one longest front that is text: the front that std finds.
 pub fn one_front()
     ensures exists { (bytes : List ℕ) → (front : List ℕ) × (rest : List ℕ) × IsFront bytes front rest }
     ensures one { (bytes front rest other more : List ℕ) → IsFront bytes front rest → IsFront bytes other more
@@ -53,17 +53,17 @@ pub fn no_text_begins()
         → IsCharacters (bytes ++ more) → ⊥ }
 {}
 
-/// Bytes with a rest after their longest front are no text.
+/// Text has no rest after its longest front.
 pub fn no_rest_of_text()
     ensures { (bytes front rest : List ℕ) → IsFront bytes front rest → IsCharacters bytes → rest ≡ [] }
 {}
 
-/// Bytes are text exactly if the state after them is between two characters.
+/// Bytes are text exactly if they lead to `Between`.
 pub fn text_by_state()
     ensures { (bytes : List ℕ) → (IsCharacters bytes ↔ (after Between bytes ≡ Between)) }
 {}
 
-/// The state after bytes is a damage exactly if no text begins with them.
+/// Bytes lead to `Damaged` exactly if no text begins with them.
 pub fn damage_by_state()
     ensures none { (bytes more : List ℕ) → after Between bytes ≡ Damaged → IsCharacters (bytes ++ more) → ⊥ }
     ensures some { (bytes : List ℕ) → after Between bytes ≢ Damaged → (more : List ℕ) × IsCharacters (bytes ++ more) }

@@ -7,20 +7,20 @@ ghost use Rattle.ciborium_ll_grammar.specs.declared.hdr.Header.{Header};
 ghost use Rattle.ciborium_ll_grammar.specs.Title.{IsTitle, shortest_title, IsInRange, IsRefused};
 ghost use Rattle.ciborium_ll_grammar.specs.Title.{IsCutTitle, AreBytes, refused_bytes};
 
-/// No title begins another title, and each title has one header.
+/// No title begins another, and each has one header.
 pub fn one_title()
     ensures { (title other rest more : List ℕ) (header another : Header) → IsTitle title header → IsTitle other another
         → title ++ rest ≡ other ++ more → (title ≡ other) × (header ≡ another) × (rest ≡ more) }
 {}
 
-/// The shortest title of a header is a title of it, and every other title of it is longer.
+/// A header's shortest title is one of its titles, and all others are longer.
 pub fn shortest_titles()
     ensures is_title { (header : Header) → IsInRange header → IsTitle (shortest_title header) header }
     ensures is_shortest { (header : Header) (title : List ℕ) → IsTitle title header
         → (title ≡ shortest_title header) ⊎ (length (shortest_title header) < length title) }
 {}
 
-/// The numbers of a title's header are in the ranges of their types.
+/// The numbers of a title's header are in range.
 pub fn title_header()
     ensures { (title : List ℕ) (header : Header) → IsTitle title header → IsInRange header }
 {}
@@ -30,7 +30,7 @@ pub fn title_length()
     ensures { (title : List ℕ) (header : Header) → IsTitle title header → (1 ≤ length title) × (length title ≤ 9) }
 {}
 
-/// Exactly 27 of the 256 bytes begin no title: those of a list, which ascend.
+/// Exactly 27 of the 256 bytes begin no title.
 pub fn refused_first_bytes()
     ensures none { (byte : ℕ) (rest : List ℕ) (header : Header) → IsRefused byte → IsTitle (byte ∷ rest) header → ⊥ }
     ensures others { (byte : ℕ) → byte < 256
@@ -40,7 +40,7 @@ pub fn refused_first_bytes()
     ensures count { length refused_bytes ≡ 27 }
 {}
 
-/// Bytes are a cut title exactly if at least one byte more makes them a title.
+/// Bytes are a cut title exactly if one or more further bytes complete a title.
 pub fn cut_titles()
     ensures begins { (bytes : List ℕ) → AreBytes bytes → IsCutTitle bytes
         → (byte : ℕ) × (more : List ℕ) × (header : Header) × IsTitle (bytes ++ byte ∷ more) header }

@@ -6,7 +6,7 @@ ghost use Rattle.ciborium_ll_text.specs.Text.{IsCharacters};
 ghost use Rattle.ciborium_ll_grammar.specs.Elements.{Mark, IsElement, spelling};
 ghost use Rattle.ciborium_ll_grammar.specs.Values.{least_limit, IsWritten, HasFewestSegments};
 
-/// Each value is written in exactly one way under a limit, and as one element.
+/// Each value is written in one way under a limit, as one element.
 pub fn written_values()
     ensures exists { (kind : Kind) (limit : ℕ) (value : List ℕ) → least_limit kind ≤ limit → IsWritable kind value
         → (marks : List Mark) × IsWritten kind limit value marks }
@@ -17,10 +17,7 @@ pub fn written_values()
         → IsWritable kind value → length value < 2 ^ 64 → IsElement (spelling marks) marks }
 {}
 
-/// A text that isn't empty is written in the fewest segments.
-///
-/// The segments are texts that aren't empty, and joined they are the text. No cut of the text within the limit has
-/// fewer members.
+/// A text that is not empty is written in the fewest segments.
 pub fn fewest_segments()
     ensures { (limit : ℕ) (text : List ℕ) (marks : List Mark) → IsWritten Text limit text marks → IsCharacters text
         → 0 < length text → HasFewestSegments limit text marks }
