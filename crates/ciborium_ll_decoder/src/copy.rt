@@ -1,4 +1,4 @@
-//! The body of a string, copied to a writer chunk by chunk.
+//! Bodies of strings, copied to a writer.
 
 ghost use Rattle.std.specs.Prelude.{◌≡◌, ◌≤◌, None, length};
 ghost use Rattle.ciborium_ll_decoder.specs.BodyCopies.{CopiesBody, CopiesSegment, sides};
@@ -14,9 +14,9 @@ use ciborium_ll_io::io::{Read, Write};
 /// Why a copy stopped.
 #[derive(Debug, Drop)]
 pub enum RecodeError<E, F> {
-    /// The decoder failed, and this is its error.
+    /// The decoder failed with this error.
     Read(Error<E>),
-    /// The writer failed, and this is its error.
+    /// The writer failed with this error.
     Write(F),
 }
 
@@ -33,21 +33,17 @@ impl<E, F> From<Error<E>> for RecodeError<E, F> {
 impl<'r, R: Read, P: Chunked> Segments<'r, R, P> {
     /// Writes the body that [`Segments::advance`] gave last to a writer, without its title.
     ///
-    /// The body goes through `buffer`, which has four bytes at least. Each chunk is written as soon as it is handed
-    /// out.
-    ///
-    /// `Ok` means that the whole body was read and written, and that the body of a text is UTF-8. Exactly the bytes of
-    /// the body were consumed and written.
+    /// Each chunk goes through `buffer`, which has four bytes at least, and is written at once. `Ok` means that exactly
+    /// the body is consumed and written, and that the body of a text is UTF-8.
     ///
     /// # Errors
     ///
-    /// - `Read`, with an error of [`Segments::finish`]. Exactly the chunks that were handed out by then are written.
-    /// - `Write`, with the writer's error. A front of the body is written, and a beginning of the next chunk, at which
-    ///   the writer failed, once. The front, the chunk and, of a text, up to three bytes after them were consumed: at
-    ///   least one byte.
+    /// - `Read`: the decoder failed as in [`Segments::finish`]. Exactly the chunks that were handed out by then are
+    ///   written.
+    /// - `Write`: the writer failed at a chunk. Everything before the chunk and a beginning of it are written. The
+    ///   chunk and, of a text, up to three bytes after it are consumed: at least one byte.
     ///
-    /// Bytes that were read before an error are consumed. The string goes on as before, and the writer stays on its
-    /// slice.
+    /// The string goes on as before, and the writer stays on its slice.
     #[inline(always)]
     pub fn copy<W: Write>(
         &mut self,
@@ -65,11 +61,10 @@ impl<'r, R: Read, P: Chunked> Segments<'r, R, P> {
     }
 }
 
-/// Writes the body of a string of a definite length to a writer, without its title, as [`Segments::copy`] writes the
-/// body of a segment.
+/// Writes the body of a string of a definite length as [`Segments::copy`] does for a segment, with its answers.
 ///
-/// `buffer` has four bytes at least. The answers are those of [`Segments::copy`]. The call pushes no header back, and
-/// names the place that the caller gives it. Users copy elements, or the bodies of a string.
+/// The call pushes no header back, and names the place that the caller gives it. Users copy elements, or the bodies of
+/// a string.
 #[inline(always)]
 pub fn copy_body<R: Read, W: Write, P: Chunked>(
     decoder: &mut Decoder<R>,

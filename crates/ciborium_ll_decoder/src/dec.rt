@@ -1,4 +1,4 @@
-//! The decoder: it reads headers from a reader.
+//! The decoder.
 
 ghost use Rattle.std.specs.Prelude.{◌≡◌, ◌+◌, ◌≤◌, ◌<◌, ◌^◌};
 ghost use Rattle.ciborium_ll_grammar.specs.Title.{waiting_len};
@@ -11,14 +11,13 @@ use ciborium_ll_io::io::{Failures, Read};
 /// Why a decoder failed.
 #[derive(Debug, Drop)]
 pub enum Error<T> {
-    /// The reader failed, and this is its error.
+    /// The reader failed with this error.
     Io(T),
     /// The bytes at this offset are no CBOR that may stand there.
     ///
-    /// It is the offset of the title at fault, or of the title of a body that is no text. A whole string's title may be
-    /// longer than the shortest title. If the body of that string is no text, the offset is that of the byte from which
-    /// the shortest title would reach the body. For example, `78 01 ff` has the length 1 in two bytes, and its place is
-    /// 1: the shortest title `61` would begin there.
+    /// It is the offset of the title at fault, or of the title of a body that is no text. The title of a string of a
+    /// definite length counts as its shortest title there. For example, `78 01 ff` has the length 1 in two bytes, and
+    /// its place is 1: the shortest title `61` would begin there.
     Syntax(usize),
     /// The offset would pass `usize::MAX`, or a string has more opens within one another than a `usize` counts.
     TooLong,
@@ -36,12 +35,10 @@ impl<T> From<T> for Error<T> {
     }
 }
 
-/// Reads headers, and counts the bytes that it consumed.
+/// Reads headers, and counts the bytes that it consumed. A header that a caller pushes back waits for the next pull.
 ///
-/// A caller may push back a header that it pulled. The header then waits, and the next pull gives it.
-///
-/// Each call that reads moves the decoder on, whatever it answers. The offset never falls, a steady reader stays
-/// steady, and a strict decoder stays strict. `Io` comes only if the reader failed in that call, once.
+/// A call that reads moves the decoder on: the offset never falls, a steady reader stays steady, and a strict decoder
+/// stays strict. `Io` comes only if the reader failed in that call, once.
 #[derive(Drop)]
 pub struct Decoder<R> {
     reader: R,
@@ -75,32 +72,29 @@ impl<R: Read> Decoder<R> {
     ghost use Rattle.ciborium_ll_decoder.specs.Decoding.{ReadsMinor, TakesBack, offset_of};
     ghost use Rattle.ciborium_ll_decoder.specs.Decoding.{reader_of, refusals_of, strict_of, waiting_of};
 
-    /// Makes a decoder that counts from this offset, in bytes. No header waits, and the decoder isn't strict.
+    /// Makes a decoder that counts from this offset, in bytes, and isn't strict.
     pub fn with_offset(reader: R, offset: usize) -> Decoder<R>
         ensures { IsFresh reader offset result }
     {
         Decoder::with_spelling(reader, Spelling::Any, offset)
     }
 
-    /// Makes a strict decoder at the offset 0, on which no header waits.
+    /// Makes a strict decoder at the offset 0.
     ///
     /// It takes each header by its shortest title alone (RFC 7049, 3.9), no simple value from 24 to 31 (2.3), and no
-    /// string of indefinite length within another string (2.2.2).
+    /// string of indefinite length within another (2.2.2).
     ///
-    /// [`Decoder::pull`] answers `Syntax` for any other title, and a string does for an open within an open. The offset
-    /// is that of the title's start, and all of the title is consumed. A header that was pushed back is given as it was
-    /// pushed.
+    /// [`Decoder::pull`] consumes any other title, and answers `Syntax` with the offset of its start. A string does so
+    /// for an open within an open. A header that was pushed back is given as it is.
     pub fn strict(reader: R) -> Decoder<R>
         ensures { IsFreshAs true reader 0 result }
     {
         Decoder::with_spelling(reader, Spelling::Shortest, 0)
     }
 
-    /// Makes a decoder that takes titles of this spelling, and counts from this offset, in bytes. No header waits.
+    /// Makes a decoder that takes titles of this spelling, and counts from this offset, in bytes.
     ///
-    /// With `Shortest` the decoder is strict, as that of [`Decoder::strict`]. With `Any` it isn't, as that of
-    /// [`Decoder::with_offset`]. For example, a strict decoder that begins at the offset 100 answers `Syntax(100)` for
-    /// the bytes `18 01`.
+    /// With `Shortest` it is that of [`Decoder::strict`]: at the offset 100 it answers `Syntax(100)` for `18 01`.
     pub fn with_spelling(reader: R, spelling: Spelling, offset: usize) -> Decoder<R>
         ensures { IsFreshAs (is_shortest spelling) reader offset result }
     {
@@ -120,8 +114,7 @@ impl<R: Read> Decoder<R> {
         self.reader
     }
 
-    /// Returns the offset at the start plus the number of bytes that were consumed. A waiting header is not consumed.
-    /// The decoder stays as it is.
+    /// Returns the offset at the start plus the bytes that were consumed. A waiting header is not consumed.
     pub fn offset(&mut self) -> usize
         ensures value { result ≡ offset_of self.old }
         ensures same { self.new ≡ self.old }
@@ -136,7 +129,7 @@ impl<R: Read> Decoder<R> {
         self.waiting.is_some()
     }
 
-    /// Returns which titles the decoder takes: `Shortest` if it is strict, and otherwise `Any`.
+    /// Returns `Shortest` if the decoder is strict, and otherwise `Any`.
     pub fn spelling(&self) -> Spelling
         ensures { is_shortest result ≡ strict_of self.now }
     {
@@ -150,21 +143,19 @@ impl<R: Read> Decoder<R> {
         self.strict
     }
 
-    /// Takes the next header (RFC 7049, 2.1 to 2.3): the waiting header, or otherwise one title from the reader.
+    /// Takes the waiting header, or otherwise reads one title (RFC 7049, 2.1 to 2.3).
     ///
-    /// `Ok` means that a title of that header was due, and that exactly this title is consumed. So the caller may give
-    /// the header back to [`Decoder::push`].
+    /// `Ok` means that exactly a title of that header is consumed.
     ///
     /// # Errors
     ///
-    /// - `Syntax(offset)`, the offset of the title's start: the first byte is one of the 27 bytes with which no title
-    ///   begins, and is consumed. A strict decoder also refuses a title that isn't the shortest of its header, and a
-    ///   simple value below 32 in two bytes, and consumes all of that title. See [`Decoder::strict`].
-    /// - `Io`: the reader failed. Over a steady reader the bytes end before a title or inside it.
+    /// - `Syntax(offset)`: the byte there, one of 27 that begin no title, is consumed. [`Decoder::strict`] refuses more
+    ///   titles.
+    /// - `Io`: the reader failed. If it is steady, the bytes end before the title does.
     /// - `TooLong`: the offset can't take the next read.
     ///
-    /// After `TooLong`, and after `Io` over a steady reader, a first byte that was read stays consumed, and no more.
-    /// After `Io` over another reader at most one byte is consumed.
+    /// After `TooLong`, and after `Io` over a steady reader, exactly a first byte that was read is consumed. After `Io`
+    /// over another reader at most one byte is.
     ///
     /// # Examples
     ///
@@ -252,13 +243,10 @@ impl<R: Read> Decoder<R> {
         (header, shortest(header))
     }
 
-    /// Takes a header back, and gives it at the next [`Decoder::pull`].
+    /// Takes a header back for the next [`Decoder::pull`]. The offset falls by [`Header::title_len`].
     ///
-    /// The offset falls by the length of the header's shortest title, [`Header::title_len`]. The header waits before
-    /// the bytes that were due. The reader is left alone.
-    ///
-    /// No header may wait, and the offset has to cover that title. Both hold after the [`Decoder::pull`] that gave the
-    /// header. [`Decoder::is_waiting`] and [`Decoder::offset`] test them.
+    /// Both conditions hold after the pull that gave the header. [`Decoder::is_waiting`] and [`Decoder::offset`] test
+    /// them.
     ///
     /// # Examples
     ///
@@ -413,7 +401,7 @@ impl<R: Read> Read for Decoder<R> {
 
     ghost steady_is_told = { λ _ h. Prim.search rules };
 
-    /// Reads the bytes of a body, after the header that was pulled. The offset rises by their number.
+    /// Reads the bytes of a body, after the header that was pulled.
     ///
     /// # Errors
     ///

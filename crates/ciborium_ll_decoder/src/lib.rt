@@ -1,8 +1,7 @@
 // SPDX-License-Identifier: Apache-2.0
-//! A decoder: it reads headers, and reads the bodies of strings piece by piece or copies them to a writer.
+//! A decoder: it reads headers, and reads or copies the bodies of strings piece by piece.
 //!
-//! This crate is a part of `ciborium_ll`, which hands on the items that users name. The modules use each other's
-//! private parts, so they share one crate.
+//! It is a part of `ciborium_ll`.
 #![tactic(auto)]
 
 pub mod copy;

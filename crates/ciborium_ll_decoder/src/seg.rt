@@ -100,8 +100,7 @@ pub(crate) enum Progress {
 
 /// The segments of a string: its one body, or the bodies between an open and its break, to any depth.
 ///
-/// [`Segments::advance`], [`Segments::finish`] and [`Segments::copy`] move the decoder on, as its own calls do. No call
-/// answers `Waiting`.
+/// Its calls never answer `Waiting`.
 #[derive(Drop)]
 pub struct Segments<'r, R, P: Parser> {
     pub(crate) decoder: &'r mut Decoder<R>,
@@ -138,23 +137,16 @@ impl<'r, R: Read, P: Parser> Segments<'r, R, P> {
         }
     }
 
-    /// Moves to the next segment, and returns the length of its body and the offset of its title.
+    /// Moves to the next segment, over opens and inner breaks, and returns its [`Body`].
     ///
-    /// The call passes over opens, and over breaks that don't close the string. `None` means that the string has ended,
-    /// by the break that closes the first open or before this call. This answer stays: later calls give it again, and
-    /// read nothing.
+    /// `None` means that the string has ended. Later calls answer `None` again, and read nothing.
     ///
     /// # Errors
     ///
-    /// - `Syntax(offset)`, which stays: at this offset the bytes are no title, or a title that may not stand there.
-    /// - `Io` if the reader failed, `TooLong` if the offset can't take the next read: the opens so far stay counted,
-    ///   and the next call reads on.
-    /// - `TooLong` for an open that can't be counted, which stays.
-    ///
-    /// A strict decoder's string answers `Syntax` also for a title that [`Decoder::pull`] refuses, and for an open
-    /// within an open. It consumes that title. So it passes over the first open alone.
-    ///
-    /// The number of opens that aren't closed rises by no more than the offset does.
+    /// - `Syntax(offset)`, which stays: the bytes there are no title, or a title that may not stand there.
+    /// - `Io`: the reader failed, and the next call reads on.
+    /// - `TooLong`: the offset can't take the next read, and the next call reads on. If an open can't be counted, it
+    ///   stays.
     #[inline(always)]
     pub fn advance(&mut self) -> Result<Option<Body>, Error<R::Error>>
         ensures { SegmentsAdvance R.Read P.kind self.old result self.new }
@@ -171,10 +163,10 @@ impl<'r, R: Read, P: Parser> Segments<'r, R, P> {
         }
     }
 
-    /// Makes a segment of a body that [`Segments::advance`] gave last, and reads nothing of it yet.
+    /// Makes a segment of the body that [`Segments::advance`] gave last. Another body makes a segment of its own
+    /// length.
     ///
-    /// The segment lends the decoder on. After the segment is gone, the string has the decoder that the segment left. A
-    /// body that the last [`Segments::advance`] did not give makes a segment of that body's length all the same.
+    /// After the segment is gone, the string has the decoder that the segment left.
     pub fn segment(&mut self, body: Body) -> Segment<'_, R, P>
         requires { waiting_of (string_decoder self.old) ≡ None }
         ensures* lends { sem 𝓛 (lends_segment R.row P.row self.entry result) }
@@ -192,12 +184,10 @@ impl<'r, R: Read, P: Parser> Segments<'r, R, P> {
         }
     }
 
-    /// Moves to the next segment of the string, and returns it.
+    /// Moves to the next segment as [`Segments::advance`] does, with its answers, and returns the whole segment.
     ///
-    /// The answers are those of [`Segments::advance`], with a whole segment for a body. A caller that has to know the
-    /// decoder that the loan leaves calls [`Segments::advance`], and then [`Segments::finish`] or [`Segments::copy`].
-    ///
-    /// A segment that is dropped early leaves the rest of its body in the reader. The next call reads on there.
+    /// A segment that is dropped early leaves the rest of its body in the reader, and the next call reads on there. A
+    /// caller that has to know the decoder after the loan calls [`Segments::finish`] or [`Segments::copy`].
     ///
     /// # Examples
     ///
@@ -350,10 +340,9 @@ impl Kept {
     }
 }
 
-/// One segment of a string, which lends the decoder until it is dropped.
+/// One segment of a string, which holds the decoder until it is dropped.
 ///
-/// It counts the bytes of its body that were not read yet. A segment of a text also keeps up to three bytes that were
-/// read and may begin a character.
+/// A segment of a text keeps up to three bytes that were read and may begin a character.
 #[derive(Drop)]
 pub struct Segment<'r, R, P: Parser> {
     decoder: &'r mut Decoder<R>,
@@ -392,8 +381,7 @@ impl<'r, R: Read, P: Parser> Segment<'r, R, P> {
         }
     }
 
-    /// Returns how many bytes of the body were not handed out: the unread and the kept bytes, or after a damage the
-    /// unread bytes alone.
+    /// Returns how many bytes of the body were not handed out. After a damage it counts the unread bytes alone.
     pub fn left(&self) -> usize
         ensures { result ≡ left_of self.now }
     {
@@ -406,15 +394,14 @@ impl<'r, R: Read> Segment<'r, R, Bytes> {
 
     /// Reads the next bytes of the body, as many as there are and the buffer holds.
     ///
-    /// `None` means that the body has ended: it was read and handed out whole, and nothing changes. An empty buffer
-    /// gives an empty chunk while bytes are left. [`Segment::left`] falls by the chunk's length. The bytes that were to
-    /// come of the body are the chunk and then the bytes that are still to come.
+    /// `None` means that the whole body was handed out. An empty buffer gives an empty chunk while bytes are left.
     ///
     /// # Errors
     ///
-    /// - `Io` if the reader failed, `TooLong` if the offset would pass `usize::MAX`: the segment stays as it was.
+    /// Both leave the segment as it was. A whole segment never comes to a `Syntax`.
     ///
-    /// A segment of bytes keeps nothing back, so a whole segment never comes to a `Syntax`.
+    /// - `Io`: the reader failed.
+    /// - `TooLong`: the offset would pass `usize::MAX`.
     pub fn pull<'a>(&mut self, buffer: &'a mut [u8]) -> Result<Option<&'a [u8]>, Error<R::Error>>
         ensures { SegmentPull R.Read (length buffer.old) self.old result self.new }
     {
@@ -438,22 +425,20 @@ impl<'r, R: Read> Segment<'r, R, Text> {
     ghost use Rattle.ciborium_ll_decoder.specs.Chunks.{FillsBehind, SegmentPull, KeepsSegment, SegmentPullAnswer, left_of, rest};
     ghost use Rattle.ciborium_ll_decoder.specs.Chunks.{segment_decoder, segment_reference};
 
-    /// Reads the next bytes of the body, as many as there are and the buffer holds, and hands out the longest front of
-    /// them that is text.
+    /// Reads the next bytes of the body, as many as there are and the buffer holds, and hands out their longest front
+    /// that is text.
     ///
-    /// The segment keeps up to three bytes after this front, which may begin a character. If they don't, or if the body
-    /// ends with them, a later call answers `Syntax`.
-    ///
-    /// `None` means that the body has ended: it was read and handed out whole, and nothing changes. A buffer of fewer
-    /// than four bytes may give an empty chunk while bytes are left. [`Segment::left`] falls by the chunk's length. The
-    /// bytes that were to come of the body are the chunk and then the bytes that are still to come.
+    /// `None` means that the whole body was handed out. A buffer of fewer than four bytes may give an empty chunk while
+    /// bytes are left.
     ///
     /// # Errors
     ///
-    /// - `Syntax`, with the segment's place: the body is no text. More than three bytes stand after the longest front
-    ///   that is text, or some are kept and the body has ended. The error stays, and later calls read nothing. A body
-    ///   with a damaged end can give a chunk first, and its error on the next call.
-    /// - `Io` if the reader failed, `TooLong` if the offset would pass `usize::MAX`: the segment stays as it was.
+    /// `Io` and `TooLong` leave the segment as it was.
+    ///
+    /// - `Syntax`, with the segment's place, which stays: more than three bytes stand after the front, or some do at
+    ///   the body's end. A chunk may come first.
+    /// - `Io`: the reader failed.
+    /// - `TooLong`: the offset would pass `usize::MAX`.
     pub fn pull<'a>(&mut self, buffer: &'a mut [u8]) -> Result<Option<&'a str>, Error<R::Error>>
         ensures { SegmentPull R.Read (length buffer.old) self.old result self.new }
     {

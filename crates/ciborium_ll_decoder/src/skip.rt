@@ -16,24 +16,15 @@ use ciborium_ll_io::io::Read;
 
 /// Reads a byte string to its end, after its header with this length, which was pulled last.
 ///
-/// The conditions are those of [`Decoder::bytes`], and `buffer` has four bytes at least. The decoder moves on as
-/// [`Decoder`] says.
-///
-/// `Ok` means that one whole string was there, and that exactly its rest is consumed. After an open a strict decoder
-/// read only strings of a definite length, each under a strict title.
+/// `buffer` has four bytes at least. `Ok` means that exactly the rest of one whole string is consumed.
 ///
 /// # Errors
 ///
-/// - `Syntax(offset)`: at this offset the bytes are no title, or a title that may not stand within the string.
+/// - `Syntax(offset)`: the bytes there are no title, or a title that may not stand within the string.
 /// - `Io`: the reader failed.
 /// - `TooLong`: the offset can't take the next read.
 ///
-/// `Waiting` never comes. Bytes that were read before an error are consumed. In a string of indefinite length they are
-/// a beginning of it. Then `pull` failed, a title came that may not stand there, or the read of a body failed. A string
-/// of definite length fails as `Segment::finish` does, with the place at which the header's shortest title would begin.
-///
-/// The read of a body that `Io` or `TooLong` stops was to fill `buffer`, after the kept bytes, or to take all that is
-/// left of the body.
+/// `Waiting` never comes. Bytes that were read before an error are consumed. A body fails as [`Segment::finish`] says.
 pub fn skip_bytes<R: Read>(
     decoder: &mut Decoder<R>,
     len: Option<usize>,
@@ -50,15 +41,11 @@ pub fn skip_bytes<R: Read>(
     }
 }
 
-/// Reads a text string to its end, after its header with this length, which was pulled last.
-///
-/// The conditions are those of [`Decoder::text`], and `buffer` has four bytes at least. The answers are those of
-/// [`skip_bytes`], and `Ok` means also that each body of the text is UTF-8.
+/// Reads a text string to its end as [`skip_bytes`] does. `Ok` means also that each body is UTF-8.
 ///
 /// # Errors
 ///
-/// - `Syntax(offset)` also if a body is no text by itself, at the place that [`Error::Syntax`] names. The last read of
-///   that body filled `buffer`, after the kept bytes, or took all that was left of the body, if anything was.
+/// - `Syntax(offset)`, also: a body is no text by itself, at the place that [`Error::Syntax`] names.
 /// - The other errors of [`skip_bytes`].
 pub fn skip_text<R: Read>(
     decoder: &mut Decoder<R>,

@@ -14,11 +14,9 @@ use crate::seg::{Body, Bytes, Parser, Segment, Segments, Text};
 use ciborium_ll_io::io::Read;
 use ciborium_ll_text::state::{State, text_front};
 
-/// A kind of string whose chunks are bytes: the common part of [`Bytes`] and [`Text`]. It is the bound of a loop that
-/// reads the segments of either kind.
+/// The common part of [`Bytes`] and [`Text`]: the bound of a loop over segments of either kind.
 pub trait Chunked: Parser {
-    /// Reads the next chunk of a segment as its `pull` does, and returns it as bytes: no `&str` is made. The errors are
-    /// those of its `pull`.
+    /// Reads the next chunk of a segment as its `pull` does, with its errors, but makes no `&str`.
     fn chunk<'a, R: Read>(
         segment: &mut Segment<'_, R, Self>,
         buffer: &'a mut [u8],
@@ -29,7 +27,7 @@ pub trait Chunked: Parser {
         ensures same_reference { segment_reference segment.new ≡ segment_reference segment.old }
         ensures moves_on { MovesOn R.Read (segment_decoder segment.old) (segment_decoder segment.new) };
 
-    /// Returns whether bytes may be the body of a string: any bytes for a byte string, UTF-8 for a text.
+    /// Returns whether bytes may be a body: any bytes for a byte string, UTF-8 for a text.
     fn is_body(bytes: &[u8]) -> bool
         ensures { IsTrue result ↔ IsWritable Self.kind bytes.now };
 }
@@ -66,21 +64,16 @@ impl Chunked for Text {
 impl<'r, R: Read, P: Chunked> Segment<'r, R, P> {
     /// Reads the rest of the body, by pulls through `buffer` of four bytes at least, and lets the segment go.
     ///
-    /// `Ok` means that the whole body was read, and that the body of a text is UTF-8. Exactly the bytes that were not
-    /// read yet are consumed.
+    /// `Ok` means that exactly the unread bytes are consumed, and that the body of a text is UTF-8.
     ///
     /// # Errors
     ///
-    /// - `Syntax`, with the segment's place: the body's bytes so far are no text, as the whole body or however the body
-    ///   goes on.
+    /// - `Syntax`, with the segment's place: the bytes so far are no text, as the whole body or however it goes on.
     /// - `Io`: the reader failed.
     /// - `TooLong`: the offset would pass `usize::MAX`.
     ///
-    /// These are the errors of `pull`. `Io` and `TooLong` stop the last read, and `Syntax` comes after it. That read
-    /// fills the buffer, after the kept bytes, or takes all that is left of the body, if anything is. The bytes before
-    /// it are text, except for up to three bytes with which no further text begins.
-    ///
-    /// Bytes that were read before an error are consumed. A segment that was damaged before reads nothing.
+    /// `Io` and `TooLong` stop the last read, and `Syntax` comes after it. That read fills the buffer, after the kept
+    /// bytes, or takes what is left of the body. Bytes that were read before an error are consumed.
     pub fn finish(self, buffer: &mut [u8]) -> Result<(), Error<R::Error>>
         requires room { LEAST_BUFFER ≤ length buffer.old }
         ensures { SegmentFinish R.Read (length buffer.old) self.entry result self.exit.0.now }
@@ -119,19 +112,15 @@ impl<'r, R: Read, P: Chunked> Segment<'r, R, P> {
 }
 
 impl<'r, R: Read, P: Chunked> Segments<'r, R, P> {
-    /// Reads the body that [`Segments::advance`] gave last to its end, by pulls through `buffer` of four bytes at
-    /// least.
+    /// Reads the body that [`Segments::advance`] gave last, as [`Segment::finish`] does.
     ///
-    /// `Ok` means that the whole body was read, and that the body of a text is UTF-8. The decoder is then after the
-    /// body. The string goes on as before, also after an error.
+    /// The string goes on as before, also after an error.
     ///
     /// # Errors
     ///
     /// - `Syntax`, with the body's place: the body is no text.
     /// - `Io`: the reader failed.
     /// - `TooLong`: the offset would pass `usize::MAX`.
-    ///
-    /// Bytes that were read before an error are consumed. [`Segment::finish`] says what the last read takes.
     pub fn finish(&mut self, body: Body, buffer: &mut [u8]) -> Result<(), Error<R::Error>>
         requires room { LEAST_BUFFER ≤ length buffer.old }
         requires none_waits { waiting_of (string_decoder self.old) ≡ None }
@@ -141,22 +130,16 @@ impl<'r, R: Read, P: Chunked> Segments<'r, R, P> {
     }
 }
 
-/// Reads the body of a string of definite length to its end, after its header with this length, which was pulled last.
+/// Reads the body of a string as [`Segment::finish`] does, after its header with this length, which was pulled last and
+/// isn't pushed back.
 ///
-/// One read takes a body that `buffer` holds. Pulls through `buffer`, which has four bytes at least, take a longer
-/// body. The call pushes no header back, and answers as [`Segment::finish`] does for the segment of that string. Users
-/// skip strings.
-///
-/// `Ok` means that the whole body was read, and that the body of a text is UTF-8. The decoder is then after the body.
+/// One read takes a body that `buffer` holds. Users skip strings.
 ///
 /// # Errors
 ///
 /// - `Syntax`: the body is no text, at the place that [`Error::Syntax`] names.
 /// - `Io`: the reader failed.
 /// - `TooLong`: the offset would pass `usize::MAX`.
-///
-/// Bytes that were read before an error are consumed. [`Segment::finish`] says what the last read takes: the whole
-/// body, if the buffer holds it.
 #[inline(always)]
 pub fn finish_body<R: Read, P: Chunked>(
     decoder: &mut Decoder<R>,

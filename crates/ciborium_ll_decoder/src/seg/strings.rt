@@ -17,10 +17,8 @@ use std::marker::PhantomData;
 impl<R: Read> Decoder<R> {
     /// Returns the segments of a byte string, after its header with this length, which was pulled last.
     ///
-    /// The header waits again until the caller asks for the first segment. A length other than the header's is not
-    /// refused: the string is then read with that length.
-    ///
-    /// The conditions are those of [`Decoder::push`] for that header. The string is as strict as the decoder.
+    /// The header waits again, as after [`Decoder::push`]. Another length than the header's is not refused: the string
+    /// is read with it.
     pub fn bytes(&mut self, len: Option<usize>) -> Segments<'_, R, Bytes>
         requires none_waits { waiting_of self.old ≡ None }
         requires covered { title_len (Header.Bytes len) ≤ offset_of self.old }
@@ -29,10 +27,7 @@ impl<R: Read> Decoder<R> {
         self.string(len)
     }
 
-    /// Returns the segments of a text string, after its header with this length, which was pulled last.
-    ///
-    /// The header waits again, and a length other than the header's is not refused, as [`Decoder::bytes`] says. The
-    /// conditions are those of [`Decoder::push`] for that header. The string is as strict as the decoder.
+    /// Returns the segments of a text string, after its header, as [`Decoder::bytes`] does.
     pub fn text(&mut self, len: Option<usize>) -> Segments<'_, R, Text>
         requires none_waits { waiting_of self.old ≡ None }
         requires covered { title_len (Header.Text len) ≤ offset_of self.old }
@@ -52,8 +47,8 @@ impl<R: Read> Decoder<R> {
     }
 }
 
-/// Returns the segments of a string of indefinite length, after its open, which was pulled last. The open doesn't wait
-/// again. Users take [`Decoder::bytes`] or [`Decoder::text`].
+/// Returns the segments of a string whose open was pulled last and doesn't wait again. Users call [`Decoder::bytes`] or
+/// [`Decoder::text`].
 pub fn open_segments<R: Read, P: Parser>(decoder: &mut Decoder<R>) -> Segments<'_, R, P>
     ensures lent { string_decoder result ≡ decoder.old }
     ensures opened { progress_of result ≡ Open 1 }
