@@ -1,4 +1,4 @@
-//! The encoder, which writes headers and values into a writer.
+//! The encoder.
 
 ghost use Rattle.std.specs.Prelude.{◌≡◌};
 ghost use Rattle.ciborium_ll_grammar.specs.Parts.{IsMinor, IsParts, minor_affix, title_bytes};
@@ -9,12 +9,10 @@ mod values;
 use ciborium_ll_grammar::hdr::{Header, Minor, Title, shortest};
 use ciborium_ll_io::io::Write;
 
-/// Writes headers, each as its shortest title, and values of bytes and of text.
+/// Writes headers, each as its shortest title, and values of bytes and of text. As a writer, it passes bodies on.
 ///
-/// As a writer, it passes the bytes of bodies on to the writer that it holds.
-///
-/// If a call fails, the writer has failed once, with a beginning of the call's bytes appended. A room that the writer
-/// tells was too small for them. No call takes the writer off its slice.
+/// If a call fails, the writer failed once, after a beginning of the call's bytes. Any room that the writer tells was
+/// too small for them. No call takes the writer off its slice.
 #[derive(Drop)]
 pub struct Encoder<W> {
     writer: W,
@@ -71,11 +69,9 @@ impl<W: Write> Encoder<W> {
 
     /// Writes the shortest title of a header (RFC 7049, 3.9), as its first byte and its affix.
     ///
-    /// Every other title of the header is longer.
-    ///
     /// # Errors
     ///
-    /// - `W::Error`: the writer failed, with a beginning of the title written.
+    /// - `W::Error`: the writer failed.
     #[inline(always)]
     pub fn push(&mut self, header: Header) -> Result<(), W::Error>
         ensures { EncoderPush W.Write header (writer_of self.old) result (writer_of self.new) }

@@ -1,7 +1,7 @@
 // SPDX-License-Identifier: Apache-2.0
 //! An encoder of headers, each as its shortest title, and of strings in pieces of a limited length.
 //!
-//! This crate is a part of `ciborium_ll`, which exports the names that users need.
+//! It is a part of `ciborium_ll`.
 #![tactic(auto)]
 
 pub mod enc;

@@ -21,15 +21,14 @@ fn limit(segment: Option<usize>, len: usize, least: usize) -> usize
 }
 
 impl<W: Write> Encoder<W> {
-    /// Writes a byte string (RFC 7049, 2.1) in segments of `segment` bytes (2.2.2), or in one segment for `None`.
+    /// Writes a byte string (RFC 7049, 2.1) in segments of `segment` bytes (2.2.2), the last with the remainder.
     ///
-    /// A limit of 0 counts as 1. A value no longer than the limit is one string of a definite length. A longer value is
-    /// a string of indefinite length. Its segments have as many bytes as the limit, and the last segment has the
-    /// remainder.
+    /// A limit of 0 counts as 1. With `None`, or if the value is no longer than the limit, the string has a definite
+    /// length.
     ///
     /// # Errors
     ///
-    /// - `W::Error`: the writer failed, with a beginning of the string written.
+    /// - `W::Error`: the writer failed.
     #[tactic(auto, using(crate::proofs::Writes::values))]
     pub fn bytes(&mut self, value: &[u8], segment: Option<usize>) -> Result<(), W::Error>
         ensures { WritesString W.Write Bytes segment value.now (writer_of self.old) result (writer_of self.new) }
@@ -43,17 +42,15 @@ impl<W: Write> Encoder<W> {
         self.push(Header::Break)
     }
 
-    /// Writes a text string (RFC 7049, 2.1) in segments of at most `segment` bytes (2.2.2), or in one segment for
-    /// `None`.
+    /// Writes a text string (RFC 7049, 2.1) in segments of at most `segment` bytes (2.2.2).
     ///
-    /// A limit below 4 counts as 4, the length of the longest character. A value no longer than the limit is one string
-    /// of a definite length. A longer value is a string of indefinite length. Each of its segments is a text, as long
-    /// as the limit allows without a cut character. No segment is empty, joined they are the text, and no fewer
-    /// segments fit the limit.
+    /// A limit below 4 counts as 4, the length of the longest character. With `None`, or if the value is no longer than
+    /// the limit, the string has a definite length. Otherwise each segment is a text, as long as the limit allows
+    /// without a cut character. No fewer segments fit the limit.
     ///
     /// # Errors
     ///
-    /// - `W::Error`: the writer failed, with a beginning of the string written.
+    /// - `W::Error`: the writer failed.
     ///
     /// # Examples
     ///
