@@ -1,4 +1,4 @@
-//! Elements copied from a decoder to an encoder, each in its shortest spelling.
+//! The copy of elements.
 
 ghost use Rattle.std.specs.Prelude.{◌≡◌, ◌≤◌, ◌↔◌, ℕ, Bool, List, length, IsOk, None, Some};
 ghost use Rattle.ciborium_ll_grammar.specs.Title.{title_len};
@@ -125,11 +125,9 @@ fn copy_string<R: Read, W: Write, P: Chunked>(
     }
 }
 
-/// Copies one element as [`recode`] copies each of its elements, with the same answers. `buffer` has four bytes at
-/// least.
+/// Copies one element as [`recode`] does, with the same answers.
 ///
-/// The call serves a caller that counts elements: its contract speaks of the elements before this one, too. Users call
-/// [`recode`].
+/// The contract speaks of the elements before this one, too, for a caller that counts elements. Users call [`recode`].
 pub fn copy_element<R: Read, W: Write>(
     decoder: &mut Decoder<R>,
     encoder: &mut Encoder<W>,
@@ -153,40 +151,34 @@ pub fn copy_element<R: Read, W: Write>(
 /// Copies `count` elements, each in its shortest spelling. An element is a header that begins no string, or a whole
 /// string (RFC 7049, 2.1 and 2.2).
 ///
-/// Every title becomes the shortest title of its header. The bodies of a string of indefinite length stay the segments
-/// that they were, in one string: strings within it lose their opens and breaks. Bodies go through `buffer`, which has
-/// four bytes at least, each chunk as soon as it is read. `Ok` means that `count` elements were read, each body of a
-/// text UTF-8 by itself, and that their spelling, which is no longer, was written.
+/// Every title becomes the shortest title of its header. A string of indefinite length keeps its segments, and strings
+/// within it lose their opens and breaks. Each chunk of a body goes through `buffer`, which has four bytes at least,
+/// and is written at once. `Ok` means that `count` elements were read, each text body UTF-8 by itself, and that their
+/// spelling, which is no longer, was written.
 ///
-/// A strict decoder gives elements in their shortest spelling alone, without a string of indefinite length inside
-/// another string. The copy writes them as they are. [`strict_len`] is a strict copy that keeps nothing.
+/// A copy from a strict decoder writes the elements as they are. [`strict_len`] is a strict copy that keeps nothing.
 ///
 /// # Errors
 ///
 /// - `Read` with `Syntax(offset)`: the bytes are no title, a title that may not stand there, or a body that is no text,
 ///   at the place that [`Error::Syntax`] names.
-/// - `Read` with `Io`: the reader failed at a title or within a body.
+/// - `Read` with `Io`: the reader failed.
 /// - `Read` with `TooLong`: the offset can't take the next read, or the opens can't be counted.
-/// - `Write`: the writer failed. A beginning of the title or of the chunk that was due next is written.
+/// - `Write`: the writer failed at the next title or chunk, of which a beginning is written.
 ///
-/// The titles and chunks before an error are written.
+/// The titles and chunks before an error are written. `Waiting` never comes. The writer stays on its slice.
 ///
 /// # Conditions for success
 ///
-/// Suppose that the reader is steady, that the offset fits, and that no header waits on a strict decoder. Suppose that
-/// the writer has room for the spelling of the elements if that many are next, and otherwise for as many bytes as are
-/// due.
+/// Assume a steady reader, an offset that fits, and no header that waits on a strict decoder. The writer has room for
+/// the spelling, or for the bytes that are due if fewer elements are next.
 ///
-/// `Ok` then comes exactly if that many elements are next, for a strict decoder in their shortest spelling. Exactly
-/// that spelling was appended, and exactly the bytes that follow are left. Otherwise the copy met the first fault, with
-/// its place. A title that a strict decoder refuses is a fault.
+/// `Ok` then comes exactly if `count` elements are next, for a strict decoder in its spelling. Exactly their shortest
+/// spelling is appended, and exactly the bytes after them are left. Otherwise the copy met the first fault, which may
+/// be a title that a strict decoder refuses.
 ///
-/// If bytes are told on both sides, `Ok` and `Syntax` mean the same whatever fails. After `Io` and `TooLong` a part of
-/// the elements was read and written, and after `Write` a beginning of that part was written. If a body of a text is
-/// cut off and is no text either, the answer is `Io` or `Syntax`, by the bytes that the buffer held.
-///
-/// Whatever the answer, the decoder moves on as [`Decoder`] says, `Waiting` never comes, and the writer stays on its
-/// slice.
+/// If bytes are told on both sides, `Ok` and `Syntax` mean the same whatever fails. A text body that is cut off and no
+/// text either gives `Io` or `Syntax`, by the bytes that the buffer held.
 ///
 /// # Examples
 ///

@@ -9,12 +9,9 @@ use ciborium_ll_decoder::dec::Decoder;
 use ciborium_ll_encoder::enc::Encoder;
 use ciborium_ll_io::io::{Discard, SliceReader};
 
-/// Returns how many bytes at the beginning are `count` elements in their shortest spelling.
+/// Returns how many bytes at the beginning are `count` elements in the spelling that [`Decoder::strict`] takes.
 ///
-/// The elements have no simple value from 24 to 31, and no string of indefinite length within another string (RFC 7049,
-/// 2.2.2, 2.3 and 3.9). `None` means that the bytes do not begin with that many of these elements. No other beginning
-/// of the bytes is `count` elements, so the length is the only one. This call serves a caller that checks a message
-/// that was signed as bytes.
+/// No other length has `count` elements. A caller can check a message that was signed as bytes.
 ///
 /// # Examples
 ///
