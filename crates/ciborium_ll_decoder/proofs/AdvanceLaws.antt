@@ -1,4 +1,4 @@
--- How the titles of a string lead on, one after the other.
+-- The titles of a string, one after the other.
 use Rattle.std.proofs.Common.{[], inr, Some, Bool, IsTrue, ◌≤◌, ◌≡◌, ℕ, suc, ◌+◌, ◌-◌, ◌⊎◌, List, ◌++◌, length, Option}
 use Rattle.std.proofs.Common.{None, Result, Ok, inl, arith, add-one, length-append}
 use Rattle.ciborium_ll_io.specs.declared.io.Read.{Ghosts}
@@ -20,15 +20,15 @@ use Rattle.ciborium_ll_decoder.proofs.DecodingLaws.{ReadsPast-none, ReadsPast-pu
 use Rattle.ciborium_ll_decoder.proofs.NestLaws.{alone_bytes, open_alone, open_length, nests_zero, nests_counted}
 
 module _ {R E : Type 0} (source : Ghosts R E) (kind : Kind) (strict : Bool) where
-  -- titles that led on were pulled, and so many opens aren't closed
+  -- Titles were pulled, none of which decided. After them, `left` opens are not closed.
   pub record LeadsTo (opens : ℕ) (old : Decoder R) (left : ℕ) (now : Decoder R) : Type 0 where
     pub nest : List ℕ
     pub nests : Nests kind opens nest left
     pub passed : ReadsPast source old nest now
     pub shallow : IsTrue strict → opens + length nest ≤ 1
 
-  -- what the loop over titles keeps: they lead on or ended the string; and where it has an answer that stays, it is
-  -- as before
+  -- The invariant of the loop over titles: the titles led on, or ended the string. After an answer that stays, nothing
+  -- changed.
   abbrev pub Reached : Progress → Decoder R → Progress → Decoder R → Type 0
   Reached (p.Open opens) old progress now =
       ((left : ℕ) × (progress ≡ p.Open left) × LeadsTo opens old left now) ⊎ AdvancesFrom source kind strict opens old
@@ -49,7 +49,7 @@ module _ {R E : Type 0} (source : Ghosts R E) (kind : Kind) (strict : Bool) wher
 
   module _ (opens left : ℕ) (old now new : Decoder R) (led : LeadsTo opens old left now)
       (steady : IsSteady source now → IsSteady source new) where
-    -- the nest so far, with a title that leads on
+    -- The row so far, and one more title that leads on.
     leads_on : (left' : ℕ) (header : Header) (pulled : PullsTitle source now header new)
         → Nests kind opens (led.nest ++ pulled.title) left'
         → (IsTrue strict → opens + length (led.nest ++ pulled.title) ≤ 1) → LeadsTo opens old left' new
@@ -66,13 +66,13 @@ module _ {R E : Type 0} (source : Ghosts R E) (kind : Kind) (strict : Bool) wher
         leads_on (left - 1) _ step.pulled (rw one at (back (rw two at led.nests) step.pulled.is_title))
         (grind (arith, nests_counted))
 
-  -- the nest so far, and the title that decides
+  -- The row so far, and then the title that decides.
   ends_from : (opens left : ℕ) (old now new : Decoder R) (result : Result (Option Body) (Error E)) (after : Progress)
       → LeadsTo opens old left now → EndsAdvance source kind strict left now result after new
       → AdvancesFrom source kind strict opens old result after new
   ends_from opens left old now new result after led ends = search
 
-  -- where titles are due they led there, as a string that has ended has no open left
+  -- If a title is due, the titles led on, because a string that has ended has no open left.
   led_to : (opens left : ℕ) (old now : Decoder R) → Reached (p.Open opens) old (p.Open left) now
       → LeadsTo opens old left now
   led_to opens left old now (inl led) = let same : led.0 ≡ left = let f = led.1 in cc in rw same at led.2
@@ -95,7 +95,7 @@ module _ {R E : Type 0} (source : Ghosts R E) (kind : Kind) (strict : Bool) wher
       ]
   Reached-step first left old now new after r steady step = absurd (let f = r.0 in cc)
 
-  -- a title that decides gives the answer
+  -- A title that decides gives the answer of `advance`.
   pub Reached-ends : (first : Progress) (left : ℕ) (old now new : Decoder R)
       (result : Result (Option Body) (Error E)) (after : Progress) → Reached first old (p.Open left) now
       → EndsAdvance source kind strict left now result after new → AdvancesTo source kind strict first old result after
@@ -104,13 +104,13 @@ module _ {R E : Type 0} (source : Ghosts R E) (kind : Kind) (strict : Bool) wher
       ends_from opens left old now new result after (led_to opens left old now r) ends
   Reached-ends first left old now new result after r ends = absurd (let f = r.0 in cc)
 
-  -- behind the title of a body no header waits
+  -- After the title of a body no header waits.
   pub none_waits_for_body : (first : Progress) (old : Decoder R) (body : Body) (after : Progress) (new : Decoder R)
       → AdvancesTo source kind strict first old (Ok (Some body)) after new → new.waiting ≡ None
   none_waits_for_body first old body after new advanced = grind arith
 
 module _ {R E P : Type 0} {parser : Parser P} (source : Ghosts R E) (kind : Kind) (strict : Bool) where
-  -- what `pull` answers where an answer stays
+  -- After an answer that stays, `pull` gives that answer again.
   pub given_again : (progress : Progress) (old : Decoder R) (result : Result (Option (Segment R P parser)) (Error E))
       → SegmentsPull source kind strict progress old result → GivesAgain progress result
   given_again progress old result pulls = grind arith

@@ -20,7 +20,7 @@ use Rattle.ciborium_ll_decoder.proofs.BodyLaws.{few_kept, split_parts, three_kep
 use Rattle.ciborium_ll_decoder.proofs.FinishLaws.{RestSoFar, rest_start, rest_chunk, rest_ends}
 use Rattle.ciborium_ll_io.proofs.WriteLaws.{Shrinks-zero, WritesBytes-then}
 
--- a write that failed, behind an answer that hands its error on
+-- The write failed if the answer, which hands on the result of the write, is an error. The error is that of the writer.
 pub write_refused : {E F : Type 0} (wrote : Result (Unit {0}) F) (answer : Result (Unit {0}) (RecodeError E F))
     (error : RecodeError E F) → answer ≡ Err error
     → MatchResult wrote (λ done. answer ≡ Ok done) (λ fault. IsErrAnd answer (λ error. error ≡ r.Write fault))
@@ -28,7 +28,7 @@ pub write_refused : {E F : Type 0} (wrote : Result (Unit {0}) F) (answer : Resul
 write_refused wrote answer error is cases = grind arith
 
 module _ {R E P W F : Type 0} {parser : Parser P} (source : Reader R E) (sink : Writer W F) where
-  -- of the body of the first segment the chunks so far were written
+  -- The copy has written all chunks of the body so far.
   pub record BodySoFar (first : Segment R P parser) (writer : W) (segment : Segment R P parser) (writer' : W) : Type 0
     where
       pub rest : RestSoFar source first segment
@@ -67,7 +67,7 @@ module _ {R E P W F : Type 0} {parser : Parser P} (source : Reader R E) (sink : 
         omega (arith, before, split, whole.unread, three_kept segment.kept, length-append {A = ℕ}) in
         search few_kept
 
-    -- the body has ended
+    -- If the segment ends, the whole body was read and written.
     pub so_far_whole : (new : Segment R P parser) → SegmentEnds source segment new
         → BodyWritten source sink parser.kind body.length (sides first.decoder.now writer) (sides new.decoder.now now)
     so_far_whole new ends =
@@ -77,7 +77,7 @@ module _ {R E P W F : Type 0} {parser : Parser P} (source : Reader R E) (sink : 
         omega (arith, ap length parts, so_far.rest.counted, whole.unread, ends.none_unread) in
         record { ends = search; written = so_far.written }
 
-    -- a pull that fails ends the copy
+    -- If a pull fails, the copy ends with its error.
     pub so_far_error : (room : ℕ) (error : Error E) (new : Segment R P parser) → 4 ≤ room
         → (IsSteady source segment.decoder.now → IsSteady source new.decoder.now)
         → SegmentPullAnswer source room segment (Err error) new → CopiesBody source sink parser.kind body.length room

@@ -16,7 +16,7 @@ use Rattle.ciborium_ll_text.proofs.TextLaws.{IsCharacters-append, IsCharacters-r
 
 -- ---- kinds
 
--- what is split is the front and the rest
+-- The bytes of a split are its front and its rest.
 pub split_parts : (kind : Kind) (bytes front rest : List ℕ) → IsSplit kind bytes front rest → bytes ≡ front ++ rest
 split_parts kind bytes front rest s = grind (arith, append-nil {A = ℕ})
 
@@ -27,7 +27,7 @@ pub writable_chunk : (kind : Kind) (front bytes chunk rest : List ℕ) → IsWri
     → IsSplit kind bytes chunk rest → IsWritable kind (front ++ chunk)
 writable_chunk kind front bytes chunk rest w s = grind (arith, IsCharacters-append)
 
--- a body that is written is sound by itself
+-- A body that may be written is sound by itself.
 pub sound_body : (k : Kind) (b : List ℕ) → IsWritable k b → AreWritable k (b ∷ [])
 sound_body k b w = (w, tt)
 
@@ -38,14 +38,14 @@ pub few_kept : (kind : Kind) (kept : Kept) → (kind ≡ Bytes → kept_bytes ke
     ≤ most_kept kind
 few_kept kind kept h2 = grind arith
 
--- a front of text that is followed by bytes that are stuck is all of the text
+-- A front that is text, and then some bytes that are stuck, are together no text.
 pub stuck_is_no_text : (read front kept : List ℕ) → read ≡ front ++ kept → IsCharacters front → IsStuck kept
     → 0 < length kept → IsCharacters read → ⊥
 stuck_is_no_text read front kept e text stuck some whole =
     let none = stuck kept [] (sym (append-nil kept)) (IsCharacters-rest front kept text (rw e at whole)) in
     grind arith
 
--- a front of text that is followed by too much is the beginning of no text
+-- A front that is text, and then more than three bytes that must be kept, begin no text.
 pub too_much_is_no_text : (read front kept more chunk left : List ℕ) → read ≡ front ++ (kept ++ more)
     → IsCharacters front → IsFront (kept ++ more) chunk left → 3 < length left → BeginsNoText read
 too_much_is_no_text read front kept more chunk left e text split much = λ others whole.
@@ -60,7 +60,7 @@ pub view_none : (waiting : Option Header) (ahead : Option (List ℕ)) → waitin
     ≡ ahead
 view_none waiting ahead e = grind arith
 
--- a read behind what passed
+-- After the bytes that passed, a read gave more bytes.
 pub ReadsPast-read : {R E : Type 0} (source : Reader R E) (old now new : Decoder R) (bytes read : List ℕ)
     → ReadsPast source old bytes now → ReadsAll source now read new
     → (IsSteady source now → IsSteady source new) → ReadsPast source old (bytes ++ read) new

@@ -1,4 +1,4 @@
--- The body of a text that is no text: the bytes that all reads of it gave together.
+-- The damaged body of a text: the bytes that all reads of the body gave together.
 use Rattle.std.proofs.Common.{◌≡◌, ℕ, ◌≤◌, List, ◌++◌, length, arith, append_assoc, length-append}
 use Rattle.ciborium_ll_io.specs.declared.io.Read.{Ghosts as Reader}
 use Rattle.ciborium_ll_decoder.specs.declared.dec.Decoder.{Decoder}
@@ -10,7 +10,7 @@ use Rattle.ciborium_ll_decoder.specs.Finishing.{IsNoText, StopsRest}
 use Rattle.ciborium_ll_decoder.proofs.DecodingLaws.{ReadsPast-then}
 
 module _ {R E : Type 0} (source : Reader R E) (kind : Kind) (kept : List ℕ) (unread : ℕ) where
-  -- it is a front that is text, and more
+  -- The kept bytes and the bytes that were read are a front that is text, and more bytes. Together they are no text.
   pub record ReadsDamage (old new : Decoder R) : Type 0 where
     pub textual : kind ≡ Text
     pub read : List ℕ

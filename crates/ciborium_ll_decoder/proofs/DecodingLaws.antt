@@ -13,33 +13,33 @@ use Rattle.ciborium_ll_grammar.proofs.TitleLaws.{IsTitle-shortest}
 use Rattle.ciborium_ll_decoder.specs.Decoding.{Begins, IsSteady, MovesOn, ReadsPast, PullsTitle, DecoderPullAnswer, RefusesTitle}
 use Rattle.ciborium_ll_decoder.specs.Decoding.{TakesBack, PullsAgain}
 
--- the exit of a `?` answers the error that it was given. A caller that names this lemma is spared a search
+-- The exit of a `?` answers with the error that it was given. A caller that names this lemma needs no search.
 pub exit_is : {T E : Type 0} (answer : Result T E) (error : E) → IsErrAnd answer (λ given. given ≡ error)
     → answer ≡ Err error
 exit_is answer error is = grind arith
 
--- a header that waits is no header that does not
+-- A header waits, or none waits: not both.
 pub waits_for_none : (waiting : Option Header) (header : Header) → waiting ≡ Some header → waiting ≡ None → ⊥
 waits_for_none waiting header waits h3 = grind arith
 
--- a decoder that read on is nearer to the last offset
+-- A decoder that read on is nearer to the last offset.
 pub nearer : {R : Type 0} (old between new : Decoder R) → old.offset < between.offset → between.offset ≤ new.offset
     → 2 ^ 64 - new.offset < 2 ^ 64 - old.offset
 nearer old between new risen rises = omega (arith, risen, rises, new.covered)
 
--- a waiting header that is taken leaves what was behind it
+-- A `pull` of a waiting header gives that header, and leaves the reader alone.
 pub waiting_pulled : {R E : Type 0} (source : Ghosts R E) (old new : Decoder R) (header : Header) → IsInRange header
     → old.waiting ≡ Some header → new.waiting ≡ None → new.reader ≡ old.reader
     → new.offset ≡ old.offset + title_len header → new.strict ≡ old.strict → PullsTitle source old header new
 waiting_pulled source old new header range waits taken reader offset mode =
     search (IsTitle-shortest, arith)
 
--- a waiting header is given
+-- A `pull` of a waiting header does not fail.
 not_again : {R E : Type 0} (source : Ghosts R E) (old new : Decoder R) (header : Header) (error : Error E)
     → old.waiting ≡ Some header → DecoderPullAnswer source old (Err error) new → ⊥
 not_again source old new header error waits pulled = grind arith
 
--- a header that is given back is the next one
+-- A header that was pushed back is the next header that `pull` gives.
 pub pulls_again : {R E : Type 0} (source : Ghosts R E) (old pulled pushed new : Decoder R) (header : Header)
     (result : Result Header (Error E)) → PullsTitle source old header pulled
     → TakesBack source pulled header pushed → DecoderPullAnswer source pushed result new → PullsAgain source old result new
@@ -53,11 +53,11 @@ pulls_again source old pulled pushed new header (Ok again) first back second =
 pulls_again source old pulled pushed new header (Err error) first back second =
     absurd (not_again source pushed new header error back.waits second)
 
--- what holds of every value holds of the one, if there is one
+-- A fact about every value holds of the value of an option, if there is one.
 pub IfSome-all : {A : Type 0} (option : Option A) (P : A → Type 0) → ((value : A) → P value) → IfSome option P
 IfSome-all option P all = grind arith
 
--- what holds of the value of an option, at that value
+-- A fact about the value of an option holds of that value.
 pub IfSome-at : {A : Type 0} (option : Option A) (value : A) (P : A → Type 0) → option ≡ Some value
     → IfSome option P → P value
 IfSome-at option value P e holds = grind arith
@@ -66,7 +66,7 @@ begins_more : (front bytes more : List ℕ) → Begins front bytes → Begins fr
 begins_more front bytes more begins =
     (begins.0 ++ more, rw begins.1 (append_assoc front begins.0 more))
 
--- the title of a waiting header goes first, also with more behind it
+-- The title of a waiting header goes first, also if more bytes follow.
 pub waited_more : {D : Type 0} (title : Header → List ℕ) (old between new : D) (bytes more : List ℕ)
     (waiting waiting' : Option Header) → (between ≡ old → (bytes ≡ []) × (waiting' ≡ waiting))
     → IfSome waiting (λ h. (between ≡ old) ⊎ Begins (title h) bytes)
@@ -75,16 +75,16 @@ pub waited_more : {D : Type 0} (title : Header → List ℕ) (old between new : 
 waited_more title old between new bytes more waiting waiting' same first second = grind (arith, begins_more)
 
 module _ {R E : Type 0} (source : Ghosts R E) where
-  -- with no call nothing changed
+  -- Without a call nothing changed.
   pub MovesOn-none : (decoder : Decoder R) → MovesOn source decoder decoder
   MovesOn-none decoder = record { steady = λ s. s; mode = refl; refusals = refl; rises = omega arith }
 
-  -- one call behind others
+  -- One call after others moves the decoder on.
   pub MovesOn-then : (old between new : Decoder R) → MovesOn source old between → MovesOn source between new
       → MovesOn source old new
   MovesOn-then old between new first second = grind arith
 
-  -- no bytes
+  -- Without a call no bytes passed.
   pub ReadsPast-none : (decoder : Decoder R) → ReadsPast source decoder [] decoder
   ReadsPast-none decoder = grind arith
 
@@ -92,7 +92,7 @@ module _ {R E : Type 0} (source : Ghosts R E) where
       → (bytes ≡ []) × (new.waiting ≡ old.waiting)
   stayed old new bytes passed same = grind (arith, length_zero)
 
-  -- one title more
+  -- One more title passed.
   pub ReadsPast-pulled : (old between new : Decoder R) (bytes : List ℕ) (header : Header)
       (title : PullsTitle source between header new) → ReadsPast source old bytes between
       → (IsSteady source old → IsSteady source new) → ReadsPast source old (bytes ++ title.title) new
@@ -106,24 +106,24 @@ module _ {R E : Type 0} (source : Ghosts R E) where
   ReadsPast-pull old between new bytes header title passed steady =
       ReadsPast-pulled old between new bytes header title passed (λ s. steady (passed.steady s))
 
-  -- bytes, and then bytes
+  -- Bytes passed, and then more bytes.
   pub ReadsPast-then : (old between new : Decoder R) (bytes more : List ℕ) → ReadsPast source old bytes between
       → ReadsPast source between more new → ReadsPast source old (bytes ++ more) new
   ReadsPast-then old between new bytes more first second =
       let waited = waited_more shortest_title old between new bytes more old.waiting between.waiting in
       grind (arith, Consumes-trans, length-append {A = ℕ}, stayed, waited)
 
-  -- a decoder that isn't strict refuses first bytes alone
+  -- A decoder that is not strict refuses first bytes alone.
   pub lenient_refuses : (old : Decoder R) (place : ℕ) (new : Decoder R) → old.strict ≡ false
       → DecoderPullAnswer source old (Err (e.Syntax place)) new → RefusesTitle source old place new
   lenient_refuses old place new lenient h4 = grind arith
 
--- where no header waited none waits
+-- If no header waited before, none waits after the bytes.
 pub passes_settled : {R E : Type 0} (source : Ghosts R E) (old new : Decoder R) (bytes : List ℕ)
     → ReadsPast source old bytes new → old.waiting ≡ None → new.waiting ≡ None
 passes_settled source old new bytes passed h5 = grind arith
 
--- a decoder with the same reader and offset, and with no header that waits either
+-- The bytes also passed for another decoder with the same reader and offset, on which no header waits either.
 pub passes_same : {R E : Type 0} (source : Ghosts R E) (old now now' : Decoder R) (bytes : List ℕ)
     → ReadsPast source old bytes now → now.waiting ≡ None → now'.reader ≡ now.reader → now'.offset ≡ now.offset
     → now'.waiting ≡ None → now'.strict ≡ now.strict → ReadsPast source old bytes now'

@@ -16,12 +16,12 @@ use Rattle.ciborium_ll_decoder.proofs.DecodingLaws.{ReadsPast-none}
 use Rattle.ciborium_ll_decoder.proofs.BodyLaws.{split_parts, writable_nil, writable_chunk, three_kept, few_kept}
 use Rattle.ciborium_ll_decoder.proofs.BodyLaws.{stuck_is_no_text, too_much_is_no_text, ReadsPast-read}
 
--- a segment is damaged or not
+-- A segment is not both damaged and sound.
 pub not_both : (damaged : Bool) → damaged ≡ true → damaged ≡ false → ⊥
 not_both damaged one other = cc
 
 module _ {R E P : Type 0} {parser : Parser P} (source : Reader R E) where
-  -- of the rest of the first segment these bytes were read, and those behind the chunks are kept
+  -- These bytes were read of the rest of the first segment. The bytes after the chunks are kept.
   pub record RestSoFar (first segment : Segment R P parser) : Type 0 where
     pub read : List ℕ
     pub front : List ℕ
@@ -68,7 +68,7 @@ module _ {R E P : Type 0} {parser : Parser P} (source : Reader R E) where
 
     module _ (room : ℕ) (new : Segment R P parser)
         (steady : IsSteady source segment.decoder.now → IsSteady source new.decoder.now) where
-      -- the same of a pull that gave a chunk
+      -- `RestSoFar` also holds after a pull that gave a chunk.
       pub rest_pulled : (chunk : Option (Bor (List ℕ))) → SegmentPullAnswer source room segment (Ok chunk) new
           → is_some chunk ≡ true → RestSoFar first new
       rest_pulled chunk pulled some = grind (arith, rest_chunk)
@@ -93,14 +93,14 @@ module _ {R E P : Type 0} {parser : Parser P} (source : Reader R E) where
           (ReadsPast-none source segment.decoder.now) keeps.reads.reads steady in
           search inr
 
-      -- a pull that fails is a read that stops that of the body
+      -- A pull that fails is a read that stops the read of the body.
       stops_reading : (error : Error E) → 4 ≤ room → first.damaged ≡ false
           → SegmentPullAnswer source room segment (Err error) new
           → StopsReading source parser.kind (kept_bytes first.kept) first.unread so_far.read first.place
           (read_count room segment) segment.decoder.now error new.decoder.now
       stops_reading error four undamaged pulled = search (three_kept, damaged_end, damaged_middle, arith)
 
-      -- of a body that was sound before it is the last one
+      -- If the body was sound before, the read that failed is the last one.
       pub rest_ends : (error : Error E) → 4 ≤ room → first.damaged ≡ false
           → SegmentPullAnswer source room segment (Err error) new
           → (stops : StopsRest source parser.kind (kept_bytes first.kept) first.unread room first.place
@@ -116,7 +116,7 @@ module _ {R E P : Type 0} {parser : Parser P} (source : Reader R E) where
         refl,
       )
 
-      -- and of any
+      -- If a pull fails, `finish` answers with its error.
       pub rest_error : (error : Error E) → 4 ≤ room → SegmentPullAnswer source room segment (Err error) new
           → Finishes source room first (Err error) new.decoder.now
       rest_error error four fails = grind (arith, rest_ends)

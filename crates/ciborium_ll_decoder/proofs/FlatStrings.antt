@@ -9,12 +9,12 @@ use Rattle.ciborium_ll_grammar.proofs.TitleLaws.{shortest_no_longer}
 use Rattle.ciborium_ll_grammar.proofs.TightLaws.{tight_title}
 use Rattle.ciborium_ll_grammar.proofs.ElementLaws.{respell_all, pieces-append, spelling-append}
 
--- a title of a string that is no longer than its header's shortest one is strict
+-- A title of a string is strict if it is no longer than the shortest title of its header.
 pub strict_title : (k : Kind) (o : Option ℕ) (t : List ℕ) → IsTitle t (kind_header k o)
     → length t ≤ length (shortest_title (kind_header k o)) → IsStrictTitle t (kind_header k o)
 strict_title k o t p l = record { shortest = tight_title t (kind_header k o) p l; meant = grind arith }
 
--- strings that are no longer than their pieces have no open
+-- Strings have no open if they are no longer than the spelling of their pieces.
 pub flat : (k : Kind) (w : List ℕ) (bs : List (List ℕ)) → AreStrings k w bs → length w ≤ length (spelling (pieces k bs))
     → AreFlat k w bs
 flat k w bs no_strings l = none

@@ -1,4 +1,4 @@
--- A string that lends its decoder on, and gets it back.
+-- A string that lends its decoder to a segment, and gets it back.
 use Rattle.std.proofs.Common.{◌≡◌, ◌≤◌, IsTrue, ap}
 use Rattle.std.proofs.Props.{props}
 use Rattle.std.specs.Borrow.{MutBor}
@@ -7,8 +7,7 @@ use Rattle.ciborium_ll_decoder.specs.declared.seg.Parser.{Ghosts as Parser}
 use Rattle.ciborium_ll_decoder.specs.declared.seg.Segments.{Segments}
 use Rattle.ciborium_ll_decoder.specs.Progress.{opens_of}
 
--- but for its decoder the string is the same: that a strict string has one open at most is one fact, however it was
--- shown
+-- A string with another decoder is the same string with either proof that a strict string has at most one open.
 pub string_back : {R P : Type 0} {parser : Parser P} (s : Segments R P parser) (lent : MutBor (Decoder R))
     (few : IsTrue s.strict → opens_of s.progress ≤ 1)
     → record s { decoder = lent; shallow = few } ≡ record s { decoder = lent }

@@ -1,4 +1,4 @@
--- Opens and breaks in a row, and the first title of a string. The file hands on the meaning of titles of one byte.
+-- Opens and breaks in a row, and the first title of a string. The file re-exports the lemmas on titles of one byte.
 use Rattle.std.proofs.Common.{Err, IsTrue, [], ◌≡◌, ℕ, suc, ◌+◌, ◌≤◌, Bool, ◌⊎◌, List, ◌++◌, length, Option, Some, None}
 use Rattle.std.proofs.Common.{Result, Ok, refl, sym, ap, ◌∙◌, inl, inr, arith, append_assoc, append-nil, length-append}
 use Rattle.ciborium_ll_io.specs.declared.io.Read.{Ghosts}
@@ -20,12 +20,12 @@ use Rattle.ciborium_ll_decoder.proofs.DecodingLaws.{IfSome-at}
 
 -- ---- opens and breaks in a row
 
--- where nothing is open behind them there are none
+-- A row of opens and breaks that leaves no open is empty, and no open was there before.
 pub nests_zero : (k : Kind) (opens : ℕ) (nest : List ℕ) (left : ℕ) → Nests k opens nest left → left ≡ 0
     → (nest ≡ []) × (opens ≡ 0)
 nests_zero k opens nest left n e = grind arith
 
--- each open takes a byte
+-- Each open takes a byte, so `left` is at most `opens` plus the number of bytes.
 pub nests_counted : (k : Kind) (opens : ℕ) (nest : List ℕ) (left : ℕ) → Nests k opens nest left → left
     ≤ opens + length nest
 nests_counted k opens nest left in_place = grind arith
@@ -34,14 +34,14 @@ nests_counted k opens nest left (deeper {bytes = x} {title = t} {left = j} n p) 
 nests_counted k opens nest left (back {bytes = x} {title = t} {left = j} n p) =
     grind (arith, length-append {A = ℕ}, nests_counted k opens x (suc (suc j)) n)
 
--- none leads nowhere
+-- A row without bytes leaves as many opens as before.
 pub nests_none : (k : Kind) (opens : ℕ) (nest : List ℕ) (left : ℕ) → Nests k opens nest left → length nest ≡ 0
     → (nest ≡ []) × (left ≡ opens)
 nests_none k opens nest left n e = grind (arith, title_some, length-append {A = ℕ})
 
 -- ---- within a string
 
--- opens and breaks in a row lead on within a string
+-- Opens and breaks in a row that follow bytes inside a string lead on inside that string.
 pub nest_inside : (k : Kind) (opens left : ℕ) (u nest : List ℕ) (bs : List (List ℕ)) → IsInsideAt k opens u bs
     → Nests k opens nest left → IsInsideAt k left (u ++ nest) bs
 nest_inside k opens left u nest bs i in_place = grind (arith, append-nil {A = ℕ})
@@ -50,7 +50,7 @@ nest_inside k opens left u nest bs i (deeper {bytes = x} {title = t} n p) =
 nest_inside k opens left u nest bs i (back {bytes = x} {title = t} n p) =
     grind (arith, append_assoc {A = ℕ}, alone_bytes, close_inner, nest_inside k opens _ u x bs i n)
 
--- the first title of opens and breaks in a row, where nothing is open before
+-- The row begins with an open. After it, one open is not closed.
 pub record FirstOpen (k : Kind) (nest : List ℕ) (left : ℕ) : Type 0 where
   pub title : List ℕ
   pub more : List ℕ
@@ -86,7 +86,7 @@ same_length : (k : Kind) (a b : Option ℕ) → kind_header k a ≡ kind_header 
 same_length k a b e = grind arith
 
 module _ {R E : Type 0} (source : Ghosts R E) (k : Kind) where
-  -- a waiting header of the kind is that of a body
+  -- If the first title is a waiting header of the kind, and `advance` ends with it, the header is that of a body.
   waiting_found : (strict : Bool) (len : Option ℕ) (old new : Decoder R) (result : Result (Option Body) (Error E))
       (progress : Progress) → old.waiting ≡ Some (kind_header k len)
       → EndsAdvance source k strict 0 old result progress new → (body : Body) × (result ≡ Ok (Some body))
@@ -99,7 +99,7 @@ module _ {R E : Type 0} (source : Ghosts R E) (k : Kind) where
   waiting_found strict len old new (Err e.TooLong) progress waits ends = grind arith
   waiting_found strict len old new (Err e.Waiting) progress waits ends = absurd ends
 
-  -- `advance` over a waiting header of the kind: it is that of a body, or an open, which goes first
+  -- `advance` over a waiting header of the kind finds a body, or passes over the open that the header is.
   waiting_first : (strict : Bool) (len : Option ℕ) (old new : Decoder R) (result : Result (Option Body) (Error E))
       (progress : Progress) → IsInRange (kind_header k len) → old.waiting ≡ Some (kind_header k len)
       → (all : AdvancesFrom source k strict 0 old result progress new)
@@ -128,7 +128,7 @@ module _ {R E : Type 0} (source : Ghosts R E) (k : Kind) where
         ]
       ]
 
-  -- `advance` over the waiting header of a string of a definite length
+  -- The effect of `advance` over the waiting header of a string of a definite length.
   pub record FindsOnly (len : ℕ) (pulled : Decoder R) (result : Result (Option Body) (Error E))
       (progress : Progress) (new : Decoder R) : Type 0 where
     pub body : Body
@@ -156,13 +156,13 @@ module _ {R E : Type 0} (source : Ghosts R E) (k : Kind) where
         | inr first ↦ absurd (let none = first.0 in cc)
       ]
 
-  -- what was passed with the waiting open, behind it
+  -- If the waiting open and then more bytes passed, these bytes passed from the decoder before the push.
   passes_behind : (pulled pushed between : Decoder R) (more : List ℕ) → pulled.waiting ≡ None
       → TakesBack source pulled (kind_header k None) pushed
       → ReadsPast source pushed (shortest_title (kind_header k None) ++ more) between → ReadsPast source pulled more between
   passes_behind pulled pushed between more h4 taken passed = grind arith
 
-  -- `advance` over the waiting open of a string of indefinite length goes on behind it
+  -- `advance` over a waiting open is `advance` inside one open, from the decoder before the push.
   pub advance_opened : (strict : Bool) (pulled pushed new : Decoder R) (result : Result (Option Body) (Error E))
       (progress : Progress) → pulled.waiting ≡ None
       → TakesBack source pulled (kind_header k None) pushed → AdvancesFrom source k strict 0 pushed result progress new

@@ -22,7 +22,7 @@ use Rattle.ciborium_ll_decoder.proofs.BodyLaws.{sound_body}
 use Rattle.ciborium_ll_decoder.proofs.DecodingLaws.{ReadsPast-none, ReadsPast-pulled, ReadsPast-then, passes_settled}
 use Rattle.ciborium_ll_decoder.proofs.NestLaws.{title_some, nests_none, nest_inside, advance_opened, open_in_range}
 
--- each open takes a byte
+-- Each open takes a byte.
 pub opens_counted : (k : Kind) (j : ℕ) (u : List ℕ) (bs : List (List ℕ)) → IsInsideAt k j u bs → j ≤ length u
 opens_counted k j u bs (one_open {title = t} {strings = x} p s) = grind (arith, title_some, length-append {A = ℕ})
 opens_counted k j u bs (more_open {opens = i} {outer = y} {title = t} {strings = x} {bodies = ds} q p s) =
@@ -31,7 +31,7 @@ opens_counted k j u bs (more_open {opens = i} {outer = y} {title = t} {strings =
 pub some_open : (k : Kind) (opens : ℕ) (u : List ℕ) (bs : List (List ℕ)) → IsInsideAt k opens u bs → 0 < opens
 some_open k opens u bs i = grind arith
 
--- within a string a break is not misplaced, and what is refused there is refused within the string
+-- Inside an open a break is not misplaced. A header that `advance` refuses there may not stand within the string.
 pub other_inside : {R E : Type 0} (source : Reader R E) (k : Kind) (strict : Bool) (opens : ℕ) (old : Decoder R)
     (at : ℕ) (progress : Progress) (new : Decoder R) → old.strict ≡ strict → 0 < opens
     → FindsOther source k strict opens old at progress new → PullsOther source (IsRefusedIn old.strict k) old at new
@@ -45,16 +45,17 @@ pub piece_spelled : (k : Kind) (bodies : List (List ℕ)) (b : List ℕ) → spe
 piece_spelled k bodies b = ap spelling (pieces-append k bodies (b ∷ []))
 
 module _ {R E : Type 0} (source : Reader R E) (k : Kind) where
-  -- so many opens aren't closed: the first of them, and the bytes behind it, with these bodies
+  -- `opens` opens are not closed: the first one, and those among the bytes after it. The string has these bodies so
+  -- far.
   pub record IsAmong (opens : ℕ) (bodies : List (List ℕ)) (opened now : Decoder R) : Type 0 where
     pub strings : List ℕ
     pub within : IsInsideAt k opens (shortest_title (kind_header k None) ++ strings) bodies
     pub sound : AreWritable k bodies
     pub passed : ReadsPast source opened strings now
-    -- a strict decoder has no open within, and its bytes are the pieces' spelling
+    -- In a strict string one open is not closed, and the bytes are the spelling of the pieces.
     pub tight : IsTrue opened.strict → (opens ≡ 1) × (strings ≡ spelling (pieces k bodies))
 
-  -- the open waits
+  -- The open waits.
   pub record IsAtFront (bodies : List (List ℕ)) (opened : Decoder R) (progress : Progress) (now : Decoder R) : Type 0
     where
       pub fresh : progress ≡ p.Open 0
@@ -67,14 +68,14 @@ module _ {R E : Type 0} (source : Reader R E) (k : Kind) where
       pub counts : progress ≡ p.Open opens
       pub among : IsAmong opens bodies opened now
 
-  -- what the loop keeps, with the bodies so far
+  -- The invariant of the loop, with the bodies so far.
   pub record StringSoFar (bodies : List (List ℕ)) (opened : Decoder R) (progress : Progress) (now : Decoder R) :
       Type 0 where
     pub none_waits : opened.waiting ≡ None
     pub far : IsAtFront bodies opened progress now ⊎ IsOnWay bodies opened progress now
     pub steady : IsSteady source opened → IsSteady source now
 
-  -- what the next call of `advance` leads to
+  -- The effect of the next call of `advance`.
   pub record AdvancesAmong (bodies : List (List ℕ)) (opened now : Decoder R) (result : Result (Option Body) (Error E))
       (progress : Progress) (new : Decoder R) : Type 0 where
     pub left : ℕ
@@ -84,7 +85,7 @@ module _ {R E : Type 0} (source : Reader R E) (k : Kind) where
     pub rises : now.offset ≤ between.offset
     pub steady : IsSteady source opened → IsSteady source new
 
-  -- the first open alone
+  -- After the first open, that open alone is not closed.
   among_first : (opened : Decoder R) → IsAmong 1 [] opened opened
   among_first opened =
       let title = shortest_title (kind_header k None) in
@@ -93,7 +94,7 @@ module _ {R E : Type 0} (source : Reader R E) (k : Kind) where
       let passed = ReadsPast-none source opened in
       search (sound_none, arith)
 
-  -- opens and breaks further
+  -- `advance` passes over more opens and breaks.
   among_nest : {opens : ℕ} {bodies : List (List ℕ)} {opened begun : Decoder R} (now : Decoder R)
       {result : Result (Option Body) (Error E)} {progress : Progress} {new : Decoder R}
       → IsAmong opens bodies opened begun → AdvancesFrom source k opened.strict opens begun result progress new
@@ -165,12 +166,12 @@ module _ {R E : Type 0} (source : Reader R E) (k : Kind) where
       let steadily : IsSteady source opened → IsSteady source ended = λ s. steady (all.steady s) in
       search inr
 
-  -- behind its open a string has one open that isn't closed, and no bodies
+  -- After its open a string has one open that is not closed, and no bodies.
   pub so_far_opened : (opened now : Decoder R) (progress : Progress) → opened.waiting ≡ None → progress ≡ p.Open 1
       → now ≡ opened → StringSoFar [] opened progress now
   so_far_opened opened now progress settled begun same = grind (arith, among_first)
 
-  -- a segment takes a byte
+  -- A segment takes at least one byte.
   pub announced_rises : (bodies : List (List ℕ)) (opened now new : Decoder R) (body : Body) (progress : Progress)
       → AdvancesAmong bodies opened now (Ok (Some body)) progress new → now.offset < new.offset
   announced_rises bodies opened now new body progress all = grind arith

@@ -30,13 +30,13 @@ use Rattle.ciborium_ll_decoder.proofs.NestLaws.{alone_bytes, open_length, title_
 use Rattle.ciborium_ll_decoder.proofs.SegmentLaws.{StringSoFar, AdvancesAmong, IsAmong, advances_among, segment_added}
 use Rattle.ciborium_ll_decoder.proofs.SegmentLaws.{opens_counted, other_inside, some_open}
 
--- the last break makes a string
+-- With the break of the last open, the bytes inside a string are a whole string.
 pub close_string : (k : Kind) (u : List ℕ) (bs : List (List ℕ)) → IsInsideAt k (suc zero) u bs
     → IsString k (u ++ 0xff ∷ []) bs
 close_string k u bs (one_open {title = t} {strings = x} p s) = rw (append_assoc t x (0xff ∷ [])) (indefinite p s)
 close_string k u bs (more_open {outer = y} {bodies = ds} i p s) = absurd (never k y ds i)
 
--- behind one open that isn't closed, strings in their shortest spelling have no open
+-- Inside one open, the spelling of the bodies' pieces has no open.
 flat_inside : (k : Kind) (u : List ℕ) (bs : List (List ℕ)) → IsInsideAt k (suc zero) u bs
     → AreFlat k (spelling (pieces k bs)) bs
 flat_inside k u bs h3 = grind (arith, flat, respell_all, never)
@@ -63,22 +63,22 @@ module _ {R E : Type 0} (source : Reader R E) (k : Kind) (len : ℕ) (old new : 
 -- ---- the loop over segments
 
 module _ {R E : Type 0} (source : Reader R E) (k : Kind) where
-  -- a lone body is due, or was read
+  -- The string has a definite length. Its body is due, or was read.
   pub record AloneSoFar (len : ℕ) (opened : Decoder R) (progress : Progress) (now : Decoder R) : Type 0 where
     pub none_waits : opened.waiting ≡ None
     pub in_range : IsInRange (kind_header k (Some len))
     pub far : ((progress ≡ p.Open 0) × TakesBack source opened (kind_header k (Some len)) now) ⊎
         ((progress ≡ p.Ended) × ReadsRest source k [] len opened now)
 
-  -- what the loop keeps
+  -- The invariant of the loop.
   abbrev pub SkipsSoFar : Option ℕ → Decoder R → Progress → Decoder R → Type 0
   SkipsSoFar None opened progress now =
       ((bodies : List (List ℕ)) × StringSoFar source k bodies opened progress now) × (0 < opened.offset)
   SkipsSoFar (Some len) opened progress now = AloneSoFar len opened progress now
 
-  -- ---- a lone body
+  -- ---- a string of a definite length
 
-  -- it was read, and makes a string
+  -- A body that was read whole makes a whole string.
   whole_body : (len : ℕ) (opened new : Decoder R) → IsInRange (kind_header k (Some len))
       → ReadsRest source k [] len opened new → SkipsWhole source k (Some len) opened new
   whole_body len opened new range reads =
@@ -96,7 +96,7 @@ module _ {R E : Type 0} (source : Reader R E) (k : Kind) where
 
   module _ (strict : Bool) (len : ℕ) (opened now new : Decoder R) (progress progress' : Progress)
       (so_far : AloneSoFar len opened progress now) where
-    -- the only answers: the body first, and then the end
+    -- `advance` gives the body first, and then `None`.
     lone_found : (result : Result (Option Body) (Error E))
         → AdvancesTo source k strict progress now result progress' new
         → FindsOnly source k len opened result progress' new ⊎
@@ -110,7 +110,7 @@ module _ {R E : Type 0} (source : Reader R E) (k : Kind) where
     lone_error : (error : Error E) → AdvancesTo source k strict progress now (Err error) progress' new → ⊥
     lone_error error advances = grind (arith, lone_found)
 
-    -- the body, and how the decoder stands before it
+    -- The body that `advance` gave, and the decoder before its bytes.
     record LoneBody (body : Body) : Type 0 where
       pub lengths : body.length ≡ len
       pub place : body.place ≡ opened.offset - title_len (kind_header k (Some len))
@@ -131,9 +131,9 @@ module _ {R E : Type 0} (source : Reader R E) (k : Kind) where
         → AloneSoFar len opened progress' ended
     lone_reads body ended lone reads = grind arith
 
-  -- ---- segments behind an open
+  -- ---- segments after an open
 
-  -- where only these are taken
+  -- The strings so far are strings that the decoder takes.
   taken_among : {opens : ℕ} {bodies : List (List ℕ)} {opened now : Decoder R}
       (a : IsAmong source k opens bodies opened now) → AreTakenStrings opened.strict k a.strings bodies
   taken_among a = grind (arith, flat_inside)
@@ -155,7 +155,7 @@ module _ {R E : Type 0} (source : Reader R E) (k : Kind) where
         let taken = taken_among all.among in
         search
 
-    -- so many opens take more bytes than an offset counts
+    -- As many opens as a `usize` counts take more bytes than an offset counts.
     not_too_deep : {left : ℕ} {between : Decoder R} → IsAmong source k left bodies opened between → 0 < opened.offset
         → NestsTooDeep source k left between progress new → new.offset < 2 ^ 64 → ⊥
     not_too_deep a settled deep less = grind (arith, opens_counted, open_length, length-append {A = ℕ}, title_some)
@@ -191,7 +191,7 @@ module _ {R E : Type 0} (source : Reader R E) (k : Kind) where
       → MeetsBody source k room opened error ended → StopsInside source k room opened error ended
   body_stops room opened error ended meets = grind arith
 
-  -- ---- both
+  -- ---- both forms of a string
 
   pub skips_end : (strict : Bool) (len : Option ℕ) (room : ℕ) (opened now new : Decoder R)
       (progress progress' : Progress) → strict ≡ opened.strict → SkipsSoFar len opened progress now
@@ -244,7 +244,7 @@ module _ {R E : Type 0} (source : Reader R E) (k : Kind) where
       let lone = lone_body strict len opened now new progress progress' so_far body advances in
       ends_behind source k len opened new lone.passed room _ error ended (rw (lone.lengths, lone.place) at ends)
 
-  -- the title of a body takes a byte
+  -- The title of a body has at least one byte, so the offset rises.
   pub found_rises : (strict : Bool) (progress progress' : Progress) (now new : Decoder R) (body : Body)
       → AdvancesTo source k strict progress now (Ok (Some body)) progress' new → now.offset < new.offset
   found_rises strict progress progress' now new body all = grind arith

@@ -22,29 +22,29 @@ use Rattle.ciborium_ll_grammar.specs.Parts.{refused_when_strict, minor_affix, mi
 
 -- ---- a title that was read
 
--- a byte that was read
+-- A list of length 1 is its first byte alone.
 one_byte : (read : List ℕ) → length read ≡ 1 → read ≡ get_or read 0 0 ∷ []
 one_byte [] one = absurd (omega (arith, one))
 one_byte (x ∷ []) one = refl
 one_byte (x ∷ y ∷ read) one = absurd (omega (arith, one))
 
--- a first byte and its affix are the bytes of the parts
+-- The first byte and then the affix are the bytes of the parts.
 pub first_parts : (read : List ℕ) (b : Minor) → length read ≡ 1 → get_or read 0 0 % 32 ≡ minor_code b
     → parts_bytes (get_or read 0 0 / 32) b ≡ read ++ minor_affix b
 first_parts read b one code =
     let byte : 32 * (get_or read 0 0 / 32) + minor_code b ≡ get_or read 0 0 = omega (arith, code) in
     rw (one_byte read one) (ap (λ (z : ℕ). z ∷ minor_affix b) byte)
 
--- a number that stands within the first byte has no affix
+-- A number below 24 stands within the first byte, and has no affix.
 pub small_affix : (minor : ℕ) → minor < 24 → affix_len minor ≡ 0
 small_affix minor small = grind (arith, nat_tests)
 
--- nor has the minor of an open
+-- The minor of an open has no affix.
 pub open_affix : (minor : ℕ) → minor ≡ 31 → affix_len minor ≡ 0
 open_affix minor is = rw is refl
 
 module _ {R E : Type 0} (source : Ghosts R E) where
-  -- what was read, while no header waited
+  -- The decoder read these bytes, and no header waited before or after.
   pub record TitleRead (old : Decoder R) (title : List ℕ) (new : Decoder R) : Type 0 where
     pub bytes : Consumes (view source old) (view source new) title
     pub offset : new.offset ≡ old.offset + length title
@@ -58,43 +58,43 @@ module _ {R E : Type 0} (source : Ghosts R E) where
   title_read old between new read title b none first affix is =
       grind (arith, view_none, Consumes-trans, length-append {A = ℕ})
 
-  -- the same, as the bytes of the parts
+  -- The first byte and the affix were read, so the decoder read the bytes of the parts.
   pub parts_read : (old between new : Decoder R) (read : List ℕ) (b : Minor) → old.waiting ≡ None
       → ReadsAll source old read between → ReadsAll source between (minor_affix b) new → length read ≡ 1
       → get_or read 0 0 % 32 ≡ minor_code b → TitleRead old (parts_bytes (get_or read 0 0 / 32) b) new
   parts_read old between new read b none first affix one code =
       title_read old between new read _ b none first affix (first_parts read b one code)
 
-  -- where a first byte was read, the offset could rise
+  -- If a first byte was read, the offset was not the greatest number.
   pub not_full : {A : Type 0} (old between : Decoder R) (read : List ℕ) → ReadsAll source old read between
       → length read ≡ 1 → old.offset ≡ 2 ^ 64 - 1 → A
   not_full old between read first one full = absurd (omega (arith, first.offset, one, full, between.covered))
 
-  -- a title that was read
+  -- The decoder read a title that it takes, so `pull` gives the header.
   pub title_pulled : (old new : Decoder R) (title : List ℕ) (header : Header) → IsTitle title header
       → old.waiting ≡ None → (IsTrue old.strict → IsStrictTitle title header) → TitleRead old title new
       → PullsTitle source old header new
   title_pulled old new title header is_title none strict read = search arith
 
-  -- and refused, as its header has a shorter one
+  -- A strict decoder read a title that is not strict, so it refuses the title.
   pub title_refused : (old new : Decoder R) (title : List ℕ) (header : Header) → IsTitle title header
       → old.waiting ≡ None → IsTrue old.strict → (IsStrictTitle title header → ⊥) → TitleRead old title new
       → RefusesTitleWhole source old old.offset new
   title_refused old new title header is_title none strict refused read = search
 
-  -- of what was read this byte is refused
+  -- The byte that was read begins no title, so the decoder refuses it.
   refuses : (old new : Decoder R) (read : List ℕ) → old.waiting ≡ None → length read ≡ 1 → IsRefused (get_or read 0 0)
       → TitleRead old read new → RefusesTitle source old old.offset new
   refuses old new read none one refused title = search (one_byte, arith)
 
-  -- a first byte of a reserved minor was read
+  -- The decoder refuses a first byte with a reserved minor.
   pub first_refused : (old between new : Decoder R) (read : List ℕ) → old.waiting ≡ None
       → ReadsAll source old read between → length read ≡ 1 → new ≡ between → IsReserved (get_or read 0 0 % 32)
       → RefusesTitle source old old.offset new
   first_refused old between new read none first one same reserved =
       refuses old new read none one (inl reserved) (grind (arith, view_none))
 
-  -- a first byte of a minor of the code 31 was read, and its major type has no indefinite form
+  -- The decoder refuses a first byte with the minor 31 if its major type has no indefinite form.
   pub open_refused : (old between new : Decoder R) (read : List ℕ) (b : Minor) → old.waiting ≡ None
       → ReadsAll source old read between → ReadsAll source between (minor_affix b) new → length read ≡ 1
       → get_or read 0 0 % 32 ≡ minor_code b → minor_code b ≡ 31 → IsNeverOpen (get_or read 0 0 / 32)
@@ -103,7 +103,7 @@ module _ {R E : Type 0} (source : Ghosts R E) where
       refuses old new read none one (inr (code ∙ is, never))
       (title_read old between new read read b none first affix (grind (arith, append-nil {A = ℕ})))
 
-  -- the affix of a first byte was not read
+  -- If the read of the affix fails, `pull` answers with the error of that read.
   affix_unread : (old between new : Decoder R) (x : ℕ) (error : Error E) → old.waiting ≡ None
       → ReadsAll source old (x ∷ []) between → (IsSteady source old → IsSteady source between)
       → ReadsMinor source x between (Err error) new → DecoderPullAnswer source old (Err error) new
@@ -130,7 +130,7 @@ module _ {R E : Type 0} (source : Ghosts R E) where
   affix_unread old between new x e.Waiting none first steady affix = absurd affix
   affix_unread old between new x (e.Syntax place) none first steady affix = absurd affix
 
-  -- the answer to a title of which the affix was not read
+  -- If the read of the affix fails, the answer of the whole call is that of a `pull` that fails there.
   pub affix_stopped : {A : Type 0} (P : A → Type 0) (answer : Result A (Error E)) (error : Error E)
       (old between new : Decoder R) (read : List ℕ) → answer ≡ Err error → old.waiting ≡ None
       → ReadsAll source old read between → (IsSteady source old → IsSteady source between) → length read ≡ 1
@@ -141,24 +141,24 @@ module _ {R E : Type 0} (source : Ghosts R E) where
 
   -- ---- the affix of a first byte
 
-  -- an affix that was read is taken, but by a strict decoder where a smaller form holds its number
+  -- The decoder takes an affix that it read, unless it is strict and a shorter title holds the number.
   pub affix_taken : (first : ℕ) (old new : Decoder R) (minor : Minor) (answer : Option Minor)
       → HoldsAffix source first old minor new
       → answer ≡ (if strict_of new && refused_when_strict (first / 32) minor then None else Some minor)
       → ReadsMinor source first old (Ok answer) new
   affix_taken first old new minor answer holds is = grind arith
 
-  -- a number that stands within the first byte is taken with it
+  -- A number within the first byte needs no further read.
   pub small_taken : (first number : ℕ) (old new : Decoder R) (read : List ℕ) → first % 32 < 24 → number ≡ first % 32
       → length read ≡ 0 → ReadsAll source old read new → ReadsAffix source first old (m.Small number) new
   small_taken first number old new read small is empty reads = grind (arith, length_zero)
 
-  -- and so is an open
+  -- An open needs no further read.
   pub open_taken : (first : ℕ) (old new : Decoder R) (read : List ℕ) → first % 32 ≡ 31 → length read ≡ 0
       → ReadsAll source old read new → ReadsAffix source first old m.Open new
   open_taken first old new read is empty reads = grind (arith, length_zero)
 
-  -- the read of no affix failed
+  -- A read of no bytes failed, so the read of an affix of no bytes failed.
   pub none_unread : (first : ℕ) (old new : Decoder R) (bytes : List ℕ) (answer : Result (Option Minor) (Error E))
       (error : Error E) → answer ≡ Err error → affix_len (first % 32) ≡ 0 → old.waiting ≡ None → length bytes ≡ 0
       → ReadsBytes source old (Err error) bytes new → ReadsMinor source first old answer new

@@ -7,11 +7,11 @@ pub consumes_told : (known known' : Option (List ℕ)) (due bytes : List ℕ) �
     → Consumes known known' bytes → (rest : List ℕ) × (known' ≡ Some rest) × (due ≡ bytes ++ rest)
 consumes_told known known' due bytes e c = grind arith
 
--- no read inside a title is of more than 8 bytes
+-- A read inside a title asks for at most 8 bytes.
 pub next_read_small : (read : List ℕ) → next_read read ≤ 8
 next_read_small read = grind arith
 
--- a first byte or none is gone
+-- After a read of the first byte, if there is one, the bytes after it are left.
 pub first_gone : (rest read left : List ℕ) → rest ≡ read ++ left → read ≡ take 1 rest → left ≡ drop 1 rest
 first_gone rest read left e f = grind arith
 

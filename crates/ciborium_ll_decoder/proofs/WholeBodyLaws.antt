@@ -14,7 +14,7 @@ use Rattle.ciborium_ll_decoder.proofs.BodyLaws.{writable_nil, ReadsPast-read}
 use Rattle.ciborium_ll_text.specs.Text.{IsCharacters, IsFront}
 use Rattle.ciborium_ll_text.proofs.FrontLaws.{IsStuck-nil}
 
--- bytes are text just where the longest front that is text is all of them
+-- Bytes are text if their longest front that is text is all of them.
 pub all_in_front : (bytes front rest : List ℕ) → IsFront bytes front rest → length front ≡ length bytes
     → IsCharacters bytes
 all_in_front bytes front rest found all = grind (arith, length_zero, length, length-append {A = ℕ}, append-nil {A = ℕ})
@@ -26,11 +26,11 @@ front_of_all bytes front rest found whole =
     omega (arith, longest, ap length found.parts, length-append front rest)
 
 module _ {R E : Type 0} (source : Reader R E) (kind : Kind) (len room place : ℕ) (old : Decoder R) where
-  -- an empty one takes no read
+  -- An empty body takes no read.
   pub empty_ends : len ≡ 0 → EndsBody source kind [] len room place old (Ok (tt {0})) old
   empty_ends h0 = grind arith
 
-  -- one read of it all is the last one
+  -- If one read is to take the whole body, that read is the last one.
   at_once : (count : ℕ) (error : Error E) (new : Decoder R) → count ≡ len → len ≤ room
       → StopsReading source kind [] len [] place count old error new
       → EndsBody source kind [] len room place old (Err error) new
@@ -53,12 +53,12 @@ module _ {R E : Type 0} (source : Reader R E) (kind : Kind) (len room place : �
   }
 
   module _ (read : List ℕ) (new : Decoder R) (all : length read ≡ len) where
-    -- it may be written
+    -- The bytes of the one read may be the body, so the answer is `Ok`.
     pub whole_ends : IsWritable kind read → ReadsAll source old read new
         → (IsSteady source old → IsSteady source new) → EndsBody source kind [] len room place old (Ok (tt {0})) new
     whole_ends sound reads steady = grind arith
 
-    -- it is no text
+    -- The bytes of the one read are no text, so the answer is `Syntax`.
     pub damaged_ends : len ≤ room → (IsWritable kind read → ⊥) → ReadsAll source old read new
         → (IsSteady source old → IsSteady source new)
         → EndsBody source kind [] len room place old (Err (e.Syntax place)) new
@@ -68,7 +68,7 @@ module _ {R E : Type 0} (source : Reader R E) (kind : Kind) (len room place : �
         let no_text : IsCharacters read → ⊥ = grind arith in
         at_once (length read) (e.Syntax place) new all held (refl, search inl)
 
-  -- the read failed, which is one of no more bytes than the buffer holds
+  -- The one read failed, so the read of the body stops. The buffer holds as many bytes as the read was to take.
   pub unread_ends : (read : List ℕ) (new : Decoder R) (error : Error E) → old.waiting ≡ None → length read ≡ len
       → 0 < len → len ≤ room → ReadsBytes source old (Err error) read new
       → EndsBody source kind [] len room place old (Err error) new

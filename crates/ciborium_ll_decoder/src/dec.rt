@@ -154,8 +154,7 @@ impl<R: Read> Decoder<R> {
     /// - `Io`: the reader failed. If it is steady, the bytes end before the title does.
     /// - `TooLong`: the offset can't take the next read.
     ///
-    /// After `TooLong`, and after `Io` over a steady reader, exactly a first byte that was read is consumed. After `Io`
-    /// over another reader at most one byte is.
+    /// `Io` and `TooLong` consume at most the first byte, over a steady reader exactly if it was read.
     ///
     /// # Examples
     ///

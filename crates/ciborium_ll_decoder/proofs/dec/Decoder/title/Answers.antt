@@ -82,7 +82,7 @@ returns-in-None-clause-header g c =
     inl (open_refused g.R.Read c.args.self.now c.read.new.self c.minor.new.self c.read.new.data c.in-Some.minor
     c.requires.none_waits c.in_ok-read.ensures.bytes affix.holds.all one affix.holds.code never.0 never.1)
 
--- ---- behind a first byte
+-- ---- after the first byte
 
 pub returns-in_err-minor-clause-moves_on : goal.returns-in_err-minor-clause-moves_on
 returns-in_err-minor-clause-moves_on g c =

@@ -10,11 +10,11 @@ use Rattle.ciborium_ll_text.proofs.FrontLaws.{IsFront-stuck, IsStuck-rest}
 use Rattle.ciborium_ll_text.proofs.LastEndLaws.{stuck_end}
 use Rattle.ciborium_ll_decoder.proofs.seg.Segment+R+Text.pull_front.Goals as goal
 
--- a front of the bytes is no longer than they are
+-- A front of bytes is no longer than the bytes.
 front_within : (bytes front rest : List ℕ) → IsFront bytes front rest → length front ≤ length bytes
 front_within bytes front rest is = grind (arith, length-append {A = ℕ})
 
--- the kept bytes stand in front of what was filled
+-- The filled bytes begin with the kept bytes.
 kept_in_front : (count : ℕ) (filled kept read : List ℕ) → filled ≡ kept ++ read → count ≡ length kept
     → take count filled ≡ kept
 kept_in_front count filled kept read whole counted = rw whole (take_at kept read count (sym counted))
@@ -23,7 +23,7 @@ kept_within : (count : ℕ) (filled kept read : List ℕ) → filled ≡ kept ++
     → count ≤ length filled
 kept_within count filled kept read whole counted = grind (arith, length-append {A = ℕ})
 
--- an error is no chunk
+-- An answer that is an error has no chunk.
 no_chunk : {T E : Type 0} (answer : Result T E) (error : E) (P : T → Type 0) → IsErrAnd answer (λ given. given ≡ error)
     → IfOk answer P
 no_chunk answer error P is = grind arith
@@ -164,7 +164,7 @@ pub returns-in_err-fill-clause-rest : goal.returns-in_err-fill-clause-rest
 returns-in_err-fill-clause-rest g c =
     no_chunk c.from_residual-in_err-fill.result c.in_err-fill.field-0.0 _ c.from_residual-in_err-fill.ensures.1
 
--- ---- what each pull keeps
+-- ---- facts that each pull keeps
 
 pub returns-in-Some-clause-same_reference : goal.returns-in-Some-clause-same_reference
 returns-in-Some-clause-same_reference g c = c.fill.ensures.same_reference

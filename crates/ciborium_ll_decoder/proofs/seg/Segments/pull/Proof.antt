@@ -1,5 +1,5 @@
--- `pull` by hand: the walk in `Proof/Walk.antt`, over the proofs of `advance` and `segment`. The walk stands in a file
--- of its own. So the prover does not check it again if a premise of `advance` changes.
+-- The proof of `pull` by hand. The walk in `Proof/Walk.antt` stands over the proofs of `advance` and `segment`. It has
+-- its own file, so a change of a premise of `advance` needs no new check of it.
 mod Walk
 use contract.Running.{tables, tables_of}
 use denote.Triple.Clauses.{closing}

@@ -3,7 +3,7 @@ use Rattle.ciborium_ll_grammar.proofs.AloneLaws.{title_some}
 use Rattle.ciborium_ll_decoder.specs.Decoding.{offset_of}
 use Rattle.ciborium_ll_decoder.proofs.seg.Segments.step.Goals as goal
 
--- what holds anyway holds of an answer
+-- A fact that holds anyway also holds if the answer is `Ok`.
 on_ok : {T E P : Type 0} (answer : Result T E) → P → OnOk answer P
 on_ok (Ok value) holds = holds
 on_ok (Err error) holds = tt

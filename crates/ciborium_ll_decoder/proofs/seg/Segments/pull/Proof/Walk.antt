@@ -94,7 +94,7 @@ body_of length place = record { length = length; place = place }
 module _ {M : Type 1} {𝓤 : Ura M} (𝓛 : Logic 𝓤) where
   open 𝓛 use {H}
 
-  -- what is owned of x is owned of `Ok(x)`
+  -- The ownership of x gives the ownership of `Ok(x)`.
   pub ok_of : (X Y : RattleType) (x : X.Denot) (value : Val) → ent 𝓤 (sem 𝓛 (X.own_val x (value ∷ [])))
       (sem 𝓛 ((result.the_row X Y).own_val (Ok x) (live 0 (of_list (value ∷ [])) ∷ [])))
   ok_of X Y x value =
@@ -116,7 +116,7 @@ module _ (R P E : RattleType) (reads : read.Ghosts R.Denot E.Denot) (reads_dict 
   abbrev pub function : Fn
   function = inst_fn arguments code.function
 
-  -- the `match` on the answer of `advance`, and what runs behind it
+  -- The `match` on the answer of `advance`, with the code after it.
   abbrev pub matching : Code
   matching = head (after 2 function.body)
 
@@ -138,7 +138,7 @@ module _ (R P E : RattleType) (reads : read.Ghosts R.Denot E.Denot) (reads_dict 
   abbrev pub StringRow : Lfts 5 → RattleType
   StringRow lifetimes = segments.the_row (named_lft 5 1 tt lifetimes) Reader Kind kind
 
-  -- what `advance` answers
+  -- The type of the answer of `advance`.
   abbrev pub Advance : RattleType
   Advance = result.the_row (option.the_row body.the_row) Fault
 
@@ -148,7 +148,7 @@ module _ (R P E : RattleType) (reads : read.Ghosts R.Denot E.Denot) (reads_dict 
   abbrev pub stayed : Stays ended.signature.params ended.kept
   stayed = (stay_dropped (mut_ref_to (0 ∷ []) tt (plain StringRow)) no, tt)
 
-  -- a machine value that has this type and is well formed
+  -- A machine value that has this type and is well formed.
   abbrev pub Good : Ty → Val → Type 0
   Good type value = T (has_ty type value) × WT value
 
@@ -165,7 +165,7 @@ module _ (R P E : RattleType) (reads : read.Ghosts R.Denot E.Denot) (reads_dict 
     Advance-laws = result_laws.the_row_laws (option.the_row body.the_row) Fault
         (option_laws.the_row_laws body.the_row body_laws.the_row_laws) Fault-laws
 
-    -- the three answers of `advance`, each with the machine value that it is
+    -- The three answers of `advance`, each with its machine value.
     pub by_answer : {Z : Type 1} (answer : Advance.Denot) (value : Val) → Is Advance answer (value ∷ [])
         → ((b : Body) (u : Val) → Is body.the_row b (u ∷ []) → answer ≡ Ok (Some b) → value
         ≡ live 0 (vcons (live 1 (vcons u vnil)) vnil) → Z)
@@ -209,7 +209,7 @@ module _ (R P E : RattleType) (reads : read.Ghosts R.Denot E.Denot) (reads_dict 
 
       module _ (lifetimes : Lfts 5) (shares : Shares 5) (within : AllOutlive 5 ended.signature.outlives lifetimes)
           (block at : ℕ) (name : GName) (old : String) where
-        -- the lifetime of the reference, and that of the string's own
+        -- The lifetime of the reference, and that of the string.
         abbrev outer : Lft
         outer = lifetimes.0
 
@@ -235,7 +235,7 @@ module _ (R P E : RattleType) (reads : read.Ghosts R.Denot E.Denot) (reads_dict 
         abbrev Pull-laws : Laws Pull
         Pull-laws = result_laws.the_row_laws (option.the_row Part) Fault Option-laws Fault-laws
 
-        -- the reference to the string, under this name and at this value
+        -- The reference to the string, under this name and at this value.
         abbrev reference : GName → String → MutBor String
         reference n s = record { ref_ptr = (block, at); ghost_name = n; now = s }
 
@@ -248,12 +248,12 @@ module _ (R P E : RattleType) (reads : read.Ghosts R.Denot E.Denot) (reads_dict 
         abbrev Post : Val → SProp 𝓤
         Post = (walk_of 𝓛 ended stayed spec).post bound
 
-        -- what runs behind the `match`
+        -- The code after the `match`.
         abbrev behind : Env 𝓤 H → Then 𝓤 H
         behind locals =
             let rest = post 𝓤 H (at_ret locals Post) in any_q (after_seq 𝓤 H (Wp 𝓤 H 𝓣.C 𝓣.Λ locals leaving rest) rest)
 
-        -- the rows as the clause names them
+        -- The rows, as the clause names them.
         abbrev StringIn : RattleType
         StringIn = segments.the_row (record { mir = named 1; lft = [] }) (param 0 R) (param 1 P) kind
 
@@ -263,7 +263,7 @@ module _ (R P E : RattleType) (reads : read.Ghosts R.Denot E.Denot) (reads_dict 
         abbrev Advanced : Pull.Denot → String → Type 0
         Advanced answer new = SegmentsAdvance reads kind.kind old (advance_answer answer) new
 
-        -- how the string ends, by the decoder that a segment leaves and where there is none
+        -- How the string ends: by the decoder that a segment leaves, or without a segment.
         abbrev Tied : Pull.Denot → Type 0
         Tied answer =
             (ends : (Decoder R.Denot → String) × String) × ((d : Decoder R.Denot) → (new : String) × Advanced answer new
@@ -272,13 +272,13 @@ module _ (R P E : RattleType) (reads : read.Ghosts R.Denot E.Denot) (reads_dict 
         abbrev Pulls : Pull.Denot → Type 0
         Pulls answer = SegmentsPull reads kind.kind old.strict old.progress old.decoder.now answer
 
-        -- what `advance` promises of the string holds of its decoder
+        -- The promise of `advance` on the string also holds of its decoder.
         goes_on : (result : Advance.Denot) (new : String) → SegmentsAdvance reads kind.kind old result new
             → GoesOnTo reads kind.kind old.strict old.progress old.decoder.now result new.decoder.now
         goes_on result new is =
             record { after = new.progress; advanced = is.advances; opens = is.opens; moves_on = is.moves_on }
 
-        -- the end of each arm: the answer goes out, the string follows the segment in it, and the clauses hold
+        -- The end of each arm: the answer leaves, the string follows its segment, and the clauses hold.
         leaves : (value : Val) (answer : Pull.Denot) (new : String) → Advanced answer new → HoldsDecoder answer new
             → Pulls answer
             → ent 𝓤 (sep 𝓤 (alive 𝓛 ended.signature lifetimes shares)
@@ -312,7 +312,7 @@ module _ (R P E : RattleType) (reads : read.Ghosts R.Denot E.Denot) (reads_dict 
             enter ! 𝓣.C 𝓣.Λ function (vptr block at ∷ []) _ $ alloc_all ! (λ l. pass_all ! refl ((tt, tt), tt) $
             let locals : Env 𝓤 H = env function.locals l in
             sets ! (addr ! (through ! refl (stop !))) refl (tt, tt) $
-            -- opened: a lifetime inside the outer one, for the call of `advance`, with half of the outer token
+            -- Opened: a lifetime inside the outer one, for the call of `advance`, with half of the outer token.
             use1 𝓛 (‵ (flft outer (left shares.0)) ⊛ ‵ (flft outer (right shares.0))) (𝓛.lfts.lft_split outer shares.0)
             $ split ! $
             lft_new ! tt (λ fresh.
@@ -321,7 +321,7 @@ module _ (R P E : RattleType) (reads : read.Ghosts R.Denot E.Denot) (reads_dict 
             (within_token 𝓛 fresh outer (left shares.0)) $ split ! $
             -- [the call's token; the way to end it; the other half; the reference; the other tokens]
 
-            -- lent: the string, to `advance`, under a name of its own
+            -- Lent: the string, to `advance`, under a name of its own.
             move ! (3 ∷ 2 ∷ []) $ use2 𝓛 (later (some (λ (again : GName). ‵ (Lent call again old) ⊛ ‵
             (LentAgain Row outer call (right shares.0) name block at again old))))
             (lends_again 𝓛 Row (named 0) outer call (right shares.0) name block at (named 0) old) $ await ! tt $ pick !
@@ -351,7 +351,7 @@ module _ (R P E : RattleType) (reads : read.Ghosts R.Denot E.Denot) (reads_dict 
             nothing ! $ move ! (9 ∷ 0 ∷ []) $ join ! $ move ! (8 ∷ 0 ∷ []) $ join ! $ move ! (7 ∷ 0 ∷ []) $ join ! $
             move ! (6 ∷ 0 ∷ []) $ join ! $ move ! (4 ∷ 0 ∷ []) $ join ! $ join ! $ join ! $ use1 𝓛
             (raw (Advances.pre given_advance)) (id⊢ 𝓤 (Advances.pre given_advance)) $
-            -- the call of `advance`: its answer, the string as it left it, and all that it promises
+            -- The call of `advance`: its answer, the string that it left, and its promises.
             calls_at ! (framed 𝓤 H 𝓜 𝓣) Advances advances given_advance (and_then ! (get ! refl) (no_more !)) (λ value.
             use1 𝓛 (later (some (λ (answer : Advance.Denot). ((‵ (flft call (left shares.0)) ⊛ ‵
             (flft inner shares.1.0) ⊛ ‵ (flft lifetimes.1.1.0 shares.1.1.0) ⊛ ‵
@@ -366,7 +366,8 @@ module _ (R P E : RattleType) (reads : read.Ghosts R.Denot E.Denot) (reads_dict 
             let new : String = news.0 in
             -- [the loan's last value; the tokens; the answer; the way back; the way to end]
 
-            -- given back: the call's lifetime ends, and the reference is whole again, at the value that `advance` left
+            -- Given back: the lifetime of the call ends. The reference is whole again, at the value that `advance`
+            -- left.
             fsplit ! $ fsplit ! $ move ! (3 ∷ []) $ split ! $ move ! (1 ∷ []) $ split ! $ move ! (1 ∷ []) $ split ! $
             move ! (1 ∷ []) $ split ! $ move ! (1 ∷ []) $ split ! $
             move ! (5 ∷ 11 ∷ []) $ use2 𝓛 (later (‵ (fdead call) ⊛ ‵ (flft outer (left shares.0))))
@@ -382,7 +383,7 @@ module _ (R P E : RattleType) (reads : read.Ghosts R.Denot E.Denot) (reads_dict 
             peeks ! Advance (Is Advance) (shows 𝓛 Advance) answer (value ∷ []) (λ is.
             let good_answer = (((Advance-laws).lawful 𝓛).typed answer (value ∷ []) is).0 in
             by_answer answer value is
-            -- the arm of a body
+            -- The arm of a body.
             (λ b u is_body e is_value.
             let found : SegmentsAdvance reads kind.kind old (Ok (Some b)) new =
             subst (λ r. SegmentsAdvance reads kind.kind old r new) e promised in
@@ -400,7 +401,7 @@ module _ (R P E : RattleType) (reads : read.Ghosts R.Denot E.Denot) (reads_dict 
             sets ! (of_opd ! (get_in ! (vrt ! refl (fld ! refl (vrt ! refl (fld ! refl (stop !)))))
             (in_variant ! 1 0 refl refl (in_variant ! 0 0 refl refl (whole !))))) refl good_body $
             sets ! (addr ! (through ! refl (stop !))) refl (tt, tt) $
-            -- lent on: the reference itself, to `segment`, with the body
+            -- Lent on: the reference, to `segment`, with the body.
             let Lends = triple_of 𝓛 (lend.signature R P E reads reads_dict kind kind_dict)
             (lend.spec R P E reads reads_dict kind kind_dict 𝓛 𝓜.mem 𝓡.returns) in
             let given_segment : Lends.Ghost =
@@ -424,8 +425,8 @@ module _ (R P E : RattleType) (reads : read.Ghosts R.Denot E.Denot) (reads_dict 
             await ! tt $ pick ! (λ part. split ! $ split ! $ move ! (2 ∷ []) $ pick !
             (λ ends. split ! $ drop ! $ split3 ! $ move ! (1 ∷ 2 ∷ []) $ heard ! _
             (λ lent. heard ! _ (λ is_whole. move ! (2 ∷ []) $
-            -- [the segment; what follows it; the tokens]
-            -- given back: the segment, as `Ok(Some(segment))`
+            -- [the segment; the fact that the string follows it; the tokens]
+            -- Given back: the segment, as `Ok(Some(segment))`.
             let some_value : Val = live 1 (vcons part_value vnil) in let out : Val = live 0 (vcons some_value vnil) in
             peeks ! Part (Is Part) (shows 𝓛 Part) part (part_value ∷ [])
             (λ is_part. lands_as ! refl refl ((Part-laws.lawful 𝓛).typed part (part_value ∷ []) is_part).0 $
@@ -451,7 +452,7 @@ module _ (R P E : RattleType) (reads : read.Ghosts R.Denot E.Denot) (reads_dict 
                   old.decoder.now (Ok (Some b)) d) (sym lent) (goes_on (Ok (Some b)) new found);
               whole = is_whole;
             })))))))))))
-            -- the arm of the end: nothing is lent, and the string's last value is what `advance` left
+            -- The arm of the end: nothing is lent. The last value of the string is the value that `advance` left.
             (λ e is_value.
             let out : Val = live 0 (vcons (live 0 vnil) vnil) in
             let found : SegmentsAdvance reads kind.kind old (Ok None) new = subst (λ r. SegmentsAdvance reads kind.kind old r new)
@@ -459,7 +460,7 @@ module _ (R P E : RattleType) (reads : read.Ghosts R.Denot E.Denot) (reads_dict 
             drop ! $ move ! (1 ∷ []) $ fsplit3 ! $ drop ! $ use1 𝓛 (‵ (fres name (StringIn.coded.code new)))
             (𝓛.names.obs-res name (StringIn.coded.code new)) $ move ! (1 ∷ []) $ drop ! $
             -- [the string's last value; the tokens]
-            -- given back: `Ok(None)`
+            -- Given back: `Ok(None)`.
             use0 𝓛 (‵ ((option.the_row Part).own_val None (live 0 vnil ∷ []))) (none_of 𝓛 Part) $
             use1 𝓛 (‵ (Pull.own_val (Ok None) (out ∷ []))) (ok_of 𝓛 (option.the_row Part) Fault None (live 0 vnil)) $
             move ! (2 ∷ 0 ∷ 1 ∷ []) $
@@ -485,7 +486,8 @@ module _ (R P E : RattleType) (reads : read.Ghosts R.Denot E.Denot) (reads_dict 
             ) $
             returns ! (look_at ! 0 refl) $ free_all ! refl $ by !
             (leaves out (Ok None) new found tt (new.decoder.now, goes_on (Ok None) new found)))
-            -- the arm of an error: it is handed on, nothing is lent, and the string's last value is what `advance` left
+            -- The arm of an error, which is handed on: nothing is lent. The last value of the string is the value that
+            -- `advance` left.
             (λ x u e is_value.
             let out : Val = live 1 (vcons u vnil) in
             let found : SegmentsAdvance reads kind.kind old (Err x) new = subst (λ r. SegmentsAdvance reads kind.kind old r new) e
@@ -506,13 +508,13 @@ module _ (R P E : RattleType) (reads : read.Ghosts R.Denot E.Denot) (reads_dict 
             exec ! 𝓣.C 𝓣.Λ locals (arm_body 1 matching) (behind locals) $
             sets ! (of_opd ! (get_in ! (vrt ! refl (fld ! refl (stop !))) (in_variant ! 1 0 refl refl (whole !)))) refl
             good_error $ sets ! (of_opd ! (get ! refl)) refl good_error $
-            -- given back: `Err(error)`
+            -- Given back: `Err(error)`.
             sets_last ! (agg ! (and_then ! (lit ! tt) (and_then ! (get ! refl) (no_more !)))) refl good_out $
             exec ! 𝓣.C 𝓣.Λ locals leaving (at_ret locals Post) $ sets ! (of_opd ! (get ! refl)) refl good_out $
             returns ! (look_at ! 0 refl) $ free_all ! refl $ by !
             (leaves out (Err x) new found tt (new.decoder.now, goes_on (Err x) new found))))))))))))
 
-      -- the walk, taken to the contract
+      -- The walk proves the contract.
       pub meets : Meets 𝓛 ended.signature (WpFn 𝓤 H 𝓣.C 𝓣.Λ function) (closing 𝓛 ended spec)
       unfolding tables_of
       meets =
