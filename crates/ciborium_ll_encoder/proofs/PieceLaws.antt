@@ -23,14 +23,14 @@ use Rattle.ciborium_ll_text.proofs.Utf8Laws.{written, from_std}
 use Rattle.ciborium_ll_text.proofs.CutLaws.{starts}
 use Rattle.ciborium_ll_grammar.proofs.ValueLaws.{full_piece_first}
 
--- ---- pieces in front of a rest
+-- ---- pieces before a rest
 
--- with any pieces of the rest behind them these members are pieces of the value
+-- With any pieces of the rest after them, the members `done` are pieces of the value.
 abbrev pub Leads : Kind → ℕ → List ℕ → List (List ℕ) → List ℕ → Type 0
 Leads kind limit value done rest = (others : List (List ℕ)) → ArePieces kind limit rest others
     → ArePieces kind limit value (done ++ others)
 
--- as many bytes as the limit lead the rest
+-- A piece of as many bytes as the limit goes before any pieces of the rest.
 pub bytes_lead : (limit : ℕ) (value piece behind : List ℕ) → value ≡ piece ++ behind → length piece ≡ limit
     → Leads Bytes limit value (piece ∷ []) behind
 bytes_lead limit value piece behind whole len others o =
@@ -38,14 +38,14 @@ bytes_lead limit value piece behind whole len others o =
 
 -- ---- places of a text
 
--- no place behind n is within the limit
+-- No place of the text after `n` is within the limit. A place is the beginning of a character, or the end.
 abbrev pub IsLastWithin : ℕ → List ℕ → ℕ → Type 0
 IsLastWithin limit text n = (other : ℕ) → n < other → other ≤ limit → ¬ (IsCharBoundary text other)
 
--- of a text, at the last place within the limit
+-- At `n`, the last place of a text within the limit.
 module _ {limit n : ℕ} {text : List ℕ} (u : IsUtf8 text) (b : IsCharBoundary text n) (last : IsLastWithin limit text n)
   where
-    -- behind a character is a place, so it isn't within the limit
+    -- The end of a character after `n` is a place, so it is past the limit.
     too_far : (character rest : List ℕ) → IsCharacter character → drop n text ≡ character ++ rest
         → limit < n + length character
     too_far character rest p e =
@@ -58,14 +58,14 @@ module _ {limit n : ℕ} {text : List ℕ} (u : IsUtf8 text) (b : IsCharBoundary
               (e ∙ ap (λ (z : List ℕ). z ++ rest) (sym w.is)))))
         ]
 
-    -- it is at most three bytes in front of the limit
+    -- The last place is at most three bytes before the limit.
     pub near_limit : n ≤ limit → limit < length text → limit ≤ n + 3
     near_limit within longer =
         let left : 0 < length (drop n text) = omega (arith, length-drop n text) in
         let s = starts (drop n text) (from_std (drop n text) (IsUtf8-drop text n u b)) left in
         omega (arith, (character_length s.char s.ok).1, too_far s.char s.rest s.ok s.is)
 
-    -- it ends a member that is filled: the first character behind it doesn't fit
+    -- The text before `n` is a filled member: the first character after `n` does not fit.
     filled_first : (others : List (List ℕ)) → drop n text ≡ joined others → AreFilled limit others
         → AreFilled limit (take n text ∷ others)
     filled_first [] e f = tt
@@ -76,7 +76,7 @@ module _ {limit n : ℕ} {text : List ℕ} (u : IsUtf8 text) (b : IsCharBoundary
       f,
     )
 
-    -- the front of the text up to it leads the rest
+    -- The text before `n` goes before any pieces of the rest.
     pub text_leads : {piece behind : List ℕ} → piece ≡ take n text → behind ≡ drop n text → n ≤ limit → 0 < n
         → Leads Text limit text (piece ∷ []) behind
     text_leads p q within some others o =
@@ -91,7 +91,7 @@ module _ {limit n : ℕ} {text : List ℕ} (u : IsUtf8 text) (b : IsCharBoundary
           filled = filled_first others rest o.filled;
         })
 
--- the first character fits a limit of at least 4
+-- The first character fits a limit of at least 4, so the last place is not 0.
 pub some_within : (limit : ℕ) (text : List ℕ) (n : ℕ) → IsUtf8 text → 0 < length text → 4 ≤ limit
     → IsLastWithin limit text n → 0 < n
 some_within limit text zero u l four last =
@@ -100,22 +100,22 @@ some_within limit text zero u l four last =
     absurd (omega (arith, (character_length s.char s.ok).1))
 some_within limit text (suc n) u l four last = omega arith
 
--- no text begins with a later byte of a character
+-- No text begins with a later byte of a character.
 pub past_tail : (text : List ℕ) (n : ℕ) → IsUtf8 text → n < length text → IsTail (get_or text n 0) → 0 < n
 past_tail text n u l tail = let start = IsCharBoundary-start text u in grind arith
 
--- where no later byte of a character stands is a place
+-- An offset at which no later byte of a character stands is a place.
 pub at_no_tail : (text : List ℕ) (n : ℕ) → n ≤ length text → ¬ (IsTail (get_or text n 0)) → IsCharBoundary text n
 at_no_tail text n within none = grind arith
 
--- ---- what a rest that fits has as its pieces
+-- ---- the pieces of a rest that fits
 
--- bytes within the limit are one piece
+-- Bytes within the limit are one piece.
 pub bytes_last : (limit : ℕ) (rest : List ℕ) → 0 < length rest → length rest ≤ limit
     → ArePieces Bytes limit rest (rest ∷ [])
 bytes_last limit rest some fits = (sym (append-nil rest), (some, fits))
 
--- a text within the limit is one piece
+-- A text within the limit is one piece.
 pub text_last : (limit : ℕ) (rest : List ℕ) → IsUtf8 rest → 0 < length rest → length rest ≤ limit
     → ArePieces Text limit rest (rest ∷ [])
 text_last limit rest u some fits = record {
@@ -127,19 +127,19 @@ text_last limit rest u some fits = record {
 -- ---- pieces that are written
 
 module _ {W F : Type 0} (sink : Ghosts W F) where
-  -- the first pieces of a value were written, and the rest is left
+  -- The first pieces of a value were written, and the rest is left.
   pub record Progress (kind : Kind) (limit : ℕ) (value : List ℕ) (old : W) (rest : List ℕ) (current : W) : Type 0 where
     pub done : List (List ℕ)
     pub leads : Leads kind limit value done rest
     pub written : WritesAll sink old (spelling (pieces kind done)) current
 
-  -- the bytes of a piece, and its title in front of them
+  -- The title of a piece, and then its bytes.
   abbrev pub titled : Kind → List ℕ → List ℕ → List ℕ
   titled kind piece body = shortest_title (kind_header kind (Some (length piece))) ++ body
 
   module _ {k : Kind} {limit : ℕ} {value rest : List ℕ} {old current new : W} (piece body : List ℕ)
       (same : body ≡ piece) (p : Progress k limit value old rest current) where
-    -- one piece more is written
+    -- One more piece is written.
     pub Progress-more : (behind : List ℕ) → Leads k limit rest (piece ∷ []) behind
         → WritesAll sink current (titled k piece body) new → Progress k limit value old behind new
     Progress-more behind leads all = record {
@@ -149,7 +149,7 @@ module _ {W F : Type 0} (sink : Ghosts W F) where
           (WritesBytes-then sink {T = Unit {0}} old current new (Ok (tt {0})) _ _ p.written (rw same at all));
     }
 
-    -- the writer failed at a piece, with others behind it
+    -- The writer failed at a piece that others follow.
     pub Progress-stopped : {T : Type 0} (result : Result T F) → IsErr result → (behind : List ℕ)
         (others : List (List ℕ)) → Leads k limit rest (piece ∷ []) behind → ArePieces k limit behind others
         → WritesFront sink current (titled k piece body) new → WritesPieces sink k limit value old result new
@@ -160,7 +160,7 @@ module _ {W F : Type 0} (sink : Ghosts W F) where
           (WritesBytes-stopped sink current new result (body_spelling k piece) _ e (rw same at front)));
     }
 
-    -- the rest is written as the last piece
+    -- The rest is written as the last piece.
     pub Progress-last : {T : Type 0} (result : Result T F) → piece ≡ rest → ArePieces k limit rest (rest ∷ [])
         → WritesBytes sink current result (titled k piece body) new → WritesPieces sink k limit value old result new
     Progress-last result is last next = record {

@@ -1,4 +1,4 @@
--- Writes in two steps, in the words of the contracts of the steps. By these lemmas the check finds the clauses of a
+-- Writes in two steps, in the terms of the contracts of the steps. From these lemmas the prover finds the clauses of a
 -- function that makes these calls, whatever the form of its body.
 use Rattle.std.proofs.Common.{◌≡◌, ℕ, ◌+◌, ◌<◌, ◌≤◌, max, List, [], ◌∷◌, ◌++◌, length, append-nil, sym, ◌∙◌, arith}
 use Rattle.std.proofs.Common.{Option, None, Some, Result, Ok, Err, IsErr, IfSome, OnOk}
@@ -18,13 +18,13 @@ use Rattle.ciborium_ll_grammar.proofs.ValueLaws.{pieces_exist, fewest_segments}
 use Rattle.ciborium_ll_text.proofs.Utf8Laws.{from_std}
 use Rattle.ciborium_ll_encoder.proofs.EncodingLaws.{WritesBytes-stopped, WritesBytes-then}
 
--- the limit is the one that is asked for, or the value's length, raised to the least one
+-- The limit is the requested one or the value's length, and at least the least limit of the kind.
 limit_is : (k : Kind) (segment : Option ℕ) (value : List ℕ)
     → max (least_limit k) (unwrap_or segment (length value)) ≡ value_limit k segment value
 limit_is k segment value = grind arith
 
 module _ {W F : Type 0} (sink : Ghosts W F) where
-  -- a first byte, and the bytes behind it
+  -- A first byte was written, and then the bytes after it.
   pub behind_byte : {T : Type 0} (old mid new : W) (result : Result T F) (first byte : ℕ) (affix : List ℕ)
       → first ≡ byte → Appends (sink.written old) (sink.written mid) (first ∷ [])
       → Shrinks (sink.room old) (sink.room mid) 1 → sink.failures mid ≡ sink.failures old
@@ -33,7 +33,7 @@ module _ {W F : Type 0} (sink : Ghosts W F) where
       rw (sym same) (WritesBytes-then sink old mid new result (first ∷ []) affix
       (record { appended = appended; room = room; failures = failures }) next)
 
-  -- a first byte that wasn't written, so that nothing behind it is
+  -- A first byte was not written, and so nothing after it.
   pub byte_unwritten : {T : Type 0} (old new : W) (result : Result T F) (first byte : ℕ) (affix : List ℕ) → IsErr result
       → first ≡ byte → AppendsFront (sink.written old) (sink.written new) (sink.room old) (sink.room new) (first ∷ [])
       → IfSome (sink.room old) (λ n. n < 1) → sink.failures new ≡ sink.failures old + 1
@@ -42,7 +42,7 @@ module _ {W F : Type 0} (sink : Ghosts W F) where
       rw (sym same) (WritesBytes-stopped sink old new result (first ∷ []) affix fails
       (record { front = front; full = full; failures = failures }))
 
-  -- a value in one string of a definite length, whose body is the value
+  -- A value was written as one string of a definite length.
   pub value_in_one : {T : Type 0} {old new : W} {result : Result T F} {kind : Kind} {segment : Option ℕ}
       {value body : List ℕ} {limit : ℕ} → limit ≡ max (least_limit kind) (unwrap_or segment (length value))
       → length value ≤ limit → body ≡ value
@@ -57,7 +57,7 @@ module _ {W F : Type 0} (sink : Ghosts W F) where
   module _ {T : Type 0} {old new : W} {result : Result T F} {kind : Kind} {segment : Option ℕ} {value : List ℕ}
       {limit : ℕ} (is : limit ≡ max (least_limit kind) (unwrap_or segment (length value)))
       (longer : limit < length value) where
-    -- a longer value, in pieces
+    -- A longer value was written in pieces.
     in_open : (members : List (List ℕ)) → ArePieces kind limit value members → WritesBytes sink old result
         (shortest_title (kind_header kind None) ++ (spelling (pieces kind members) ++ 0xff ∷ [])) new
         → WritesValue sink kind segment value old result new
@@ -69,7 +69,7 @@ module _ {W F : Type 0} (sink : Ghosts W F) where
           bytes = rw open_spelled bytes;
         }
 
-    -- one whose open wasn't written
+    -- The open of a longer value was not written.
     pub value_unopened : IsErr result → IsWritable kind value
         → WritesFront sink old (shortest_title (kind_header kind None)) new
         → WritesValue sink kind segment value old result new
@@ -77,7 +77,7 @@ module _ {W F : Type 0} (sink : Ghosts W F) where
         let p = pieces_exist kind limit value (omega arith) sound longer in
         in_open p.0 p.1 (WritesBytes-stopped sink old new result _ _ fails front)
 
-    -- one of whose pieces one wasn't written
+    -- One piece of a longer value was not written.
     pub value_cut : {opened : W} {fault : F} → IsErr result
         → WritesAll sink old (shortest_title (kind_header kind None)) opened
         → WritesPieces sink {T = T} kind limit value opened (Err fault) new
@@ -86,7 +86,7 @@ module _ {W F : Type 0} (sink : Ghosts W F) where
         in_open p.members p.are_pieces (WritesBytes-then sink old opened new result _ _ all
         (WritesBytes-stopped sink opened new result _ _ fails p.bytes))
 
-    -- one whose pieces were written, and then its break or not
+    -- The pieces of a longer value were written, and then its break, or not.
     pub value_closed : {opened last : W} {done : T} → WritesAll sink old (shortest_title (kind_header kind None)) opened
         → WritesPieces sink {T = T} kind limit value opened (Ok done) last
         → WritesBytes sink last result (0xff ∷ []) new → WritesValue sink kind segment value old result new
@@ -94,7 +94,7 @@ module _ {W F : Type 0} (sink : Ghosts W F) where
         in_open p.members p.are_pieces (WritesBytes-then sink old opened new result _ _ all
         (WritesBytes-then sink opened last new result _ _ p.bytes close))
 
-  -- a text that is written in pieces is written in the fewest
+  -- A text that is written in pieces is written in as few as the limit allows.
   pub in_fewest : {T : Type 0} (old new : W) (result : Result T F) (segment : Option ℕ) (text : List ℕ) → IsUtf8 text
       → WritesValue sink Text segment text old result new
       → OnOk result (0 < length text → WritesFewest sink (value_limit Text segment text) text old new)
@@ -103,5 +103,5 @@ module _ {W F : Type 0} (sink : Ghosts W F) where
       search
   in_fewest old new (Err fault) segment text is_text writes = tt
 
--- what is said of a byte string
+-- The lemmas on values of bytes and of text.
 pub ruleset values = (value_in_one, value_unopened, value_cut, value_closed)

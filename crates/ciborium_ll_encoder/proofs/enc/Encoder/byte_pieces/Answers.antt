@@ -7,7 +7,7 @@ use Rattle.ciborium_ll_encoder.proofs.enc.Encoder.byte_pieces.Given as given
 use Rattle.ciborium_ll_encoder.proofs.enc.Encoder.byte_pieces.Goals as goal
 use Rattle.ciborium_ll_encoder.proofs.enc.Encoder.byte_pieces.Goals.{After-split_at}
 
--- the piece that was split off leads what is behind it
+-- The piece that was split off goes before any pieces of the rest.
 leads : (g : given.Over) (c : After-split_at g)
     → Leads Bytes c.args.limit c.pieces.rest.now (c.split_at.result.0.now ∷ []) c.split_at.result.1.now
 leads g c = bytes_lead c.args.limit c.pieces.rest.now _ _ c.split_at.ensures.by_index.0 c.split_at.ensures.front_len

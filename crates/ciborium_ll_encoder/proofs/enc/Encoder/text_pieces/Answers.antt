@@ -10,7 +10,7 @@ use Rattle.ciborium_ll_encoder.proofs.enc.Encoder.text_pieces.Given as given
 use Rattle.ciborium_ll_encoder.proofs.enc.Encoder.text_pieces.Goals as goal
 use Rattle.ciborium_ll_encoder.proofs.enc.Encoder.text_pieces.Goals.{After-split_at}
 
--- the piece that was split off leads what is behind it
+-- The piece that was split off goes before any pieces of the rest.
 leads : (g : given.Over) (c : After-split_at g)
     → Leads Text c.args.limit c.pieces.rest.now (c.split_at.result.0.now ∷ []) c.split_at.result.1.now
 leads g c =
@@ -18,7 +18,7 @@ leads g c =
     text_leads c.pieces.invariant.utf8 first.boundary first.longest c.split_at.ensures.front c.split_at.ensures.back
     first.within first.some
 
--- what is behind the piece is a text
+-- The rest after the piece is a text.
 behind_is_text : (g : given.Over) (c : After-split_at g) → IsUtf8 c.split_at.result.1.now
 behind_is_text g c =
     rw c.split_at.ensures.back

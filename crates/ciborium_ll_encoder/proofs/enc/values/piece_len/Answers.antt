@@ -4,13 +4,13 @@ use Rattle.ciborium_ll_encoder.proofs.PieceLaws.{at_no_tail, near_limit, past_ta
 use Rattle.ciborium_ll_encoder.proofs.enc.values.piece_len.Goals as goal
 use Rattle.ciborium_ll_encoder.proofs.enc.values.piece_len.Goals.{In-shorter, After-shorter}
 
--- the length isn't 0 at a later byte of a character
+-- At a later byte of a character the length is not 0.
 some_left : (c : In-shorter) → 0 < c.shorter.len
 some_left c =
     past_tail c.args.text.now c.shorter.len c.utf8.text (omega arith)
     (rw c.as_bytes-bytes.ensures.value at (c.is_continuation.ensures.0 c.shorter-test.true))
 
--- behind the loop a character begins
+-- After the loop a character begins at the length.
 boundary : (c : After-shorter) → IsCharBoundary c.args.text.now c.shorter.len
 boundary c =
     at_no_tail c.args.text.now c.shorter.len (omega arith)
