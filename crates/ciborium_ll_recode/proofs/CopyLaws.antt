@@ -1,5 +1,5 @@
--- The copy of one element, by its parts: how it goes on, and at which points it stops. The copy gives a body to an
--- encoder, which passes it on to its writer.
+-- The copy of one element, by its parts: how the copy goes on, and the points at which it stops. The copy gives a body
+-- to an encoder, which passes the body on to its writer.
 use Rattle.std.proofs.Common.{◌≡◌, ℕ, suc, ◌+◌, ◌-◌, ◌<◌, ◌≤◌, List, [], ◌∷◌, ◌++◌, length, Some, None, Result, Ok, Err}
 use Rattle.std.proofs.Common.{refl, sym, ap, subst, ◌∙◌, ◌⊎◌, inl, inr, arith, append_assoc, append-nil, length-append}
 use Rattle.std.specs.List.{AllByRecursion}
@@ -40,28 +40,28 @@ use Rattle.ciborium_ll_encoder.specs.declared.enc.Encoder.{Encoder}
 use Rattle.ciborium_ll_encoder.specs.Encoding.{writer_of}
 use Rattle.ciborium_ll_recode.specs.Sides.{sides_of}
 
--- ---- whether a header waits behind a run
+-- ---- whether a header waits after a run
 
--- an element has a byte
+-- An element has at least one byte.
 element_some : (w : List ℕ) (ms : List Mark) → IsElement w ms → 0 < length w
 element_some w ms e = grind (arith, title_some, length-append {A = ℕ})
 
--- behind some elements no header waits
+-- After at least one element no header waits.
 pub run_settled : {R : Type 0} (count : ℕ) (old new : Decoder R) (bytes : List ℕ) (marks : List Mark)
     → IsRun count bytes marks → ((bytes ≡ []) × (new ≡ old)) ⊎ (new.waiting ≡ None)
     → 0 < count → new.waiting ≡ None
 run_settled count old new bytes marks run way some = grind (arith, element_some, length-append {A = ℕ})
 
--- behind none one waits just where one waited
+-- After no element a header waits exactly if one waited before.
 pub run_still : {R E : Type 0} (source : Reader R E) (count : ℕ) (old new : Decoder R) (bytes : List ℕ)
     (marks : List Mark) → IsRun count bytes marks → ReadsPast source old bytes new
     → count ≡ 0 → new.waiting ≡ old.waiting
 run_still source count old new bytes marks run passed is = grind (arith, shortest_some, length-append {A = ℕ})
 
--- ---- what is written, to an encoder as to its writer
+-- ---- writes to an encoder as a writer
 
 module _ {R E W F : Type 0} (source : Reader R E) (sink : Writer W F) where
-  -- an encoder as a writer passes on to its own
+  -- An encoder as a writer, which passes the bytes on to its own writer.
   abbrev pub passing_on : Writer (Encoder W) F
   passing_on = record {
     written = λ encoder. sink.written (writer_of encoder);
@@ -78,7 +78,7 @@ module _ {R E W F : Type 0} (source : Reader R E) (sink : Writer W F) where
     front_passed_on : WritesFront passing_on old bytes new → WritesFront sink (writer_of old) bytes (writer_of new)
     front_passed_on stopped = assumption
 
-  -- a body that was copied to an encoder was copied to its writer
+  -- A body that was copied to an encoder was copied to the writer of the encoder.
   pub through_encoder : (kind : Kind) (len room place : ℕ) (old new : Decoder R) (encoder encoder' : Encoder W)
       (result : Result (Unit {0}) (RecodeError E F))
       → CopiesBody source passing_on kind len room place (sides old encoder) result (sides new encoder')
@@ -88,7 +88,7 @@ module _ {R E W F : Type 0} (source : Reader R E) (sink : Writer W F) where
   through_encoder kind len room place old new encoder encoder' (Err (r.Write fault)) stops =
       search (all_passed_on, front_passed_on)
 
--- a copy hands on what the write of a header's shortest title answered
+-- A copy hands on the answer of the write of a header's shortest title.
 pub title_answered : {E W F : Type 0} (sink : Writer W F) (old : W) (wrote : Result (Unit {0}) F)
     (answer : Result (Unit {0}) (RecodeError E F)) (bytes : List ℕ) (header : Header) (new : W)
     → WritesBytes sink old wrote bytes new → bytes ≡ shortest_title header
@@ -96,7 +96,7 @@ pub title_answered : {E W F : Type 0} (sink : Writer W F) (old : W) (wrote : Res
     → WritesHeader sink old answer header new
 title_answered sink old wrote answer bytes header new writes same cases = grind arith
 
--- the last title of an element is the next write
+-- The last title of an element is the next write.
 next_element : {count before : ℕ} (room : ℕ) {bytes : List ℕ} (marks : List Mark) (mark : Mark) (header : Header)
     → mark_spelling mark ≡ shortest_title header → before < count → IsRun (suc before) bytes (marks ++ mark ∷ [])
     → NextWrite count room bytes [] (spelling marks) (shortest_title header)
@@ -111,7 +111,7 @@ module _ {R E W F : Type 0} (source : Reader R E) (sink : Writer W F) where
   writes_then {writer} {between} {writer'} {xs} {ys} first second =
       WritesBytes-then sink {T = Unit {0}} writer between writer' (Ok (tt {0})) xs ys first second
 
-  -- marks, and more marks, are written
+  -- Marks are written, and then more marks.
   pub marks_then : {writer between writer' : W} (marks others : List Mark)
       → WritesAll sink writer (spelling marks) between → WritesAll sink between (spelling others) writer'
       → WritesAll sink writer (spelling (marks ++ others)) writer'
@@ -122,16 +122,16 @@ module _ {R E W F : Type 0} (source : Reader R E) (sink : Writer W F) where
       → WritesAll sink writer (spelling (marks ++ mark ∷ [])) writer'
   mark_then marks mark first second = marks_then marks (mark ∷ []) first (rw append-nil second)
 
-  -- what is written up to a front of a body
+  -- The marks, the title of a body and a front of the body are written.
   pub front_then : {writer between titled writer' : W} (marks : List Mark) (kind : Kind) (len : ℕ) {front : List ℕ}
       → WritesAll sink writer (spelling marks) between
       → WritesAll sink between (shortest_title (kind_header kind (Some len))) titled
       → WritesAll sink titled front writer' → WritesAll sink writer (with_front marks kind len front) writer'
   front_then marks kind len all title front = writes_then all (writes_then title front)
 
-  -- ---- where a copy stops
+  -- ---- the points at which a copy stops
 
-  -- behind what was copied this point is reached
+  -- After the bytes that were copied, the copy is at this point.
   pub record StandsAt (count : ℕ) (old : Sides R W) (bytes : List ℕ) (marks : List Mark) (point : Point)
       (now : Sides R W) : Type 0 where
     pub reach : Reaches count bytes marks point
@@ -142,7 +142,7 @@ module _ {R E W F : Type 0} (source : Reader R E) (sink : Writer W F) where
       → StopsAtTitle source sink count old error new → StopsCopy source sink count room old (r.Read error) new
   title_error room error stops = grind arith
 
-  -- no title was pulled
+  -- No title was pulled, so the copy stops.
   pub title_stops : {count : ℕ} (room : ℕ) {old now : Sides R W} {bytes : List ℕ} {marks : List Mark} {point : Point}
       → StandsAt count old bytes marks point now → IsAtTitle point → due_title point ≡ [] → (new : Decoder R)
       (error : Error E) → DecoderPullAnswer source now.decoder (Err error) new
@@ -151,7 +151,7 @@ module _ {R E W F : Type 0} (source : Reader R E) (sink : Writer W F) where
       let strict = rw alone at stands.strict in
       title_error room error (search)
 
-  -- a title was not written: the only error of its write is the writer's
+  -- A title was not written, so the copy stops. The only error of its write is that of the writer.
   pub header_stops : {count room : ℕ} {old now : Sides R W} {bytes : List ℕ} {marks : List Mark} (header : Header)
       (error : RecodeError E F) (after : W)
       → NextWrite count room bytes [] (spelling marks) (shortest_title header) → Copied source sink old bytes marks now
@@ -166,7 +166,7 @@ module _ {R E W F : Type 0} (source : Reader R E) (sink : Writer W F) where
       → StopsInBody source sink count room old error new → StopsCopy source sink count room old (r.Read error) new
   body_error room error stops = grind arith
 
-  -- the copy of a body stopped, behind its title
+  -- The copy of a body stopped after its title, so the whole copy stops.
   pub body_stops : {count : ℕ} (room : ℕ) {old between : Sides R W} {bytes : List ℕ} {marks : List Mark} {k : Kind}
       {len start : ℕ} → StandsAt count old bytes marks (BodyDue k len start) between → {titled : W}
       → WritesAll sink between.writer (shortest_title (kind_header k (Some len))) titled → (new : Sides R W)
@@ -185,7 +185,7 @@ module _ {R E W F : Type 0} (source : Reader R E) (sink : Writer W F) where
 
   -- ---- the title of an element
 
-  -- a title more was pulled
+  -- One more title was pulled.
   pub copied_pulled : {old now : Sides R W} {bytes : List ℕ} {marks : List Mark} {header : Header} {new : Decoder R}
       → Copied source sink old bytes marks now → (pulled : PullsTitle source now.decoder header new)
       → (IsSteady source old.decoder → IsSteady source new)
@@ -194,21 +194,21 @@ module _ {R E W F : Type 0} (source : Reader R E) (sink : Writer W F) where
       let passed = ReadsPast-pulled source old.decoder now.decoder new bytes header pulled copied.passed steady in
       search
 
-  -- of a strict decoder it is a strict title
+  -- A strict decoder pulled a strict title.
   pub title_taken : {old now : Sides R W} {bytes : List ℕ} {marks : List Mark} {header : Header} {new : Decoder R}
       → Copied source sink old bytes marks now → (pulled : PullsTitle source now.decoder header new)
       → Strictly old.decoder (IsStrictTitle pulled.title header)
   title_taken {old} {now} copied pulled = λ on none. pulled.strict (copied.passed.mode ∙ on)
       (passes_settled source old.decoder now.decoder _ copied.passed none)
 
-  -- a header's shortest title fits before the offset behind it
+  -- The offset after a header is at least the length of its shortest title.
   pub pulled_covers : (old new : Decoder R) (header : Header) → PullsTitle source old header new
       → title_len header ≤ new.offset
   pulled_covers old new header pulled =
       omega (arith, pulled.offset, shortest_no_longer pulled.title header pulled.is_title)
 
   module _ {count before : ℕ} {old now : Sides R W} (behind : IsBehind source sink count before [] old now) where
-    -- behind whole elements one is due
+    -- After whole elements, one more is due.
     stands_due : StandsAt count old behind.bytes behind.marks Due now
     stands_due =
         record { reach = due behind.due behind.run; copied = rw append-nil at behind.copied; strict = behind.strict }
@@ -217,7 +217,7 @@ module _ {R E W F : Type 0} (source : Reader R E) (sink : Writer W F) where
         → StopsCopy source sink count room old (r.Read error) (sides new now.writer)
     pull_stops room new error fails = title_stops room stands_due tt refl new error fails
 
-  -- behind its title the copy of an element goes on
+  -- The copy of an element goes on after its title.
   pub element_copied : {now : Sides R W} {header : Header} (room : ℕ) (result : Result (Unit {0}) (RecodeError E F))
       (new : Sides R W) {between : Decoder R} → PullsTitle source now.decoder header between
       → (IsSteady source now.decoder → IsSteady source between)
@@ -228,7 +228,7 @@ module _ {R E W F : Type 0} (source : Reader R E) (sink : Writer W F) where
       let copied = copied_pulled stands.copied pulled (λ s. steady (behind.copied.passed.steady s)) in
       goes_on count before old pulled.title pulled.is_title (title_taken behind.copied pulled) (search)
 
-  -- ---- an element more
+  -- ---- one element more
 
   added : {before : ℕ} {old new : Sides R W} {bytes : List ℕ} {marks : List Mark} (w : List ℕ) (ms : List Mark)
       → IsRun before bytes marks → Strictly old.decoder (IsStrictSpelling bytes marks []) → IsElement w ms
@@ -245,7 +245,7 @@ module _ {R E W F : Type 0} (source : Reader R E) (sink : Writer W F) where
 
   module _ {count before : ℕ} {title : List ℕ} {old now : Sides R W}
       (behind : IsBehind source sink count before title old now) where
-    -- a header that begins no string
+    -- The copy of a header that begins no string goes on.
     pub plain_goes_on : (room : ℕ) (header : Header) (result : Result (Unit {0}) (RecodeError E F)) (after : W)
         → IsPlain header → IsTitle title header → Strictly old.decoder (IsStrictTitle title header)
         → WritesHeader sink now.writer result header after
@@ -263,12 +263,12 @@ module _ {R E W F : Type 0} (source : Reader R E) (sink : Writer W F) where
     -- ---- a string of a definite length
 
     module _ (k : Kind) (len room : ℕ) (t : IsTitle title (kind_header k (Some len))) where
-      -- the title of its body is the next write
+      -- The title of the body is the next write.
       pub definite_next : NextWrite count room (behind.bytes ++ title) [] (spelling behind.marks)
           (shortest_title (kind_header k (Some len)))
       definite_next = Titled behind.marks k len _ (body k (due behind.due behind.run) t)
 
-      -- its body, with its answer
+      -- The copy of the body gives the answer of the element.
       pub definite_goes_on : Strictly old.decoder (IsStrictTitle title (kind_header k (Some len))) → (place : ℕ)
           → place + title_len (kind_header k (Some len)) ≡ now.decoder.offset → (titled : W)
           → WritesAll sink now.writer (shortest_title (kind_header k (Some len))) titled → (new : Sides R W)
@@ -287,7 +287,8 @@ module _ {R E W F : Type 0} (source : Reader R E) (sink : Writer W F) where
           let first = rw lengths at (only on none) in
           (ap (λ (z : List ℕ). z ++ b) first.shortest ∙ sym (append-nil _), (tt, tt)))
       definite_goes_on only place at titled wrote new (Err error) stopped =
-          -- the place of a body is where its shortest title would begin, behind a title of any length
+          -- The place of a body is the offset from which its shortest title would reach the body, however long its
+          -- title was.
           let start = length (behind.bytes ++ title) - title_len (kind_header k (Some len)) in
           let placed : place ≡ old.decoder.offset + start = omega
           (arith, at, behind.copied.passed.offset, shortest_no_longer title _ t, length-append behind.bytes title) in
@@ -302,7 +303,7 @@ module _ {R E W F : Type 0} (source : Reader R E) (sink : Writer W F) where
     -- ---- a string of indefinite length
 
     module _ (k : Kind) (t : IsTitle title (kind_header k None)) where
-      -- its open was written
+      -- The open was written.
       pub opened_within : (titled : W) → WritesAll sink now.writer (shortest_title (kind_header k None)) titled
           → IsWithin source sink count before k old (sides now.decoder titled)
       opened_within titled wrote =
@@ -311,7 +312,7 @@ module _ {R E W F : Type 0} (source : Reader R E) (sink : Writer W F) where
           let written = mark_then behind.marks (Open k) behind.copied.written wrote in
           search
 
-      -- its open is the next write
+      -- The open is the next write.
       pub open_next : (room : ℕ) → NextWrite count room (behind.bytes ++ title) [] (spelling behind.marks)
           (shortest_title (kind_header k None))
       open_next room =
@@ -319,7 +320,7 @@ module _ {R E W F : Type 0} (source : Reader R E) (sink : Writer W F) where
           inside behind.due behind.run (opened t none) (sound_none k) in
           Alone behind.marks (Open k) (kind_header k None) refl (inr (In k, rw append-nil at reach, tt))
 
-  -- its close
+  -- The break of a string was written, or was not.
   pub close_goes_on : {count before : ℕ} {old now : Sides R W} {k : Kind} (room : ℕ)
       (result : Result (Unit {0}) (RecodeError E F)) (after : W)
       → before < count → ReadsString source sink before k old now
@@ -337,7 +338,7 @@ module _ {R E W F : Type 0} (source : Reader R E) (sink : Writer W F) where
 
   -- ---- the loop over elements
 
-  -- one element more is due
+  -- One more element is due.
   pub run_behind : (count before : ℕ) (old now : Sides R W) → before < count → CopiesRun source sink before old now
       → IsBehind source sink count before [] old now
   run_behind count before old now less run =
@@ -348,18 +349,18 @@ module _ {R E W F : Type 0} (source : Reader R E) (sink : Writer W F) where
       → CopiesRun source sink (before + 1) old now
   added_run before old now added = subst (λ (n : ℕ). CopiesRun source sink n old now) (omega arith) added
 
-  -- the error of an element stops the whole copy
+  -- The error of an element stops the whole copy.
   pub one_stops : (count before room size : ℕ) (old now : Sides R W) (error : RecodeError E F)
       → IsBehind source sink count before [] old now → size ≡ room → {new : Sides R W}
       → CopiesOne source sink size now (Err error) new → CopiesElements source sink count room old (Err error) new
   one_stops count before room size old now error behind same {new} one =
       subst (λ (n : ℕ). StopsCopy source sink count n old error new) same (one.copied count before old behind)
 
-  -- no element
+  -- Before the first element nothing was copied.
   pub run_none : (start : Sides R W) → CopiesRun source sink 0 start start
   run_none start = search (done, ReadsPast-none source start.decoder, Appends-nil, Shrinks-zero, spelled_none)
 
-  -- behind all elements
+  -- After the last element all elements were copied.
   pub copies_all : (count : ℕ) (old new : Sides R W) → CopiesRun source sink count old new
       → CopiesAll source sink count old new
   copies_all count old new run =

@@ -35,7 +35,7 @@ module _ {R E W F : Type 0} {strict : Bool} (source : Reader R E) (sink : Writer
       search
 
   module _ (new : Sides R W) where
-    -- behind a copy no header waits
+    -- After a copy no header waits.
     none_waits : CopiesFront source sink strict count due written old.decoder new → new.decoder.waiting ≡ None
     none_waits front = let none = alone.none_waits in grind (arith, none)
 

@@ -1,4 +1,4 @@
--- The titles of a number, as `Shortens` has them, are the titles of its header.
+-- The titles of a number in `Shortens` are the titles of its header.
 use Rattle.std.proofs.Common.{◌≡◌, ℕ, ◌+◌, ◌*◌, ◌<◌, ◌≤◌, ◌^◌, Bool, true, List, [], ◌∷◌, length, Option, Some, None}
 use Rattle.std.proofs.Common.{refl, sym, ap, ◌∙◌, arith, IfSome}
 use Rattle.std.proofs.lemmas.Bool.Decides.{nat_tests}
@@ -48,15 +48,15 @@ title_of title header (alone major named is) = rw is at (alone_of major)
 
 -- ---- the bytes of a number by its size
 
--- what a size says is its number
+-- The minor and the affix of a size say its number.
 pub says_of : (s : Size) (n : ℕ) → n < size_limit s → SaysNumber (minor_of s n) (affix_of s n) n
 says_of s n l = grind (arith, small, one, two, four, eight)
 
--- a number of a size is below 2^64
+-- A number of a size is below 2^64.
 pub size_below : (s : Size) (n : ℕ) → n < size_limit s → n < 2 ^ 64
 size_below s n l = grind arith
 
--- each title that says a number is of a size
+-- Each title that says a number has a size.
 sized : (m : Major) (n minor : ℕ) (affix : List ℕ) → SaysNumber minor affix n
     → HasNumber m n ((32 * major_code m + minor) ∷ affix)
 sized m n minor affix says = grind arith
@@ -65,7 +65,7 @@ pub has_number : (b : Bool) (m : Major) (n : ℕ) (title : List ℕ) → IsNumbe
     → HasNumber m n title
 has_number b m n title p = let z = sized m n p.minor p.affix p.says in (z.0, z.1, p.is ∙ z.2)
 
--- the affix of the least size has the fewest bytes
+-- The affix of the least size has the fewest bytes.
 least_fewest : (s : Size) (n : ℕ) → n < size_limit s → length (affix_of (least_size n) n) ≤ length (affix_of s n)
 least_fewest s n below = grind (arith, nat_tests)
 
@@ -73,7 +73,7 @@ fewest_least : (s : Size) (n : ℕ) → n < size_limit s → length (affix_of s 
     → s ≡ least_size n
 fewest_least s n below few = grind (arith, nat_tests)
 
--- the title of a size is one of its number, and the shortest one where it is that of the least size
+-- A title of a size is a title of its number. With the least size, it is the shortest title.
 pub taken_title : (b : Bool) (m : Major) (n : ℕ) (title : List ℕ) → HasNumber m n title
     → (b ≡ true → title ≡ shortest_numbered m n) → IsNumberTitle b (major_code m) n title
 taken_title b m n title z least =
@@ -92,7 +92,7 @@ pub least_title : (b : Bool) (m : Major) (n : ℕ) → n < 2 ^ 64 → IsNumberTi
 least_title b m n below =
     taken_title b m n (shortest_numbered m n) (least_size n, least_fits n below, refl) (λ on. refl)
 
--- a title with the fewest bytes is that of the least size
+-- A title with the fewest bytes has the least size.
 pub fewest_is : (m : Major) (n : ℕ) (title : List ℕ) → IsNumberTitle true (major_code m) n title
     → title ≡ shortest_numbered m n
 fewest_is m n title p =

@@ -1,4 +1,4 @@
--- A copy of elements if bytes are told, whichever side fails: how far it came, and the stop there.
+-- A copy of elements if bytes are told, whichever side fails: how far the copy came, and the stop there.
 use Rattle.std.proofs.Common.{◌≡◌, ℕ, Bool, ◌+◌, ◌-◌, ◌≤◌, List, [], ◌∷◌, ◌++◌, length, take, drop, Some, refl, sym, ap}
 use Rattle.std.proofs.Common.{true, subst, ◌^◌, max, None, Result, Ok, Err, ◌∙◌, inl, inr, arith, append_assoc}
 use Rattle.std.proofs.Common.{length-append}
@@ -38,7 +38,7 @@ use Rattle.ciborium_ll_recode.proofs.CopyLaws.{front_then, run_settled, run_stil
 use Rattle.ciborium_ll_text.proofs.Lists.{front_of, front_behind}
 use Rattle.ciborium_ll_text.proofs.FrontLaws.{no_text_behind}
 
--- the fault of a text's body
+-- A text body that is no text is a fault.
 damage : (strict : Bool) (bytes : List ℕ) (marks : List Mark) (len start : ℕ) (read front more ahead behind : List ℕ)
     → ahead ≡ read ++ behind → read ≡ front ++ more → IsCharacters front → length read ≤ len → IsNoText [] len read
     → FirstFault strict bytes marks (BodyDue Text len start) ahead (Syntax start) (with_front marks Text len front)
@@ -65,7 +65,7 @@ damage strict bytes marks len start read front more ahead behind split e text wi
 module _ {R E W F : Type 0} {strict : Bool} (source : Reader R E) (sink : Writer W F) (count room : ℕ)
     (old : Sides R W) (due written : List ℕ) where
   module _ (told : IsTold source sink strict old due written) where
-    -- how far a copy came
+    -- How far a copy came.
     pub record Came (bytes : List ℕ) (marks : List Mark) (now : Sides R W) : Type 0 where
       pub rest : List ℕ
       pub parts : due ≡ bytes ++ rest
@@ -95,12 +95,12 @@ module _ {R E W F : Type 0} {strict : Bool} (source : Reader R E) (sink : Writer
           still = run_still source count old.decoder new.decoder all.bytes all.marks all.run all.copied.passed;
         }
 
-    -- behind what was copied these bytes were consumed, and so much was written in all
+    -- After the bytes that were copied, the bytes `read` were consumed. In all, `out` was written.
     module _ {bytes : List ℕ} {marks : List Mark} {point : Point} {now : Sides R W}
         (reach : Reaches count bytes marks point) (copied : Copied source sink old bytes marks now) (new : Sides R W)
         (read : List ℕ) (offset : new.decoder.offset ≡ now.decoder.offset + length read) (out : List ℕ)
         (output : sink.written new.writer ≡ Some (written ++ out)) where
-      -- a fault
+      -- The copy met a fault.
       pub met : Strictly old.decoder (IsStrictSpelling bytes marks (due_title point))
           → Consumes (view source now.decoder) (view source new.decoder) read → (answer : Answer)
           → ((ahead behind : List ℕ) → view source now.decoder ≡ Some ahead → view source new.decoder ≡ Some behind
@@ -120,7 +120,7 @@ module _ {R E W F : Type 0} {strict : Bool} (source : Reader R E) (sink : Writer
             offset = omega (arith, offset, copied.passed.offset);
           }
 
-      -- a stop that is no fault
+      -- The copy stopped without a fault.
       short : ((ahead : List ℕ) → view source now.decoder ≡ Some ahead → StopsAt marks point ahead out (length read))
           → StopsShort source sink count due written old.decoder new
       short stops =
@@ -129,12 +129,12 @@ module _ {R E W F : Type 0} {strict : Bool} (source : Reader R E) (sink : Writer
           let stop : StopInReading count due = search in
           record { stop = stop; output = output; offset = omega (arith, offset, copied.passed.offset) }
 
-    -- a title or a body is no part of the grammar
+    -- The copy met a title or a body that is not part of the grammar.
     abbrev MeetsSyntax : ℕ → Sides R W → Type 0
     MeetsSyntax at new = (start : ℕ) × (at ≡ old.decoder.offset + start)
         × MeetsFault source sink strict count due written (Syntax start) old.decoder new
 
-    -- where a title is due no body's title is under way
+    -- If a title is due, no title of a body is under way.
     pub title_spelled : {error : Error E} {new : Sides R W} (stops : StopsAtTitle source sink count old error new)
         → Strictly old.decoder (IsStrictSpelling stops.bytes stops.marks (due_title stops.point))
     title_spelled stops = λ on none.
@@ -142,7 +142,7 @@ module _ {R E W F : Type 0} {strict : Bool} (source : Reader R E) (sink : Writer
         let spelled = stops.strict on none in
         grind arith
 
-    -- a byte with which no title begins, or a title that a strict decoder refuses
+    -- The copy met a byte that begins no title, or a title that a strict decoder refuses.
     no_title_told : (at : ℕ) (new : Sides R W) → StopsAtTitle source sink count old (e.Syntax at) new
         → MeetsSyntax at new
     no_title_told at new stops =
@@ -179,7 +179,7 @@ module _ {R E W F : Type 0} {strict : Bool} (source : Reader R E) (sink : Writer
               (stops.copied.passed.mode ∙ told.mode) stops.other.refused) split),
         )
 
-    -- what is written up to a front of a body
+    -- The bytes that are written up to a front of a body.
     pub front_output : {error : Error E} (new : Sides R W) (stops : StopsInBody source sink count room old error new)
         → sink.written new.writer
         ≡ Some (written ++ with_front stops.marks stops.kind stops.len stops.stopped.ends.part.front)
@@ -202,9 +202,9 @@ module _ {R E W F : Type 0} {strict : Bool} (source : Reader R E) (sink : Writer
               body.more ahead behind split body.parts body.sound body.within body.no_text)),
         )
 
-    -- ---- a stop that is no fault
+    -- ---- stops without a fault
 
-    -- of a body all that was read was consumed
+    -- All bytes that were read of a body are consumed.
     abbrev pub in_body : (marks : List Mark) {k : Kind} {len : ℕ} (start : ℕ) {between after : Decoder R}
         (part : BeginsRest source k [] len between after) (ahead behind : List ℕ) → ahead ≡ part.read ++ behind
         → StopsAt marks (BodyDue k len start) ahead (with_front marks k len part.front) (length part.read)
@@ -241,7 +241,7 @@ module _ {R E W F : Type 0} {strict : Bool} (source : Reader R E) (sink : Writer
         let gone = consumes_told _ _ ahead part.read is part.passed.consumed in
         in_body stops.marks stops.start part ahead gone.0 gone.2)
 
-    -- the offset can't take the next read
+    -- The offset can't take the next read.
     abbrev pub PassesAnyhow : Sides R W → Type 0
     PassesAnyhow new = StopsShort source sink count due written old.decoder new
         × (offset_limit ≤ new.decoder.offset + max 8 room)

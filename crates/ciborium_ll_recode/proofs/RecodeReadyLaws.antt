@@ -23,7 +23,7 @@ use Rattle.ciborium_ll_recode.proofs.RecodeAnyhowLaws.{recode_anyhow}
 
 module _ {R E W F : Type 0} {strict : Bool} (source : Reader R E) (sink : Writer W F) (count room : ℕ)
     (old : Sides R W) (due written : List ℕ) where
-  -- a steady reader fails only where bytes are missing, whatever the writer does
+  -- A steady reader fails only if bytes are missing, whether or not the writer fails.
   module _ (steady : IsSteady source old.decoder) (told : IsTold source sink strict old due written) where
     cut_title_told : (fault : E) (new : Sides R W) → StopsAtTitle source sink count old (e.Io fault) new
         → MeetsFault source sink strict count due written Short old.decoder new
@@ -62,7 +62,7 @@ module _ {R E W F : Type 0} {strict : Bool} (source : Reader R E) (sink : Writer
     short_told fault new (inr stops) = cut_body_told fault new stops
 
   module _ (ready : IsReady source sink strict count room old due written) where
-    -- the offset fits all reads
+    -- The offset fits all reads, so no read passes it.
     offset_fits : (new : Sides R W) → PassesAnyhow source sink count room old due written ready.told new → ⊥
     offset_fits new passes =
         let stop = passes.0.stop in

@@ -1,4 +1,5 @@
--- A copy of elements writes no more than was read, and no more than the spelling of the elements at the beginning.
+-- A copy of elements writes no more bytes than were read, and no more than the spelling of the elements at the
+-- beginning.
 use Rattle.std.proofs.Common.{◌≡◌, ℕ, ◌+◌, ◌≤◌, List, [], ◌∷◌, ◌++◌, length, take, drop, min, Some, None, sym, ap}
 use Rattle.std.proofs.Common.{false, subst, ◌∙◌, inl, inr, arith, append_assoc, append-nil, length-append}
 use Rattle.std.proofs.lemmas.Bool.{cases_lt}
@@ -22,11 +23,11 @@ use Rattle.ciborium_ll_grammar.proofs.StrictFaultLaws.{inside_shorter}
 use Rattle.ciborium_ll_decoder.proofs.NestLaws.{open_length}
 use Rattle.ciborium_ll_recode.specs.Recoding.{NextWrite, Alone, Titled, Chunk}
 
--- how long marks are spelled, one behind the other
+-- The length of the spelling of joined marks is the sum of both lengths.
 spelled_long : (ms ns : List Mark) → length (spelling (ms ++ ns)) ≡ length (spelling ms) + length (spelling ns)
 spelled_long ms ns = ap length (spelling-append ms ns) ∙ length-append (spelling ms) (spelling ns)
 
--- how long the pieces of bodies are
+-- The length of the spelling of the pieces of bodies.
 abbrev size : Kind → List (List ℕ) → ℕ
 size k bs = length (spelling (pieces k bs))
 
@@ -37,7 +38,7 @@ open_long : (k : Kind) (ms : List Mark) (bs : List (List ℕ))
     → length (spelling (ms ++ Open k ∷ pieces k bs)) ≡ length (spelling ms) + 1 + size k bs
 open_long k ms bs = omega (arith, spelled_long ms (Open k ∷ pieces k bs), open_length k, length-append {A = ℕ})
 
--- ---- no more than was read
+-- ---- no more bytes than were read
 
 reach_shorter : {count : ℕ} {bytes : List ℕ} {marks : List Mark} {point : Point} → Reaches count bytes marks point
     → length (spelling marks) + length (due_title point) ≤ length bytes
@@ -50,9 +51,9 @@ reach_shorter (body {bytes = u} {title = t} {len = l} k reach p) =
 reach_shorter (body_inside {bytes = u} {title = t} {len = l} {kind = k} reach p) =
     omega (arith, reach_shorter reach, shortest_no_longer t (kind_header k (Some l)) p, length-append {A = ℕ})
 
--- ---- what stands in front
+-- ---- elements at the beginning of the same bytes
 
--- of two runs in front of the same bytes the shorter one is spelled within the longer one
+-- Two runs begin the same bytes. The spelling of the one with fewer elements is no longer than that of the other.
 run_within : {i n : ℕ} {u w : List ℕ} {ms ns : List Mark} → IsRun i u ms → IsRun n w ns → i ≤ n → (x v : List ℕ)
     → u ++ x ≡ w ++ v → length (spelling ms) ≤ length (spelling ns)
 run_within done run l x v e = omega arith
@@ -63,7 +64,7 @@ run_within (next {first = a} {rest = b} {marks = os} {others = ps} p r)
     let same = ap (λ (z : List Mark). length (spelling z)) o.1 in
     omega (arith, run_within r s (omega arith) x v o.2, same, spelled_long)
 
--- strings and a break that stand there, with what is spelled before them within all
+-- The bytes begin with strings and then a break. Spelled after `before` bytes, their pieces end within `all` bytes.
 record Rest (k : Kind) (x v : List ℕ) (before all : ℕ) : Type 0 where
   strings : List ℕ
   bodies : List (List ℕ)
@@ -72,12 +73,12 @@ record Rest (k : Kind) (x v : List ℕ) (before all : ℕ) : Type 0 where
   cost : before + size k bodies ≤ all
 
 module _ {k : Kind} where
-  -- with more spelled before them
+  -- The fact also holds with more bytes spelled before, if `all` grows as much.
   rest_within : {x v : List ℕ} {before all before' all' : ℕ} → Rest k x v before all → before' + all ≤ all' + before
       → Rest k x v before' all'
   rest_within r shift = search arith
 
-  -- behind strings
+  -- Strings at the beginning of strings and a break leave strings and a break.
   goes : {w w' : List ℕ} {bs bs' : List (List ℕ)} → AreStrings k w bs → AreStrings k w' bs' → (x v : List ℕ)
       → w ++ x ≡ w' ++ 0xff ∷ v → Rest k x v (size k bs) (size k bs')
   goes {w' = w'} {bs' = bs'} none s' x v e =
@@ -90,14 +91,14 @@ module _ {k : Kind} where
       let same = ap (λ (z : List (List ℕ)). size k z) o.1 in
       rest_within (goes ss ss' x v o.2) (omega (arith, same, size-append))
 
-  -- the open in front of what is inside
+  -- The bytes inside a string begin with an open.
   first_open : {u : List ℕ} {os : List (List ℕ)} → IsInside k u os → (y : List ℕ)
       → (t : List ℕ) × (r : List ℕ) × IsTitle t (kind_header k None) × (u ++ y ≡ t ++ r)
   first_open {u} {os} i y =
       let z = opens_title k u (opens_of k u os i) in
       (z.0, z.1 ++ y, z.2, ap (λ (x : List ℕ). x ++ y) z.3 ∙ append_assoc z.0 z.1 y)
 
-  -- inside one of strings
+  -- If the bytes inside a string begin strings and a break, strings and a break are left.
   strings_rest : {u : List ℕ} {os : List (List ℕ)} → IsInside k u os → (y : List ℕ)
       → ((w : List ℕ) (bs : List (List ℕ)) → IsString k w bs → (q : List ℕ) → u ++ y ≡ w ++ q
       → (z : List ℕ) × Rest k y z (size k os) (size k bs)) → {w : List ℕ} {bs : List (List ℕ)} → AreStrings k w bs
@@ -109,7 +110,7 @@ module _ {k : Kind} where
       let m = rec a cs s (b ++ 0xff ∷ v) (e ∙ append_assoc a b (0xff ∷ v)) in
       (m.0, rest_within m.1 (omega (arith, size-append)))
 
-  -- behind what is inside a string
+  -- If the bytes inside a string begin a string, strings and a break are left.
   inside_rest : {u : List ℕ} {os : List (List ℕ)} → IsInside k u os → (y w : List ℕ) (bs : List (List ℕ))
       → IsString k w bs → (q : List ℕ) → u ++ y ≡ w ++ q → (z : List ℕ) × Rest k y z (size k os) (size k bs)
   inside_rest (opened {title = t} {strings = w} p s) y x bs (definite {title = t'} {body = b} p') q e =
@@ -122,7 +123,7 @@ module _ {k : Kind} where
       let m = strings_rest j y (inside_rest j y) g.1.ok g.0 g.1.is in
       (m.0, rest_within m.1 (omega (arith, g.1.cost, size-append)))
 
-  -- what is inside an element is spelled within it
+  -- The bytes inside an element, at its beginning, are spelled within its spelling.
   element_rest : {u w : List ℕ} {os : List (List ℕ)} {ms : List Mark} → IsInside k u os → IsElement w ms
       → (y q : List ℕ) → u ++ y ≡ w ++ q → 1 + size k os ≤ length (spelling ms)
   element_rest {w = w} i (plain x p f) y q e =
@@ -141,7 +142,7 @@ module _ {k : Kind} where
       let sizes = ap (λ (r : Kind). size r bs) same in
       omega (arith, g.1.cost, sizes, ap length (open_spelled j bs), open_length j, length-append {A = ℕ})
 
-  -- a string more is inside
+  -- With one more string, the bytes are still inside the string.
   inside_add : {u w : List ℕ} {bs cs : List (List ℕ)} → IsInside k u bs → IsString k w cs
       → IsInside k (u ++ w) (bs ++ cs)
   inside_add {w = w} {cs = cs} (opened {title = t} {strings = x} {bodies = bs} p s) one =
@@ -150,13 +151,13 @@ module _ {k : Kind} where
   inside_add {w = w} {cs = cs} (deeper {outer = x} {inner = y} {bodies = ds} {others = es} i j) one =
       rw (append_assoc x y w, append_assoc ds es cs) (deeper i (inside_add j one))
 
--- ---- within the spelling of what stands in front
+-- ---- the point of a copy within the spelling of the elements at the beginning
 
--- a body that can't be there is bad
+-- A body is bad unless enough bytes are there, and may be written.
 bad_of : (k : Kind) (len : ℕ) (x : List ℕ) → (len ≤ length x → IsWritable k (take len x) → ⊥) → IsBad k len x
 bad_of k len x fails = grind arith
 
--- how long the body is that is due
+-- The length of the body that is due.
 abbrev body_len : Point → ℕ
 body_len Due = 0
 body_len (In kind) = 0
@@ -172,7 +173,7 @@ module _ {n : ℕ} {w : List ℕ} {ns : List Mark} (run : IsRun n w ns) (v : Lis
       let longer = run_within (add_element i a os r f.word f.marks f.ok) run l f.rest v front in
       omega (arith, longer, element_rest q f.ok x f.rest f.is, spelled_long, open_long k os bs)
 
-  -- with a body that is there
+  -- The spelling so far, with the title and the body that is due, is within the spelling of the elements.
   body_added : (b x : List ℕ) {k : Kind} {u : List ℕ} {ms : List Mark} {start : ℕ}
       → Reaches n u ms (BodyDue k (length b) start) → IsWritable k b → u ++ (b ++ x) ≡ w ++ v
       → length (spelling ms) + title_len (kind_header k (Some (length b))) + length b ≤ length (spelling ns)
@@ -203,9 +204,9 @@ module _ {n : ℕ} {w : List ℕ} {ns : List Mark} (run : IsRun n w ns) (v : Lis
             omega (arith, less, fits, same, titles)))) w v ns run e)
       ]
 
--- ---- what a copy that stops in writing was to write
+-- ---- the bytes of a copy that stops in writing
 
--- is within what holds the spelling of what came, with the end of a body under way
+-- The bytes that were written, and the next write, fit in `all` bytes. The premises bound the spelling so far by `all`.
 next_within : {count room : ℕ} {before read whole next : List ℕ} → NextWrite count room before read whole next
     → (all : ℕ) → ((marks : List Mark) → IsRun count before marks → length (spelling marks) ≤ all)
     → ((marks : List Mark) (point : Point) → Reaches count before marks point
@@ -225,7 +226,7 @@ next_shorter {before = before} {read = read} next_write =
     next_within next_write _ (λ ms run. omega (arith, (run_again _ _ _ run).shorter, length-append {A = ℕ}))
     (λ ms at reach. omega (arith, reach_shorter reach, length-append {A = ℕ}))
 
--- and within the spelling of the elements, where they stand in front
+-- If the elements are at the beginning, the bytes fit in the spelling of the elements.
 pub next_spelled : {count room : ℕ} {before read whole next due : List ℕ} (rest : List ℕ)
     → NextWrite count room before read whole next → (front : BeginsWithElements false count due)
     → due ≡ (before ++ read) ++ rest

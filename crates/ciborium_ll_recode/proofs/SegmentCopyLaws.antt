@@ -34,13 +34,13 @@ use Rattle.ciborium_ll_recode.proofs.CopyLaws.{StandsAt, marks_then, mark_then, 
 use Rattle.ciborium_ll_recode.proofs.CopyLaws.{copied_pulled, title_taken}
 
 module _ {R E W F : Type 0} (source : Reader R E) (sink : Writer W F) (k : Kind) where
-  -- what the loop keeps: the bodies so far were read, and written as pieces
+  -- The invariant of the loop: the bodies so far were read, and written as pieces.
   pub record CopiedSoFar (opened : Sides R W) (progress : Progress) (now : Sides R W) : Type 0 where
     pub bodies : List (List ℕ)
     pub so_far : StringSoFar source k bodies opened.decoder progress now.decoder
     pub written : WritesAll sink opened.writer (spelling (pieces k bodies)) now.writer
 
-  -- behind its open nothing of a string was read or written
+  -- After the open nothing more of the string was read or written.
   pub copied_opened : (opened : Sides R W) (now : Decoder R) (progress : Progress) → opened.decoder.waiting ≡ None
       → progress ≡ p.Open 1 → now ≡ opened.decoder → CopiedSoFar opened progress (sides now opened.writer)
   copied_opened opened now progress settled begun same =
@@ -48,7 +48,7 @@ module _ {R E W F : Type 0} (source : Reader R E) (sink : Writer W F) (k : Kind)
       search (Appends-nil, Shrinks-zero)
 
   module _ {opened now : Sides R W} {progress : Progress} (so_far : CopiedSoFar opened progress now) where
-    -- where the next call of `advance` leads
+    -- The effect of the next call of `advance`.
     abbrev pub Leads : Result (Option Body) (Error E) → Progress → Decoder R → Type 0
     Leads result after new = AdvancesAmong source k so_far.bodies opened.decoder now.decoder result after new
 
@@ -58,10 +58,10 @@ module _ {R E W F : Type 0} (source : Reader R E) (sink : Writer W F) (k : Kind)
     leads strict mode result after new advances steady = advances_among source k so_far.bodies opened.decoder
         now.decoder strict result progress after new mode so_far.so_far advances steady
 
-    -- ---- behind elements
+    -- ---- after whole elements
 
     module _ {count before : ℕ} {old : Sides R W} (outer : IsWithin source sink count before k old opened) where
-      -- how far the copy came in all, where a title is due
+      -- How far the whole copy came if a title of the string is due.
       stands_inside : {left : ℕ} {between : Decoder R}
           (among : IsAmong source k left so_far.bodies opened.decoder between)
           → StandsAt source sink count old (outer.bytes ++ (shortest_title (kind_header k None) ++ among.strings))
@@ -75,14 +75,14 @@ module _ {R E W F : Type 0} (source : Reader R E) (sink : Writer W F) (k : Kind)
           record {
             reach = inside outer.due outer.run (counted k left _ _ among.within) among.sound;
             copied = search;
-            -- of a strict decoder it is the spelling of what is written
+            -- A strict decoder's bytes are the spelling that was written.
             strict = λ on none.
                 spelled_then outer.bytes outer.marks _ (Open k ∷ pieces k so_far.bodies) (outer.strict on none)
                 (ap (λ (z : List ℕ). front ++ z) (among.tight (outer.copied.passed.mode ∙ on)).1)
                 (tt, pieces_meant k so_far.bodies);
           }
 
-      -- `advance` failed
+      -- `advance` failed, so the copy stops.
       pub segments_stop : (room : ℕ) (error : Error E) {after : Progress} {new : Decoder R}
           → Leads (Err error) after new → StopsCopy source sink count room old (r.Read error) (sides new now.writer)
       segments_stop room (e.Io fault) {new = new} all =
@@ -108,7 +108,7 @@ module _ {R E W F : Type 0} (source : Reader R E) (sink : Writer W F) (k : Kind)
       ]
       segments_stop room e.Waiting all = absurd all.ends
 
-      -- the last break
+      -- The last break ends the string.
       pub segments_end : {after : Progress} {new : Decoder R} → Leads (Ok None) after new
           → ReadsString source sink before k old (sides new now.writer)
       segments_end {new = new} all =
@@ -137,10 +137,10 @@ module _ {R E W F : Type 0} (source : Reader R E) (sink : Writer W F) (k : Kind)
                 (open_meant k bodies);
           }
 
-      -- ---- a segment that was announced
+      -- ---- a segment after its title
 
       module _ {body : Body} {after : Progress} {new : Decoder R} (all : Leads (Ok (Some body)) after new) where
-        -- its body is due
+        -- The body of the segment is due.
         pub announced : StandsAt source sink count old
             ((outer.bytes ++ (shortest_title (kind_header k None) ++ all.among.strings)) ++ all.ends.pulled.title)
             (outer.marks ++ Open k ∷ pieces k so_far.bodies) (BodyDue k body.length
@@ -156,7 +156,7 @@ module _ {R E W F : Type 0} (source : Reader R E) (sink : Writer W F) (k : Kind)
                   spelled_title _ _ pulled.title _ (stands.strict on none) only.shortest;
             }
 
-        -- the copy of its body stopped
+        -- The copy of the body stopped, so the whole copy stops.
         pub segment_stops : (room : ℕ) (titled : W) (ended : Sides R W) (error : RecodeError E F)
             → WritesAll sink now.writer (shortest_title (kind_header k (Some body.length))) titled
             → CopiesBody source sink k body.length room body.place (sides new titled) (Err error) ended

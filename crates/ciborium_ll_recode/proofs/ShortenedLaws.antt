@@ -30,18 +30,18 @@ use Rattle.ciborium_ll_recode.proofs.StrictRunLaws.{titles}
 
 -- ---- titles that begin no string
 
--- of a number, by its major type
+-- The copy of a title of a number is the number's shortest title.
 numbered_shortens : (b : Bool) (m : Major) (n : ℕ) (title : List ℕ) → HasNumber m n title
     → (major_code m < 2) ⊎ ((3 < major_code m) × (major_code m < 7)) → (b ≡ true → title ≡ shortest_numbered m n)
     → ShortensElement b title (shortest_numbered m n)
 numbered_shortens b m n title z major least =
     number major (taken_title b m n title z least) (least_title true m n (size_below z.0 n z.1))
 
--- a simple value that a strict decoder takes
+-- A simple value that a strict decoder takes is below 24, or at least 32.
 meant_simple : (n : ℕ) → (IsSmallSimple (h.Simple n) → ⊥) → (n < 24) ⊎ (32 ≤ n)
 meant_simple n small = grind arith
 
--- of a float, by its size
+-- The copy of the title of a float is the same title.
 float_shortens : (b : Bool) (s : Size) (n : ℕ) {title : List ℕ} → n < size_limit s
     → 2 < length (numbered_title Other s n) → title ≡ numbered_title Other s n
     → ShortensElement b title (numbered_title Other s n)
@@ -73,7 +73,7 @@ plain_shortens b (h.Text len) t p z q s m = absurd q
 
 -- ---- strings
 
--- the major type of a kind
+-- The major type of a kind.
 abbrev pub string_code : Kind → ℕ
 string_code Bytes = 2
 string_code Text = 3
@@ -95,7 +95,7 @@ string_shortens b Bytes t x p s sound =
 string_shortens b Text t x p s sound =
     titled_by b TextString t x (title_of t (h.Text (Some (length x))) p) (λ on. (s on).shortest) (text sound)
 
--- the open of a string has one title
+-- The one byte of the open of a string.
 abbrev pub open_byte : Kind → ℕ
 open_byte k = 32 * string_code k + 31
 
@@ -142,7 +142,7 @@ any_element w ms (string k (definite {title = t} {body = b} p) sound) =
 any_element w ms (string k (indefinite {title = t} {strings = x} {bodies = bs} p q) sound) =
     parts_shortened false k t x bs p (any_all k x bs q sound)
 
--- an element more
+-- One more element is copied.
 next_shortened : (b : Bool) (m : ℕ) (x y rest : List ℕ) (ns os : List Mark) → ShortensElement b x (spelling ns)
     → Shortens b m (y ++ rest) (spelling os) rest → Shortens b (suc m) ((x ++ y) ++ rest) (spelling (ns ++ os)) rest
 next_shortened b m x y rest ns os e others = rw (append_assoc x y rest, spelling-append) (shortens_next e others)
@@ -153,7 +153,7 @@ any_run n w ms done rest = shortens_done
 any_run n w ms (next {count = m} {first = x} {rest = y} {marks = ns} {others = os} e run) rest =
     next_shortened false m x y rest ns os (any_element x ns e) (any_run m y os run rest)
 
--- ---- those in their shortest spelling
+-- ---- elements in their shortest spelling
 
 flat_strings : (k : Kind) (w : List ℕ) (bs : List (List ℕ)) → AreFlat k w bs → AreWritable k bs
     → ShortensStrings true (string_code k) w (spelling (pieces k bs))
@@ -175,7 +175,7 @@ strict_elements n w ms strict_done rest = shortens_done
 strict_elements n w ms (strict_next {count = m} {first = x} {rest = y} {marks = ns} {others = os} e run) rest =
     next_shortened true m x y rest ns os (strict_element x ns e) (strict_elements m y os run rest)
 
--- ---- in front of bytes
+-- ---- elements at the beginning of bytes
 
 pub front_shortened : (strict : Bool) (count : ℕ) (due : List ℕ) (front : BeginsWithElements strict count due)
     → Shortens strict count due (spelling front.marks) front.rest

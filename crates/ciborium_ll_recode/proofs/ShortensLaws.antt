@@ -26,17 +26,17 @@ use Rattle.ciborium_ll_recode.proofs.ShortenedLaws.{string_code, open_byte, part
 
 -- ---- strings
 
--- two spellings joined
+-- The spelling of joined marks is the two spellings, joined.
 joined : {x y : List ℕ} (ms ns : List Mark) → x ≡ spelling ms → y ≡ spelling ns → x ++ y ≡ spelling (ms ++ ns)
 joined ms ns p q = rw (p, q, spelling-append) refl
 
--- the titles of a kind, by their major type
+-- A title of the major type of a kind is a title of the header of that kind.
 kind_title : (b : Bool) (k : Kind) (n : ℕ) (t : List ℕ) → IsNumberTitle b (string_code k) n t
     → IsTitle t (kind_header k (Some n))
 kind_title b Bytes n t p = let z = has_number b ByteString n t p in rw z.2 (numbered ByteString z.0 n z.1)
 kind_title b Text n t p = let z = has_number b TextString n t p in rw z.2 (numbered TextString z.0 n z.1)
 
--- with the fewest bytes
+-- A title with the fewest bytes is the shortest title of the header.
 kind_fewest : (k : Kind) (n : ℕ) (t : List ℕ) → IsNumberTitle true (string_code k) n t
     → t ≡ shortest_title (kind_header k (Some n))
 kind_fewest Bytes n t p = fewest_is ByteString n t p
@@ -45,7 +45,7 @@ kind_fewest Text n t p = fewest_is TextString n t p
 body_writable : (k : Kind) (body : List ℕ) → IsBody (string_code k) body → IsWritable k body
 body_writable k body is = grind arith
 
--- strings within an open, their bodies, and what is written of them
+-- The strings after an open, their bodies, and the bytes that are written for them.
 record StringsWithin (b : Bool) (k : Kind) (w written : List ℕ) : Type 0 where
   bodies : List (List ℕ)
   are : AreStrings k w bodies
@@ -82,7 +82,7 @@ within b k w written (open_more {within = x} {rest = y} {written = u} {more = v}
       same = λ on. absurd cc;
     }
 
--- the kind of a body
+-- The major type of a body is that of a kind.
 which_kind : (major : ℕ) (body : List ℕ) → IsBody major body → (k : Kind) × (major ≡ string_code k)
 which_kind major body is = grind arith
 
@@ -92,7 +92,7 @@ string_kind (titled {body = x} p q y) = which_kind _ x y
 
 -- ---- elements
 
--- an element, its marks, and what is written of it
+-- An element, its marks, and the bytes that are written for it.
 record MarkedElement (b : Bool) (w written : List ℕ) : Type 0 where
   marks : List Mark
   element : IsElement w marks
@@ -110,7 +110,7 @@ plain_marked b header w written p q is same meant =
       strict = λ on. record { same = simp append-nil (same on); meant = (meant on, tt) };
     }
 
--- a title of an integer, an array, a map or a tag has a header that begins no string, and that its major type gives
+-- The major type of an integer, an array, a map or a tag gives the header of its title. That header begins no string.
 counts : (m : Major) → (major_code m < 2) ⊎ ((3 < major_code m) × (major_code m < 7)) → (n : ℕ) (s : Size)
     → (numbered_header m s n ≡ numbered_header m Small n) × IsPlain (numbered_header m Small n)
     × (shortest_numbered m n ≡ shortest_title (numbered_header m Small n))
@@ -145,7 +145,7 @@ simple_title Two n w l e short = absurd (omega (arith, ap length e, short))
 simple_title Four n w l e short = absurd (omega (arith, ap length e, short))
 simple_title Eight n w l e short = absurd (omega (arith, ap length e, short))
 
--- a title that is the shortest one
+-- A title that is the shortest one of its header is written as it was.
 own_marked : (b : Bool) (header : Header) (w : List ℕ) → w ≡ shortest_title header
     → IsTitle (shortest_title header) header → IsPlain header → (IsSmallSimple header → ⊥) → MarkedElement b w w
 own_marked b header w is p q meant = plain_marked b header w w (rw is p) q is (λ on. is) (λ on. meant)
@@ -208,14 +208,14 @@ element_marked b w written (whole {major = major} s) =
 element_marked b w written (parts {major = major} {strings = x} {written = y} kind s) =
     let k = which_kind major [] kind in rw k.1 (parts_marked b k.0 x y (rw k.1 at s))
 
--- ---- in front of bytes
+-- ---- elements at the beginning of bytes
 
--- elements in front, with what `Shortens` says of them
+-- The bytes begin with `count` elements, `written` is their spelling, and `rest` are the bytes after them.
 abbrev pub SpellsFront : Bool → ℕ → List ℕ → List ℕ → List ℕ → Type 0
 SpellsFront strict count due written rest =
     (front : BeginsWithElements strict count due) × (written ≡ spelling front.marks) × (rest ≡ front.rest)
 
--- so many elements stand in front, what is written is their spelling, and the rest is what follows
+-- If `Shortens` holds, the bytes begin with `count` elements, and `written` is their spelling.
 pub shortened_front : (strict : Bool) (count : ℕ) (due written rest : List ℕ) → Shortens strict count due written rest
     → SpellsFront strict count due written rest
 shortened_front strict count due written rest shortens_done = (
@@ -243,7 +243,7 @@ shortened_front strict count due written rest
       all.2,
     )
 
--- what is written of elements is written of itself again
+-- A copy of the copy is the same bytes.
 pub shortened_again : (strict : Bool) (count : ℕ) (due written rest : List ℕ) → Shortens strict count due written rest
     → Shortens strict count written written []
 shortened_again strict count due written rest s =
@@ -258,7 +258,7 @@ shortened_again strict count due written rest s =
       spelled = λ on. record { same = sym (append-nil (spelling front.marks)); meant = (front.spelled on).meant };
     })
 
--- ---- what the laws say besides
+-- ---- further facts
 
 pub shortened_is : (strict : Bool) (count : ℕ) (due written rest : List ℕ)
     → Shortens strict count due written rest ↔ SpellsFront strict count due written rest
@@ -267,7 +267,7 @@ shortened_is strict count due written rest = (
   λ found. rw (found.1, found.2) (front_shortened strict count due found.0),
 )
 
--- at most one copy and one rest, however strict the decoder is
+-- There is at most one copy and one rest, for a strict decoder and for another.
 pub shortened_one : (strict other : Bool) (count : ℕ) (due written rest copy left : List ℕ)
     → Shortens strict count due written rest → Shortens other count due copy left → (written ≡ copy) × (rest ≡ left)
 shortened_one strict other count due written rest copy left s t =
@@ -277,7 +277,7 @@ shortened_one strict other count due written rest copy left s t =
     (sym a.0.is ∙ b.0.is) in
     (a.1 ∙ (ap spelling one.1 ∙ sym b.1), a.2 ∙ one.2 ∙ sym b.2)
 
--- the copy is no longer than what was copied
+-- The copy is no longer than the bytes that were copied.
 pub shortened_no_longer : (strict : Bool) (count : ℕ) (due written rest : List ℕ)
     → Shortens strict count due written rest → length written + length rest ≤ length due
 shortened_no_longer strict count due written rest s =
@@ -285,7 +285,7 @@ shortened_no_longer strict count due written rest s =
     let shorter = (run_again count all.0.elements all.0.marks all.0.run).shorter in
     omega (arith, shorter, ap length all.0.is, ap length all.1, ap length all.2, length-append {A = ℕ})
 
--- what a strict decoder takes is written as it was
+-- Elements that a strict decoder takes are written as they were.
 pub shortened_same : (count : ℕ) (due written rest : List ℕ) → Shortens true count due written rest
     → due ≡ written ++ rest
 shortened_same count due written rest s =

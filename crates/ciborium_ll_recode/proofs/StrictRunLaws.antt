@@ -43,7 +43,7 @@ strict_elements n w ms (run_next {count = m} {first = y} {rest = z} {marks = ns}
     next (strict_element y ns e one.0 (meant_left ns os meant))
     (strict_elements m z os run one.2 (meant_right ns os meant))
 
--- ---- and back
+-- ---- from the titles to the spelling
 
 flat_spelled : (k : Kind) {w : List ℕ} {bs : List (List ℕ)} → AreFlat k w bs
     → AreStrings k w bs × (w ≡ spelling (pieces k bs))
@@ -80,7 +80,7 @@ run_spelled (next {rest = z} {marks = ns} {others = os} e run) =
       meant = meant_append ns os one.2 all.meant;
     }
 
--- ---- the law
+-- ---- both directions
 
 pub titles : (count : ℕ) (bytes : List ℕ) (marks : List Mark)
     → IsStrictRun count bytes marks ↔ AreStrictElements count bytes marks
@@ -89,7 +89,7 @@ titles count bytes marks = (
   run_spelled,
 )
 
--- a strict run in front is the one run in front
+-- Elements at the beginning are strict exactly if they are their own spelling, without simple values from 24 to 31.
 pub unchanged : (count : ℕ) (bytes : List ℕ) (front : BeginsWithElements false count bytes) → BeginsWithElements true count bytes
     ↔ ((spelling front.marks ≡ front.elements) × AllByRecursion IsNoSmallSimple front.marks)
 unchanged count bytes front = (

@@ -25,7 +25,7 @@ returns-clause-copied g c = λ count before old title t taken behind.
     ∙ ap title_len c.header-2.ensures in
     let at : c.offset.result ≡ lent.offset = c.offset.ensures.value in
     let covered = c.requires.covered in
-    -- whichever place the body was given, the title's shortest form has to reach from there to the body
+    -- The shortest title reaches from the body's place to the body, whatever place was given.
     let copied = rw c.offset.ensures.same at (through_encoder g.R.Read g.W.Write k c.args.len (length c.args.buffer.now)
     _ c.offset.new.self c.copy_body.new.decoder c.write_header.new.encoder c.copy_body.new.writer c.copy_body.result
     c.copy_body.ensures.copied) in

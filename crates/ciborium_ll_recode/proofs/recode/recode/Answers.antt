@@ -44,7 +44,7 @@ returns-in_err-copy_element g c =
     c.elements.auto.buffer in
     record {
       copied = record {
-        -- searched for, so that an error of no element is refused here
+        -- The search refuses an error of no element here.
         copied = rw same (stops (search rules));
         moves_on = MovesOn-then g.R.Read _ _ _ c.elements.invariant.moves_on c.copy_element.ensures.moves_on;
         target = c.copy_element.ensures.target ∙ c.elements.invariant.target;
