@@ -20,7 +20,7 @@ use Rattle.ciborium_ll_decoder.proofs.DecodingLaws.{ReadsPast-none, ReadsPast-pu
 use Rattle.ciborium_ll_decoder.proofs.NestLaws.{alone_bytes, open_alone, open_length, nests_zero, nests_counted}
 
 module _ {R E : Type 0} (source : Ghosts R E) (kind : Kind) (strict : Bool) where
-  -- Titles were pulled, none of which decided. After them, `left` opens are not closed.
+  -- Titles were pulled, and all of them led on. After them, `left` opens are not closed.
   pub record LeadsTo (opens : ℕ) (old : Decoder R) (left : ℕ) (now : Decoder R) : Type 0 where
     pub nest : List ℕ
     pub nests : Nests kind opens nest left

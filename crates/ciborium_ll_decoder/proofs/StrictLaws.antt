@@ -141,7 +141,7 @@ module _ {R E : Type 0} (source : Ghosts R E) where
 
   -- ---- the affix of a first byte
 
-  -- The decoder takes an affix that it read, unless it is strict and a shorter title holds the number.
+  -- The decoder takes an affix that it read, unless it is strict and refuses the number.
   pub affix_taken : (first : ℕ) (old new : Decoder R) (minor : Minor) (answer : Option Minor)
       → HoldsAffix source first old minor new
       → answer ≡ (if strict_of new && refused_when_strict (first / 32) minor then None else Some minor)

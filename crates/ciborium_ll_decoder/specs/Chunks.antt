@@ -36,7 +36,8 @@ module _ {R P : Type 0} {parser : Parser P} where
   abbrev pub segment_reference : Segment R P parser → GName
   segment_reference s = s.decoder.ghost_name
 
-  -- How many bytes of the body were not handed out: the unread and the kept bytes.
+  -- How many bytes of the body were not handed out: the unread and the kept bytes. With one byte kept and 9 unread
+  -- these are 10.
   abbrev pub left_of : Segment R P parser → ℕ
   left_of s = s.unread + length (kept_bytes s.kept)
 
@@ -55,12 +56,13 @@ module _ {R P : Type 0} {parser : Parser P} where
     pub damaged : new.damaged ≡ old.damaged
 
   -- How many bytes are read into `room` bytes. The kept bytes come first, and then as many unread bytes as there are
-  -- and as fit.
+  -- and as fit. With room for 4 bytes, one kept and 9 unread, 3 bytes are read.
   abbrev pub read_count : ℕ → Segment R P parser → ℕ
   read_count room s = let size = min room (left_of s) in size - min size (length (kept_bytes s.kept))
 
 module _ {R E : Type 0} (source : Ghosts R E) where
-  -- A read into a slice, after the bytes `front` at its beginning.
+  -- A read into a slice, after the bytes `front` at its beginning. After the front `c3` a read of `a9` fills the slice
+  -- with `c3 a9`.
   pub record ReadsBehind (front : List ℕ) (old : Decoder R) (filled : List ℕ) (new : Decoder R) : Type 0 where
     pub read : List ℕ
     pub reads : ReadsAll source old read new
@@ -76,7 +78,8 @@ module _ {R E : Type 0} (source : Ghosts R E) where
   FillsBehind front old (Err e.Waiting) filled new = ⊥
 
 module _ {R E P : Type 0} {parser : Parser P} (source : Ghosts R E) where
-  -- The bytes that are to come of the body: the kept bytes, and then as many unread bytes as the reader tells.
+  -- The bytes that are to come of the body: the kept bytes, and then as many unread bytes as the reader tells. If `c3`
+  -- is kept, 2 bytes are unread and `a9 61 62` are ahead, these are `c3 a9 61`.
   abbrev pub rest : Segment R P parser → Option (List ℕ)
   rest s = prepend_known (kept_bytes s.kept) (option_map (take s.unread) (source.ahead s.decoder.now.reader))
 
@@ -97,14 +100,15 @@ module _ {R E P : Type 0} {parser : Parser P} (source : Ghosts R E) where
     pub unread : new.unread + length read ≡ old.unread
     pub place : new.place ≡ old.place
 
-  -- The segment hands out a chunk of the kept bytes and the bytes that were read, and keeps the rest of them.
+  -- The segment hands out a chunk of the kept bytes and the bytes that were read, and keeps the rest of them. If a text
+  -- keeps `c3` and reads `a9 e2`, the chunk is `c3 a9`, and the segment keeps `e2`.
   pub record GivesChunk (room : ℕ) (old : Segment R P parser) (chunk : List ℕ) (new : Segment R P parser) : Type 0 where
     pub read : List ℕ
     pub reads : ReadsOn room old read new
     pub split : IsSplit parser.kind (kept_bytes old.kept ++ read) chunk (kept_bytes new.kept)
     pub still_sound : new.damaged ≡ false
 
-  -- Bytes were kept, and the body has ended.
+  -- Bytes were kept, and the body has ended. The text body `61 c3` ends so.
   pub record EndsInCharacter (old new : Segment R P parser) : Type 0 where
     pub none_unread : old.unread ≡ 0
     pub some_kept : 0 < length (kept_bytes old.kept)
@@ -112,7 +116,8 @@ module _ {R E P : Type 0} {parser : Parser P} (source : Ghosts R E) where
     pub unread : new.unread ≡ old.unread
     pub decoder : new.decoder.now ≡ old.decoder.now
 
-  -- The segment would have to keep more than three bytes.
+  -- The segment would have to keep more than three bytes. After a read of `ff 61 62 63` a text would have to keep all
+  -- four.
   pub record KeepsTooMuch (room : ℕ) (old new : Segment R P parser) : Type 0 where
     pub read : List ℕ
     pub reads : ReadsOn room old read new

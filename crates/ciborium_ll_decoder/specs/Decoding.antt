@@ -22,7 +22,8 @@ use Rattle.ciborium_ll_grammar.specs.Parts.{title_bytes}
 abbrev pub offset_limit : ℕ
 offset_limit = 2 ^ 64
 
--- The shortest title of a waiting header, and then the bytes ahead.
+-- The shortest title of a waiting header, and then the bytes ahead. If the header of `82` waits before `01 02`, these
+-- are `82 01 02`.
 abbrev pub behind_waiting : Option Header → Option (List ℕ) → Option (List ℕ)
 behind_waiting None ahead = ahead
 behind_waiting (Some header) ahead = prepend_known (shortest_title header) ahead
@@ -96,7 +97,7 @@ abbrev pub next_read : List ℕ → ℕ
 next_read [] = 1
 next_read (byte ∷ more) = affix_len (byte % 32)
 
--- The list begins with these bytes.
+-- The list begins with these bytes. `82 01 02` begins with `82 01`.
 abbrev pub Begins : List ℕ → List ℕ → Type 0
 Begins front all = (rest : List ℕ) × (all ≡ front ++ rest)
 
@@ -124,7 +125,7 @@ module _ {R E : Type 0} (source : Ghosts R E) where
   -- ---- pull
 
   -- `pull` gave a header. The view began with a title of it, which is consumed, and the offset rose by the title's
-  -- length.
+  -- length. If the decoder is not strict, the title `18 17` gives the header of the number 23.
   pub record PullsTitle (old : Decoder R) (header : Header) (new : Decoder R) : Type 0 where
     pub title : List ℕ
     pub is_title : IsTitle title header
@@ -164,7 +165,8 @@ module _ {R E : Type 0} (source : Ghosts R E) where
     pub none_waits : new.waiting ≡ None
     pub failures : failures_of new ≡ failures_of old
 
-  -- The reader failed after the bytes `read`, which are none or a first byte.
+  -- The reader failed after the bytes `read`, which are none or a first byte. If a steady reader has only `19 01`, then
+  -- `19` was read.
   pub record FailsAtTitle (old new : Decoder R) : Type 0 where
     pub read : List ℕ
     pub within_first : length read ≤ 1
@@ -178,7 +180,8 @@ module _ {R E : Type 0} (source : Ghosts R E) where
     pub steady : IsSteady old → Consumes (view old) (view new) read
         × IfSome (view old) (λ due. IsCutTitle due × (read ≡ take 1 due))
 
-  -- The offset can't take the read after the bytes `read`, which are none or a first byte.
+  -- The offset can't take the read after the bytes `read`, which are none or a first byte. At the offset 2^64 - 2 the
+  -- byte `19` is read, and its affix of two bytes no longer fits.
   pub record PassesOffset (old new : Decoder R) : Type 0 where
     pub read : List ℕ
     pub within_first : length read ≤ 1
@@ -214,7 +217,7 @@ module _ {R E : Type 0} (source : Ghosts R E) where
     pub title : IfOk result (λ pulled. IsTitle (title_bytes pulled.1) pulled.0)
     pub moves_on : MovesOn old new
 
-  -- Calls that all succeeded consumed these bytes.
+  -- Calls that all succeeded consumed these bytes. Pulls over `82 01` raise the offset by 2.
   pub record ReadsPast (old : Decoder R) (bytes : List ℕ) (new : Decoder R) : Type 0 where
     pub consumed : Consumes (view old) (view new) bytes
     pub offset : new.offset ≡ old.offset + length bytes
@@ -229,7 +232,7 @@ module _ {R E : Type 0} (source : Ghosts R E) where
   -- ---- push
 
   -- `push` of a header: it waits before the bytes that were due, and the offset fell by the length of its shortest
-  -- title.
+  -- title. After `18 17` was pulled from the offset 0, a push leaves the offset at 1: the shortest title of 23 is `17`.
   pub record TakesBack (old : Decoder R) (header : Header) (new : Decoder R) : Type 0 where
     pub waits : new.waiting ≡ Some header
     pub due : view new ≡ prepend_known (shortest_title header) (view old)
@@ -264,7 +267,7 @@ module _ {R E : Type 0} (source : Ghosts R E) where
 
   -- ---- read_exact
 
-  -- The decoder read all bytes that the caller asked for.
+  -- The decoder read all bytes that the caller asked for. A read of 3 bytes raises the offset by 3.
   pub record ReadsAll (old : Decoder R) (read : List ℕ) (new : Decoder R) : Type 0 where
     pub bytes : Consumes (source.ahead old.reader) (source.ahead new.reader) read
     pub offset : new.offset ≡ old.offset + length read
@@ -305,7 +308,8 @@ module _ {R E : Type 0} (source : Ghosts R E) where
 
   -- ---- the affix of a title, inside `pull`
 
-  -- The decoder read the affix that a first byte announces, and it is the affix of this minor.
+  -- The decoder read the affix that a first byte announces, and it is the affix of this minor. After the first byte
+  -- `19` the affix `01 00` holds 256.
   pub record HoldsAffix (first : ℕ) (old : Decoder R) (read : Minor) (new : Decoder R) : Type 0 where
     pub is_minor : IsMinor read
     pub code : first % 32 ≡ minor_code read
@@ -316,7 +320,7 @@ module _ {R E : Type 0} (source : Ghosts R E) where
     pub holds : HoldsAffix first old read new
     pub taken : IsTrue old.strict → refused_when_strict (first / 32) read ≡ false
 
-  -- The decoder read the affix, is strict, and refused its number.
+  -- The decoder read the affix, is strict, and refused its number. After the first byte `18` it refuses the affix `05`.
   pub record RefusesAffix (first : ℕ) (old new : Decoder R) : Type 0 where
     pub read : Minor
     pub holds : HoldsAffix first old read new

@@ -10,7 +10,8 @@ abbrev pub behind : List ℕ → Option (List ℕ) → Option (List ℕ)
 behind front None = None
 behind front (Some text) = Some (front ++ text)
 
--- The text that `{}` writes for an error of a decoder. `shown` gives the text of the reader's own error.
+-- The text that `{}` writes for an error of a decoder. `shown` gives the text of the reader's own error. For
+-- `Syntax(7)` it is "no CBOR that may stand at offset 7".
 abbrev pub error_text : {T : Type 0} → (T → Option (List ℕ)) → Error T → Option (List ℕ)
 error_text shown (e.Io fault) = behind (codes "the reader failed: ") (shown fault)
 error_text shown (e.Syntax place) = Some (codes "no CBOR that may stand at offset " ++ decimal place)

@@ -17,13 +17,15 @@ use Rattle.ciborium_ll_decoder.specs.Decoding.{offset_limit, MovesOn, ReadsPast,
 use Rattle.ciborium_ll_decoder.specs.Segments.{progress_of, string_decoder, string_reference, string_strict}
 
 -- The bytes `kept` were kept, `unread` bytes were unread, and the bytes `read` are those that were read since. Kept and
--- read bytes together are no text, as the whole body or however it goes on.
+-- read bytes together are no text, as the whole body or however it goes on. If `c3` was kept and one byte was unread,
+-- `61` makes no text.
 abbrev pub IsNoText : List ℕ → ℕ → List ℕ → Type 0
 IsNoText kept unread read = ((length read ≡ unread) × (IsCharacters (kept ++ read) → ⊥)) ⊎ BeginsNoText (kept ++ read)
 
 -- The bytes `kept` of a body are kept, and `unread` bytes of it are unread.
 module _ {R E : Type 0} (source : Ghosts R E) (kind : Kind) (kept : List ℕ) (unread : ℕ) where
-  -- All of the rest was read. If the body is that of a text, the kept bytes and the rest are text (RFC 7049, 2.1).
+  -- All of the rest was read. If the body is that of a text, the kept bytes and the rest are text (RFC 7049, 2.1). If a
+  -- text kept `c3`, the rest may be `a9`.
   pub record ReadsRest (old new : Decoder R) : Type 0 where
     pub read : List ℕ
     pub all : length read ≡ unread
@@ -31,7 +33,7 @@ module _ {R E : Type 0} (source : Ghosts R E) (kind : Kind) (kept : List ℕ) (u
     pub passed : ReadsPast source old read new
 
   -- A beginning of the rest was read. If the body is that of a text, the bytes so far are characters, except for up to
-  -- three bytes at the end, with which no further text begins.
+  -- three bytes at the end, with which no further text begins. A beginning of the text body `61 c3 a9` is `61 c3`.
   pub record BeginsRest (old between : Decoder R) : Type 0 where
     pub read : List ℕ
     pub front : List ℕ
@@ -62,7 +64,8 @@ module _ {R E : Type 0} (source : Ghosts R E) (kind : Kind) (kept : List ℕ) (u
   StopsReading read place count between e.Waiting new = ⊥
 
   -- After a beginning of the rest one more read stopped the read of the body. With the kept bytes that read was to fill
-  -- the buffer, or to take all that is left of the body.
+  -- the buffer, or to take all that is left of the body. With room for 4 bytes, one kept and 9 left to read, the read
+  -- was of 3 bytes.
   pub record StopsRest (room place : ℕ) (old : Decoder R) (error : Error E) (new : Decoder R) : Type 0 where
     pub between : Decoder R
     pub part : BeginsRest old between
@@ -114,7 +117,8 @@ module _ {R E P : Type 0} {parser : Parser P} (source : Ghosts R E) where
     pub moves_on : MovesOn source (string_decoder old) (string_decoder new)
 
 module _ {R E : Type 0} (source : Ghosts R E) (kind : Kind) where
-  -- `finish_body` after the header of a string of `len` bytes, and the facts that it keeps.
+  -- `finish_body` after the header of a string of `len` bytes, and the facts that it keeps. If the body of `78 01 61`
+  -- begins at the offset 2, its place is 1: the shortest title has one byte.
   pub record FinishesString (len room : ℕ) (old : Decoder R) (result : Result (Unit {0}) (Error E))
       (new : Decoder R) : Type 0 where
     pub finishes : EndsBody source kind [] len room (old.offset - title_len (kind_header kind (Some len))) old result

@@ -3,7 +3,7 @@ use Rattle.std.specs.Prelude.{ℕ}
 use Rattle.ciborium_ll_decoder.specs.declared.seg.Progress.{Progress}
 use Rattle.ciborium_ll_decoder.specs.declared.seg.Progress.TheVariants as p
 
--- How many opens are counted.
+-- How many opens are counted. `Open(2)` counts 2.
 abbrev pub opens_of : Progress → ℕ
 opens_of (p.Open opens) = opens
 opens_of p.Ended = 0

@@ -65,11 +65,12 @@ pub data Nests (kind : Kind) (opens : ℕ) : List ℕ → ℕ → Type 0 where
 -- ---- the segments of a string
 
 -- The header may not stand inside this many opens: it is neither of the kind nor a break, or it is a break outside of
--- any open (RFC 7049, 2.2.2).
+-- any open (RFC 7049, 2.2.2). The header of `01` may not stand inside `5f`.
 abbrev pub IsMisplacedAt : Kind → ℕ → Header → Type 0
 IsMisplacedAt kind opens header = ((opens ≡ 0) × (header ≡ h.Break)) ⊎ IsMisplaced kind header
 
--- A string refuses this header there. A strict string refuses a further open, too (RFC 7049, 2.2.2).
+-- A string refuses this header there. A strict string refuses a further open, too (RFC 7049, 2.2.2): the second byte of
+-- `5f 5f`.
 abbrev pub IsRefusedAt : Bool → Kind → ℕ → Header → Type 0
 IsRefusedAt strict kind opens header =
     IsMisplacedAt kind opens header ⊎ ((0 < opens) × (strict ≡ true) × (header ≡ kind_header kind None))
@@ -92,14 +93,15 @@ module _ {R E : Type 0} (source : Ghosts R E) where
     pub place : at ≡ old.offset
 
 module _ {R E : Type 0} (source : Ghosts R E) (kind : Kind) where
-  -- A title with a length announces a segment. A lone string ends with it (RFC 7049, 2.2.2).
+  -- A title with a length announces a segment. A lone string ends with it (RFC 7049, 2.2.2). For byte strings `42`
+  -- announces a body of two bytes.
   pub record FindsBody (opens : ℕ) (old : Decoder R) (body : Body) (progress : Progress) (new : Decoder R) : Type 0
     where
       pub pulled : PullsTitle source old (kind_header kind (Some body.length)) new
       pub place : body.place ≡ old.offset
       pub after : ((opens ≡ 0) × (progress ≡ p.Ended)) ⊎ ((0 < opens) × (progress ≡ p.Open opens))
 
-  -- The break of the only open that isn't closed ends the string (RFC 7049, 2.2.2).
+  -- The break of the only open that isn't closed ends the string (RFC 7049, 2.2.2). In `5f 41 01 ff` this is `ff`.
   pub record ClosesString (opens : ℕ) (old : Decoder R) (progress : Progress) (new : Decoder R) : Type 0 where
     pub pulled : PullsTitle source old h.Break new
     pub last : opens ≡ 1
@@ -111,14 +113,15 @@ module _ {R E : Type 0} (source : Ghosts R E) (kind : Kind) where
     pub most : opens ≡ 2 ^ 64 - 1
     pub after : progress ≡ p.TooDeep
 
-  -- A break comes that leaves an open (RFC 7049, 2.2.2).
+  -- A break comes that leaves an open (RFC 7049, 2.2.2). In `5f 5f ff ff` this is the first `ff`.
   pub record ClosesInner (opens : ℕ) (old : Decoder R) (progress : Progress) (new : Decoder R) : Type 0 where
     pub pulled : PullsTitle source old h.Break new
     pub inner : 1 < opens
     pub after : progress ≡ p.Open (opens - 1)
 
 module _ {R E : Type 0} (source : Ghosts R E) (kind : Kind) (strict : Bool) where
-  -- A header that may not stand there damages the string at the place of its title (RFC 7049, 2.2.2).
+  -- A header that may not stand there damages the string at the place of its title (RFC 7049, 2.2.2). In `5f 01` this
+  -- is `01`.
   pub record FindsOther (opens : ℕ) (old : Decoder R) (at : ℕ) (progress : Progress) (new : Decoder R) : Type 0 where
     pub other : PullsOther source (IsRefusedAt strict kind opens) old at new
     pub after : progress ≡ p.Damaged at
@@ -137,7 +140,7 @@ module _ {R E : Type 0} (source : Ghosts R E) (kind : Kind) (strict : Bool) wher
       NestsTooDeep source kind opens old progress new
   EndsAdvance opens old (Err e.Waiting) progress new = ⊥
 
-  -- A further open leads on (RFC 7049, 2.2.2).
+  -- A further open leads on (RFC 7049, 2.2.2). In `5f 5f` the second byte leads on, if the string is not strict.
   pub record Deepens (opens : ℕ) (old : Decoder R) (progress : Progress) (new : Decoder R) : Type 0 where
     pub pulled : PullsTitle source old (kind_header kind None) new
     pub after : progress ≡ p.Open (opens + 1)
@@ -151,7 +154,8 @@ module _ {R E : Type 0} (source : Ghosts R E) (kind : Kind) (strict : Bool) wher
       (Deepens opens old progress new ⊎ ClosesInner source kind opens old progress new)
   StepsOver opens old (Err error) progress new = EndsAdvance opens old (Err error) progress new
 
-  -- `advance` inside `opens` opens: opens and breaks in a row, and then the title that decides.
+  -- `advance` inside `opens` opens: opens and breaks in a row, and then the title that decides. Inside no open, over
+  -- `5f 5f ff 41`, these are `5f 5f ff` and then `41`.
   pub record AdvancesFrom (opens : ℕ) (old : Decoder R) (result : Result (Option Body) (Error E))
       (progress : Progress) (new : Decoder R) : Type 0 where
     pub nest : List ℕ

@@ -15,7 +15,7 @@ use Rattle.ciborium_ll_decoder.specs.Finishing.{EndsBody}
 use Rattle.ciborium_ll_decoder.specs.Segments.{PullsOther}
 
 -- After an open these strings stand, and then its break. If only the shortest spelling is taken, the strings have a
--- definite length, each under a strict title (RFC 7049, 2.2.2 and 3.9).
+-- definite length, each under a strict title (RFC 7049, 2.2.2 and 3.9). After `5f` these may be `42 01 02 ff`.
 abbrev pub IsTakenBehind : Bool → Kind → Option ℕ → List ℕ → List (List ℕ) → Type 0
 IsTakenBehind strict kind (Some len) behind bodies = Unit {0}
 IsTakenBehind strict kind None behind bodies =
@@ -23,7 +23,7 @@ IsTakenBehind strict kind None behind bodies =
 
 module _ {R E : Type 0} (source : Ghosts R E) (kind : Kind) where
   -- The decoder read all of the string: the bytes after its header make one string, and its bodies are sound. A strict
-  -- decoder read it in its shortest spelling (RFC 7049, 2.2.2 and 3.9).
+  -- decoder read it in its shortest spelling (RFC 7049, 2.2.2 and 3.9). After the header of `42` these may be `01 02`.
   pub record SkipsWhole (len : Option ℕ) (old new : Decoder R) : Type 0 where
     pub behind : List ℕ
     pub bodies : List (List ℕ)
@@ -33,7 +33,8 @@ module _ {R E : Type 0} (source : Ghosts R E) (kind : Kind) where
     pub passed : ReadsPast source old behind new
 
   -- The decoder read a beginning of a string of indefinite length, after its open: further opens, and whole strings. A
-  -- strict decoder read strings of a definite length alone, each under a strict title (RFC 7049, 2.2.2 and 3.9).
+  -- strict decoder read strings of a definite length alone, each under a strict title (RFC 7049, 2.2.2 and 3.9). After
+  -- `5f` this may be `42 01 02`.
   pub record SkipsInside (old between : Decoder R) : Type 0 where
     pub behind : List ℕ
     pub bodies : List (List ℕ)
@@ -42,13 +43,14 @@ module _ {R E : Type 0} (source : Ghosts R E) (kind : Kind) where
     pub sound : AreWritable kind bodies
     pub passed : ReadsPast source old behind between
 
-  -- After that beginning a title is due, and `pull` failed (RFC 7049, 2.2.2).
+  -- After that beginning a title is due, and `pull` failed (RFC 7049, 2.2.2). In `5f 1c` it failed at `1c`.
   pub record MeetsNoTitle (old : Decoder R) (error : Error E) (new : Decoder R) : Type 0 where
     pub between : Decoder R
     pub part : SkipsInside old between
     pub fails : DecoderPullAnswer source between (Err error) new
 
-  -- After that beginning a title came at this offset that may not stand within the string (RFC 7049, 2.2.2).
+  -- After that beginning a title came at this offset that may not stand within the string (RFC 7049, 2.2.2). In `5f 01`
+  -- this is `01`.
   pub record MeetsOther (old : Decoder R) (at : ℕ) (new : Decoder R) : Type 0 where
     pub between : Decoder R
     pub part : SkipsInside old between

@@ -63,8 +63,7 @@ impl<'r, R: Read, P: Chunked> Segments<'r, R, P> {
 
 /// Writes the body of a string of a definite length as [`Segments::copy`] does for a segment, with its answers.
 ///
-/// The call pushes no header back, and names the place that the caller gives it. Users copy elements, or the bodies of
-/// a string.
+/// The call pushes no header back, and names the place that the caller gives it. Users call [`Segments::copy`].
 #[inline(always)]
 pub fn copy_body<R: Read, W: Write, P: Chunked>(
     decoder: &mut Decoder<R>,

@@ -1,4 +1,4 @@
-//! Strings, which a decoder lends piece by piece (RFC 7049, 2.2.2).
+//! Strings, lent piece by piece (RFC 7049, 2.2.2).
 
 ghost use Rattle.std.specs.Prelude.{◌≡◌, ◌≤◌, ◌<◌, ◌+◌, ◌^◌, ◌⊎◌, length, take, drop, true, IfOk, IfSome, IfNone, []};
 ghost use Rattle.std.specs.Prelude.{None, Some, IsTrue};
@@ -76,7 +76,7 @@ impl Parser for Text {
     }
 }
 
-/// The body of the next segment: its length in bytes, and the offset of its title.
+/// The body of the next segment.
 #[derive(Clone, Copy, Debug, PartialEq, Eq)]
 pub struct Body {
     /// How many bytes the body has.
@@ -186,8 +186,8 @@ impl<'r, R: Read, P: Parser> Segments<'r, R, P> {
 
     /// Moves to the next segment as [`Segments::advance`] does, with its answers, and returns the whole segment.
     ///
-    /// A segment that is dropped early leaves the rest of its body in the reader, and the next call reads on there. A
-    /// caller that has to know the decoder after the loan calls [`Segments::finish`] or [`Segments::copy`].
+    /// If a segment is dropped early, the next call reads on in its body. A caller that has to know the decoder after
+    /// the loan calls [`Segments::finish`] or [`Segments::copy`].
     ///
     /// # Examples
     ///

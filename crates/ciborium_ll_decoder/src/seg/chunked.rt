@@ -14,7 +14,7 @@ use crate::seg::{Body, Bytes, Parser, Segment, Segments, Text};
 use ciborium_ll_io::io::Read;
 use ciborium_ll_text::state::{State, text_front};
 
-/// The common part of [`Bytes`] and [`Text`]: the bound of a loop over segments of either kind.
+/// The bound of a loop over segments of either kind, [`Bytes`] or [`Text`].
 pub trait Chunked: Parser {
     /// Reads the next chunk of a segment as its `pull` does, with its errors, but makes no `&str`.
     fn chunk<'a, R: Read>(
