@@ -20,14 +20,15 @@ module _ {W F : Type 0} (sink : Ghosts W F) where
     pub target : sink.target new ≡ sink.target old
 
   -- The effect of `push`: the header's shortest title is written. Every other title of the header is longer (RFC 7049,
-  -- 3.9).
+  -- 3.9). For the number 24 it is `18 18`, and `19 00 18` is longer.
   pub record EncoderPush {T : Type 0} (header : Header) (old : W) (result : Result T F) (new : W) : Type 0 where
     pub title : WritesBytes sink old result (shortest_title header) new
     pub shortest : (other : List ℕ) → IsTitle other header
         → (other ≡ shortest_title header) ⊎ (length (shortest_title header) < length other)
     pub target : sink.target new ≡ sink.target old
 
-  -- The pieces of a value that is longer than the limit were written, or a beginning of them, by the answer.
+  -- The pieces of a value that is longer than the limit were written, or a beginning of them, by the answer. With the
+  -- limit 2 the bytes `01 02 03` become `42 01 02 41 03`.
   pub record WritesPieces {T : Type 0} (kind : Kind) (limit : ℕ) (value : List ℕ) (old : W) (result : Result T F)
       (new : W) : Type 0 where
     pub members : List (List ℕ)
@@ -35,7 +36,7 @@ module _ {W F : Type 0} (sink : Ghosts W F) where
     pub bytes : WritesBytes sink old result (spelling (pieces kind members)) new
 
   -- The spelling of a value was written, or a beginning of it, by the answer. Its segments have at most the requested
-  -- number of bytes.
+  -- number of bytes. With the limit 2 the bytes `01 02 03` become `5f 42 01 02 41 03 ff`.
   pub record WritesValue {T : Type 0} (kind : Kind) (segment : Option ℕ) (value : List ℕ) (old : W)
       (result : Result T F) (new : W) : Type 0 where
     pub marks : List Mark
@@ -48,7 +49,8 @@ module _ {W F : Type 0} (sink : Ghosts W F) where
     pub value : WritesValue kind segment bytes old result new
     pub target : sink.target new ≡ sink.target old
 
-  -- A text was written whole, in as few segments as the limit allows.
+  -- A text was written whole, in as few segments as the limit allows. With the limit 4 the text `61 62 63 e2 82 ac`
+  -- needs two segments, of 3 bytes each.
   pub record WritesFewest (limit : ℕ) (text : List ℕ) (old new : W) : Type 0 where
     pub marks : List Mark
     pub written : IsWritten Text limit text marks
