@@ -27,7 +27,8 @@ module _ {R E W F : Type 0} (source : Reader R E) (sink : Writer W F) where
     pub fits-chunk : decoder.offset + length due + room-in < 2 ^ 64
 
   -- `Ok` comes exactly if `count` elements are next. Exactly their copy was then appended, and exactly the bytes that
-  -- follow are ahead. A copy of the copy is the same bytes.
+  -- follow are ahead. A copy of the copy is the same bytes. If one element of `18 17 01` is due and the copy is not
+  -- strict, it writes `17`, and `01` is ahead.
   pub record CopiesExactly (strict : Bool) (count : ℕ) (due written : List ℕ)
       (result : Result (Unit {0}) (RecodeError E F)) (decoder : Decoder R) (writer : W) : Type 0 where
     pub just : IsOk result ↔ ((copy : List ℕ) × (rest : List ℕ) × Shortens strict count due copy rest)

@@ -26,7 +26,7 @@ use Rattle.ciborium_ll_io.specs.Writes.{WritesAll, WritesFront}
 -- ---- one header
 
 module _ {E W F : Type 0} (sink : Writer W F) where
-  -- The write of a header, by its answer.
+  -- The write of a header, by its answer. The header of the number 24 is written as `18 18`.
   abbrev pub WritesHeader : W → Result (Unit {0}) (RecodeError E F) → Header → W → Type 0
   WritesHeader writer (Ok done) header writer' = WritesAll sink writer (shortest_title header) writer'
   WritesHeader writer (Err (r.Write fault)) header writer' = WritesFront sink writer (shortest_title header) writer'
@@ -61,7 +61,7 @@ module _ {R E W F : Type 0} (source : Reader R E) (sink : Writer W F) where
     pub passed : ReadsPast source old.decoder bytes new.decoder
     pub written : WritesAll sink old.writer (spelling marks) new.writer
 
-  -- A copy of `count` elements.
+  -- A copy of `count` elements. The two elements `18 17 82` of a decoder that is not strict are written as `17 82`.
   pub record CopiesRun (count : ℕ) (old new : Sides R W) : Type 0 where
     pub bytes : List ℕ
     pub marks : List Mark
@@ -78,7 +78,7 @@ module _ {R E W F : Type 0} (source : Reader R E) (sink : Writer W F) where
     -- After an element no header waits.
     pub settled : 0 < count → new.decoder.waiting ≡ None
 
-  -- A title is due, and `pull` failed there.
+  -- A title is due, and `pull` failed there. If two elements of `82 1c` are due, it failed at `1c`.
   pub record StopsAtTitle (count : ℕ) (old : Sides R W) (error : Error E) (new : Sides R W) : Type 0 where
     pub bytes : List ℕ
     pub marks : List Mark
@@ -90,7 +90,7 @@ module _ {R E W F : Type 0} (source : Reader R E) (sink : Writer W F) where
     pub fails : DecoderPullAnswer source between (Err error) new.decoder
     pub strict : Strictly old.decoder (IsStrictSpelling bytes marks [])
 
-  -- A title came that may not stand within its string.
+  -- A title came that may not stand within its string. In `5f 01` this is `01`.
   pub record StopsAtOther (count : ℕ) (old : Sides R W) (at : ℕ) (new : Sides R W) : Type 0 where
     pub bytes : List ℕ
     pub marks : List Mark
@@ -112,7 +112,8 @@ module _ {R E W F : Type 0} (source : Reader R E) (sink : Writer W F) where
     pub pulled : PullsTitle source between (kind_header kind None) new.decoder
     pub full : offset_limit ≤ new.decoder.offset + 1
 
-  -- The copy wrote the title of a body, and failed at the body.
+  -- The copy wrote the title of a body, and failed at the body. The copy of `62 c3 28` wrote `62`, and the body is no
+  -- text.
   pub record StopsInBody (count room : ℕ) (old : Sides R W) (error : Error E) (new : Sides R W) : Type 0 where
     pub bytes : List ℕ
     pub marks : List Mark
@@ -185,7 +186,8 @@ module _ {R E W F : Type 0} (source : Reader R E) (sink : Writer W F) where
       → IsTitle title header → Strictly old.decoder (IsStrictTitle title header) → IsBehind count before title old now
       → GoesOn count before room old result new
 
-  -- The copy read the segments of a string of indefinite length and its break, and wrote the open and the pieces.
+  -- The copy read the segments of a string of indefinite length and its break, and wrote the open and the pieces. For
+  -- `5f 41 01 ff` it wrote `5f 41 01`.
   pub record ReadsString (before : ℕ) (kind : Kind) (old new : Sides R W) : Type 0 where
     pub bytes : List ℕ
     pub marks : List Mark

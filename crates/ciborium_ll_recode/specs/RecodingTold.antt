@@ -80,7 +80,8 @@ module _ {R E W F : Type 0} (source : Reader R E) (sink : Writer W F) where
   -- ---- from the old decoder to both sides: of the old writer it is said what was written
 
   -- The bytes that were due began with `count` elements. Exactly their shortest spelling was written, and exactly the
-  -- bytes that follow are left. The spelling is the same elements again, so a copy of it changes nothing.
+  -- bytes that follow are left. The spelling is the same elements again, so a copy of it changes nothing. If one
+  -- element of `18 17 01` is due and the copy is not strict, it wrote `17`, and `01` is left.
   pub record CopiesFront (strict : Bool) (count : ℕ) (due written : List ℕ) (old : Decoder R)
       (new : Sides R W) : Type 0 where
     pub front : BeginsWithElements strict count due
@@ -92,7 +93,8 @@ module _ {R E W F : Type 0} (source : Reader R E) (sink : Writer W F) where
     pub settled : 0 < count → new.decoder.waiting ≡ None
     pub still : count ≡ 0 → new.decoder.waiting ≡ old.waiting
 
-  -- The copy met a fault. The answer, the bytes that were written and those that are consumed are the fault's own.
+  -- The copy met a fault. The answer, the bytes that were written and those that are consumed are the fault's own. If
+  -- two elements of `82 1c` are due, the fault is at the byte 1: `82` was written, and `1c` is consumed.
   pub record MeetsFault (strict : Bool) (count : ℕ) (due written : List ℕ) (answer : Answer) (old : Decoder R)
       (new : Sides R W) : Type 0 where
     pub fault : HasFault strict count due

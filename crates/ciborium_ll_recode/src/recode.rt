@@ -127,7 +127,7 @@ fn copy_string<R: Read, W: Write, P: Chunked>(
 
 /// Copies one element as [`recode`] does, with the same answers.
 ///
-/// The contract speaks of the elements before this one, too, for a caller that counts elements. Users call [`recode`].
+/// Its contract also speaks of the elements before this one. Users call [`recode`].
 pub fn copy_element<R: Read, W: Write>(
     decoder: &mut Decoder<R>,
     encoder: &mut Encoder<W>,
@@ -164,7 +164,7 @@ pub fn copy_element<R: Read, W: Write>(
 ///   at the place that [`Error::Syntax`] names.
 /// - `Read` with `Io`: the reader failed.
 /// - `Read` with `TooLong`: the offset can't take the next read, or the opens can't be counted.
-/// - `Write`: the writer failed at the next title or chunk, of which a beginning is written.
+/// - `Write`: the writer failed at the next title or chunk. A beginning of it is written.
 ///
 /// The titles and chunks before an error are written. `Waiting` never comes. The writer stays on its slice.
 ///
