@@ -32,8 +32,8 @@ module _ {R E : Type 0} (source : Ghosts R E) (kind : Kind) (kept : List ℕ) (u
     pub sound : IsWritable kind (kept ++ read)
     pub passed : ReadsPast source old read new
 
-  -- A beginning of the rest was read. If the body is that of a text, the bytes so far are characters, except for up to
-  -- three bytes at the end, with which no further text begins. A beginning of the text body `61 c3 a9` is `61 c3`.
+  -- A beginning of the rest was read. If the body is that of a text, the bytes so far are characters and then up to
+  -- three bytes. No further text begins with these. A beginning of the text body `61 c3 a9` is `61 c3`.
   pub record BeginsRest (old between : Decoder R) : Type 0 where
     pub read : List ℕ
     pub front : List ℕ

@@ -38,8 +38,7 @@ impl<'r, R: Read, P: Chunked> Segments<'r, R, P> {
     ///
     /// # Errors
     ///
-    /// - `Read`: the decoder failed as in [`Segments::finish`]. Exactly the chunks that were handed out by then are
-    ///   written.
+    /// - `Read`: the decoder failed as in [`Segments::finish`]. Exactly the chunks handed out by then are written.
     /// - `Write`: the writer failed at a chunk. Everything before the chunk and a beginning of it are written. The
     ///   chunk and, of a text, up to three bytes after it are consumed: at least one byte.
     ///

@@ -15,8 +15,8 @@ pub enum Error<T> {
     Io(T),
     /// The bytes at this offset are no CBOR that may stand there.
     ///
-    /// It is the offset of the title at fault, or of the title of a body that is no text. The title of a string of a
-    /// definite length counts as its shortest title there. For example, `78 01 ff` has the length 1 in two bytes, and
+    /// It is the offset of the title at fault, or of the title of a body that is no text. The title of a whole string,
+    /// not of a segment, counts as its shortest title there. For example, `78 01 ff` has the length 1 in two bytes, and
     /// its place is 1: the shortest title `61` would begin there.
     Syntax(usize),
     /// The offset would pass `usize::MAX`, or a string has more opens within one another than a `usize` counts.
@@ -37,8 +37,8 @@ impl<T> From<T> for Error<T> {
 
 /// Reads headers, and counts the bytes that it consumed. A header that a caller pushes back waits for the next pull.
 ///
-/// A call that reads moves the decoder on: the offset never falls, a steady reader stays steady, and a strict decoder
-/// stays strict. `Io` comes only if the reader failed in that call, once.
+/// A call that reads moves the decoder on, whatever it answers: the offset never falls, a steady reader stays steady,
+/// and a strict decoder stays strict. `Io` comes only if the reader failed in that call, once.
 #[derive(Drop)]
 pub struct Decoder<R> {
     reader: R,
@@ -149,8 +149,8 @@ impl<R: Read> Decoder<R> {
     ///
     /// # Errors
     ///
-    /// - `Syntax(offset)`: the byte there, one of 27 that begin no title, is consumed. [`Decoder::strict`] refuses more
-    ///   titles.
+    /// - `Syntax(offset)`: the byte there, one of 27 that begin no title, is consumed. A strict decoder refuses more
+    ///   titles, as [`Decoder::strict`] says.
     /// - `Io`: the reader failed. If it is steady, the bytes end before the title does.
     /// - `TooLong`: the offset can't take the next read.
     ///
@@ -400,7 +400,7 @@ impl<R: Read> Read for Decoder<R> {
 
     ghost steady_is_told = { λ _ h. Prim.search rules };
 
-    /// Reads the bytes of a body, after the header that was pulled.
+    /// Reads the bytes of a body after its header.
     ///
     /// # Errors
     ///

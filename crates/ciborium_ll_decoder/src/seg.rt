@@ -145,8 +145,8 @@ impl<'r, R: Read, P: Parser> Segments<'r, R, P> {
     ///
     /// - `Syntax(offset)`, which stays: the bytes there are no title, or a title that may not stand there.
     /// - `Io`: the reader failed, and the next call reads on.
-    /// - `TooLong`: the offset can't take the next read, and the next call reads on. If an open can't be counted, it
-    ///   stays.
+    /// - `TooLong`: the offset can't take the next read, and the next call reads on. If an open can't be counted, the
+    ///   error stays.
     #[inline(always)]
     pub fn advance(&mut self) -> Result<Option<Body>, Error<R::Error>>
         ensures { SegmentsAdvance R.Read P.kind self.old result self.new }
@@ -381,7 +381,7 @@ impl<'r, R: Read, P: Parser> Segment<'r, R, P> {
         }
     }
 
-    /// Returns how many bytes of the body were not handed out. After a damage it counts the unread bytes alone.
+    /// Returns how many bytes of the body were not handed out. After a damage only the unread bytes count.
     pub fn left(&self) -> usize
         ensures { result ≡ left_of self.now }
     {
@@ -398,7 +398,7 @@ impl<'r, R: Read> Segment<'r, R, Bytes> {
     ///
     /// # Errors
     ///
-    /// Both leave the segment as it was. A whole segment never comes to a `Syntax`.
+    /// Both errors leave the segment as it was. A whole segment never comes to a `Syntax`.
     ///
     /// - `Io`: the reader failed.
     /// - `TooLong`: the offset would pass `usize::MAX`.

@@ -17,7 +17,7 @@ use std::marker::PhantomData;
 impl<R: Read> Decoder<R> {
     /// Returns the segments of a byte string, after its header with this length, which was pulled last.
     ///
-    /// The header waits again, as after [`Decoder::push`]. Another length than the header's is not refused: the string
+    /// The header waits again, as after [`Decoder::push`]. A length other than the header's is not refused: the string
     /// is read with it.
     pub fn bytes(&mut self, len: Option<usize>) -> Segments<'_, R, Bytes>
         requires none_waits { waiting_of self.old ≡ None }
