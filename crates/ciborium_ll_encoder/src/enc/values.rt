@@ -23,8 +23,7 @@ fn limit(segment: Option<usize>, len: usize, least: usize) -> usize
 impl<W: Write> Encoder<W> {
     /// Writes a byte string (RFC 7049, 2.1) in segments of `segment` bytes (2.2.2), the last with the remainder.
     ///
-    /// A limit of 0 counts as 1. With `None`, or if the value is no longer than the limit, the string has a definite
-    /// length.
+    /// A limit of 0 counts as 1. With `None`, or if the value fits the limit, the string has a definite length.
     ///
     /// # Errors
     ///
@@ -44,9 +43,9 @@ impl<W: Write> Encoder<W> {
 
     /// Writes a text string (RFC 7049, 2.1) in segments of at most `segment` bytes (2.2.2).
     ///
-    /// A limit below 4 counts as 4, the length of the longest character. With `None`, or if the value is no longer than
-    /// the limit, the string has a definite length. Otherwise each segment is a text, as long as the limit allows
-    /// without a cut character. No fewer segments fit the limit.
+    /// A limit below 4 counts as 4, the length of the longest character. With `None`, or if the value fits the limit,
+    /// the string has a definite length. Otherwise each segment is a text, as long as the limit allows without a cut
+    /// character. No fewer segments fit the limit.
     ///
     /// # Errors
     ///
