@@ -1,6 +1,6 @@
 -- The copy of elements from a decoder to a writer, over any reader and writer. The relations speak of bytes that are
--- told, and lead from the two sides of the copy before a call to the two sides after it. This file hands on the copy of
--- a body.
+-- told. They lead from the two sides of the copy before a call to the two sides after it. This file hands on the copy
+-- of a body.
 use Rattle.std.specs.Prelude.{◌≡◌, ℕ, suc, ◌+◌, ◌-◌, ◌<◌, ◌≤◌, ◌⊎◌, min, List, [], ◌∷◌, ◌++◌, length, Some, None}
 use Rattle.std.specs.Prelude.{Result, Ok, Err}
 use Rattle.ciborium_ll_io.specs.declared.io.Read.{Ghosts as Reader}

@@ -40,9 +40,9 @@ pub record StopInReading (count : ℕ) (bytes : List ℕ) : Type 0 where
   pub consumed : ℕ
   pub stops : StopsAt marks point ahead written consumed
 
--- The writer stops a copy of `count` elements through a buffer of `room` bytes, after all of them or a part, at one
--- title or one chunk. Everything before that is written, and a beginning of it. The bytes that were read and are not
--- written are of the chunk's body.
+-- The writer stops a copy of `count` elements through a buffer of `room` bytes, at one title or one chunk. All elements
+-- were read, or a part. Everything before the title or chunk is written, and a beginning of it. The bytes that were
+-- read and are not written are of the chunk's body.
 pub record StopInWriting (count room : ℕ) (bytes : List ℕ) : Type 0 where
   pub before : List ℕ
   pub read : List ℕ
@@ -63,7 +63,7 @@ module _ {R E W F : Type 0} (source : Reader R E) (sink : Writer W F) where
     pub written-told : sink.written now.writer ≡ Some written
     pub none_waits : strict ≡ true → now.decoder.waiting ≡ None
 
-  -- The reader gives the bytes that it tells, and the offset fits the bytes that are due, with 8 and with the buffer's
+  -- The reader gives the bytes that it tells. The offset fits the bytes that are due, with 8 and with the buffer's
   -- length to spare. The writer has room for the elements' spelling if that many are next, and otherwise for as many
   -- bytes as are due.
   pub record IsReady (strict : Bool) (count room-in : ℕ) (now : Sides R W)

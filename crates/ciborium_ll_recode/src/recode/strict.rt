@@ -11,7 +11,7 @@ use ciborium_ll_io::io::{Discard, SliceReader};
 
 /// Returns how many bytes at the beginning are `count` elements in the spelling that [`Decoder::strict`] takes.
 ///
-/// No other length has `count` elements. A caller can check a message that was signed as bytes.
+/// No other length holds `count` elements. A caller can check a message that was signed as bytes.
 ///
 /// # Examples
 ///
