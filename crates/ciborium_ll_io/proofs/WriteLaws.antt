@@ -1,4 +1,4 @@
--- A write after a write, and the facts that are told of a write.
+-- Laws of two writes, one after the other, and of the facts that a writer tells.
 use Rattle.std.proofs.Common.{◌≡◌, ℕ, ◌+◌, ◌≤◌, ◌<◌, List, ◌++◌, length, Option, Some, Result, Ok, Err, IfSome, IsErr}
 use Rattle.std.proofs.Common.{OnOk, OnErr, arith, length-append}
 use Rattle.std.proofs.Math.Seq.{take-append-add}
@@ -15,14 +15,14 @@ Shrinks-zero room = grind arith
 pub Shrinks-trans : (a b c : Option ℕ) (m n : ℕ) → Shrinks a b m → Shrinks b c n → Shrinks a c (m + n)
 Shrinks-trans a b c m n p q = grind arith
 
--- a beginning of xs is one of xs and ys
+-- A beginning of `xs` is a beginning of `xs ++ ys`.
 pub AppendsFront-longer : (w w' : Option (List ℕ)) (r r' : Option ℕ) (xs ys : List ℕ) → AppendsFront w w' r r' xs
     → AppendsFront w w' r r' (xs ++ ys)
 AppendsFront-longer w w' r r' xs ys f =
     let within : f.0 ≤ length xs = f.1.2 in
     (f.0, (rw take-append-le f.1.0, f.1.1, omega (arith, length-append xs ys)))
 
--- all of xs, and then a beginning of ys
+-- All of `xs` and then a beginning of `ys` make a beginning of `xs ++ ys`.
 pub AppendsFront-after : (w w' w'' : Option (List ℕ)) (r r' r'' : Option ℕ) (xs ys : List ℕ) → Appends w w' xs
     → Shrinks r r' (length xs) → AppendsFront w' w'' r' r'' ys → AppendsFront w w'' r r'' (xs ++ ys)
 AppendsFront-after w w' w'' r r' r'' xs ys p s f = (
@@ -34,17 +34,17 @@ AppendsFront-after w w' w'' r r' r'' xs ys p s f = (
   ),
 )
 
--- a room too small for xs is too small for xs and ys
+-- A room that is too small for `xs` is too small for `xs ++ ys`.
 full_longer : (room : Option ℕ) (xs ys : List ℕ) → IfSome room (λ n. n < length xs)
     → IfSome room (λ n. n < length (xs ++ ys))
 full_longer room xs ys full = grind (arith, length-append xs ys)
 
--- a room that is too small for ys behind xs was too small for both
+-- If the room after `xs` is too small for `ys`, the room before was too small for `xs ++ ys`.
 full_after : (room room' : Option ℕ) (xs ys : List ℕ) → Shrinks room room' (length xs)
     → IfSome room' (λ n. n < length ys) → IfSome room (λ n. n < length (xs ++ ys))
 full_after room room' xs ys shrunk full = grind (arith, length-append xs ys)
 
--- ---- where bytes and room are told
+-- ---- bytes and room that are told
 
 pub appends_told : (known known' : Option (List ℕ)) (written bytes : List ℕ) → known ≡ Some written
     → Appends known known' bytes → known' ≡ Some (written ++ bytes)
@@ -57,14 +57,14 @@ shrinks_told room room' n count e s = grind arith
 -- ---- writes
 
 module _ {W F : Type 0} (sink : Ghosts W F) where
-  -- a first write that failed
+  -- A failed write of `xs` is a failed write of `xs ++ ys`.
   pub WritesBytes-stopped : {T : Type 0} (old new : W) (result : Result T F) (xs ys : List ℕ) → IsErr result
       → WritesFront sink old xs new → WritesBytes sink old result (xs ++ ys) new
   WritesBytes-stopped old new (Ok done) xs ys e f = absurd cc
   WritesBytes-stopped old new (Err fault) xs ys e f = record
       { front = AppendsFront-longer _ _ _ _ xs ys f.front; full = full_longer _ xs ys f.full; failures = f.failures }
 
-  -- a write that went through, and then another one
+  -- A write of all of `xs` and then a write of `ys` make a write of `xs ++ ys`.
   pub WritesBytes-then : {T : Type 0} (old mid new : W) (result : Result T F) (xs ys : List ℕ)
       → WritesAll sink old xs mid → WritesBytes sink mid result ys new → WritesBytes sink old result (xs ++ ys) new
   WritesBytes-then old mid new (Ok done) xs ys all next = record {
@@ -78,7 +78,7 @@ module _ {W F : Type 0} (sink : Ghosts W F) where
     failures = cc (all.failures, next.failures);
   }
 
-  -- the six clauses of one write, together
+  -- The six clauses of one write make `WritesBytes`.
   pub WritesBytes-of : {T : Type 0} (old new : W) (result : Result T F) (xs : List ℕ)
       → OnOk result (Appends (sink.written old) (sink.written new) xs)
       → OnOk result (Shrinks (sink.room old) (sink.room new) (length xs))

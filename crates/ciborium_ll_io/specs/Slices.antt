@@ -3,11 +3,11 @@ use Rattle.std.specs.Prelude.{ℕ, List, Option, Some, length, take, ◌-◌}
 use Rattle.ciborium_ll_io.specs.declared.io.slices.SliceWriter.{SliceWriter}
 use Rattle.ciborium_ll_io.specs.Transfer.{Target}
 
--- The bytes written so far.
+-- The bytes written so far: `82 01` if the slice is `82 01 00 00` and 2 bytes are filled.
 abbrev pub slice_written : SliceWriter → Option (List ℕ)
 slice_written w = Some (take w.filled w.buffer.now)
 
--- The number of further bytes that fit.
+-- The number of further bytes that fit: 2 if the slice has 4 bytes and 2 are filled.
 abbrev pub slice_room : SliceWriter → Option ℕ
 slice_room w = Some (length w.buffer.now - w.filled)
 
@@ -19,6 +19,6 @@ slice_failures w = w.failures.count
 abbrev pub slice_before : SliceWriter → List ℕ
 slice_before w = w.before.bytes
 
--- The slice that it writes into.
+-- The slice that the writer writes into.
 abbrev pub slice_target : SliceWriter → Target
 slice_target w = record { loan = w.buffer.ghost_name; before = slice_before w }

@@ -5,13 +5,14 @@ use Rattle.ciborium_ll_io.specs.declared.io.Write.{Ghosts}
 use Rattle.ciborium_ll_io.specs.Transfer.{Shrinks, AppendsFront}
 
 module _ {W F : Type 0} (sink : Ghosts W F) where
-  -- All of the bytes were appended.
+  -- All of the bytes were appended, a told room is less by their number, and no call failed.
   pub record WritesAll (old : W) (bytes : List ℕ) (new : W) : Type 0 where
     pub appended : Appends (sink.written old) (sink.written new) bytes
     pub room : Shrinks (sink.room old) (sink.room new) (length bytes)
     pub failures : sink.failures new ≡ sink.failures old
 
-  -- The writer failed once, with a beginning of the bytes appended. A told room was too small.
+  -- The writer failed once, with a beginning of the bytes appended. A told room was too small: it had 1 byte, for
+  -- example, for `82 01`.
   pub record WritesFront (old : W) (bytes : List ℕ) (new : W) : Type 0 where
     pub front : AppendsFront (sink.written old) (sink.written new) (sink.room old) (sink.room new) bytes
     pub full : IfSome (sink.room old) (λ room. room < length bytes)

@@ -1,7 +1,6 @@
 //! Readers and writers, and the facts that they tell.
 //!
-//! A contract speaks of bytes if a reader or a writer tells them, and of failures always. Telling costs nothing at run
-//! time.
+//! A contract speaks of bytes only if a reader or a writer tells them. Telling costs nothing at run time.
 
 ghost use Rattle.std.specs.Prelude.{◌≡◌, ℕ, ◌+◌, ◌<◌, List, Bool, length, IsTrue, IsSome, IfSome, OnOk, OnErr};
 ghost use Rattle.std.specs.declared.option.Option.{Option};
@@ -18,7 +17,7 @@ pub use self::discard::Discard;
 pub use self::failures::Failures;
 pub use self::slices::{EndOfFile, OutOfSpace, SliceReader, SliceWriter, copy_chunk};
 
-/// A source of bytes. Each call that fails raises `failures` by one, and no other call does.
+/// A source of bytes.
 pub trait Read {
     /// Why a read failed.
     type Error;
@@ -32,12 +31,12 @@ pub trait Read {
     /// The number of calls that failed so far.
     ghost failures: { Self → ℕ };
 
-    /// Fills the whole of `data` with the next bytes. After `Ok` exactly these bytes are consumed.
+    /// Fills the whole of `data` with the next bytes, and consumes exactly these.
     ///
     /// # Errors
     ///
-    /// - `Self::Error`: the read failed. The contents of `data` are then unknown, and so are the bytes to come, unless
-    ///   the reader is steady. A steady reader fails only if too few bytes are left, and keeps them.
+    /// - `Self::Error`: the read failed. The contents of `data` are then unknown, and so are the bytes to come of a
+    ///   reader that is not steady.
     fn read_exact(&mut self, data: &mut [u8]) -> Result<(), Self::Error>
         ensures bytes { OnOk result (Consumes (ahead self.old) (ahead self.new) «data».new) }
         ensures ok { OnOk result (failures self.new ≡ failures self.old) }
@@ -53,7 +52,7 @@ pub trait Read {
     ghost steady_is_told: { (reader : Self) → IsTrue (steady reader) → IsSome (ahead reader) };
 }
 
-/// A sink of bytes. Each call that fails raises `failures` by one, and no other call does.
+/// A sink of bytes.
 pub trait Write {
     /// Why a write failed.
     type Error;
@@ -67,25 +66,18 @@ pub trait Write {
     /// The number of calls that failed so far.
     ghost failures: { Self → ℕ };
 
-    /// The effect of a flush that succeeds, on the writer before and after it.
-    ///
-    /// A `SliceWriter` and a `Discard` leave the bytes written as they are. So does an adapter over a writer of std, if
-    /// that writer tells its bytes. A `BufferedWriter` then keeps nothing back. An `Encoder` has the effect of its
-    /// writer.
+    /// The effect of a flush that succeeds, as a relation of the writer before it and after it.
     ghost flushed: { Self → Self → Type 0 };
 
-    /// The lent slice that the writer writes into, if the writer tells it. No call changes it.
-    ///
-    /// A `SliceWriter` tells its slice, and an `Encoder` the slice of its writer. The others tell none. So the lender
-    /// of a slice knows that the writer is still on the slice, even after a generic call had that writer.
+    /// The lent slice that the writer writes into, if the writer tells it. Its lender thus knows that the writer is
+    /// still on the slice after a generic call.
     ghost target: { Self → Option Target };
 
     /// Appends the whole of `data`.
     ///
     /// # Errors
     ///
-    /// - `Self::Error`: the write failed, with a beginning of `data` appended. It does not fail if the writer tells a
-    ///   room of at least `data.len()` bytes.
+    /// - `Self::Error`: the write failed, with a beginning of `data` appended.
     fn write_all(&mut self, data: &[u8]) -> Result<(), Self::Error>
         ensures bytes { OnOk result (Appends (written self.old) (written self.new) «data».now) }
         ensures fills { OnOk result (Shrinks (room self.old) (room self.new) (length «data».now)) }
@@ -98,10 +90,7 @@ pub trait Write {
 
         ensures target { target self.new ≡ target self.old };
 
-    /// Passes on the bytes that the writer kept back.
-    ///
-    /// A writer that tells its room keeps nothing back: its bytes and its room stay as they are. `flushed` is the
-    /// meaning of `Ok` for each writer.
+    /// Passes on the bytes that the writer kept back. Each writer states in `flushed` the meaning of `Ok`.
     ///
     /// # Errors
     ///

@@ -8,15 +8,15 @@ use Rattle.ciborium_ll_streams.specs.declared.streams.ReadFault.{ReadFault}
 use Rattle.ciborium_ll_streams.specs.declared.streams.WriteFault.{WriteFault}
 use Rattle.ciborium_ll_streams.specs.declared.window.Window.{Window}
 
--- The bytes that wait in a part of a lent slice.
+-- The bytes that wait in a part of a lent slice: `01 02` if the slice is `00 01 02 00` and the part is from 1 up to 3.
 abbrev pub held : Window → List ℕ
 held w = slice_range w.space.now w.start w.end
 
--- The number of bytes of the lent slice.
+-- The number of bytes of the lent slice: 4 if it is `00 01 02 00`.
 abbrev pub window_capacity : Window → ℕ
 window_capacity w = length w.space.now
 
--- The number of bytes that fit after the bytes that wait.
+-- The number of bytes that fit after the bytes that wait: 1 if the slice has 4 bytes and they end at 3.
 abbrev pub window_room : Window → ℕ
 window_room w = length w.space.now - w.end
 
@@ -33,7 +33,8 @@ module _ {T : Type 0} where
   abbrev pub buffered_read_capacity : BufferedReader T → ℕ
   buffered_read_capacity r = window_capacity r.window
 
-  -- The bytes to come: the bytes read ahead, and then the bytes of the inner reader, if it tells them.
+  -- The bytes to come, if the inner reader tells its bytes: those read ahead, and then its own. `01` ahead and `02 03`
+  -- in the inner reader are `01 02 03`.
   abbrev pub buffered_ahead : (T → Option (List ℕ)) → BufferedReader T → Option (List ℕ)
   buffered_ahead remaining r = prepend_known (held r.window) (remaining r.source)
 
@@ -65,7 +66,8 @@ module _ {T : Type 0} where
   abbrev pub buffered_space : BufferedWriter T → ℕ
   buffered_space w = window_room w.window
 
-  -- The bytes so far: the bytes of the inner writer, if it tells them, and then the bytes kept back.
+  -- The bytes so far, if the inner writer tells its bytes: those, and then the bytes kept back. `01 02` in the inner
+  -- writer and `03` kept back are `01 02 03`.
   abbrev pub buffered_written : (T → Option (List ℕ)) → BufferedWriter T → Option (List ℕ)
   buffered_written contents w = append_known (contents w.sink) (held w.window)
 
@@ -82,20 +84,21 @@ module _ {T : Type 0} where
   buffered_write_failures w = w.failures.count
 
   -- The bytes were kept back after the bytes kept back before, and took their length of the space. The inner writer is
-  -- as it was.
+  -- as it was. With `01` kept back, a write of `02` makes this `01 02`.
   pub record KeepsBack (old : BufferedWriter T) (bytes : List ℕ) (new : BufferedWriter T) : Type 0 where
     pub sink : buffered_sink new ≡ buffered_sink old
     pub kept_back : buffered_kept_back new ≡ buffered_kept_back old ++ bytes
     pub space : buffered_space old ≡ buffered_space new + length bytes
 
   -- Only these bytes are kept back if the whole slice has room for them, and no bytes otherwise. The rest of the slice
-  -- is space.
+  -- is space. A slice of 4 bytes keeps 3 bytes back, and none of 5.
   pub record KeepsAlone (bytes : List ℕ) (new : BufferedWriter T) : Type 0 where
     pub within : length bytes ≤ buffered_capacity new → buffered_kept_back new ≡ bytes
     pub beyond : buffered_capacity new < length bytes → buffered_kept_back new ≡ []
     pub space : buffered_capacity new ≡ buffered_space new + length (buffered_kept_back new)
 
-  -- A front of the bytes kept back is gone, and the rest is still kept back. There is no less space.
+  -- A front of the bytes kept back is gone, and the rest is still kept back. There is no less space. A failed flush of
+  -- `01 02 03` may leave `03`.
   pub record KeepsRest (old new : BufferedWriter T) : Type 0 where
     pub rest : (front : List ℕ) × (buffered_kept_back old ≡ front ++ buffered_kept_back new)
     pub space : buffered_space old ≤ buffered_space new

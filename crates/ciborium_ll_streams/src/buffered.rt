@@ -1,7 +1,7 @@
 //! A reader and a writer over std's that move many bytes at a time, and whose errors are small.
 //!
-//! An `io::Error` has many bytes, and each function that returns one clears and copies them. So these types keep a
-//! fault aside, and a call answers only that there is a fault. Bytes within the lent slice move without a call of std.
+//! An `io::Error` has many bytes, which each function that returns one clears and copies. So these types keep a fault
+//! aside, and a call answers only that there is a fault.
 
 ghost use Rattle.std.specs.Prelude.{◌≡◌, ◌+◌, ◌≤◌, ◌<◌, ◌++◌, None, Some, IsTrue, IsOk, IsSome};
 ghost use Rattle.std.specs.Prelude.{IfSome, IfOk, OnOk, OnErr, [], length, take};
@@ -18,10 +18,9 @@ use std::io;
 #[derive(Debug, Drop)]
 pub struct FaultKept;
 
-/// Reads from a reader of std, and reads ahead into a slice that the caller lends.
+/// Reads from a reader of std, and reads ahead into a slice that the caller lends. It is never steady.
 ///
-/// It tells the bytes that the inner reader tells, and is never steady. A slice of some 8 KiB serves well. If the slice
-/// is empty, each read calls the inner reader.
+/// A slice of some 8 KiB serves well. If the slice is empty, each read calls the inner reader.
 #[derive(Drop)]
 pub struct BufferedReader<'a, T> {
     source: T,
@@ -34,7 +33,7 @@ impl<'a, T: io::Read> BufferedReader<'a, T> {
     ghost use Rattle.ciborium_ll_streams.specs.Buffers.{buffered_ahead, buffered_read_ahead, buffered_read_failures};
     ghost use Rattle.ciborium_ll_streams.specs.Buffers.{buffered_read_capacity, buffered_read_fault, buffered_source};
 
-    /// Returns a reader of all bytes that are left in `source`. It reads nothing yet.
+    /// Returns a reader of the bytes left in `source`.
     pub fn new(source: T, buffer: &'a mut [u8]) -> BufferedReader<'a, T>
         ensures source { buffered_source result ≡ source }
         ensures read_ahead { buffered_read_ahead result ≡ [] }
@@ -51,14 +50,14 @@ impl<'a, T: io::Read> BufferedReader<'a, T> {
         }
     }
 
-    /// Returns the bytes that it read ahead and did not give to a caller.
+    /// Returns the bytes that it read ahead and gave to no caller.
     pub fn buffer(&self) -> &[u8]
         ensures { result.now ≡ buffered_read_ahead self.now }
     {
         self.window.held()
     }
 
-    /// Returns the fault of the last call that failed, and keeps it no longer. `None` means that it keeps no fault.
+    /// Returns the fault of the last call that failed, if it keeps one, and keeps it no longer.
     pub fn take_fault(&mut self) -> Option<ReadFault>
         ensures fault { result ≡ buffered_read_fault self.old }
         ensures none { buffered_read_fault self.new ≡ None }
@@ -71,10 +70,8 @@ impl<'a, T: io::Read> BufferedReader<'a, T> {
         self.fault.take()
     }
 
-    /// Returns the inner reader as the last call left it, the bytes read ahead, and the fault of the last call that
-    /// failed.
-    ///
-    /// No caller got the bytes read ahead. They are at most as many as the slice has bytes.
+    /// Returns the inner reader, the bytes that it read ahead and gave to no caller, and the fault of the last call
+    /// that failed.
     pub fn into_parts(self) -> (T, &'a [u8], Option<ReadFault>)
         ensures source { result.0 ≡ buffered_source self.entry }
         ensures read_ahead { result.1.now ≡ buffered_read_ahead self.entry }
@@ -145,7 +142,7 @@ impl<'a, T: io::Read> BufferedReader<'a, T> {
         Ok(count)
     }
 
-    /// Fills a front of `data` by one call of the inner reader, if nothing was read ahead, and returns its length.
+    /// Fills a front of `data` by one call of the inner reader, if none was read ahead, and returns its length.
     fn read_past(&mut self, data: &mut [u8]) -> Result<usize, FaultKept>
         requires some { 0 < length «data».old }
         requires none_ahead { buffered_read_ahead self.old ≡ [] }
@@ -202,9 +199,8 @@ impl<'a, T: io::Read> Read for BufferedReader<'a, T> {
     ///
     /// # Errors
     ///
-    /// - `FaultKept`: a call failed (the fault is `Failed`), or it gave no byte (`End`). After `End`, no byte is left
-    ///   if the inner reader tells its bytes. The bytes before the fault are at the front of `data`, and do not fill
-    ///   it.
+    /// - `FaultKept`: a call failed (`Failed`), or gave no byte (`End`). The bytes before the fault are at the front of
+    ///   `data`.
     #[inline(always)]
     fn read_exact(&mut self, data: &mut [u8]) -> Result<(), FaultKept>
         // The trait's.
@@ -238,11 +234,10 @@ impl<'a, T: io::Read> Read for BufferedReader<'a, T> {
     }
 }
 
-/// Writes to a writer of std, and keeps bytes back in a slice that the caller lends.
+/// Writes to a writer of std, and keeps bytes back in a slice that the caller lends. It tells no room.
 ///
-/// It tells the bytes of the inner writer and then the bytes that it keeps back, and no room. A slice of some 8 KiB
-/// serves well. If the slice is empty, each write calls the inner writer. `flush` passes the kept bytes on, and so does
-/// a write for which the slice has no room. Dropping the writer passes nothing on.
+/// A slice of some 8 KiB serves well. If the slice is empty, each write calls the inner writer. `flush` passes the kept
+/// bytes on, and so does a write for which the slice has no room. Dropping the writer passes nothing on.
 #[derive(Drop)]
 pub struct BufferedWriter<'a, T> {
     sink: T,
@@ -256,7 +251,7 @@ impl<'a, T: io::Write> BufferedWriter<'a, T> {
     ghost use Rattle.ciborium_ll_streams.specs.Buffers.{buffered_sink, buffered_space, buffered_write_failures};
     ghost use Rattle.ciborium_ll_streams.specs.Buffers.{buffered_write_fault, buffered_written};
 
-    /// Returns a writer that appends to the bytes of `sink`. It keeps nothing back yet, and the whole slice is space.
+    /// Returns a writer that appends to the bytes of `sink`.
     pub fn new(sink: T, buffer: &'a mut [u8]) -> BufferedWriter<'a, T>
         ensures sink { buffered_sink result ≡ sink }
         ensures kept_back { buffered_kept_back result ≡ [] }
@@ -281,7 +276,7 @@ impl<'a, T: io::Write> BufferedWriter<'a, T> {
         self.window.held()
     }
 
-    /// Returns the fault of the last call that failed, and keeps it no longer. `None` means that it keeps no fault.
+    /// Returns the fault of the last call that failed, if it keeps one, and keeps it no longer.
     pub fn take_fault(&mut self) -> Option<WriteFault>
         ensures fault { result ≡ buffered_write_fault self.old }
         ensures none { buffered_write_fault self.new ≡ None }
@@ -295,8 +290,7 @@ impl<'a, T: io::Write> BufferedWriter<'a, T> {
         self.fault.take()
     }
 
-    /// Returns the inner writer as the last call left it, the bytes kept back, and the fault of the last call that
-    /// failed.
+    /// Returns the inner writer, the bytes kept back, and the fault of the last call that failed.
     pub fn into_parts(self) -> (T, &'a [u8], Option<WriteFault>)
         ensures sink { result.0 ≡ buffered_sink self.entry }
         ensures kept_back { result.1.now ≡ buffered_kept_back self.entry }
@@ -339,7 +333,7 @@ impl<'a, T: io::Write> BufferedWriter<'a, T> {
         }
     }
 
-    /// Writes the bytes kept back. After a failure, the bytes that it did not write stay.
+    /// Writes the bytes kept back. After a failure, the unwritten bytes stay.
     fn send(&mut self) -> Result<(), FaultKept>
         ensures bytes { Keeps (buffered_written T.contents self.old) (buffered_written T.contents self.new) }
         ensures empty { OnOk result (buffered_kept_back self.new ≡ []) }
@@ -398,15 +392,13 @@ impl<'a, T: io::Write> Write for BufferedWriter<'a, T> {
 
     /// Appends the whole of `data`.
     ///
-    /// If the slice has space for `data`, the writer keeps it back, without a call of the inner writer. Otherwise it
-    /// first writes the bytes kept back. Then it keeps `data` back if the whole slice has room for it, and writes it if
-    /// not.
+    /// It keeps `data` back if the slice has space. Otherwise it first writes the bytes kept back, and then `data` too,
+    /// unless the whole slice has room for `data`.
     ///
     /// # Errors
     ///
-    /// - `FaultKept`: a call of the inner writer failed (the fault is `Failed`) or took no byte (`Zero`). A beginning
-    ///   of `data` is then written, but not the whole. No failure loses bytes kept back before: the unwritten rest is
-    ///   still kept back.
+    /// - `FaultKept`: a call of the inner writer failed (`Failed`) or took no byte (`Zero`). No failure loses bytes
+    ///   that were kept back before.
     #[inline(always)]
     fn write_all(&mut self, data: &[u8]) -> Result<(), FaultKept>
         // The trait's.
@@ -438,11 +430,11 @@ impl<'a, T: io::Write> Write for BufferedWriter<'a, T> {
         self.write_on(data)
     }
 
-    /// Writes the bytes kept back, and flushes the inner writer. Then the whole slice is space.
+    /// Writes the bytes kept back, and flushes the inner writer.
     ///
     /// # Errors
     ///
-    /// - `FaultKept`: a call of the inner writer failed, or took no byte. The unwritten bytes are still kept back.
+    /// - `FaultKept`: a call of the inner writer failed, or took no byte. The unwritten bytes stay.
     fn flush(&mut self) -> Result<(), FaultKept>
         // The trait's.
         ensures bytes { IsSome (buffered_room self.old)

@@ -25,7 +25,7 @@ pub struct VecWriter {
 }
 
 impl VecWriter {
-    /// Makes a writer that has written nothing. It takes no memory yet.
+    /// Returns a writer that has written nothing and takes no memory yet.
     pub fn new(alloc: Global) -> VecWriter
         ensures written { ⟦<VecWriter as Write>⟧.written result ≡ Some [] }
         ensures failures { ⟦<VecWriter as Write>⟧.failures result ≡ 0 }
@@ -37,14 +37,14 @@ impl VecWriter {
         }
     }
 
-    /// Returns the number of bytes that were written.
+    /// Returns the number of bytes written.
     pub fn len(&self) -> usize
         ensures { result ≡ length self.now.bytes.items }
     {
         self.bytes.len()
     }
 
-    /// Returns the bytes that were written.
+    /// Returns the bytes written.
     pub fn into_vec(self) -> Vec<u8>
         ensures written { ⟦<VecWriter as Write>⟧.written self ≡ Some result.items }
         ensures bytes { result ≡ self.bytes }
@@ -70,7 +70,7 @@ impl Write for VecWriter {
     ///
     /// # Errors
     ///
-    /// `OutOfMemory` if the memory could not grow. The writer then wrote nothing.
+    /// - `OutOfMemory`: the memory could not grow.
     fn write_all(&mut self, data: &[u8]) -> Result<(), OutOfMemory>
         // The trait's.
         ensures bytes { OnOk result (Appends (Some self.old.bytes.items) (Some self.new.bytes.items) «data».now) }

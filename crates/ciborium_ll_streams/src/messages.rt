@@ -21,7 +21,7 @@ impl fmt::Display for ReadFault {
 
     ghost output = { read_fault_text };
 
-    /// Writes the message. If the inner reader failed, it is the text of std's error.
+    /// Writes the message. For `Failed`, it is the text of std's error.
     fn fmt<W: fmt::Write>(&self, f: &mut fmt::Formatter<W>) -> fmt::Result {
         match self {
             ReadFault::End => f.write_str("the reader has ended"),
@@ -37,7 +37,7 @@ impl fmt::Display for WriteFault {
 
     ghost output = { write_fault_text };
 
-    /// Writes the message. If the inner writer failed, it is the text of std's error.
+    /// Writes the message. For `Failed`, it is the text of std's error.
     fn fmt<W: fmt::Write>(&self, f: &mut fmt::Formatter<W>) -> fmt::Result {
         match self {
             WriteFault::Zero => f.write_str("the writer takes no more bytes"),

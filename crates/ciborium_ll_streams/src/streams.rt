@@ -14,11 +14,11 @@ use std::io;
 pub enum ReadFault {
     /// The inner reader gave no byte to a read of one byte or more.
     End,
-    /// The inner reader failed, and this is its error. An interrupted call fails like any other call.
+    /// The inner reader failed with this error. An interrupted call fails too.
     Failed(io::Error),
 }
 
-/// Reads from a reader of std. It tells the bytes that this reader tells, and is never steady.
+/// Reads from a reader of std, without a buffer. It is never steady.
 #[derive(Drop)]
 pub struct StdReader<T> {
     source: T,
@@ -26,7 +26,7 @@ pub struct StdReader<T> {
 }
 
 impl<T: io::Read> StdReader<T> {
-    /// Returns a reader of all bytes that are left in `source`.
+    /// Returns a reader of the bytes left in `source`.
     pub fn new(source: T) -> StdReader<T>
         ensures source { stream_source result ≡ source }
         ensures failures { stream_read_failures result ≡ 0 }
@@ -37,7 +37,7 @@ impl<T: io::Read> StdReader<T> {
         }
     }
 
-    /// Returns the inner reader, as the last call left it.
+    /// Returns the inner reader.
     pub fn into_inner(self) -> T
         ensures { result ≡ stream_source self }
     {
@@ -68,14 +68,14 @@ impl<T: io::Read> Read for StdReader<T> {
 
     ghost steady_is_told = { λ _ h. Prim.search rules };
 
-    /// Fills the whole of `data`, by as many calls of `read` as needed. For an empty `data` it makes no call.
+    /// Fills the whole of `data`, by as many calls of `read` as needed.
     ///
     /// # Errors
     ///
-    /// - `End`: a call gave no byte. If the inner reader tells its bytes, none is left.
+    /// - `End`: a call gave no byte.
     /// - `Failed`: a call failed.
     ///
-    /// The bytes of the calls before are then at the front of `data`, and do not fill it.
+    /// The bytes of the calls before are then at the front of `data`.
     fn read_exact(&mut self, data: &mut [u8]) -> Result<(), ReadFault>
         // The trait's.
         ensures bytes { OnOk result (Consumes (T.remaining (stream_source self.old))
@@ -106,11 +106,11 @@ impl<T: io::Read> Read for StdReader<T> {
 pub enum WriteFault {
     /// The inner writer took no byte of a write of one byte or more.
     Zero,
-    /// The inner writer failed, and this is its error. An interrupted call fails like any other call.
+    /// The inner writer failed with this error. An interrupted call fails too.
     Failed(io::Error),
 }
 
-/// Writes to a writer of std. It tells the bytes that this writer tells, and no room.
+/// Writes to a writer of std, without a buffer. It tells no room.
 #[derive(Drop)]
 pub struct StdWriter<T> {
     sink: T,
@@ -129,7 +129,7 @@ impl<T: io::Write> StdWriter<T> {
         }
     }
 
-    /// Returns the inner writer, as the last call left it. It does not flush.
+    /// Returns the inner writer, and does not flush it.
     pub fn into_inner(self) -> T
         ensures { result ≡ stream_sink self }
     {
@@ -162,14 +162,12 @@ impl<T: io::Write> Write for StdWriter<T> {
 
     ghost target = { λ _. None };
 
-    /// Appends the whole of `data`, by as many calls of `write` as needed. For an empty `data` it makes no call.
+    /// Appends the whole of `data`, by as many calls of `write` as needed.
     ///
     /// # Errors
     ///
     /// - `Zero`: a call took no byte.
     /// - `Failed`: a call failed.
-    ///
-    /// The bytes that the calls before took are then a beginning of `data`, but not the whole.
     fn write_all(&mut self, data: &[u8]) -> Result<(), WriteFault>
         // The trait's.
         ensures bytes { OnOk result (Appends (T.contents (stream_sink self.old))
@@ -214,10 +212,7 @@ impl<T: io::Write> Write for StdWriter<T> {
 
 /// Writes bytes by as many calls of `write` as needed, and returns the number of bytes that the writer took.
 ///
-/// # Errors
-///
-/// - `Zero`: a call took no byte.
-/// - `Failed`: a call failed.
+/// The error is `Zero` if a call took no byte, and `Failed` if a call failed.
 pub(super) fn write_calls<W: io::Write>(
     sink: &mut W,
     bytes: &[u8],

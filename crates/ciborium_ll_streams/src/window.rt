@@ -6,7 +6,7 @@ ghost use Rattle.std.specs.Io.KnownBytes.{Consumes, IsAtEnd, Keeps};
 use ciborium_ll_io::io::copy_chunk;
 use std::io;
 
-/// Holds bytes that were read ahead, or that are not yet written, in a slice that the caller lends.
+/// Holds bytes that were read ahead, or are not yet written, in a slice that the caller lends.
 #[derive(Drop)]
 pub(super) struct Window<'a> {
     space: &'a mut [u8],
@@ -19,7 +19,7 @@ pub(super) struct Window<'a> {
 impl<'a> Window<'a> {
     ghost use Rattle.ciborium_ll_streams.specs.Buffers.{held, window_capacity, window_room};
 
-    /// Returns a window that holds nothing and has the whole slice as its space.
+    /// Returns a window that holds nothing.
     pub(super) fn new(space: &'a mut [u8]) -> Window<'a>
         ensures held { held result ≡ [] }
         ensures room { window_room result ≡ length space.old }
@@ -106,7 +106,7 @@ impl<'a> Window<'a> {
         self.end = end;
     }
 
-    /// Moves the front to the front of the slice, if the window holds nothing.
+    /// Moves an empty window to the front of the slice.
     pub(super) fn restart(&mut self)
         requires { held self.old ≡ [] }
         ensures held { held self.new ≡ [] }
@@ -117,12 +117,11 @@ impl<'a> Window<'a> {
         self.end = 0;
     }
 
-    /// Reads once, if the window holds nothing, and returns the number of bytes read. After `Ok(0)` the reader has
-    /// ended.
+    /// Reads once into an empty window, and returns the number of bytes read. `Ok(0)` means that the reader has ended.
     ///
     /// # Errors
     ///
-    /// - The reader's error: the window holds nothing, and the bytes to come are the same.
+    /// - The reader's error: the read failed.
     pub(super) fn fill<R: io::Read>(&mut self, from: &mut R) -> io::Result<usize>
         requires held { held self.old ≡ [] }
         requires capacity { 0 < window_capacity self.old }

@@ -10,7 +10,7 @@ use super::taken::Taken;
 /// Takes bytes and keeps none of them, so it needs no memory. It tells its room, and to contracts the bytes that it
 /// took.
 ///
-/// A caller uses it for a copy whose answer alone matters. If the room covers the bytes that are due, no write fails.
+/// A caller uses it for a copy whose answer alone matters.
 #[derive(Drop)]
 pub struct Discard {
     taken: Taken,
@@ -62,7 +62,7 @@ impl Write for Discard {
     ///
     /// # Errors
     ///
-    /// - `OutOfSpace`: `data` is longer than the room. Nothing is taken.
+    /// - `OutOfSpace`: `data` is longer than the room.
     fn write_all(&mut self, data: &[u8]) -> Result<(), OutOfSpace>
         // The trait's.
         ensures bytes { OnOk result (Appends (discard_taken self.old) (discard_taken self.new) «data».now) }

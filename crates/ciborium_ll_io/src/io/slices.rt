@@ -62,8 +62,8 @@ impl<'a> Read for SliceReader<'a> {
 
 /// Copies all bytes.
 ///
-/// The lengths of a title's parts have a case each. If the compiler knows the length, one move remains, without a test
-/// for slices that overlap.
+/// Each length of a title's parts has a case. If the compiler knows the length, one move remains, without a test for
+/// overlaps.
 #[inline(always)]
 fn copy(to: &mut [u8], from: &[u8])
     requires len { length to.old ≡ length from.now }
@@ -79,7 +79,7 @@ fn copy(to: &mut [u8], from: &[u8])
     }
 }
 
-/// Copies all bytes. A chunk of 64 bytes, which is the usual buffer of a copy, takes one move.
+/// Copies all bytes. A chunk of 64 bytes, the usual buffer of a copy, takes one move.
 #[inline(always)]
 pub fn copy_chunk(to: &mut [u8], from: &[u8])
     requires len { length to.old ≡ length from.now }
@@ -110,9 +110,8 @@ fn copy_array<const N: usize>(to: &mut [u8], from: &[u8])
 #[derive(Debug, Drop)]
 pub struct OutOfSpace;
 
-/// Writes into a slice, from its front on, and stays on that slice.
-///
-/// It tells the bytes that it wrote, its room and its slice. After these bytes the slice is as it was when it was lent.
+/// Writes into a slice, from its front on, and leaves the rest as it was. It tells the bytes that it wrote, its room
+/// and its slice.
 #[derive(Drop)]
 pub struct SliceWriter<'a> {
     buffer: &'a mut [u8],
@@ -144,7 +143,7 @@ impl<'a> SliceWriter<'a> {
         }
     }
 
-    /// Returns the bytes written so far. After them the slice is as it was when it was lent.
+    /// Returns the bytes written so far.
     pub fn written(&self) -> &[u8]
         ensures written { ⟦<SliceWriter<'a> as Write>⟧.written self.now ≡ Some result.now }
         ensures slice { self.now.buffer.now ≡ result.now ++ drop (length result.now) (slice_before self.now) }
@@ -182,7 +181,7 @@ impl<'a> Write for SliceWriter<'a> {
     ///
     /// # Errors
     ///
-    /// - `OutOfSpace`: `data` is longer than the room. The whole slice is as it was before the call.
+    /// - `OutOfSpace`: `data` is longer than the room.
     #[tactic(auto, using(crate::proofs::SliceLaws::behind_grown))]
     fn write_all(&mut self, data: &[u8]) -> Result<(), OutOfSpace>
         // The trait's.

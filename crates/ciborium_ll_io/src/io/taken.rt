@@ -5,7 +5,7 @@ ghost use Rattle.std.specs.Borrow.{ftrue};
 
 use std::marker::{Model, PhantomData};
 
-/// A list of bytes for contracts, which takes no memory: the bytes that a writer took, or the bytes of a lent slice.
+/// A list of bytes for contracts, which takes no memory: the bytes that a writer took, or those of a lent slice.
 #[derive(Drop)]
 pub(super) struct Taken {
     marker: PhantomData<()>,

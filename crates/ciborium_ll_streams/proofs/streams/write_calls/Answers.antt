@@ -5,7 +5,7 @@ use Rattle.std.proofs.KnownBytes.{Appends-trans}
 use lib.Seq.{take-add}
 use Rattle.ciborium_ll_streams.proofs.streams.write_calls.Goals as goal
 
--- what was sent so far, and then the bytes of one more write
+-- The first `a` bytes, followed by the `n` bytes of one more write, are the first `a + n` bytes.
 sent_more : (a n : ℕ) (xs : List ℕ) → take a xs ++ take n (take (length xs - a) (drop a xs)) ≡ take (a + n) xs
 sent_more a n xs = ap (λ l. take a xs ++ take n l) (take_rest xs a) ∙ sym (take-add a n xs)
 

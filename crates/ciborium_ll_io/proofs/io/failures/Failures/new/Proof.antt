@@ -18,7 +18,7 @@ use Rattle.ciborium_ll_io.specs.contracts.io.failures.Failures.new as f
 use Rattle.ciborium_ll_io.proofs.io.failures.Failures.new.Statement.{statement}
 use Rattle.ciborium_ll_io.proofs.io.failures.Failures.new.Code as code
 
--- the value as the machine stores it, and as a contract sees it
+-- The value as the machine stores it, and as a contract sees it.
 abbrev stored : Val
 stored = vstruct (vcons (vstruct vnil) vnil)
 
@@ -33,7 +33,7 @@ new_spec 𝓤 𝓛 𝓜 𝓡 wired =
     (λ κs. tt) (λ κs. tt) (λ κs qs bounds a _ are.
     qed 𝓛 (raw (on_entry 𝓛 f.signature κs qs a tt) ∷ ‵ ftrue ∷ []) ∵ keep ! [] $
     enter ! _ _ _ _ _ $ alloc_all ! (λ l. pass_all ! refl tt $
-    -- the marker, and then the struct around it
+    -- The walk makes the marker, and then the struct around it.
     sets ! (agg ! (no_more !)) refl (tt, tt) $ sets ! (agg ! (and_then ! (get ! refl) (no_more !))) refl
     (tt, (tt, tt)) $
     returns ! (look_at ! 0 refl) $ free_all ! refl $

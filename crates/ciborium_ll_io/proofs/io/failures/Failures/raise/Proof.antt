@@ -33,7 +33,8 @@ raise_spec 𝓤 𝓛 𝓜 𝓡 wired =
     qed 𝓛 (((‵ (flft κs.0 qs.0) ⊛ ‵ ftrue) ⊛ ‵ ((MutRef (named 0) κs.0 R).own_val a.0 vs) ⊛ ‵ ftrue) ∷ ‵ ftrue ∷ []) ∵
     split ! $ split ! $ move ! (2 ∷ []) $ split ! $ keep ! (0 ∷ 2 ∷ []) $
     enter ! _ _ _ _ _ $ alloc_all ! (λ l. pass_all ! refl ((tt, tt), tt) $
-    -- [the reference; the token of its lifetime], and then what the struct owns, its cell and the open borrow
+    -- The resources are [the reference; the token of its lifetime], then the struct's own, its cell and the open
+    -- borrow.
     fsplit3 ! $ move ! (1 ∷ 2 ∷ 3 ∷ []) $ opens ! tt R b o (λ us.
     sets ! (of_opd ! (unit_lit !)) refl (tt, tt) $
     move ! (1 ∷ []) $ use1 𝓛 (‵ (R.own_val raised us)) (id⊢ 𝓤 _) $ move ! (1 ∷ 0 ∷ []) $
