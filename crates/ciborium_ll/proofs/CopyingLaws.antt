@@ -1,4 +1,4 @@
--- Titles joined, and the copy of one more header.
+-- Laws of titles that are joined, and of the copy of one more header.
 use Rattle.std.proofs.Common.{◌≡◌, ℕ, List, [], ◌∷◌, ◌++◌, Ok, append_assoc, append-nil}
 use Rattle.ciborium_ll_io.specs.declared.io.Read.{Ghosts as Reader}
 use Rattle.ciborium_ll_io.specs.declared.io.Write.{Ghosts as Writer}
@@ -13,7 +13,7 @@ use Rattle.ciborium_ll_decoder.proofs.DecodingLaws.{ReadsPast-none, ReadsPast-pu
 use Rattle.ciborium_ll_io.proofs.WriteLaws.{WritesBytes-then}
 use Rattle.ciborium_ll.proofs.PiecesWritten.{writes_nothing}
 
--- one title more
+-- Titles of headers and one more title are titles of all these headers.
 AreTitles-push : {bytes title : List ℕ} {headers : List Header} {header : Header} → AreTitles bytes headers
     → IsTitle title header → AreTitles (bytes ++ title) (headers ++ header ∷ [])
 AreTitles-push none t = rw append-nil at (next t none)
@@ -25,7 +25,7 @@ shortest_titles-push : (headers : List Header) (header : Header)
 shortest_titles-push [] header = append-nil (shortest_title header)
 shortest_titles-push (h ∷ hs) header = rw (shortest_titles-push hs header, append_assoc)
 
--- the shortest titles of headers are titles of just these headers
+-- The shortest titles of headers are titles of these headers.
 pub AreTitles-shortest : {bytes : List ℕ} {headers : List Header} → AreTitles bytes headers
     → AreTitles (shortest_titles headers) headers
 AreTitles-shortest none = none
@@ -33,7 +33,7 @@ AreTitles-shortest (next {title = t} {header = h} p ts) =
     next (IsTitle-shortest h (title_in_range t h p)) (AreTitles-shortest ts)
 
 module _ {R E W F : Type 0} (source : Reader R E) (sink : Writer W F) where
-  -- no header is copied
+  -- A copy of no headers changes nothing.
   pub Copies-none : (start : Sides R W) → Copies source sink [] start start
   Copies-none start = record {
     bytes = [];
@@ -42,7 +42,7 @@ module _ {R E W F : Type 0} (source : Reader R E) (sink : Writer W F) where
     written = writes_nothing sink start.writer;
   }
 
-  -- one header more
+  -- A copy of headers and then of one more header is a copy of all these headers.
   pub Copies-push : {headers : List Header} {header : Header} {old between new : Sides R W}
       → Copies source sink headers old between → PullsTitle source between.decoder header new.decoder
       → (IsSteady source between.decoder → IsSteady source new.decoder)

@@ -21,9 +21,9 @@ pub use Rattle.ciborium_ll_io.proofs.WriteLaws.{appends_told, shrinks_told}
 use Rattle.ciborium_ll_grammar.proofs.TitleLaws.{one_title, shortest_no_longer, title_refused}
 use Rattle.ciborium_ll_grammar.proofs.AffixLaws.{title_not_cut}
 
--- ---- fewer titles in front of a fault, and more titles in front
+-- ---- fewer titles before a fault, and more titles at the start of the bytes
 
--- behind fewer titles than stand in front comes a title
+-- If the same bytes also begin with more titles, one more title follows the fewer titles.
 title_behind : {ts ts' : List ℕ} {hs hs' : List Header} (r r' : List ℕ) → AreTitles ts hs → AreTitles ts' hs'
     → ts ++ r ≡ ts' ++ r' → length hs < length hs'
     → (t : List ℕ) × (h : Header) × (more : List ℕ) × IsTitle t h × (r ≡ t ++ more)
@@ -34,18 +34,18 @@ title_behind r r' (next {title = t} {rest = q} p ps) (next {title = t'} {rest = 
     let same = one_title t t' (q ++ r) (q' ++ r') _ _ p p' (sym (append_assoc t q r) ∙ e ∙ append_assoc t' q' r') in
     title_behind r r' ps ps' same.2 (omega arith)
 
--- ---- what is written
+-- ---- bytes that are written
 
--- the shortest titles are no longer
+-- The shortest titles of headers are no longer than any titles of these headers.
 titles_no_longer : (ts : List ℕ) (hs : List Header) → AreTitles ts hs → length (shortest_titles hs) ≤ length ts
 titles_no_longer ts hs none = omega arith
 titles_no_longer ts hs (next {title = t} {rest = q} {header = h} {headers = gs} p ps) =
     grind (arith, shortest_no_longer t h p, titles_no_longer q gs ps, length-append)
 
--- ---- the general statement under the premises
+-- ---- the general statement with the premises
 
 module _ {R E W F : Type 0} {source : Reader R E} {sink : Writer W F} {old : Sides R W} {due written : List ℕ} where
-  -- the reader's share: titles of the headers stand in front of what is due, and the rest is due then
+  -- The bytes due begin with titles of the headers that were copied, and the rest is due next.
   abbrev copies_front : {headers : List Header} {between : Sides R W} → IsReadyForTitles source sink old due written
       → Copies source sink headers old between → (front : CopiesTitles source sink headers due written between.writer)
       × (view source between.decoder ≡ Some front.rest)
@@ -127,7 +127,7 @@ module _ {R E W F : Type 0} {source : Reader R E} {sink : Writer W F} {old : Sid
         → CopiesTold source sink count due written old.decoder result new
     told result copied = grind (arith, told_all, told_stop, never_full)
 
-    -- a fault excludes as many titles in front
+    -- After fewer titles, a refused byte or a cut title excludes `count` titles at the start.
     fault_or_titles : {headers : List Header} (copied : CopiesTitles source sink headers due written new.writer)
         → length headers < count → BeginsRefused copied.rest ⊎ IsCutTitle copied.rest → TitlesInFront count due → ⊥
     fault_or_titles copied fewer fault front = grind (arith, title_behind, title_refused, title_not_cut)
@@ -141,7 +141,7 @@ module _ {R E W F : Type 0} {source : Reader R E} {sink : Writer W F} {old : Sid
         (λ ok. absurd cc, λ front. absurd (fault_or_titles stops.copied stops.fewer (inl stops.refused) front))
     exactly_told (Err error) never = absurd never
 
--- what the copy does, by its answer, and what that comes to
+-- The answers of the copy give the clauses of `copy_headers`.
 pub copy_says : {R E W F : Type 0} (source : Reader R E) (sink : Writer W F) (count : ℕ) (old new : Sides R W)
     (result : Result (Unit {0}) (RecodeError E F)) → CopiesHeaders source sink count old result new
     → MovesOn source old.decoder new.decoder → sink.target new.writer ≡ sink.target old.writer → record {

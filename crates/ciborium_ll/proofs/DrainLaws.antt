@@ -1,4 +1,4 @@
--- A drain of a body, chunk by chunk: the sum of its calls.
+-- Laws of a drain of a body, chunk by chunk: the sum of its calls.
 use Rattle.std.proofs.Common.{◌≡◌, ℕ, ◌+◌, ◌<◌, ◌≤◌, ◌⊎◌, All, List, [], ◌∷◌, ◌++◌, length, take, drop, get_or, Ok}
 use Rattle.std.proofs.Common.{refl, sym, ap, ◌∙◌, inl, inr, arith, append_assoc, append-nil, length-append}
 use Rattle.std.proofs.Common.{length-take-le}
@@ -23,14 +23,14 @@ use Rattle.ciborium_ll_io.proofs.WriteLaws.{WritesBytes-then}
 use Rattle.ciborium_ll.proofs.PiecesWritten.{writes_nothing}
 use Rattle.ciborium_ll_decoder.proofs.BodyLaws.{split_parts, writable_nil, writable_chunk, few_kept, ReadsPast-read}
 
--- the front of a buffer that takes each of the sizes
+-- A buffer that is as long as each of the sizes has a front of the size at `index`.
 pub front_long : (sizes buffer buffer' : List ℕ) (index : ℕ) → All (λ size. size ≤ length buffer) sizes
     → length buffer' ≡ length buffer → index < length sizes
     → length (take (get_or sizes index 0) buffer') ≡ get_or sizes index 0
 front_long sizes buffer buffer' index fit same less = grind (arith, length-take-le)
 
 module _ {R E P W F : Type 0} {parser : Parser P} (source : Reader R E) (sink : Writer W F) where
-  -- so far each size brought a chunk, and this one is next
+  -- Each size so far brought a chunk, and the size at `index` is next.
   abbrev pub comes_at : {old new : Segment R P parser} {writer writer' : W} (sizes : List ℕ) (index d : ℕ)
       → index < length sizes → DrainsEach source sink (take index sizes) old writer new writer'
       → DrainsUpTo source sink sizes old writer (get_or sizes index d) new writer'
@@ -62,14 +62,14 @@ module _ {R E P W F : Type 0} {parser : Parser P} (source : Reader R E) (sink : 
   module _ {sizes : List ℕ} {size : ℕ} {old between new : Segment R P parser} {writer now : W} {chunk : List ℕ}
       (some : DrainsSome source sink sizes old writer between now)
       (gives : GivesChunk source size between chunk new) where
-    -- a chunk is no longer than its buffer
+    -- A chunk is no longer than its buffer.
     chunk_within : (kind : Kind) → parser.kind ≡ kind → IsSplit kind (kept_bytes between.kept ++ gives.read) chunk
         (kept_bytes new.kept) → length chunk ≤ size
     chunk_within Bytes is split = grind (arith, between.text_alone is, split, gives.reads.count, length-append)
     chunk_within Text is split =
         let kept = kept_bytes between.kept in
         let parts = ap length split.parts in
-        -- where the kept bytes fill the buffer nothing was read, and of those none is given
+        -- If the kept bytes fill the buffer, the call reads nothing and gives none of the kept bytes.
         let none : length gives.read ≡ 0 → length chunk ≡ 0 = λ zero.
         let nothing = length_zero gives.read zero in
         ap length (between.stuck chunk _ (rw (nothing, append-nil kept) at split.parts) split.text) in

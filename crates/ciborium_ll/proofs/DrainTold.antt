@@ -39,12 +39,12 @@ gains-bytes : (sizes : List ℕ) → gains Bytes sizes ≡ sum sizes
 gains-bytes [] = refl
 gains-bytes (size ∷ sizes) = grind (arith, gains-bytes sizes, sum_by-cons)
 
--- sizes that add up are enough for bytes
+-- Sizes that add up to the bytes are enough for bytes.
 add_up : {kind : Kind} {sizes : List ℕ} {bytes count : ℕ} → kind ≡ Bytes → AddUp sizes bytes count
     → IsEnough kind sizes bytes count
 add_up is adds = grind (arith, gains-bytes)
 
--- what each of the sizes brings on at least, added up
+-- The sum of the gains is at least the number of sizes times the least gain.
 least_gains : (kind : Kind) (size : ℕ) (sizes : List ℕ) → AllByRecursion (λ other. size ≤ other) sizes
     → length sizes * (size - most_kept kind) ≤ gains kind sizes
 least_gains kind size [] all = omega arith
@@ -69,9 +69,9 @@ calls_enough kind size bytes sizes large all fewer =
     let small = mod-lt (bytes + gain - 1) some in
     record { fewer = fewer; enough = omega (arith, least, parts, small, large) }
 
--- ---- what is told
+-- ---- bytes that are told
 
--- the bytes that are told, where a part of the body is
+-- If the reader tells the rest of a body, it tells the bytes due, and their front is the unread part of the body.
 body_told : (kept : List ℕ) (unread : ℕ) (ahead : Option (List ℕ)) (body : List ℕ)
     → prepend_known kept (option_map (take unread) ahead) ≡ Some body
     → (due : List ℕ) × (ahead ≡ Some due) × (body ≡ kept ++ take unread due)
@@ -80,7 +80,7 @@ body_told kept unread ahead body e = grind arith
 module _ {R E P W F : Type 0} {parser : Parser P} {source : Reader R E} {sink : Writer W F}
     {old : Segment R P parser} {writer : W} {body written : List ℕ} (sizes : List ℕ)
     (ready : IsDrainable source sink old writer body written) where
-  -- how far a drain came: what is left of the body, and what is told behind it
+  -- The progress of a drain: the rest of the body, and the bytes that are told after the body.
   record Came (used : List ℕ) (new : Segment R P parser) (writer' : W) : Type 0 where
     some : DrainsSome source sink used old writer new writer'
     more : List ℕ
@@ -186,7 +186,7 @@ module _ {R E P W F : Type 0} {parser : Parser P} {source : Reader R E} {sink : 
         let kept = kept_bytes between.kept in
         let read = keeps.read in
         let given = c.some.given in
-        -- bytes that were read on are the front of what was left
+        -- Bytes that are read on are the front of the rest.
         let told = consumes_told _ _ (c.more ++ c.beyond) read c.ahead keeps.reads.reads.bytes in
         let fits : length read ≤ length c.more = omega (arith, keeps.reads.unread, c.counted) in
         let on = front_of_front read c.more told.0 c.beyond (sym told.2) fits in
@@ -245,9 +245,9 @@ module _ {R E P W F : Type 0} {parser : Parser P} {source : Reader R E} {sink : 
         → DrainsTold source sink sizes body written old result new writer'
     drains_told result drains = grind (arith, ends_told, damage_told, no_failure, no_overflow, no_refusal)
 
-    -- ---- how it ends depends on the body and the sizes alone
+    -- ---- the end depends on the body and the sizes alone
 
-    -- enough sizes lead to the end, as soon as they are enough
+    -- If some first sizes are enough, the drain ends by the call after them.
     ends_soon : (calls : ℕ) (how : End) → EndsTold source sink sizes body written old calls how new writer'
         → (count : ℕ) → IsEnough parser.kind sizes (length body) count → (how ≡ end.Ended) × (calls ≤ count + 1)
     ends_soon calls how told count enough = grind arith

@@ -1,4 +1,4 @@
--- Pieces written one by one.
+-- Laws of pieces that are written one by one.
 use Rattle.std.proofs.Common.{arith, ◌≡◌, ℕ, add-one, false, ◌<◌, ◌^◌, List, [], ◌∷◌, ◌++◌, length, Option, Result, Ok}
 use Rattle.std.proofs.Common.{IsErr, refl, IsOk, ◌↔◌, append_assoc, length-append}
 use Rattle.std.proofs.lemmas.List.{append-nil}
@@ -28,7 +28,7 @@ use Rattle.ciborium_ll_grammar.proofs.ValueLaws.{written_element, sound_pieces, 
 
 -- ---- the marks of a value
 
--- the bodies joined are the value
+-- The bodies of the marks, joined, are the value.
 pub value_of : (k : Kind) (segment : Option ℕ) (value : List ℕ) (marks : List Mark)
     → IsWritten k (value_limit k segment value) value marks → IsValue k segment value marks
 value_of k segment value marks w = grind (arith, segments_of_pieces, sound_pieces, append-nil)
@@ -55,7 +55,7 @@ have_one (next_piece ms {others = ns} one more) piece others is =
     rw (append_assoc ms ns others) (next_piece ms one (have_one more piece others is))
 
 module _ {W F : Type 0} (sink : Ghosts W F) where
-  -- no byte was written
+  -- A writer that writes nothing stays as it is.
   pub writes_nothing : (writer : W) → WritesAll sink writer [] writer
   writes_nothing writer = record {
     appended = Appends-nil (sink.written writer);
@@ -63,7 +63,7 @@ module _ {W F : Type 0} (sink : Ghosts W F) where
     failures = refl;
   }
 
-  -- the pieces in front of the rest were written
+  -- The pieces before `rest` were written.
   pub record Midway (all rest : List Piece) (old now : W) : Type 0 where
     pub front : List Piece
     pub are : all ≡ front ++ rest
@@ -81,7 +81,7 @@ module _ {W F : Type 0} (sink : Ghosts W F) where
 
   module _ {all rest behind : List Piece} {piece : Piece} {old now new : W} (marks : List Mark)
       (split : rest ≡ piece ∷ behind) (m : Midway all rest old now) (is : IsPiece piece marks) where
-    -- one piece more was written
+    -- If the next piece is written too, one piece fewer is left.
     pub midway_more : IsElement (spelling marks) marks → WritesAll sink now (spelling marks) new
         → Midway all behind old new
     midway_more element wrote =
@@ -101,20 +101,20 @@ module _ {W F : Type 0} (sink : Ghosts W F) where
           };
         }
 
-    -- one piece more was not written
+    -- If the write of the next piece fails, `write_pieces` stops at this piece.
     pub midway_stops : (result : Result (Unit {0}) F) → IsErr result → WritesFront sink now (spelling marks) new
         → WritesElements sink all old result new
     midway_stops result e wrote = grind (arith, append_assoc)
 
-  -- all pieces were written
+  -- If no piece is left, all pieces were written.
   pub midway_last : {all rest : List Piece} {old now : W} → rest ≡ [] → Midway all rest old now
       → WritesEach sink all old now
   midway_last e m = rw (m.are, e, append-nil) m.written
 
--- ---- a copy of what is in its shortest spelling
+-- ---- a copy of elements in their shortest spelling
 
 module _ {R E W F : Type 0} (source : Reader R E) (sink : Ghosts W F) where
-  -- the run in front is the one that stands there
+  -- The elements at the start of the bytes due are the elements that were written.
   pub copied_same : (count : ℕ) (marks : List Mark) (rest written : List ℕ) (old new : Decoder R) (writer' : W)
       (result : Result (Unit {0}) (RecodeError E F)) → IsRun count (spelling marks) marks
       → (IsOk result ↔ BeginsWithElements false count (spelling marks ++ rest))

@@ -25,19 +25,19 @@ use Rattle.ciborium_ll_decoder.proofs.SegmentLaws.{some_open}
 use Rattle.ciborium_ll_decoder.proofs.SkipLaws.{close_string}
 
 module _ {R E : Type 0} (source : Reader R E) (k : Kind) where
-  -- the header waits in front of the first body
+  -- No body was read, and the header was given back.
   pub record IsAtHeader (len : Option ℕ) (opened : Decoder R) (bodies : List (List ℕ)) (progress : Progress)
       (now : Decoder R) : Type 0 where
     pub fresh : progress ≡ p.Open 0
     pub back : TakesBack source opened (kind_header k len) now
     pub nothing : bodies ≡ []
 
-  -- the one body of a string of a definite length was read
+  -- The one body of a string of a definite length was read.
   pub record HasReadBody (len : ℕ) (opened : Decoder R) (bodies : List (List ℕ)) (now : Decoder R) : Type 0 where
     pub reads : ReadsRest source k [] len opened now
     pub one : bodies ≡ reads.read ∷ []
 
-  -- behind the title so many opens aren't closed
+  -- After the title and the bodies read, `opens` opens are not closed.
   pub record HasOpens (title : List ℕ) (opens : ℕ) (opened : Decoder R) (bodies : List (List ℕ)) (now : Decoder R) :
       Type 0 where
     pub strings : List ℕ
@@ -50,14 +50,14 @@ module _ {R E : Type 0} (source : Reader R E) (k : Kind) where
   HasBegun None title opened bodies progress now =
       (opens : ℕ) × (progress ≡ p.Open opens) × HasOpens title opens opened bodies now
 
-  -- what a loop keeps behind the title of a string, whose header was given back: these bodies were read
+  -- The invariant of a loop after the title of a string, whose header was given back: these bodies were read.
   pub record ReadSoFar (len : Option ℕ) (title : List ℕ) (opened : Decoder R) (bodies : List (List ℕ))
       (progress : Progress) (now : Decoder R) : Type 0 where
     pub is_title : IsTitle title (kind_header k len)
     pub settled : opened.waiting ≡ None
     pub far : IsAtHeader len opened bodies progress now ⊎ HasBegun len title opened bodies progress now
 
-  -- the whole string was read
+  -- The whole string was read.
   pub record HasReadString (title : List ℕ) (opened : Decoder R) (bodies : List (List ℕ)) (new : Decoder R) : Type 0
     where
       pub behind : List ℕ
@@ -65,7 +65,7 @@ module _ {R E : Type 0} (source : Reader R E) (k : Kind) where
       pub sound : AreWritable k bodies
       pub passed : ReadsPast source opened behind new
 
-  -- `advance` behind opens that aren't closed
+  -- `advance` went on within `left` opens that are not closed.
   pub record Advanced (strict : Bool) (title : List ℕ) (opened : Decoder R) (bodies : List (List ℕ))
       (result : Result (Option Body) (Error E)) (after : Progress) (new : Decoder R) : Type 0 where
     pub left : ℕ
@@ -83,13 +83,13 @@ module _ {R E : Type 0} (source : Reader R E) (k : Kind) where
     far = inl (record { fresh = refl; back = back; nothing = refl });
   }
 
-  -- a title and its body
+  -- A title and its body are a string.
   one_body : (title body : List ℕ) (len : ℕ) → length body ≡ len → IsTitle title (kind_header k (Some len))
       → IsString k (title ++ body) (body ∷ [])
   one_body title body len all is_title = definite (rw (sym all) at is_title)
 
   module _ (strict : Bool) {title : List ℕ} {opened new : Decoder R} {bodies : List (List ℕ)} {after : Progress} where
-    -- opens and breaks further
+    -- `advance` passes further opens and breaks.
     nested : (opens : ℕ) (from : Decoder R) (result : Result (Option Body) (Error E))
         → HasOpens title opens opened bodies from → AdvancesFrom source k strict opens from result after new
         → (IsSteady source from → IsSteady source new) → Advanced strict title opened bodies result after new
@@ -108,14 +108,14 @@ module _ {R E : Type 0} (source : Reader R E) (k : Kind) where
     }
 
     module _ {now : Decoder R} {last : Progress} where
-      -- of a string of a definite length `advance` finds the one body, and behind that the end
+      -- If the string has a definite length, `advance` finds the one body, and after it the end.
       pub lone_advanced : (len : ℕ) (result : Result (Option Body) (Error E))
           → ReadSoFar (Some len) title opened bodies last now → AdvancesTo source k strict last now result after new
           → ((bodies ≡ []) × FindsOnly source k len opened result after new) ⊎
           ((result ≡ Ok None) × HasReadBody len opened bodies new)
       lone_advanced len result so_far advances = grind (arith, advance_definite, title_in_range)
 
-      -- so the body's title comes first
+      -- If `advance` finds a body of such a string, it is the first body, and the decoder stands after the title.
       pub lone_titled : (len : ℕ) (body : Body) → ReadSoFar (Some len) title opened bodies last now
           → AdvancesTo source k strict last now (Ok (Some body)) after new
           → (bodies ≡ []) × (body.length ≡ len) × (after ≡ p.Ended) × ReadsPast source opened [] new
@@ -130,7 +130,7 @@ module _ {R E : Type 0} (source : Reader R E) (k : Kind) where
         | inr done ↦ absurd (cc done.0)
       ]
 
-      -- of a string of indefinite length `advance` goes on behind the opens that aren't closed
+      -- If the string has an indefinite length, `advance` goes on within the opens that are not closed.
       pub advanced : (IsSteady source now → IsSteady source new) → (result : Result (Option Body) (Error E))
           → ReadSoFar None title opened bodies last now → AdvancesTo source k strict last now result after new
           → Advanced strict title opened bodies result after new
@@ -145,7 +145,7 @@ module _ {R E : Type 0} (source : Reader R E) (k : Kind) where
         | inr way ↦ nested way.0 now result way.2 (rw way.1 at advances) steady
       ]
 
-  -- ---- both
+  -- ---- strings of both kinds
 
   module _ (strict : Bool) (title : List ℕ) (opened now new : Decoder R) (bodies : List (List ℕ))
       (last after : Progress) (steady : IsSteady source now → IsSteady source new) where
@@ -187,7 +187,7 @@ module _ {R E : Type 0} (source : Reader R E) (k : Kind) where
           },
         )
 
-    -- one body more
+    -- A loop that reads the next body keeps the invariant.
     pub read_more : (len : Option ℕ) (body : Body) (ended : Decoder R)
         → ReadSoFar len title opened bodies last now → AdvancesTo source k strict last now (Ok (Some body)) after new
         → (reads : ReadsRest source k [] body.length new ended)
@@ -198,7 +198,7 @@ module _ {R E : Type 0} (source : Reader R E) (k : Kind) where
       far = inr (begun_more len body ended so_far advances reads);
     }
 
-    -- the end of the string
+    -- If `advance` finds the end, the whole string was read.
     pub read_whole : (len : Option ℕ) → ReadSoFar len title opened bodies last now
         → AdvancesTo source k strict last now (Ok None) after new → HasReadString title opened bodies new
     read_whole (Some len) so_far advances = elim (lone_advanced strict len (Ok None) so_far advances) [

@@ -14,18 +14,18 @@ use Rattle.ciborium_ll_decoder.specs.Decoding.{offset_limit, view, IsSteady, Mov
 use Rattle.ciborium_ll_decoder.specs.BodyCopies.{Sides, sides}
 use Rattle.ciborium_ll_io.specs.Writes.{WritesAll, WritesFront}
 
--- The bytes are titles of the headers, joined.
+-- The bytes are titles of the headers, joined: `81 18 17` for an array of one item and the number 23.
 pub data AreTitles : List ℕ → List Header → Type 0 where
   none : AreTitles [] []
   next : {title rest : List ℕ} {header : Header} {headers : List Header} → IsTitle title header → AreTitles rest headers
       → AreTitles (title ++ rest) (header ∷ headers)
 
--- The shortest titles of the headers, joined.
+-- The shortest titles of the headers, joined: `81 17` for an array of one item and the number 23.
 abbrev pub shortest_titles : List Header → List ℕ
 shortest_titles [] = []
 shortest_titles (header ∷ headers) = shortest_title header ++ shortest_titles headers
 
--- The bytes begin with `count` titles.
+-- The bytes begin with `count` titles: `82 01 02` with any number of titles from 0 to 3.
 pub record TitlesInFront (count : ℕ) (bytes : List ℕ) : Type 0 where
   pub headers : List Header
   pub all : length headers ≡ count
@@ -80,7 +80,7 @@ module _ {R E W F : Type 0} (source : Reader R E) (sink : Writer W F) where
     pub moves_on : MovesOn source old.decoder new.decoder
     pub target : sink.target new.writer ≡ sink.target old.writer
 
-  -- ---- what that means where the bytes are told
+  -- ---- over bytes that are told
 
   -- The decoder is not strict, and the reader gives the bytes that it tells. The writer has room for as many bytes, and
   -- the offset fits, with 8 to spare.
@@ -94,7 +94,8 @@ module _ {R E W F : Type 0} (source : Reader R E) (sink : Writer W F) where
     pub enough : length due ≤ room
     pub fits : now.decoder.offset + length due + 8 < offset_limit
 
-  -- The bytes due begin with titles of the headers, and their shortest titles were written.
+  -- The bytes due begin with titles of the headers, and their shortest titles were written: `81 17` if `81 18 17` is
+  -- due.
   pub record CopiesTitles (headers : List Header) (due written : List ℕ) (writer' : W) : Type 0 where
     pub front : List ℕ
     pub rest : List ℕ
@@ -111,7 +112,8 @@ module _ {R E W F : Type 0} (source : Reader R E) (sink : Writer W F) where
     pub left : view source new.decoder ≡ Some copied.rest
     pub offset : new.decoder.offset ≡ old.offset + length copied.front
 
-  -- After fewer titles the bytes end, at once or within a title. The title's first byte is consumed.
+  -- After fewer titles the bytes end, at once or within a title. The title's first byte is consumed. If `01 19 00` is
+  -- due, the title at `19` is cut, and `00` is left.
   pub record MeetsCutTitle (count : ℕ) (due written : List ℕ) (old : Decoder R) (new : Sides R W) : Type 0 where
     pub headers : List Header
     pub fewer : length headers < count
@@ -120,7 +122,8 @@ module _ {R E W F : Type 0} (source : Reader R E) (sink : Writer W F) where
     pub left : view source new.decoder ≡ Some (drop 1 copied.rest)
     pub offset : new.decoder.offset ≡ old.offset + length copied.front + length (take 1 copied.rest)
 
-  -- After fewer titles a byte comes with which no title begins. The byte is consumed, and the place is its offset.
+  -- After fewer titles a byte comes with which no title begins. The byte is consumed, and the place is its offset: 1
+  -- for `01 1c`, from offset 0 on.
   pub record MeetsRefused (count : ℕ) (due written : List ℕ) (place : ℕ) (old : Decoder R) (new : Sides R W) : Type 0
     where
       pub headers : List Header
@@ -131,8 +134,8 @@ module _ {R E W F : Type 0} (source : Reader R E) (sink : Writer W F) where
       pub left : view source new.decoder ≡ Some (drop 1 copied.rest)
       pub offset : new.decoder.offset ≡ place + 1
 
-  -- The effect of `copy_headers` then: it ends after all titles, or at the first place without a title. Each case gives
-  -- the titles copied, the bytes left and the offset.
+  -- The effect of `copy_headers` over such bytes: it ends after all titles, or at the first place without a title. Each
+  -- case gives the titles copied, the bytes left and the offset.
   abbrev pub CopiesTold : ℕ → List ℕ → List ℕ → Decoder R → Result (Unit {0}) (RecodeError E F) → Sides R W → Type 0
   CopiesTold count due written old (Ok done) new = CopiesSoMany count due written old new
   CopiesTold count due written old (Err (r.Read (e.Io fault))) new = MeetsCutTitle count due written old new

@@ -23,21 +23,23 @@ use Rattle.ciborium_ll_decoder.specs.Chunks.{segment_decoder, segment_reference}
 -- ---- sizes
 
 -- The least number of bytes that calls with buffers of these sizes read. For text, up to three bytes of each size may
--- be kept bytes.
+-- be kept bytes. Sizes of 4 and 8 gain 12 bytes, or 1 + 5 for text.
 abbrev pub gains : Kind → List ℕ → ℕ
 gains kind sizes = sum_by (λ size. size - most_kept kind) sizes
 
 -- The number of calls with buffers of at least this size that read `bytes` bytes: `bytes` divided by the least gain of
--- a call, rounded up.
+-- a call, rounded up. A size of 4 needs 3 calls for 10 bytes, and 10 calls for a text of 10 bytes.
 abbrev pub calls_for : Kind → ℕ → ℕ → ℕ
 calls_for kind size bytes = let gain = size - most_kept kind in (bytes + gain - 1) / gain
 
--- The first `count` sizes, and not all sizes, are enough for `bytes` bytes.
+-- The first `count` sizes, and not all sizes, are enough for `bytes` bytes. The first 2 of the sizes 4, 4 and 4 are
+-- enough for 8 bytes, but for text only for 2.
 pub record IsEnough (kind : Kind) (sizes : List ℕ) (bytes count : ℕ) : Type 0 where
   pub fewer : count < length sizes
   pub enough : bytes ≤ gains kind (take count sizes)
 
--- The first `count` sizes, and not all sizes, add up to at least `bytes`.
+-- The first `count` sizes, and not all sizes, add up to at least `bytes`: for 8 bytes, the first 2 of the sizes 4, 4
+-- and 4.
 pub record AddUp (sizes : List ℕ) (bytes count : ℕ) : Type 0 where
   pub fewer : count < length sizes
   pub enough : bytes ≤ sum (take count sizes)
@@ -46,7 +48,7 @@ pub record AddUp (sizes : List ℕ) (bytes count : ℕ) : Type 0 where
 
 module _ {R E P W F : Type 0} {parser : Parser P} (source : Reader R E) (sink : Writer W F) where
   -- For each of these sizes in turn, a call gave a chunk, as `pull` does with a buffer of that size, and the whole
-  -- chunk was written.
+  -- chunk was written. Sizes of 2 and 2 give the chunks `01 02` and `03` of the body `01 02 03`.
   pub data DrainsEach : List ℕ → Segment R P parser → W → Segment R P parser → W → Type 0 where
     none : {segment : Segment R P parser} {writer : W} → DrainsEach [] segment writer segment writer
     more : {sizes : List ℕ} {size : ℕ} {chunk : List ℕ} {old between new : Segment R P parser} {writer now writer' : W}
@@ -62,7 +64,7 @@ module _ {R E P W F : Type 0} {parser : Parser P} (source : Reader R E) (sink : 
     pub parts : sizes ≡ before ++ size ∷ others
     pub each : DrainsEach before old writer new writer'
 
-  -- The call with the next size found that the body had ended.
+  -- The call with the next size found that the body had ended. A body of 8 bytes and the sizes 4, 4 and 4 take 3 calls.
   pub record DrainsAll (sizes : List ℕ) (old : Segment R P parser) (writer : W) (calls : ℕ)
       (new : Segment R P parser) (writer' : W) : Type 0 where
     pub size : ℕ
@@ -117,7 +119,8 @@ module _ {R E P W F : Type 0} {parser : Parser P} (source : Reader R E) (sink : 
     pub target : sink.target writer' ≡ sink.target writer
 
   -- The sum of the calls of `DrainsEach`. The bytes kept before and the bytes read are the bytes given and the bytes
-  -- kept after. The bytes given were written.
+  -- kept after. The bytes given were written. One size of 4 over `61 62 63 c3 a9` reads 4 bytes, gives `61 62 63` and
+  -- keeps `c3`.
   pub record DrainsSome (sizes : List ℕ) (old : Segment R P parser) (writer : W) (new : Segment R P parser)
       (writer' : W) : Type 0 where
     pub read : List ℕ
@@ -137,7 +140,7 @@ module _ {R E P W F : Type 0} {parser : Parser P} (source : Reader R E) (sink : 
     pub least : (gains parser.kind sizes ≤ length read) ⊎ (new.unread ≡ 0)
     pub filled : All (λ size. size ≤ length (kept_bytes old.kept) + length read) sizes ⊎ (new.unread ≡ 0)
 
-  -- ---- where the bytes are told, and no side fails by itself
+  -- ---- over bytes that are told, if no side fails by itself
 
   -- The body is told and whole, and no fault of it was found. The reader is steady, the offset fits, and the writer has
   -- room for the body.
@@ -152,7 +155,7 @@ module _ {R E P W F : Type 0} {parser : Parser P} (source : Reader R E) (sink : 
     pub room-told : sink.room writer ≡ Some room
     pub enough : length body ≤ room
 
-  -- The whole body was written, as soon as the sizes were enough.
+  -- The whole body was written, as soon as the sizes were enough: `01 02 03` by 3 calls with the sizes 2, 2 and 2.
   pub record WritesBody (sizes body written : List ℕ) (calls : ℕ) (new : Segment R P parser) (writer' : W) : Type 0
     where
       pub sound : IsWritable parser.kind body
@@ -163,7 +166,8 @@ module _ {R E P W F : Type 0} {parser : Parser P} (source : Reader R E) (sink : 
       pub needed : length body ≤ sum (take (calls - 1) sizes)
       pub soon : (count : ℕ) → IsEnough parser.kind sizes (length body) count → calls ≤ count + 1
 
-  -- A beginning of the body was written and the rest is left, because the sizes were not enough.
+  -- A beginning of the body was written and the rest is left, because the sizes were not enough. One size of 2 leaves
+  -- `03` of the body `01 02 03`.
   pub record LeavesRest (sizes body written : List ℕ) (calls : ℕ) (old new : Segment R P parser) (writer' : W) :
       Type 0 where
     pub all_sizes : calls ≡ length sizes
@@ -176,7 +180,7 @@ module _ {R E P W F : Type 0} {parser : Parser P} (source : Reader R E) (sink : 
     pub least : (gains parser.kind sizes + new.unread ≤ old.unread) ⊎ (new.unread ≡ 0)
     pub too_few : (count : ℕ) → IsEnough parser.kind sizes (length body) count → ⊥
 
-  -- The body is no text, and a beginning of it that is text was written.
+  -- The body is no text, and a beginning of it that is text was written: nothing or `61` of the body `61 ff`.
   pub record FindsNoText (body written : List ℕ) (at : ℕ) (old : Segment R P parser) (writer' : W) : Type 0 where
     pub textual : parser.kind ≡ Text
     pub no_text : IsCharacters body → ⊥
@@ -192,7 +196,7 @@ module _ {R E P W F : Type 0} {parser : Parser P} (source : Reader R E) (sink : 
   EndsTold sizes body written old calls end.Ended new writer' = WritesBody sizes body written calls new writer'
   EndsTold sizes body written old calls end.OutOfSizes new writer' = LeavesRest sizes body written calls old new writer'
 
-  -- The effect of a drain then: the body is written, or the sizes are not enough, or the body is no text.
+  -- The effect of a drain over such bytes: the body is written, or the sizes are not enough, or the body is no text.
   abbrev pub DrainsTold : List ℕ → List ℕ → List ℕ → Segment R P parser → Result Drained (RecodeError E F)
       → Segment R P parser → W → Type 0
   DrainsTold sizes body written old (Ok drained) new writer' =

@@ -19,18 +19,20 @@ IsPlainPiece (p.Bytes value segment) = Unit {0}
 IsPlainPiece (p.Text value segment) = Unit {0}
 
 -- The marks of a value in segments of at most the requested number of bytes (RFC 7049, 2.2.2). Their bodies, joined,
--- are the value.
+-- are the value. The bytes `01 02 03` in segments of 2 bytes are `5f 42 01 02 41 03 ff`.
 pub record IsValue (kind : Kind) (segment : Option ℕ) (value : List ℕ) (marks : List Mark) : Type 0 where
   pub written : IsWritten kind (value_limit kind segment value) value marks
   pub whole : joined (segments marks) ≡ value
 
--- The marks of one piece: the header's own mark, or the marks of a value under its limit.
+-- The marks of one piece: the header's own mark, or the marks of a value under its limit. The header of an array of two
+-- items is `82`.
 abbrev pub IsPiece : Piece → List Mark → Type 0
 IsPiece (p.Header header) marks = marks ≡ Plain header ∷ []
 IsPiece (p.Bytes value segment) marks = IsValue Bytes segment value.now marks
 IsPiece (p.Text value segment) marks = IsValue Text segment value.now marks
 
--- The marks of the pieces, one piece after the other.
+-- The marks of the pieces, one piece after the other: `81 41 ff` spells the header of an array of one item and the
+-- bytes `ff`.
 pub data HaveMarks : List Piece → List Mark → Type 0 where
   none : HaveMarks [] []
   next : {piece : Piece} {rest : List Piece} (marks : List Mark) {others : List Mark} → IsPiece piece marks

@@ -1,10 +1,8 @@
 //! Functions whose contracts tie the library's calls together, and the laws of its definitions.
 //!
-//! The functions for laws are empty: their contracts are the laws.
-//!
-//! The laws on strings, elements, runs, faults and items speak of the definitions alone. The clauses `front` and `told`
-//! of `recode` tie it to elements, runs and faults. The contracts of `Encoder::bytes` and `Encoder::text` tie these
-//! calls to elements, and the contract of `cbor_skip`'s `skip_item` ties it to items.
+//! The functions for laws are empty: their contracts are the laws. The laws on strings, elements, runs, faults and
+//! items speak of the definitions alone. The clauses `front` and `told` of `recode` tie it to elements, runs and
+//! faults. `Encoder::bytes` and `Encoder::text` are tied to elements, and `skip_item` of `cbor_skip` to items.
 
 mod copy;
 mod drains;

@@ -2,8 +2,7 @@
 //! Headers and string segments of CBOR (RFC 7049, 2.1 to 2.3), over any reader and writer.
 //!
 //! A [`Decoder`] gives the headers of items, and the bodies of strings chunk by chunk. An [`Encoder`] writes headers,
-//! each as its shortest title, and strings in pieces of a limited length. The contract of each call says what the call
-//! does.
+//! each as its shortest title, and strings in pieces of a limited length.
 //!
 //! Only [`io::VecWriter`] allocates memory, out of the allocator that its caller names.
 #![tactic(auto)]

@@ -13,17 +13,14 @@ use ciborium_ll_recode::recode::RecodeError;
 ///
 /// It copies no bodies: it reads the bytes after a string's title as the next title.
 ///
-/// If the decoder is not strict, the reader is steady, the writer's room covers the bytes due and the offset fits, the
-/// copy succeeds exactly if `count` titles are next. It has then written their shortest spelling, which it would copy
-/// unchanged, and left the bytes after them. Otherwise it names the first fault.
-///
-/// Whatever the answer, the decoder moves on as [`Decoder`] says, and the writer stays on its slice.
+/// If the decoder is not strict, the reader is steady, the room covers the bytes due and the offset fits, the copy
+/// succeeds exactly if `count` titles are next. Otherwise it then names the first fault.
 ///
 /// # Errors
 ///
 /// - `RecodeError::Read`: a `pull` failed, with this error. All headers before it were written. `Syntax(offset)` is the
-///   offset of the first byte with which no title begins. `Io` means that the bytes end before or within a title, whose
-///   first byte is consumed.
+///   first byte with which no title begins. `Io` of a steady reader means that the bytes end before or within a title,
+///   whose first byte is consumed.
 /// - `RecodeError::Write`: a `push` failed, with this error.
 pub fn copy_headers<R: Read, W: Write>(
     decoder: &mut Decoder<R>,

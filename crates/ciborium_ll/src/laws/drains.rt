@@ -15,7 +15,7 @@ use ciborium_ll_encoder::enc::Encoder;
 use ciborium_ll_io::io::{Read, Write};
 use ciborium_ll_recode::recode::RecodeError;
 
-/// The result of a drain: its calls and its end.
+/// The result of a drain.
 #[derive(Debug, PartialEq, Eq, Drop)]
 pub struct Drained {
     /// The number of calls of `pull` that succeeded, including a call that answered `None`.
@@ -65,8 +65,8 @@ fn drain<R: Read, W: Write, P: Chunked>(
 
 /// Says how many calls are enough for a body, if each size is at least `size`.
 ///
-/// For bytes this is the body's length divided by `size`, rounded up, and `size` is at least 1. For text, `size` is at
-/// least 4, and `size - 3` is the divisor. For example 10 calls with buffers of 4 bytes read a text of 10 bytes.
+/// This is the body's length divided by `size`, or for text by `size - 3`, rounded up. For example 10 calls with
+/// buffers of 4 bytes read a text of 10 bytes.
 pub fn enough_sizes()
     ensures { (kind : Kind) (size bytes : ℕ) (sizes : List ℕ) → most_kept kind < size
         → All (λ other. size ≤ other) sizes
@@ -76,8 +76,7 @@ pub fn enough_sizes()
 /// Says what the chunks of a drain add up to, if each chunk was written.
 ///
 /// The bytes kept of the body before, followed by the bytes read, are the bytes written, followed by the bytes kept
-/// after. The bytes written are at most the sum of the sizes. Each buffer was filled as far as the body reaches. No
-/// size was used after the sizes before it had brought the whole body.
+/// after. Each buffer was filled as far as the body reaches. No size was used after sizes that were enough.
 pub fn drained_in_all<R: Read, W: Write, P: Chunked>()
     ensures { (sizes : List ℕ) (old new : AnySegment R P P.Parser) (writer writer' : W)
         → DrainsEach R.Read W.Write sizes old writer new writer'
@@ -87,21 +86,16 @@ pub fn drained_in_all<R: Read, W: Write, P: Chunked>()
 /// Reads a body of bytes by one `pull` for each size, and writes each chunk.
 ///
 /// It ends if the body has ended, if a call fails, or after the last size. A size is the length in bytes of the front
-/// of `buffer` that one `pull` gets, so no size may be above the length of `buffer`.
-///
-/// Over any reader and writer, each size gives a chunk, as `pull` does with a buffer of that size, and the whole chunk
-/// is written. This holds up to the last size, or to the size whose call ends the drain. [`drained_in_all`] says what
-/// the chunks add up to. The decoder moves on, and the writer stays on its slice.
+/// of `buffer` that one `pull` gets. [`drained_in_all`] says what the chunks add up to.
 ///
 /// If the reader is steady, the offset fits, the whole body is there and the writer has room for it, no call fails. The
-/// answer is then `Ended` exactly if the first few sizes add up to at least the body's length, and one more size
-/// follows. The whole body is then written, by the fewest calls. Otherwise all sizes are used, and every byte read is
-/// written.
+/// answer is then `Ended`, after the fewest calls, exactly if some first sizes, but not all, add up to the body's
+/// length or more. Otherwise all sizes are used, and every byte read is written.
 ///
 /// # Errors
 ///
 /// - `RecodeError::Read`: a `pull` failed, with this error.
-/// - `RecodeError::Write`: a write failed, with this error. A beginning of the chunk is written.
+/// - `RecodeError::Write`: a write failed with this error, and a beginning of the chunk is written.
 pub fn drain_bytes<R: Read, W: Write>(
     segment: &mut Segment<'_, R, Bytes>,
     sizes: &[usize],
@@ -122,18 +116,16 @@ pub fn drain_bytes<R: Read, W: Write>(
     drain::<R, W, Bytes>(segment, sizes, buffer, sink)
 }
 
-/// Reads a body of text by one `pull` for each size, and writes each chunk.
+/// Reads a body of text by one `pull` for each size, and writes each chunk, as [`drain_bytes`] does.
 ///
-/// The sizes, the chunks and the end of the call are as [`drain_bytes`] says.
-///
-/// If the reader is steady, the offset fits, the whole body is there and the writer has room for it, a call fails only
-/// if the body is no text. Let the sizes, less 3 each, add up to at least the body's length, and let one more size
-/// follow. The answer is then `Ended` exactly if the body is UTF-8, and the whole body is written. So the answer does
-/// not depend on the sizes.
+/// With the premises there, a call fails only if the body is no text. If some first sizes, less 3 each and not all, add
+/// up to its length or more, the answer is `Ended` exactly if the body is UTF-8. So the answer does not depend on the
+/// sizes.
 ///
 /// # Errors
 ///
-/// The errors are the errors of [`drain_bytes`]. `RecodeError::Read` also says that the body is no text.
+/// - `RecodeError::Read`: a `pull` failed, with this error, also because the body is no text.
+/// - `RecodeError::Write`: as [`drain_bytes`] says.
 pub fn drain_text<R: Read, W: Write>(
     segment: &mut Segment<'_, R, Text>,
     sizes: &[usize],

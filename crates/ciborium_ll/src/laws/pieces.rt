@@ -75,13 +75,13 @@ fn write_piece<W: Write>(encoder: &mut Encoder<W>, piece: &Piece<'_>) -> Result<
 
 /// Writes each piece in turn: a header by `push`, and a value by `bytes` or `text`.
 ///
-/// Each piece becomes one element in its shortest spelling. The bodies of a value, joined, are the value. So a copy of
-/// these elements leaves them unchanged, as [`copy_spelled`] says. The writer stays on its slice.
+/// Each piece becomes one element in its shortest spelling, which a copy leaves unchanged, as [`copy_spelled`] says.
+/// The bodies of a value, joined, are the value.
 ///
 /// # Errors
 ///
-/// - `W::Error`: the writer failed once, at one of the pieces. The pieces before it were written, and a beginning of
-///   its spelling. A room that the writer tells was too small for it.
+/// - `W::Error`: the writer failed at one of the pieces. The pieces before it were written, and a beginning of its
+///   spelling.
 pub fn write_pieces<W: Write>(
     encoder: &mut Encoder<W>,
     pieces: &[Piece<'_>],
@@ -97,13 +97,13 @@ pub fn write_pieces<W: Write>(
 
 /// Copies elements in their shortest spelling, for example the elements of [`write_pieces`].
 ///
-/// `buffer` has at least four bytes. If the decoder is not strict, the reader is steady, the writer has room and the
-/// offset fits, the elements are copied unchanged. The bytes that follow them are left, for any limits of segments and
-/// any `buffer`.
+/// If the decoder is not strict, the reader is steady, the writer has room and the offset fits, the copy changes
+/// nothing, for any limits of segments and any `buffer` of four bytes or more. The bytes that follow the elements are
+/// left.
 ///
 /// # Errors
 ///
-/// The errors are the errors of [`recode`](crate::recode::recode).
+/// - The errors of [`recode`](crate::recode::recode).
 pub fn copy_spelled<R: Read, W: Write>(
     decoder: &mut Decoder<R>,
     encoder: &mut Encoder<W>,

@@ -5,14 +5,10 @@ ghost use Rattle.ciborium_ll_grammar.specs.Elements.{spelling};
 ghost use Rattle.ciborium_ll_grammar.specs.Faults.{BeginsWithElements};
 ghost use Rattle.ciborium_ll_grammar.specs.Shortening.{Shortens};
 
-/// Says that `Shortens` means the same as elements and their marks.
+/// Says that `Shortens` means the same as elements and their marks. Each definition is a test of the other.
 ///
-/// Both say that the bytes begin with `count` elements, for a strict decoder in their shortest spelling. Both give this
-/// spelling and the bytes that follow. `Shortens` relates the bytes read to the bytes written, and the marks are the
-/// trace of an element. Each definition stands by itself, so each is a test of the other.
-///
-/// There is at most one copy and one rest, whether the decoder is strict or not. The copy is no longer than the
-/// elements, and its own copy is the same. For a strict decoder the copy is exactly the elements.
+/// `Shortens` relates the bytes read to the bytes written, and the marks are the trace of an element. The copy is
+/// unique, no longer than the elements, and its own copy.
 pub fn shortened_run()
     ensures same { (strict : Bool) (count : ℕ) (due copy rest : List ℕ) → (Shortens strict count due copy rest
         ↔ ((front : BeginsWithElements strict count due) × (copy ≡ spelling front.marks) × (rest ≡ front.rest))) }

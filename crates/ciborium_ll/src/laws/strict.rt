@@ -9,13 +9,9 @@ ghost use Rattle.ciborium_ll_grammar.specs.StrictElements.{AreStrictElements};
 /// Says that a strict decoder takes exactly the elements that `recode` copies unchanged, without a simple value from 24
 /// to 31 (RFC 7049, 2.3).
 ///
-/// `recode` writes the spelling of the elements, so it copies them unchanged if the spelling is the bytes read. This
-/// excludes each longer title (3.9). It also excludes a string of indefinite length inside another string (2.2.2),
-/// because no spelling contains the inner open and break.
-///
-/// By the clause `titles`, all titles of these elements are strict, and an open contains only strings of a definite
-/// length. By the clause `as_long`, a copy as long as the bytes read is unchanged. Only `f8` with a byte from 24 to 31
-/// is its own spelling and still refused.
+/// This excludes each longer title (3.9), and a string of indefinite length inside another string (2.2.2), because no
+/// spelling contains the inner open and break. Only `f8` with a byte from 24 to 31 is its own spelling and still
+/// refused.
 pub fn strict_run()
     ensures unchanged { (count : ℕ) (bytes : List ℕ) (front : BeginsWithElements false count bytes) → (BeginsWithElements true count bytes
         ↔ ((spelling front.marks ≡ front.elements) × AllByRecursion IsNoSmallSimple front.marks)) }

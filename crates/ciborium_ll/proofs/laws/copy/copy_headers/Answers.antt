@@ -25,7 +25,7 @@ headers-preserved g c =
     let old = sides_of c.args.decoder.now c.args.encoder.now in (
       headers ++ header ∷ [],
       omega (arith, c.headers.invariant.1, length-append headers (header ∷ [])),
-      -- the decoder is as the header's pull left it
+      -- The decoder is as the header's pull left it.
       subst (λ (d : Decoder g.row.R.Denot). Copies g.R.Read g.W.Write (headers ++ header ∷ []) old
           (sides_of d c.push.new.self)) {x = c.pull.new.self} (search rules)
           (Copies-push g.R.Read g.W.Write {old = old} {new = sides_of c.pull.new.self c.push.new.self}
