@@ -30,7 +30,7 @@ use Rattle.cbor_checker_laws.proofs.ItemRuns.{completes_on}
 use Rattle.cbor_checker_laws.proofs.ReachRuns.{FromStart, start_on}
 use Rattle.cbor_checker_laws.proofs.SameFaultLaws.{syntax_named, break_named, deep_named}
 
--- the answer at a spot is a fault where the spot is at one
+-- If the answer at a spot is a fault, the spot stands at this fault.
 phase_is : (phase : Phase) (spot : Spot) (fault : Fault) → progress_in phase spot ≡ r.Fault fault
     → phase ≡ p.Faulted fault
 phase_is phase spot fault e = grind (arith, nat_tests)
@@ -41,7 +41,7 @@ module _ (s : Bool) (depth : ℕ) (fed more : List ℕ) (fault : Fault) (names :
       fed_runs fault s depth fed more names.spot names.is_fed
       (faulted (phase_is names.spot.phase names.spot fault names.answers))
 
-  -- ---- no item is in front
+  -- ---- no item at the start of the bytes
 
   ended_none : (spot : Spot) (due : List ℕ) → spot.phase ≡ p.Ended → Runs fault spot due → ⊥
   ended_none spot due is (faulted at) = let both = sym is ∙ at in cc
@@ -54,7 +54,7 @@ module _ (s : Bool) (depth : ℕ) (fed more : List ℕ) (fault : Fault) (names :
       (start_on fault s depth (fed ++ more) (t ++ (r ++ rest)) parts runs_here)) in
       ended_none (behind s depth [] all.place all.offset) rest refl all.runs
 
-  -- ---- what a skip answers
+  -- ---- the answers of a skip
 
   module _ {R E : Type 0} (source : Ghosts R E) (old new : Decoder R) where
     pub skip_answers : (result : Result (Unit {0}) (SkipError E))
@@ -71,9 +71,9 @@ module _ (s : Bool) (depth : ℕ) (fed more : List ℕ) (fault : Fault) (names :
     skip_answers (Err (k.Read e.TooLong)) told = told
     skip_answers (Err (k.Read e.Waiting)) told = told
 
--- ---- both of the same bytes
+-- ---- both answers to the same bytes
 
--- a decoder of a steady reader that tells its bytes
+-- A new decoder is ready over a steady reader that tells its bytes.
 pub fresh_ready : {R E : Type 0} (source : Ghosts R E) (room : ℕ) (strict : Bool) (reader : R) (decoder : Decoder R)
     (due : List ℕ) → IsFreshAs strict reader 0 decoder → IsTrue (source.steady reader) → source.ahead reader ≡ Some due
     → 8 ≤ room → length due + room < offset_limit → IsReadyToSkip source room decoder due
@@ -110,7 +110,7 @@ module _ {R E : Type 0} (source : Ghosts R E) (old new : Decoder R) where
   skip_tells s depth bytes (Err (k.Read e.TooLong)) start told = told
   skip_tells s depth bytes (Err (k.Read e.Waiting)) start told = told
 
--- ---- what a checker answers, in terms of all bytes
+-- ---- the answers of a checker, in terms of all bytes
 
 module _ (s : Bool) (depth taken : ℕ) (bytes : List ℕ) (spot : Spot) (room : length bytes + 1 < 2 ^ 64) where
   abbrev fed : List ℕ
@@ -128,7 +128,7 @@ module _ (s : Bool) (depth taken : ℕ) (bytes : List ℕ) (spot : Spot) (room :
   none_left : taken ≡ length bytes → drop taken bytes ≡ []
   none_left e = ap (λ (n : ℕ). drop n bytes) e ∙ drop-length bytes
 
-  -- where more is due no item is in front
+  -- If more bytes are due, the bytes begin with no item.
   more_none : (due : ℕ) → Tells s depth fed (r.More due) → taken ≡ length bytes → BeginsWithItem s depth bytes → ⊥
   more_none due tells e front =
       let more = tells.1.0 in
@@ -141,7 +141,7 @@ module _ (s : Bool) (depth taken : ℕ) (bytes : List ℕ) (spot : Spot) (room :
       let least = tells.2 more tells.1.1 in
       omega (arith, nothing, least, tells.0, length-append front.rest more)
 
-  -- and some bytes make one
+  -- If more bytes are due, some further bytes complete an item.
   more_begins : (due : ℕ) → Tells s depth fed (r.More due) → taken ≡ length bytes → BeginsNoItem s depth bytes → ⊥
   more_begins due tells e none =
       let more = tells.1.0 in
@@ -152,7 +152,7 @@ module _ (s : Bool) (depth taken : ℕ) (bytes : List ℕ) (spot : Spot) (room :
         is = ap (λ (z : List ℕ). z ++ more) (sym (whole e)) ∙ sym (append-nil (fed ++ more));
       })
 
-  -- no more bytes come than there are
+  -- The number of bytes fed is less than `2 ^ 64 - 1`.
   not_long : 2 ^ 64 ≤ length fed + 1 → ⊥
   not_long long =
       let parts = ap length all_bytes in
@@ -169,7 +169,7 @@ module _ (s : Bool) (depth taken : ℕ) (bytes : List ℕ) (spot : Spot) (room :
   item_here front none = none [] (rw append-nil front)
 
   module _ (is_fed : IsFed s depth fed spot) where
-    -- what the checker answers, exactly
+    -- The exact answer of the checker.
     abbrev Exact : Progress → Type 0
     Exact progress =
         (progress ≡ progress_of spot) × (SaysEnd progress ↔ BeginsWithItem s depth bytes)

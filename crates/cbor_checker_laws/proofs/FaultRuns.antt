@@ -46,21 +46,21 @@ module _ (fault : Fault) (s : Bool) (i : Within) (d : ℕ) (gs : List Level) (a 
 
 -- ---- a title within a string
 
--- no fault stands behind a whole item
+-- No fault stands after a whole item.
 settled_sound : (gs : List Level) (d : ℕ) (u : Spot)
     → ((settled d gs u).phase ≡ p.Title) ⊎ ((settled d gs u).phase ≡ p.Ended)
 settled_sound [] d u = inr refl
 settled_sound (g ∷ gs) d u = let one = settled_sound gs (suc d) u in grind (arith, nat_tests)
 
 module _ (fault : Fault) (s : Bool) (d : ℕ) (gs : List Level) (a n : ℕ) (k : Kind) (j : ℕ) (x : Header) where
-  -- no other fault comes of one
+  -- If the header `x` leads to a fault within a string, this is `Syntax` at the header's place.
   string_known : Faults fault (entered (inside k j) x (at s (inside k j) d gs a n)) → fault ≡ f.Syntax a
   string_known is = grind (arith, nat_tests, settled_sound)
 
   refused_in : IsRefusedIn s k x → Faults (f.Syntax a) (entered (inside k j) x (at s (inside k j) d gs a n))
   refused_in bad = grind (arith, nat_tests)
 
-  -- nor of one that may not stand there, or isn't taken
+  -- A title that may not stand in the string, or is not taken, leads to `Syntax` at its place.
   pub string_title : (t rest : List ℕ) → IsRefusedIn s k x ⊎ (IsTakenTitle s t x → ⊥)
       → Titled fault s (inside k j) d gs a n x t rest → fault ≡ f.Syntax a
   string_title t rest (inl bad) (taken g runs) = fault_of fault (f.Syntax a) _ rest (refused_in bad) runs
@@ -70,7 +70,7 @@ module _ (fault : Fault) (s : Bool) (d : ℕ) (gs : List Level) (a n : ℕ) (k :
 
 -- ---- a title where an item is due
 
--- a nest stands where no level is left
+-- A nest stands at a place for which no level is left.
 pub record DeepAt (x : Header) (d : ℕ) (fault : Fault) (a : ℕ) : Type 0 where
   pub is_nest : IsNest x
   pub none_left : d ≡ 0
@@ -81,7 +81,7 @@ module _ (fault : Fault) (s : Bool) (gs : List Level) (a n : ℕ) where
       → (x ≡ h.Break) ⊎ DeepAt x d fault a
   item_known d x is = grind (arith, nat_tests, settled_sound)
 
-  -- no break is untaken
+  -- If the title of an item is not taken, the fault is `Syntax`, or a nest that is too deep.
   pub long_due : (d : ℕ) (x : Header) (t rest : List ℕ) → IsTitle t x → (IsTakenTitle s t x → ⊥)
       → Titled fault s w.Nothing d gs a n x t rest → (fault ≡ f.Syntax a) ⊎ DeepAt x d fault a
   long_due d x t rest q never (taken g runs) = absurd (never g)
@@ -91,21 +91,21 @@ module _ (fault : Fault) (s : Bool) (gs : List Level) (a n : ℕ) where
   ]
   long_due d x t rest q never (untaken never' e) = inl e
 
-  -- a nest where no level is left
+  -- A nest for which no level is left leads to `Deep`.
   pub nest_deep : (x : Header) → IsNest x → Faults (f.Deep a) (item_entered x (at s w.Nothing 0 gs a n))
   nest_deep x nest = grind (arith, nat_tests)
 
-  -- a break that may not stand there
+  -- A break that may not stand there leads to `Break`.
   pub break_early : (d : ℕ) (fs : List Level) → can_close fs ≡ false
       → Faults (f.Break a) (broken fs (at s w.Nothing d gs a n))
   break_early d fs bad = grind (arith, nat_tests)
 
--- ---- the title of a nest that isn't the shortest, where no level is left: the fault is known with its first byte
+-- ---- a nest without a level left, whose title isn't the shortest: the first byte tells the fault
 
 not_simple : (x : Header) → IsNest x → IsSmallSimple x → ⊥
 not_simple x nest small = grind (arith, nat_tests)
 
--- a title of one byte is the shortest
+-- A title of one byte is the shortest.
 one_byte : (s : Bool) (b : ℕ) (x : Header) → IsTitle (b ∷ []) x → IsNest x → IsTakenTitle s (b ∷ []) x
 one_byte false b x q nest = tt
 one_byte true b x q nest = elim (shortest_or_longer x (b ∷ []) q) [
@@ -113,14 +113,14 @@ one_byte true b x q nest = elim (shortest_or_longer x (b ∷ []) q) [
   | inr longer ↦ absurd (let some = shortest_some x in omega (arith, longer, some))
 ]
 
--- one byte begins no longer title alone
+-- One byte alone does not show that its title is longer.
 begins_none : (b : ℕ) → BeginsLonger (b ∷ []) → ⊥
 begins_none b o = grind (arith, nat_tests)
 
 byte_below : (b : ℕ) → b < 256 → (i : ℕ) → get_or (b ∷ []) i 0 < 256
 byte_below b byte i = grind (arith, nat_tests)
 
--- with the first byte of a longer title some title that is taken begins
+-- A first byte of a longer title also begins a title that is taken.
 some_begins : (s : Bool) (b : ℕ) (m : List ℕ) (x : Header) → b < 256 → IsTitle (b ∷ m) x
     → (IsTakenTitle s (b ∷ m) x → ⊥) → 0 < length m → SomeTaken s (b ∷ [])
 some_begins false b m x byte q never some = absurd (never tt)

@@ -24,13 +24,13 @@ use Rattle.cbor_checker_laws.proofs.Runs.{On, on_to, at, behind, settled_with}
 use Rattle.cbor_checker_laws.proofs.TitleRuns.{taken_on}
 use Rattle.cbor_checker_laws.proofs.StringRuns.{bytes_on, text_on, Inside, break_taken, strings_taken_on}
 
--- the title of a nest leads into it
+-- The title of a nest leads into the nest.
 nest_entered : (x : Header) (s : Bool) (d : ℕ) (gs : List Level) (a n : ℕ) → IsNest x
     → item_entered x (at s w.Nothing (suc d) gs a n) ≡ settled d (contents x ∷ gs) (at s w.Nothing (suc d) gs a n)
 nest_entered x s d gs a n nest = grind (arith, nat_tests)
 
 module _ (fault : Fault) (all : ℕ) (s : Bool) where
-  -- behind an item or the title of a nest
+  -- The run is after an item or the title of a nest.
   abbrev pub Behind : ℕ → List Level → List ℕ → Type 0
   Behind d gs due = On fault all (behind s d gs) due
 
@@ -38,7 +38,7 @@ module _ (fault : Fault) (all : ℕ) (s : Bool) where
       → On fault all (λ a n. settled d gs (at s i c fs a n)) due → Behind d gs due
   on_behind i c d fs gs o = on_to (behind s d gs) (settled_with gs d s i c fs) o
 
-  -- a break that ends the outermost string
+  -- The run leads over a break that ends the outermost string.
   string_closed_on : (k : Kind) (d : ℕ) (gs : List Level) (rest : List ℕ) → Inside fault all s d gs k 0 (0xff ∷ rest)
       → Behind d gs rest
   string_closed_on Bytes d gs rest o =
@@ -55,19 +55,19 @@ module _ (fault : Fault) (all : ℕ) (s : Bool) where
 
   -- ---- a nest
 
-  -- behind its title
+  -- The run is after the title of the nest.
   pub nest_begun : (x : Header) (c : ℕ) (gs : List Level) (due : List ℕ) → IsNest x
       → On fault all (λ a n. item_entered x (at s w.Nothing (suc c) gs a n)) due → Behind c (reached x 0 ∷ gs) due
   nest_begun x c gs due nest o =
       rw (reached_first x) (on_behind w.Nothing (suc c) c gs (contents x ∷ gs)
       (on_to _ (λ a n. nest_entered x s c gs a n nest) o))
 
-  -- where one more item is due in it
+  -- If the nest takes one more item, this item is due.
   pub nest_due : (x : Header) (m d : ℕ) (gs : List Level) (due : List ℕ) → TakesMore x m
       → Behind d (reached x m ∷ gs) due → On fault all (at s w.Nothing d (reached x (suc m) ∷ gs)) due
   nest_due x m d gs due takes o = on_to _ (λ a n. rw (reached_next x m takes, settled) refl) o
 
-  -- a break that ends it
+  -- The run leads over a break that ends the nest.
   nest_closed_on : (x : Header) (m c : ℕ) (gs : List Level) (rest : List ℕ) → TakesMore x m → may_close x m ≡ true
       → Behind c (reached x m ∷ gs) (0xff ∷ rest) → Behind (suc c) gs rest
   nest_closed_on x m c gs rest takes may o =
@@ -75,7 +75,7 @@ module _ (fault : Fault) (all : ℕ) (s : Bool) where
       (on_to _ (λ a n. rw (reached_closes x m takes ∙ may, broken) refl)
       (taken_on h.Break (0xff ∷ []) rest break_title (break_taken s) (nest_due x m c gs (0xff ∷ rest) takes o)))
 
-  -- a nest of so many items, over which the run leads, and one that a break ends
+  -- `whole_nest` leads the run over a nest of `count` items, and `open_nest` over a nest that a break ends.
   whole_nest : (x : Header) (count c : ℕ) (u : List ℕ) (gs : List Level) (rest : List ℕ) → next (reached x count) ≡ None
       → IsNest x → (Behind c (reached x 0 ∷ gs) (u ++ rest) → Behind c (reached x count ∷ gs) rest)
       → On fault all (λ a n. item_entered x (at s w.Nothing (suc c) gs a n)) (u ++ rest) → Behind (suc c) gs rest
@@ -92,7 +92,7 @@ module _ (fault : Fault) (all : ℕ) (s : Bool) where
       (over (nest_begun x c gs (u ++ 0xff ∷ rest) (takes_nest x count takes) (rw append_assoc at o)))
 
   mutual
-    -- what completes an item, behind its title
+    -- The run leads over the bytes that complete an item after its title.
     pub completes_on : {c : ℕ} {x : Header} {r : List ℕ} → Completes s c x r → (gs : List Level) (rest : List ℕ)
         → On fault all (λ a n. item_entered x (at s w.Nothing c gs a n)) (r ++ rest) → Behind c gs rest
     completes_on {c} positive gs rest o = on_behind w.Nothing c c gs gs o
@@ -128,7 +128,7 @@ module _ (fault : Fault) (all : ℕ) (s : Bool) where
         open_nest (h.Map None) (2 * m) c u gs rest (grind (arith, nat_tests)) tt
         (λ b. items_on i (h.Map None) 0 (2 * m) gs (0xff ∷ rest) (omega arith) (λ k less. tt) b) o
 
-    -- so many items in a nest
+    -- The run leads over `k` items in a nest.
     pub items_on : {d k : ℕ} {u : List ℕ} → AreItems s d k u
         → (x : Header) (m end : ℕ) (gs : List Level) (rest : List ℕ) → m + k ≡ end → ((i : ℕ) → i < end → TakesMore x i)
         → Behind d (reached x m ∷ gs) (u ++ rest) → Behind d (reached x end ∷ gs) rest

@@ -10,7 +10,7 @@ use Rattle.cbor_skip.specs.Due.{IsNest, TakesMore, may_close}
 abbrev TypeOf : {A : Type 0} → A → Type 0
 TypeOf {A = A} a = A
 
--- what is left in a nest. Outside of its crate no path names the type
+-- The rest of a nest. No path outside of its crate names the type.
 abbrev pub Level : Type 0
 Level = TypeOf (contents h.Break)
 
@@ -18,7 +18,7 @@ abbrev or_none : Option Level → Level
 or_none (Some level) = level
 or_none None = contents h.Break
 
--- what is left in a nest behind so many items
+-- The rest of a nest after `n` items.
 abbrev pub reached : Header → ℕ → Level
 reached (h.Tag number) n = contents (h.Array (Some (1 - n)))
 reached (h.Array (Some len)) n = contents (h.Array (Some (len - n)))
@@ -32,7 +32,7 @@ reached_first x = grind (arith, nat_tests)
 pub reached_next : (x : Header) (n : ℕ) → TakesMore x n → next (reached x n) ≡ Some (reached x (suc n))
 reached_next x n takes = grind (arith, nat_tests)
 
--- a break may stand in place of the next one just where it may behind the title
+-- A break may stand in place of the next item exactly if `may_close` holds.
 pub reached_closes : (x : Header) (n : ℕ) → TakesMore x n → closes (reached x (suc n)) ≡ may_close x n
 reached_closes x n takes = grind (arith, nat_tests)
 

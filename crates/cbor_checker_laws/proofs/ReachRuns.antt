@@ -23,13 +23,13 @@ use Rattle.cbor_checker_laws.proofs.TitleRuns.{taken_on}
 use Rattle.cbor_checker_laws.proofs.StringRuns.{Inside, flat_on, open_on, strings_taken_on}
 use Rattle.cbor_checker_laws.proofs.ItemRuns.{nest_begun, nest_due, items_on}
 
--- a break may stand in place of an item that is due in these nests
+-- Whether a break may stand in place of an item that is due in these nests.
 abbrev pub can_close : List Level → Bool
 can_close [] = false
 can_close (g ∷ gs) = closes g
 
 module _ (fault : Fault) (all : ℕ) (s : Bool) where
-  -- an item to so many levels is due
+  -- An item to `depth` levels is due, and `closable` says whether a break may stand in its place.
   pub record ItemOn (depth : ℕ) (closable : Bool) (due : List ℕ) : Type 0 where
     pub levels : List Level
     pub same : can_close levels ≡ closable
@@ -51,7 +51,7 @@ module _ (fault : Fault) (all : ℕ) (s : Bool) where
 
   -- ---- within strings
 
-  -- an open where an item is due
+  -- The run leads over an open, if an item is due.
   first_open : (k : Kind) (d : ℕ) (gs : List Level) (t rest : List ℕ) → IsTitle t (kind_header k None)
       → IsTakenTitle s t (kind_header k None) → On fault all (at s w.Nothing d gs) (t ++ rest)
       → Inside fault all s d gs k 0 rest
@@ -62,7 +62,7 @@ open_taken : (k : Kind) → IsTakenTitle true (shortest_title (kind_header k Non
 open_taken k = grind (arith, nat_tests)
 
 module _ (fault : Fault) (all : ℕ) (k : Kind) (d : ℕ) (gs : List Level) where
-  -- opens and strings behind an open, from where one may stand
+  -- The run leads over opens and strings within an open, from a spot at which an open may stand.
   any_inside : {u : List ℕ} {bs : List (List ℕ)} → IsInside k u bs → (From : List ℕ → Type 0) (rest : List ℕ)
       → ((t more : List ℕ) → IsTitle t (kind_header k None) → From (t ++ more)
       → (j : ℕ) × Inside fault all false d gs k j more)
@@ -76,7 +76,7 @@ module _ (fault : Fault) (all : ℕ) (k : Kind) (d : ℕ) (gs : List Level) wher
       (λ t more q o'. (suc first.0, open_on fault all false d gs k first.0 t more refl q o'))
       (AreWritable-right k cs ds sound) first.1
 
-  -- where only the shortest spelling is taken: one open, and strings of a definite length
+  -- If only the shortest spelling is taken, the run leads over one open and strings of a definite length.
   strict_inside : (u rest : List ℕ) (bs : List (List ℕ)) → IsTakenInside true k u bs → AreWritable k bs
       → On fault all (at true w.Nothing d gs) (u ++ rest) → Inside fault all true d gs k 0 rest
   strict_inside u rest bs taken sound o =
@@ -93,14 +93,14 @@ inside_on false fault all k d gs u rest bs is taken sound o =
     any_inside fault all k d gs is (On fault all (at false w.Nothing d gs)) rest
     (λ t more q o'. (0, first_open fault all false k d gs t more q tt o')) sound o
 
--- ---- behind a beginning of all bytes
+-- ---- after a beginning of all bytes
 
 module _ (fault : Fault) (s : Bool) (depth : ℕ) where
-  -- the run from where nothing came
+  -- The run begins before all bytes.
   abbrev pub FromStart : List ℕ → Type 0
   FromStart due = Runs fault (at s w.Nothing depth [] 0 0) due
 
-  -- what was counted is where the bytes are divided
+  -- The offset that the run counted is the length of the bytes before.
   reach : {to : ℕ → ℕ → Spot} (before rest due : List ℕ) → due ≡ before ++ rest → On fault (length due) to rest
       → (place : ℕ) × Runs fault (to place (length before)) rest
   reach {to} before rest due e o =
@@ -117,7 +117,7 @@ module _ (fault : Fault) (s : Bool) (depth : ℕ) where
       → FromStart due → due ≡ before ++ rest → ItemOn fault (length due) s left closable rest
   item_on before rest due is runs e = due_on fault (length due) s is [] rest refl (start_on due (before ++ rest) e runs)
 
-  -- an item to so many levels is due, behind so many bytes
+  -- An item to `left` levels is due after `n` bytes.
   pub record AtItem (left : ℕ) (closable : Bool) (n : ℕ) (due : List ℕ) : Type 0 where
     pub levels : List Level
     pub same : can_close levels ≡ closable
@@ -132,7 +132,7 @@ module _ (fault : Fault) (s : Bool) (depth : ℕ) where
       let r = reach before rest due e o.on in
       record { levels = o.levels; same = o.same; place = r.0; runs = r.1 }
 
-  -- a title is due, where such strings are open
+  -- A title is due after `n` bytes, within the open strings `i`.
   pub record AtTitle (i : Within) (n : ℕ) (due : List ℕ) : Type 0 where
     pub left : ℕ
     pub levels : List Level

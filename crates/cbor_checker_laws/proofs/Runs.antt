@@ -13,27 +13,27 @@ use Rattle.cbor_checker.specs.Steps.{start, Step, StepIn, IsFed, fresh, more}
 use Rattle.cbor_checker.specs.Telling.{is_due}
 use Rattle.cbor_checker.proofs.SettledLaws.{settled_alike, settled_anyhow}
 
--- from the spot a beginning of the bytes leads to the fault
+-- A beginning of the bytes leads from the spot to the fault.
 pub data Runs (fault : Fault) : Spot → List ℕ → Type 0 where
   faulted : {spot : Spot} {due : List ℕ} → spot.phase ≡ p.Faulted fault → Runs fault spot due
   goes : {spot next : Spot} {due : List ℕ} (byte : ℕ) → byte < 256 → Step spot byte next → Runs fault next due
       → Runs fault spot (byte ∷ due)
 
--- a run of a fed checker is one of all bytes
+-- A run from the spot of a checker that was fed bytes is a run over all bytes.
 pub fed_runs : (fault : Fault) (s : Bool) (d : ℕ) (fed due : List ℕ) (spot : Spot) → IsFed s d fed spot
     → Runs fault spot due → Runs fault (start s d) (fed ++ due)
 fed_runs fault s d fed due spot fresh runs = runs
 fed_runs fault s d fed due spot (more {bytes = a} {spot = before} b byte is step) runs =
     rw (append_assoc a (b ∷ []) due) (fed_runs fault s d a (b ∷ due) before is (goes b byte step runs))
 
--- where a fault stands, it is the one
+-- If the spot stands at a fault, this is the fault of the run.
 pub fault_of : (fault other : Fault) (spot : Spot) (due : List ℕ) → spot.phase ≡ p.Faulted other
     → Runs fault spot due → fault ≡ other
 fault_of fault other spot due at (faulted is) = let both = sym is ∙ at in cc
 fault_of fault other spot due at (goes {next = m} b byte step runs) =
     let no : ⊥ = subst (λ (z : Phase). StepIn z spot b m) at step in absurd no
 
--- where a byte is due, one comes, and leads on
+-- A byte is due at the spot, and the next byte leads to a next spot.
 pub record Next (fault : Fault) (phase : Phase) (spot : Spot) (b : ℕ) (rest : List ℕ) : Type 0 where
   pub next : Spot
   pub is_byte : b < 256
@@ -53,7 +53,7 @@ pub some_due : {fault : Fault} {spot : Spot} (phase : Phase) → is_due phase �
     → Runs fault spot [] → ⊥
 some_due {fault} phase on e (faulted at) = off phase fault on (e ∙ at)
 
--- of so many bytes in all these are left, and from a spot, by its place and its offset, a run leads over them
+-- A run leads over `due`, the rest of `all` bytes, from a spot that is given by its place and its offset.
 pub record On (fault : Fault) (all : ℕ) (to : ℕ → ℕ → Spot) (due : List ℕ) : Type 0 where
   pub place : ℕ
   pub offset : ℕ
@@ -69,22 +69,22 @@ on_to {fault} {due = due} to' same o = record {
   runs = subst (λ (z : Spot). Runs fault z due) (same o.place o.offset) o.runs;
 }
 
--- ---- spots with no part of a title
+-- ---- spots without a part of a title
 
--- a title is due
+-- A title is due.
 abbrev pub at : Bool → Within → ℕ → List Level → ℕ → ℕ → Spot
 at s i d gs a n = record (start s d) { within = i; levels = gs; place = a; offset = n }
 
--- a string of the kind is open, and so many more
+-- A string of the kind is open, and `n` further strings in it.
 abbrev pub inside : Kind → ℕ → Within
 inside Bytes n = w.Bytes n
 inside Text n = w.Text n
 
--- behind an item, or behind the title of a nest
+-- The spot is after an item, or after the title of a nest.
 abbrev pub behind : Bool → ℕ → List Level → ℕ → ℕ → Spot
 behind s d gs a n = settled d gs (at s w.Nothing 0 [] a n)
 
--- what was due, the open strings and the nests do not count there
+-- This spot does not depend on the part that was due, the open strings or the nests before.
 pub settled_with : (gs : List Level) (d : ℕ) (s : Bool) (i : Within) (c : ℕ) (fs : List Level) (a n : ℕ)
     → settled d gs (at s i c fs a n) ≡ behind s d gs a n
 settled_with gs d s i c fs a n =

@@ -52,7 +52,7 @@ module _ (fault : Fault) (s : Bool) (depth : ℕ) (due : List ℕ) (runs : FromS
   long_named t rest x (In k) reach e at_title q never = inl (string_named t rest x k reach e q (inr never))
   long_named t rest x (BodyDue k len start) reach e at_title q never = absurd at_title
 
-  -- the body of a text is due
+  -- If a body of text is due and is no text, the checker names the body's place.
   text_named : {before : List ℕ} (ahead : List ℕ) (k : Kind) (len start : ℕ) → k ≡ Text
       → ReachesItem s depth before (BodyDue k len start) → due ≡ before ++ ahead → NoText st.Between len ahead
       → fault ≡ f.Syntax start
@@ -68,7 +68,7 @@ module _ (fault : Fault) (s : Bool) (depth : ℕ) (due : List ℕ) (runs : FromS
       let on = taken_run _ _ _ _ _ _ _ (h.Text (Some len)) t ahead q taken o.1.runs in
       no_text fault s (w.Text o.0) o.1.left o.1.levels (length b) len ahead (length b + length t) on none
 
-  -- a row of the faults
+  -- The checker names the fault of each row of `FirstFault`.
   row_named : {before ahead written : List ℕ} {point : Point} {answer : Answer} {consumed : ℕ}
       → FirstFault s before [] point ahead answer written consumed → ReachesItem s depth before point
       → due ≡ before ++ ahead → Named answer
@@ -86,7 +86,7 @@ module _ (fault : Fault) (s : Bool) (depth : ℕ) (due : List ℕ) (runs : FromS
   row_named {ahead = ahead} (CutDamagedText {len = len} {start = start} _ _ short _ _ _ _ _) reach e =
       inl (text_named ahead Text len start refl reach e (λ long ends. absurd (omega (arith, long, short))))
 
-  -- ---- what stops a skip
+  -- ---- the faults that stop a skip
 
   pub syntax_named : (met : HasItemFault s depth due) → (at : ℕ) → met.answer ≡ Syntax at
       → NamesSyntax s depth due at fault

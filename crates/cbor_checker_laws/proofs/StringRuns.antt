@@ -1,4 +1,4 @@
--- A run over the body of a string, and over strings within an open one.
+-- A run over the body of a string, and over strings within an open string.
 use Rattle.std.proofs.Common.{◌≡◌, ℕ, zero, suc, ◌+◌, ◌≤◌, Bool, true, false, List, [], ◌∷◌, ◌++◌, length, take, refl}
 use Rattle.std.proofs.Common.{ap, subst, ◌∙◌, arith, Some, None, append_assoc}
 use Rattle.std.proofs.lemmas.Bool.Decides.{nat_tests}
@@ -29,20 +29,20 @@ use Rattle.ciborium_ll_text.proofs.StateLaws.{text_ends}
 use Rattle.cbor_checker.specs.declared.phase.Within.TheVariants as w
 use Rattle.cbor_checker_laws.proofs.TitleRuns.{taken_on}
 
--- no text of so many bytes is in front
+-- The bytes begin with no text of `len` bytes.
 abbrev pub NoText : State → ℕ → List ℕ → Type 0
 NoText state len due = len ≤ length due → after state (take len due) ≡ st.Between → ⊥
 
 text_begins : (len : ℕ) (spot : Spot) → text_due len spot ≡ text_left true len st.Between spot
 text_begins len spot = grind (arith, nat_tests)
 
--- one byte more came
+-- The run goes on after one more byte.
 one_on : {fault : Fault} {all b : ℕ} {to : ℕ → ℕ → Spot} {rest : List ℕ} (to' : ℕ → ℕ → Spot)
     → (o : On fault all to (b ∷ rest)) → Runs fault (to' o.place (o.offset + 1)) rest → On fault all to' rest
 one_on to' o runs = record { place = o.place; offset = o.offset + 1; counts = omega (arith, o.counts); runs = runs }
 
 module _ {fault : Fault} {all : ℕ} (s : Bool) (i : Within) (d : ℕ) (gs : List Level) where
-  -- a body of bytes in front
+  -- The run leads over the body of a byte string.
   pub bytes_on : (body rest : List ℕ) → On fault all (λ a n. bytes_due (length body) (at s i d gs a n)) (body ++ rest)
       → On fault all (λ a n. string_done i (at s i d gs a n)) rest
   bytes_on [] rest o = o
@@ -52,7 +52,7 @@ module _ {fault : Fault} {all : ℕ} (s : Bool) (i : Within) (d : ℕ) (gs : Lis
       let same = g.step ∙ due_alike (length body) (at s i d gs o.place (o.offset + 1)) here in
       bytes_on body rest (one_on _ o (subst (λ (z : Spot). Runs fault z (body ++ rest)) same g.runs))
 
-  -- the rest of a text in front
+  -- The run leads over the rest of a text.
   rest_on : (state : State) (body rest : List ℕ) → after state body ≡ st.Between
       → On fault all (λ a n. text_left true (length body) state (at s i d gs a n)) (body ++ rest)
       → On fault all (λ a n. string_done i (at s i d gs a n)) rest
@@ -67,17 +67,17 @@ module _ {fault : Fault} {all : ℕ} (s : Bool) (i : Within) (d : ℕ) (gs : Lis
       ∙ ap (λ (z : Bool). text_left z len to u) (text_may_end to body ends)) in
       rest_on to body rest ends (one_on _ o (subst (λ (z : Spot). Runs fault z (body ++ rest)) same g.runs))
 
-  -- a text in front
+  -- The run leads over the body of a text.
   pub text_on : (body rest : List ℕ) → after st.Between body ≡ st.Between
       → On fault all (λ a n. text_due (length body) (at s i d gs a n)) (body ++ rest)
       → On fault all (λ a n. string_done i (at s i d gs a n)) rest
   text_on body rest ends o =
       rest_on st.Between body rest ends (on_to _ (λ a n. text_begins (length body) (at s i d gs a n)) o)
 
--- ---- a text that is none
+-- ---- a body that is no text
 
 module _ (fault : Fault) (s : Bool) (i : Within) (d : ℕ) (gs : List Level) (a : ℕ) where
-  -- behind a byte: either a fault, or the text goes on
+  -- After a byte there is a fault, or the text goes on.
   next_fails : (may : Bool) (left : ℕ) (to : State) (n : ℕ) (rest : List ℕ)
       → Runs fault (text_left may left to (at s i d gs a n)) rest
       → (may ≡ true → Runs fault (text_left true left to (at s i d gs a n)) rest → fault ≡ f.Syntax a)
@@ -97,25 +97,25 @@ module _ (fault : Fault) (s : Bool) (i : Within) (d : ℕ) (gs : List Level) (a 
       next_fails (may_end to k) k to (n + 1) due (subst (λ (z : Spot). Runs fault z due) same g.runs)
       (λ may' runs'. text_fails k to due (n + 1) may' runs' (λ fits ends. never (omega (arith, fits)) ends))
 
-  -- a fault in a text that is none names its place
+  -- A fault in a body that is no text names the body's place.
   pub no_text : (len : ℕ) (due : List ℕ) (n : ℕ) → Runs fault (text_due len (at s i d gs a n)) due
       → NoText st.Between len due → fault ≡ f.Syntax a
   no_text len due n runs never =
       text_fails len st.Between due n (between_ends len)
       (subst (λ (z : Spot). Runs fault z due) (text_begins len (at s i d gs a n)) runs) never
 
--- ---- strings within an open one
+-- ---- strings within an open string
 
--- the break has one title
+-- The one title of a break is taken.
 pub break_taken : (s : Bool) → IsTakenTitle s (0xff ∷ []) h.Break
 break_taken s = grind (arith, nat_tests)
 
 module _ (fault : Fault) (all : ℕ) (s : Bool) (d : ℕ) (gs : List Level) where
-  -- within so many open strings and one more
+  -- The run is within `j` open strings and one more.
   abbrev pub Inside : Kind → ℕ → List ℕ → Type 0
   Inside k j due = On fault all (at s (inside k j) d gs) due
 
-  -- a string of a definite length
+  -- The run leads over a string of a definite length.
   whole_on : (k : Kind) (j : ℕ) (t body rest : List ℕ) → IsTitle t (kind_header k (Some (length body)))
       → IsTakenTitle s t (kind_header k (Some (length body))) → IsWritable k body → Inside k j (t ++ (body ++ rest))
       → Inside k j rest
@@ -125,18 +125,18 @@ module _ (fault : Fault) (all : ℕ) (s : Bool) (d : ℕ) (gs : List Level) wher
       text_on s (w.Text j) d gs body rest (text_ends body sound)
       (taken_on (h.Text (Some (length body))) t (body ++ rest) q g o)
 
-  -- an open
+  -- The run leads over an open.
   pub open_on : (k : Kind) (j : ℕ) (t rest : List ℕ) → s ≡ false → IsTitle t (kind_header k None)
       → Inside k j (t ++ rest) → Inside k (suc j) rest
   open_on Bytes j t rest any q o = rw any (taken_on (h.Bytes None) t rest q tt (rw any at o))
   open_on Text j t rest any q o = rw any (taken_on (h.Text None) t rest q tt (rw any at o))
 
-  -- a break that ends an inner one
+  -- The run leads over a break that ends an inner string.
   close_on : (k : Kind) (j : ℕ) (rest : List ℕ) → Inside k (suc j) (0xff ∷ rest) → Inside k j rest
   close_on Bytes j rest o = taken_on h.Break (0xff ∷ []) rest break_title (break_taken s) o
   close_on Text j rest o = taken_on h.Break (0xff ∷ []) rest break_title (break_taken s) o
 
-  -- any strings in front, where any spelling is taken
+  -- The run leads over any strings, if any spelling is taken.
   module _ (k : Kind) (any : s ≡ false) where
     mutual
       string_on : {u : List ℕ} {bs : List (List ℕ)} → IsString k u bs → (j : ℕ) (rest : List ℕ) → AreWritable k bs
@@ -154,7 +154,7 @@ module _ (fault : Fault) (all : ℕ) (s : Bool) (d : ℕ) (gs : List Level) wher
           strings_on others j rest (AreWritable-right k cs ds sound)
           (string_on i j (v ++ rest) (AreWritable-left k cs ds sound) (rw append_assoc at o))
 
--- strings of a definite length in front, each under a strict title
+-- The run leads over strings of a definite length, each under a strict title.
 pub flat_on : (fault : Fault) (all : ℕ) (d : ℕ) (gs : List Level) (k : Kind) {u : List ℕ} {bs : List (List ℕ)}
     → AreFlat k u bs → (j : ℕ) (rest : List ℕ) → AreWritable k bs → Inside fault all true d gs k j (u ++ rest)
     → Inside fault all true d gs k j rest
@@ -163,7 +163,7 @@ flat_on fault all d gs k (more_flat {title = t} {body = b} {rest = v} q g f) j r
     flat_on fault all d gs k f j rest sound.1
     (whole_on fault all true d gs k j t b (v ++ rest) q g sound.0 (simp append_assoc at o))
 
--- strings that are taken in front
+-- The run leads over strings that are taken.
 pub strings_taken_on : (fault : Fault) (all : ℕ) (s : Bool) (d : ℕ) (gs : List Level) (k : Kind) (u : List ℕ)
     (bs : List (List ℕ)) (j : ℕ) (rest : List ℕ) → AreStrings k u bs → AreTakenStrings s k u bs → AreWritable k bs
     → Inside fault all s d gs k j (u ++ rest) → Inside fault all s d gs k j rest

@@ -18,7 +18,7 @@ use Rattle.cbor_checker.specs.Spots.{Spot, settled, entered, text_due}
 use Rattle.cbor_checker.specs.Steps.{TitleStep, cut, early, whole, none}
 use Rattle.cbor_checker_laws.proofs.Runs.{Runs, faulted, fault_of, next_of, On, at}
 
--- ---- what is due behind a title does not depend on how many bytes came
+-- ---- the part that is due after a title does not depend on the number of bytes before
 
 abbrev pub Faults : Fault → Spot → Type 0
 Faults fault spot = spot.phase ≡ p.Faulted fault
@@ -38,7 +38,7 @@ entered_moved i x n u = grind (arith, nat_tests, settled_moved, text_moved)
 
 -- ---- a title
 
--- what comes of a title: the run goes on behind it, or a fault is known before its end, or the title is not taken
+-- The run goes on after a title, or a fault is known before its end, or the title is not taken.
 pub data Titled (fault : Fault) (s : Bool) (i : Within) (d : ℕ) (gs : List Level) (a n : ℕ) (x : Header)
     (title rest : List ℕ) : Type 0 where
   taken : IsTakenTitle s title x → Runs fault (entered i x (at s i d gs a n)) rest
@@ -48,7 +48,7 @@ pub data Titled (fault : Fault) (s : Bool) (i : Within) (d : ℕ) (gs : List Lev
 
 module _ (fault : Fault) (s : Bool) (i : Within) (d : ℕ) (gs : List Level) (a end : ℕ) (x : Header) (t rest : List ℕ)
     (q : IsTitle t x) where
-  -- some bytes of the title came
+  -- Some bytes of the title came.
   abbrev amid : ℕ → List ℕ → ℕ → Spot
   amid c cs n = record (at s i d gs a n) { front = c ∷ cs }
 
@@ -71,7 +71,7 @@ module _ (fault : Fault) (s : Bool) (i : Within) (d : ℕ) (gs : List Level) (a 
       untaken (λ g. never m t [] x q g (e ∙ sym (append-nil t)))
       (fault_of fault (f.Syntax a) next (m ++ rest) refl runs)
 
-  -- behind a part of it
+  -- The run goes on after a part of the title.
   later : (m : List ℕ) (c : ℕ) (cs : List ℕ) (n : ℕ) → (c ∷ cs) ++ m ≡ t → n + length m ≡ end → IsCutTitle (c ∷ cs)
       → Runs fault (amid c cs n) (m ++ rest) → Out
   later [] c cs n e counts is_cut runs =
@@ -83,7 +83,7 @@ module _ (fault : Fault) (s : Bool) (i : Within) (d : ℕ) (gs : List Level) (a 
       let counts' : n + 1 + length m ≡ end = omega (arith, counts) in
       stepped c (cs ++ b ∷ []) m (n + 1) o.next e' counts' o.step o.runs (later m c (cs ++ b ∷ []) (n + 1) e' counts')
 
--- a title in front
+-- A run over a title goes on, meets a fault before its end, or does not take it.
 pub title_run : (fault : Fault) (s : Bool) (i : Within) (d : ℕ) (gs : List Level) (a n : ℕ) (x : Header)
     (title rest : List ℕ) → IsTitle title x → Runs fault (at s i d gs a n) (title ++ rest)
     → Titled fault s i d gs n (n + length title) x title rest
@@ -94,7 +94,7 @@ title_run fault s i d gs a n x (b ∷ m) rest q runs =
     stepped fault s i d gs n (n + length (b ∷ m)) x (b ∷ m) rest q b [] m (n + 1) o.next refl counts o.step o.runs
     (later fault s i d gs n (n + length (b ∷ m)) x (b ∷ m) rest q m b [] (n + 1) refl counts)
 
--- behind one that is taken the run goes on
+-- After a title that is taken, the run goes on.
 pub taken_run : (fault : Fault) (s : Bool) (i : Within) (d : ℕ) (gs : List Level) (a n : ℕ) (x : Header)
     (title rest : List ℕ) → IsTitle title x → IsTakenTitle s title x → Runs fault (at s i d gs a n) (title ++ rest)
     → Runs fault (entered i x (at s i d gs n (n + length title))) rest

@@ -30,7 +30,8 @@ pub record FeedTells (strict : Bool) (depth : ℕ) (bytes : List ℕ) (progress 
   pub answers : progress ≡ progress_of spot
 
 -- The answer of a skip of the bytes, which begins at the offset 0. The bytes begin with an item, or end too early, or
--- are at fault at the named place. The fault may be a break or a nest that may not stand there.
+-- are at fault at the named place. The fault may be a break or a nest that may not stand there. For `82 01 ff`, with a
+-- depth of 1 or more, it is `Break(2)`.
 abbrev pub SkipTells : {E : Type 0} → Bool → ℕ → List ℕ → Result (Unit {0}) (SkipError E) → Type 0
 SkipTells strict depth bytes (Ok done) = BeginsWithItem strict depth bytes
 SkipTells strict depth bytes (Err (s.Break at)) = (met : HasEarlyBreak strict depth bytes) × (at ≡ length met.before)
@@ -42,7 +43,7 @@ SkipTells strict depth bytes (Err (s.Read (e.Io error))) =
 SkipTells strict depth bytes (Err (s.Read e.TooLong)) = ⊥
 SkipTells strict depth bytes (Err (s.Read e.Waiting)) = ⊥
 
--- A checker that was fed these bytes answers this fault.
+-- A checker that was fed these bytes answers this fault: `Break(2)` for `82 01 ff`, if the depth is 1 or more.
 pub record Names (strict : Bool) (depth : ℕ) (fed : List ℕ) (fault : Fault) : Type 0 where
   pub spot : Spot
   pub is_fed : IsFed strict depth fed spot
@@ -58,12 +59,14 @@ abbrev pub IsFault : Progress → Type 0
 IsFault (r.Fault fault) = Unit {0}
 IsFault progress = ⊥
 
--- The bytes begin no item, whatever follows them.
+-- The bytes begin no item, whatever follows them. Nothing makes an item of `ff`, but `02` makes one of `82 01`, if the
+-- depth is 1 or more.
 abbrev pub BeginsNoItem : Bool → ℕ → List ℕ → Type 0
 BeginsNoItem strict depth bytes = (more : List ℕ) → BeginsWithItem strict depth (bytes ++ more) → ⊥
 
 -- After a beginning of an item a tag, an array or a map stands for which no level is left. Its title isn't the
--- shortest, and only the shortest is taken (RFC 7049, 3.9). So there are two faults at one place.
+-- shortest, and only the shortest is taken (RFC 7049, 3.9). So there are two faults at one place: with depth 0, in `98
+-- 00`.
 pub record HasLongNest (strict : Bool) (depth : ℕ) (bytes : List ℕ) : Type 0 where
   pub before : List ℕ
   pub title : List ℕ
@@ -78,14 +81,16 @@ pub record HasLongNest (strict : Bool) (depth : ℕ) (bytes : List ℕ) : Type 0
 
 -- The fault that a checker names if a skip finds a fault of syntax at this offset: that fault there. If two faults
 -- stand there, the checker names the nest: it sees the nest with the first byte, and whether the title is the shortest
--- only with the next bytes. A skip reads the whole title first.
+-- only with the next bytes. A skip reads the whole title first. With depth 0, a strict checker of `98 00` names
+-- `Deep(0)`, and a skip `Syntax(0)`.
 abbrev pub NamesSyntax : Bool → ℕ → List ℕ → ℕ → Fault → Type 0
 NamesSyntax strict depth due at fault =
     (fault ≡ f.Syntax at)
     ⊎ ((nest : HasLongNest strict depth due) × (length nest.before ≡ at) × (fault ≡ f.Deep at))
 
 -- The answer of a skip that began at the offset `from` is the fault: the same kind, and the same place counted from
--- there. Or the bytes end too early. The answer is never an item.
+-- there. Or the bytes end too early. The answer is never an item. If the fault is `Break(2)` and `from` is 10, the
+-- answer is `Break(12)`.
 abbrev pub AnswersFault : {E : Type 0} → Bool → ℕ → List ℕ → Fault → ℕ → Result (Unit {0}) (SkipError E) → Type 0
 AnswersFault strict depth due fault from (Ok done) = ⊥
 AnswersFault strict depth due fault from (Err (s.Break at)) = (place : ℕ) × (at ≡ from + place) × (fault ≡ f.Break place)

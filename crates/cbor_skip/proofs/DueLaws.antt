@@ -27,7 +27,7 @@ use Rattle.cbor_skip.specs.ItemFaults.{BeginsWithItem, HasItemFault, HasEarlyBre
 use Rattle.cbor_skip.proofs.RemainingLaws.{even_pairs}
 use Rattle.cbor_skip.proofs.ItemSteps.{item_of}
 
--- one more on both sides
+-- The comparison also holds for one more on both sides.
 one_further : {A B C : Type 0} {j k : ℕ} → A ⊎ (((j ≡ k) × B) ⊎ ((k < j) × C))
     → A ⊎ (((suc j ≡ suc k) × B) ⊎ ((suc k < suc j) × C))
 one_further h = grind arith
@@ -38,7 +38,7 @@ fewer less h = grind arith
 module _ (strict : Bool) where
   -- ---- an item that comes
 
-  -- an item stands in front, by its title
+  -- The bytes begin with an item, which is given by its title.
   record Ahead (d : ℕ) (s : List ℕ) : Type 0 where
     title : List ℕ
     header : Header
@@ -54,17 +54,17 @@ module _ (strict : Bool) where
       let is : s ≡ t ++ (r ++ (a ++ v)) = simp append_assoc at e in
       search
 
-  -- nothing completes an item behind a break
+  -- No bytes complete a break as an item.
   no_completion : {d : ℕ} {r : List ℕ} → Completes strict d h.Break r → ⊥
   no_completion c = elim c [ ]
 
-  -- no item begins as a break
+  -- No item begins with a break.
   no_break : {d : ℕ} (v : List ℕ) → Ahead d (0xff ∷ v) → ⊥
   no_break v a =
       let o = one_title (0xff ∷ []) a.title v (a.rest ++ a.behind) h.Break a.header break_title a.is_title a.is in
       no_completion (rw (← o.1) at a.completes)
 
-  -- of items in front of the same bytes there are as many, or behind the fewer ones one comes
+  -- Two rows of items over the same bytes have the same number, or an item follows the row of fewer items.
   rows : {d m n : ℕ} {u w : List ℕ} → AreItems strict d m u → AreItems strict d n w → (s v : List ℕ)
       → u ++ s ≡ w ++ v → Ahead d s ⊎ (((m ≡ n) × (s ≡ v)) ⊎ ((n < m) × Ahead d v))
   rows no_items no_items s v e = inr (inl (refl, e))
@@ -76,18 +76,18 @@ module _ (strict : Bool) where
       one_further (rows i i' s v (one_item strict strict d d (t ++ r) (t' ++ r') (a ++ s) (a' ++ v)
       (item_of strict d t r x p g c) (item_of strict d t' r' x' p' g' c') both).1)
 
-  -- an item comes, or, where one may stand in its place, a break
+  -- An item comes, or a break, if a break may stand in its place.
   abbrev GoesOn : ℕ → Bool → List ℕ → Type 0
   GoesOn d closable s = Ahead d s ⊎ ((closable ≡ true) × (v : List ℕ) × (s ≡ 0xff ∷ v))
 
-  -- in front of a break an item comes, or the break
+  -- Before a break that ends a row, an item comes, or this break.
   before_break : {d m n : ℕ} {closable : Bool} {s : List ℕ} (v : List ℕ) → (m ≡ n → closable ≡ true)
       → Ahead d s ⊎ (((m ≡ n) × (s ≡ 0xff ∷ v)) ⊎ ((n < m) × Ahead d (0xff ∷ v))) → GoesOn d closable s
   before_break v may (inl comes) = inl comes
   before_break v may (inr (inl ends)) = inr (may ends.0, v, ends.1)
   before_break v may (inr (inr longer)) = absurd (no_break v longer.1)
 
-  -- behind a nest's title and some of its items
+  -- After a nest's title and some of its items, an item or an allowed break comes.
   nest_goes : {d m : ℕ} {u r : List ℕ} {x : Header} → AreItems strict d m u → TakesMore x m
       → Completes strict (suc d) x r → (s v : List ℕ) → u ++ s ≡ r ++ v → GoesOn d (may_close x m) s
   nest_goes i takes (tag j) s v e = inl (fewer takes (rows i j s v e))
@@ -99,7 +99,7 @@ module _ (strict : Bool) where
       before_break v (λ same. rw same (even_pairs n)) (rows i j s (0xff ∷ v) (e ∙ append_assoc w (0xff ∷ []) v))
   nest_goes i takes c s v e = absurd takes
 
-  -- where a break comes at once, nothing more was read: no nest begins so
+  -- If a break comes at once, nothing was read before, and the break may stand.
   break_due : {outer closable : Bool} {d levels : ℕ} {u : List ℕ} → ItemDue strict outer d u levels closable
       → outer ≡ true → (s v : List ℕ) → u ++ s ≡ 0xff ∷ v → GoesOn levels closable s
   break_due here may s v e = inr (may, v, e)
@@ -107,7 +107,7 @@ module _ (strict : Bool) where
       let o = one_title t (0xff ∷ []) ((a ++ b) ++ s) v x h.Break p break_title (rw append_assoc at e) in
       absurd (rw o.1 at takes)
 
-  -- where an item is due in a whole one, it comes
+  -- If an item is due within a whole item, an item comes, or a break that may stand in its place.
   item_goes_on : {outer closable : Bool} {d levels : ℕ} {u : List ℕ} → ItemDue strict outer d u levels closable
       → (s : List ℕ) → Ahead d (u ++ s) → GoesOn levels closable s
   item_goes_on here s front = inl front
@@ -121,11 +121,11 @@ module _ (strict : Bool) where
 
   -- ---- no fault
 
-  -- no element stands in front
+  -- The bytes begin with no element.
   abbrev NoElement : List ℕ → Type 0
   NoElement s = (w : List ℕ) (ms : List Mark) → IsElement w ms → (v : List ℕ) → s ≡ w ++ v → ⊥
 
-  -- an item begins with one: with a string, or else with its title
+  -- Each item begins with an element: a string, or its title.
   no_item : {d : ℕ} {t r s : List ℕ} {x : Header} (v : List ℕ) → NoElement s → IsTitle t x → Completes strict d x r
       → s ≡ t ++ (r ++ v) → ⊥
   no_item {t = t} {r = r} v never p (byte_string l) e =
@@ -142,7 +142,7 @@ module _ (strict : Bool) where
   nothing_goes never (inl comes) = no_item comes.behind never comes.is_title comes.completes comes.is
   nothing_goes never (inr ends) = never (0xff ∷ []) _ (plain h.Break break_title tt) ends.1 ends.2
 
-  -- no item stands in front where what is due can't come
+  -- If the part that is due can't come, the bytes begin with no item.
   item_stuck : {d : ℕ} {u : List ℕ} {at : Point} → ReachesItem strict d u at → (s : List ℕ) → Stuck at s
       → Ahead d (u ++ s) → ⊥
   item_stuck (at_item due) s (stop f) front =
@@ -155,20 +155,20 @@ module _ (strict : Bool) where
   item_stuck (at_piece {title = t} {len = l} {kind = k} reach p g) s (bad_body f) front =
       item_stuck reach (t ++ s) (halt k (halt_bad s l p f refl)) (rw append_assoc at front)
 
--- ---- where only the shortest spelling is taken
+-- ---- only the shortest spelling is taken
 
--- a title in front of the same bytes as a strict one is a strict one
+-- If the same bytes also begin with a strict title, a title is strict.
 strict_first : {t w : List ℕ} {x y : Header} (r q : List ℕ) → IsTitle t x → IsTitle w y → IsStrictTitle w y
     → t ++ r ≡ w ++ q → IsStrictTitle t x
 strict_first {t} {w} {x} {y} r q p p' g e =
     let o = one_title t w r q x y p p' e in
     rw (o.0, o.1) g
 
--- a break has one title
+-- The one title of a break is strict.
 break_strict : IsStrictTitle (0xff ∷ []) h.Break
 break_strict = record { shortest = refl; meant = λ small. small }
 
--- in front of such strings and a break, behind some of them each title is a strict one, and no open
+-- A title after some of the flat strings before a break is strict and opens no string.
 flat_goes : {k : Kind} {u w : List ℕ} {bs cs : List (List ℕ)} → AreFlat k u bs → AreFlat k w cs → (t r v : List ℕ)
     (x : Header) → IsTitle t x → u ++ (t ++ r) ≡ w ++ 0xff ∷ v → IsStrictTitle t x × (x ≡ kind_header k None → ⊥)
 flat_goes {k = k} none none t r v x p e = (
@@ -189,19 +189,19 @@ flat_goes {k = k} (more {title = y} {body = b} {rest = z} q g f)
     flat_goes f f' t r v x p (one_string k (y ++ b) (y' ++ b') (z ++ (t ++ r)) (z' ++ 0xff ∷ v) (b ∷ []) (b' ∷ [])
     (definite q) (definite q') (simp append_assoc (simp append_assoc at e))).2
 
--- what completes an open are strings and a break
+-- Flat strings and a break complete an open.
 open_of : (k : Kind) {d : ℕ} {r : List ℕ} → Completes true d (kind_header k None) r
     → (w : List ℕ) × (bs : List (List ℕ)) × (r ≡ w ++ 0xff ∷ []) × AreFlat k w bs
 open_of Bytes (open_bytes {strings = w} {bodies = bs} q g) = (w, bs, refl, g)
 open_of Text (open_text {strings = w} {bodies = bs} q g k) = (w, bs, refl, g)
 
--- within a string the header is no open
+-- If the point is within a string, the header is no open.
 abbrev IsNoOpen : Point → Header → Type 0
 IsNoOpen Due x = Unit {0}
 IsNoOpen (In k) x = x ≡ kind_header k None → ⊥
 IsNoOpen (BodyDue k len start) x = Unit {0}
 
--- where a title is due in a whole item, each one is strict
+-- If a title is due within a whole item, the title is strict.
 title_strictly : {d : ℕ} {u : List ℕ} {at : Point} → ReachesItem true d u at → IsAtTitle at → (t r : List ℕ)
     (x : Header) → IsTitle t x → Ahead true d (u ++ (t ++ r)) → IsStrictTitle t x × IsNoOpen at x
 title_strictly (at_item due) title t r x p front =
@@ -226,7 +226,7 @@ title_strictly (at_string {kind = k} due q inside ok) title t r x p front =
 title_strictly (at_body k reach q g) title t r x p front = absurd title
 title_strictly (at_piece reach q g) title t r x p front = absurd title
 
--- no item stands in front where a title is refused
+-- If the title that is due is refused, the bytes begin with no item.
 refused_stuck : (strict : Bool) {d : ℕ} {u : List ℕ} {at : Point} → ReachesItem strict d u at → (s : List ℕ)
     → Refuses strict at s → Ahead strict d (u ++ s) → ⊥
 refused_stuck false reach s refuses front = none_refused _ s refuses
@@ -235,13 +235,13 @@ refused_stuck true reach s (long {t = t} x r title p untaken is) front =
 refused_stuck true reach s (nested {k = k} {t = t} r on p is) front =
     (title_strictly reach tt t r (kind_header k None) p (rw is at front)).1 refl
 
--- ---- nothing that stops
+-- ---- nothing stops the read
 
 module _ (strict : Bool) (d : ℕ) (x : List ℕ) (front : BeginsWithItem strict d x) where
   in_front : Ahead strict d x
   in_front = ahead strict front.rest front.is_item front.is
 
-  -- where a whole item stands in front, there is no fault
+  -- Bytes that begin with a whole item have no fault.
   pub no_item_fault : HasItemFault strict d x → ⊥
   no_item_fault f =
       elim (stuck_or_refused strict f.before [] f.point f.ahead f.answer f.written f.consumed f.fault) [
@@ -249,7 +249,7 @@ module _ (strict : Bool) (d : ℕ) (x : List ℕ) (front : BeginsWithItem strict
         | inr refused ↦ refused_stuck strict f.reach f.ahead refused (rw f.is at in_front)
       ]
 
-  -- nor a break where none may stand
+  -- Bytes that begin with a whole item have no break at a place that allows none.
   pub no_early_break : HasEarlyBreak strict d x → ⊥
   no_early_break f =
       elim (item_goes_on strict f.item_due (0xff ∷ f.rest) (rw f.is at in_front)) [
@@ -257,12 +257,12 @@ module _ (strict : Bool) (d : ℕ) (x : List ℕ) (front : BeginsWithItem strict
         | inr ends ↦ let no = ends.0 in cc
       ]
 
-  -- a nest takes a level
+  -- A nest takes a level.
   not_flat : {y : Header} {r : List ℕ} → Completes strict 0 y r → IsNest y → ⊥
   not_flat positive nest = nest
   not_flat c nest = nest
 
-  -- nor a nest where no level is left
+  -- Bytes that begin with a whole item have no nest for which no level is left.
   pub no_deep_nest : HasDeepNest strict d x → ⊥
   no_deep_nest f =
       elim (item_goes_on strict f.item_due (f.title ++ f.rest) (rw f.is at in_front)) [

@@ -1,4 +1,4 @@
--- How often the reader fails in the read of an item. The offset does not fall.
+-- The number of failures of the reader in the read of an item. The offset does not fall.
 use Rattle.std.proofs.Common.{◌≤◌, ℕ, Bool, List, [], Option, Some, None, Err, arith}
 use Rattle.ciborium_ll_io.specs.declared.io.Read.{Ghosts}
 use Rattle.ciborium_ll_decoder.specs.declared.dec.Decoder.{Decoder}
@@ -12,7 +12,7 @@ use Rattle.cbor_skip.specs.Failures.{CountsFailure, CountsItemFailure}
 use Rattle.cbor_skip.specs.Skipping.{StopsDue, StopsItem, StopsTitle}
 
 module _ {R E : Type 0} (source : Ghosts R E) where
-  -- what a read that failed counts, and that the offset doesn't fall
+  -- A failed read counts failures by its error, and the offset does not fall.
   pub record FailsOn (error : Error E) (old new : Decoder R) : Type 0 where
     pub failures : CountsFailure error (failures_of source old) (failures_of source new)
     pub rises : old.offset ≤ new.offset

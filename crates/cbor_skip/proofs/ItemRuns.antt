@@ -14,11 +14,11 @@ use Rattle.cbor_skip.specs.Skipping.{SkipsItem, strictness}
 use Rattle.cbor_skip.proofs.ItemSteps.{counted_completes, reads_nest, stops_nest, no_items_read}
 use Rattle.cbor_skip.proofs.StrictnessLaws.{items_looser, due_looser, passed_keeps}
 
--- an item and then others
+-- An item and then other items are items.
 item_first : (s : Bool) (d n : ℕ) (u v : List ℕ) → IsItem s d u → AreItems s d n v → AreItems s d (suc n) (u ++ v)
 item_first s d n u v (more_items p g c no_items) i = simp (append_assoc, append-nil) (more_items p g c i)
 
--- a header that counts items is a nest's
+-- A header that counts items begins a nest.
 pub counted_nest : (x : Header) (n : ℕ) → item_count x ≡ Some n → IsNest x
 counted_nest x n is = grind arith
 
@@ -26,7 +26,7 @@ counted_more : (x : Header) (n m : ℕ) → item_count x ≡ Some n → m < n �
 counted_more x n m is less = grind arith
 
 module _ {R E : Type 0} (source : Ghosts R E) where
-  -- what a read of the items that are due now does is what the whole read does
+  -- Each answer of a read of the items due now is the answer of the whole read.
   abbrev pub Decides : (room left levels : ℕ) (now : Decoder R) (count depth : ℕ) (old : Decoder R) → Type 0
   Decides room left levels now count depth old =
       (result : Result (Unit {0}) (SkipError E)) (new : Decoder R)
@@ -37,7 +37,7 @@ module _ {R E : Type 0} (source : Ghosts R E) where
   pub none_due : (d : ℕ) (now : Decoder R) → ReadsCounted source 0 d now now
   none_due d now = record { items = []; are_items = no_items; passed = ReadsPast-none source now }
 
-  -- an error in the first of those that are due
+  -- An error in the first item that is due stops the read.
   pub stops_first : {left after d room : ℕ} {now : Decoder R} {error : SkipError E} {new : Decoder R} → suc after ≡ left
       → StopsItem source false d room now error new → StopsCounted source left d room now error new
   stops_first {left = left} {d = d} {now = now} some stops =
@@ -65,7 +65,7 @@ module _ {R E : Type 0} (source : Ghosts R E) where
   item_decides some whole item result new others =
       whole result new (rw (sym some) (item_then _ _ _ _ _ item result new others))
 
-  -- ---- what a nest contains, where its items are counted
+  -- ---- the contents of a nest whose items are counted
 
   pub counted_within : (x : Header) (n d room : ℕ) (old : Decoder R) → item_count x ≡ Some n
       → (result : Result (Unit {0}) (SkipError E)) (new : Decoder R)
@@ -78,7 +78,7 @@ module _ {R E : Type 0} (source : Ghosts R E) where
       rw more.1 stops.stops in
       search
 
-  -- what a read behind a nest's title does, is what a read of that item does
+  -- The read after a nest's title is the read of one item.
   pub rest_read : (outer : Bool) (room : ℕ) {levels d : ℕ} {before titled : Decoder R} {x : Header} → suc levels ≡ d
       → PullsTitle source before x titled → MovesOn source before titled → (result : Result (Unit {0}) (SkipError E))
       (new : Decoder R) → SkipsWithin source x levels room titled result new
@@ -87,7 +87,7 @@ module _ {R E : Type 0} (source : Ghosts R E) where
   rest_read outer room level title moved (Ok done) new reads = reads_nest source level title moved.steady reads
   rest_read outer room level title moved (Err error) new stops = stops_nest source level title moved.steady stops
 
-  -- a nest is one item
+  -- The read after a nest's title is the read of `count` items, if `count` is 1.
   nest_alone : (x : Header) (levels d room : ℕ) (old titled : Decoder R) → suc levels ≡ d
       → PullsTitle source old x titled → (IsSteady source old → IsSteady source titled)
       → (result : Result (Unit {0}) (SkipError E)) (new : Decoder R)
@@ -98,7 +98,7 @@ module _ {R E : Type 0} (source : Ghosts R E) where
   nest_alone x levels d room old titled level title steady (Err error) new stops =
       stops_first refl (stops_nest source level title steady stops)
 
-  -- where it is the last of those that are due, what it contains is all that is due
+  -- If the nest is the last item due, the read of its contents is the whole read.
   pub nest_decides : {room left levels inner within count depth : ℕ} {now titled old : Decoder R} {x : Header}
       → 1 ≡ left → suc inner ≡ levels → item_count x ≡ Some within → Decides room left levels now count depth old
       → PullsTitle source now x titled → (IsSteady source now → IsSteady source titled)

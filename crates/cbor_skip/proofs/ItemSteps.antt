@@ -33,27 +33,27 @@ use Rattle.cbor_skip.proofs.StrictnessLaws.{pulled_keeps, passed_keeps}
 
 -- ---- lists of items
 
--- a title and what completes it are an item
+-- A title and the bytes that complete its header are an item.
 pub item_of : (s : Bool) (d : ℕ) (t rest : List ℕ) (x : Header) → IsTitle t x → IsTakenTitle s t x
     → Completes s d x rest → IsItem s d (t ++ rest)
 item_of s d t rest x p g c = rw append-nil at (more_items p g c no_items)
 
--- one item more
+-- Items and then one more item are items.
 pub items_item : (s : Bool) (d n : ℕ) (u v : List ℕ) → AreItems s d n u → IsItem s d v → AreItems s d (suc n) (u ++ v)
 items_item s d n u v no_items i = i
 items_item s d n u v (more_items {count = m} {others = a} p g c others) i =
     simp append_assoc (more_items p g c (items_item s d m a v others i))
 
--- of less than one item nothing was read
+-- Fewer than one item are no bytes.
 pub no_items_read : (s : Bool) (d count : ℕ) (items : List ℕ) → count < 1 → AreItems s d count items → items ≡ []
 no_items_read s d count items less i = grind arith
 
--- what a header counts completes a nest
+-- The items that a header counts complete the nest.
 pub counted_completes : {s : Bool} {d n : ℕ} {items : List ℕ} (x : Header) → item_count x ≡ Some n
     → AreItems s d n items → Completes s (suc d) x items
 counted_completes x is i = grind (arith, tag, array, pairs)
 
--- ---- a string behind its header
+-- ---- a string after its header
 
 completes_body : (s : Bool) (d : ℕ) (k : Kind) (b : List ℕ) → IsWritable k b
     → Completes s d (kind_header k (Some (length b))) b
@@ -63,7 +63,7 @@ completes_open : (s : Bool) (d : ℕ) (k : Kind) (x : List ℕ) (bs : List (List
     → AreTakenStrings s k x bs → AreWritable k bs → Completes s d (kind_header k None) (x ++ 0xff ∷ [])
 completes_open s d k x bs strings taken sound = grind (arith, open_bytes, open_text)
 
--- what follows a string's title is the rest of an item
+-- The bytes after the title of a string complete the item.
 string_completes : (s : Bool) (d : ℕ) (k : Kind) (len : Option ℕ) (t rest w : List ℕ) (bs : List (List ℕ))
     → IsTitle t (kind_header k len) → IsString k w bs → t ++ rest ≡ w → IsTakenBehind s k len rest bs → AreWritable k bs
     → Completes s d (kind_header k len) rest
@@ -79,12 +79,12 @@ string_completes s d k len t rest w bs p (indefinite {title = t'} {strings = x} 
 module _ {R E : Type 0} (source : Ghosts R E) where
   -- ---- one item
 
-  -- a title was read from the start
+  -- If a title is pulled first, its bytes are read.
   pulled_first : {old titled : Decoder R} {x : Header} (title : PullsTitle source old x titled)
       → (IsSteady source old → IsSteady source titled) → ReadsPast source old title.title titled
   pulled_first title steady = ReadsPast-pulled source _ _ _ [] _ title (ReadsPast-none source _) steady
 
-  -- an item is a title, and what completes it
+  -- If a title is pulled and completed, an item is read.
   reads_item : {d : ℕ} {old titled new : Decoder R} {x : Header} {rest : List ℕ} → PullsTitle source old x titled
       → (IsSteady source old → IsSteady source titled) → Completes (strictness old) d x rest
       → ReadsPast source titled rest new → ReadsItem source d old new
@@ -118,7 +118,7 @@ module _ {R E : Type 0} (source : Ghosts R E) where
       let completes = completes_looser _ _ (pulled_keeps source title) _ _ inner.rest inner.completes in
       rw (sym level) (reads_item title steady completes inner.passed)
 
-  -- an error where the item begins
+  -- An error at the beginning of an item stops the read of the item.
   pub stops_here : {outer : Bool} {d room : ℕ} {old : Decoder R} {error : SkipError E} {new : Decoder R}
       → StopsDue source d outer room old error new → StopsItem source outer d room old error new
   stops_here {outer = outer} {d = d} {old = old} stops =
@@ -126,7 +126,7 @@ module _ {R E : Type 0} (source : Ghosts R E) where
       let passed = ReadsPast-none source old in
       search
 
-  -- the same, where its title or a string behind that failed
+  -- A failure of the item's title, or of the string after the title, stops the read of the item.
   pub title_stops : {outer : Bool} {d room room' : ℕ} {old before : Decoder R} {error : Error E} {new : Decoder R}
       → before ≡ old → room' ≡ room
       → StopsTitle source room' before error new → StopsItem source outer d room old (s.Read error) new
@@ -137,7 +137,7 @@ module _ {R E : Type 0} (source : Ghosts R E) where
       → before ≡ old → DecoderPullAnswer source before (Err error) new → StopsItem source outer d room old (s.Read error) new
   pull_stops same fails = title_stops same refl (inl fails)
 
-  -- an error within it, behind its title
+  -- An error within a nest, after its title, stops the read of the item.
   pub stops_nest : {outer : Bool} {d levels room : ℕ} {old titled : Decoder R} {x : Header} {error : SkipError E}
       {new : Decoder R}
       → suc levels ≡ d → PullsTitle source old x titled → (IsSteady source old → IsSteady source titled)
@@ -155,7 +155,7 @@ module _ {R E : Type 0} (source : Ghosts R E) where
 
   -- ---- items within a nest
 
-  -- behind the nest's header so many items were read, and this remains
+  -- After the nest's header `count` items were read, and `remaining` is due.
   pub record SoFar (x : Header) (d : ℕ) (old now : Decoder R) (remaining : Remaining) : Type 0 where
     pub count : ℕ
     pub is_remaining : IsRemaining x count remaining
@@ -178,7 +178,7 @@ module _ {R E : Type 0} (source : Ghosts R E) where
         ReadsPast-then source _ _ _ _ _ so_far.passed item.passed,
       )
 
-  -- an error where one more is due; the buffer was as long from the start
+  -- If one more item is due and stops, the read of the nest stops. The buffer has the same length as at first.
   pub stops_within : {x : Header} {d room room' : ℕ} {old now new : Decoder R} {error : SkipError E}
       {remaining : Remaining} → SoFar x d old now remaining → is_done remaining ≡ false → room' ≡ room
       → StopsItem source (closes remaining) d room' now error new → StopsWithin source x d room old error new
@@ -188,7 +188,7 @@ module _ {R E : Type 0} (source : Ghosts R E) where
       let stopped : StopsItem source (may_close x so_far.count) d room now error new = rw more.1 (rw same at stops) in
       search
 
-  -- all items were read
+  -- If nothing remains, the whole nest was read.
   pub ended : {x : Header} {d : ℕ} {old now : Decoder R} {remaining : Remaining} → SoFar x d old now remaining
       → is_done remaining ≡ true → ReadsWithin source x d old now
   ended {x = x} so_far done =
@@ -196,7 +196,7 @@ module _ {R E : Type 0} (source : Ghosts R E) where
       let completes = counted_completes x all so_far.are_items in
       search
 
-  -- a break ended them, by what remains
+  -- If a break may stand after the items, the items and the break complete the nest.
   all_closed : (s : Bool) (x : Header) (d count : ℕ) (items : List ℕ) (remaining : Remaining)
       → IsRemaining x count remaining → closes remaining ≡ true → AreItems s d count items
       → Completes s (suc d) x (items ++ 0xff ∷ [])

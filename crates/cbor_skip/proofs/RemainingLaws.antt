@@ -1,4 +1,4 @@
--- The items that remain due within a nest tell how many items more may stand there, and whether a break may.
+-- The items that remain due within a nest tell whether one more may stand there, and whether a break may.
 use Rattle.std.proofs.Common.{◌≡◌, ℕ, suc, ◌*◌, ◌%◌, ◌==◌, true, false, None, arith}
 use Rattle.std.proofs.Common.{add-one}
 use Rattle.std.proofs.Math.Nat.{mul-mod_right, mul-add-mod_self_left}
@@ -9,20 +9,20 @@ use Rattle.cbor_skip.specs.declared.remaining.Remaining.{Remaining}
 use Rattle.cbor_skip.specs.declared.remaining.Remaining.TheVariants as r
 use Rattle.cbor_skip.specs.Remaining.{IsRemaining, is_done, closes}
 
--- pairs are an even number of items
+-- Pairs are an even number of items.
 pub even_pairs : (n : ℕ) → ((2 * n) % 2 == 0) ≡ true
 even_pairs n = rw (mul-mod_right 2 n)
 
--- pairs and a key are an odd number of items
+-- Pairs and a key are an odd number of items.
 odd_pairs : (n : ℕ) → (suc (2 * n) % 2 == 0) ≡ false
 odd_pairs n = rw (← add-one (2 * n), mul-add-mod_self_left 2 n 1)
 
--- where something remains, one item more may stand there, and a break in its place just where that closes
+-- If something remains, one more item may stand there. A break may stand in its place exactly if `closes` holds.
 pub takes_more : (x : Header) (count : ℕ) (remaining : Remaining) → IsRemaining x count remaining
     → is_done remaining ≡ false → TakesMore x count × (may_close x count ≡ closes remaining)
 takes_more x count remaining is some = grind (arith, even_pairs, odd_pairs)
 
--- behind a value a pair is due
+-- After the value of a pair, pairs are due.
 pub value_done : (x : Header) (count : ℕ) (remaining : Remaining) → remaining ≡ r.OpenValue
     → IsRemaining x count remaining → IsRemaining x (suc count) r.OpenPairs
 value_done (h.Map None) count r.OpenValue e is = (suc is.0, let f = is.1 in omega (arith, f))

@@ -36,7 +36,7 @@ use Rattle.cbor_skip.specs.SkippingTold.{IsReadyToSkip, SkipsFront, MeetsItemFau
 use Rattle.cbor_skip.proofs.DueLaws.{no_item_fault, no_early_break, no_deep_nest}
 use Rattle.cbor_skip.proofs.StrictnessLaws.{behind_taken, inside_when, strict_by, strict_mode, strict_settled}
 
--- the row of a text's body that is no text, as a whole or however it goes on
+-- A body that is no text is a row of `FirstFault`, also if only a beginning of the body was read.
 damage : {strict : Bool} {before read : List ℕ} {len start : ℕ} (behind : List ℕ) → length read ≤ len
     → IsNoText [] len read → FirstFault strict before [] (BodyDue Text len start) (read ++ behind) (Syntax start)
     (with_front [] Text len []) (length read)
@@ -54,27 +54,27 @@ damage {read = read} {len = len} behind within (inr begins) =
     ]
 
 module _ {R E : Type 0} (source : Ghosts R E) (depth room : ℕ) (old : Decoder R) (due : List ℕ) where
-  -- an item was read: it stood in front
+  -- If an item was read, the bytes due began with this item.
   front_told : view source old ≡ Some due → (new : Decoder R) → ReadsItem source depth old new
       → SkipsFront source (strictness old) depth due old new
   front_told told new reads =
       let gone = consumes_told _ _ due reads.item told reads.passed.consumed in
       record { front = search; left = gone.1; offset = reads.passed.offset }
 
-  -- `Ok` means that over any reader that tells its bytes
+  -- `Ok` says that the bytes due began with an item, over any reader that tells its bytes.
   pub ok_told : view source old ≡ Some due → (new : Decoder R) (result : Result (Unit {0}) (SkipError E))
       → SkipsItem source depth room old result new → IsOk result → SkipsFront source (strictness old) depth due old new
   ok_told told new (Ok done) reads ok = front_told told new reads
   ok_told told new (Err error) stops ok = absurd cc
 
   module _ (ready : IsReadyToSkip source room old due) where
-    -- what an error of the decoder says
+    -- The statement of `SkipsTold` for an error of the decoder.
     abbrev Told : Error E → Decoder R → Type 0
     Told error new = SkipsTold source (strictness old) depth due old (Err (s.Read error)) new
 
-    -- behind bytes that were read
+    -- The decoder has read `bytes`.
     module _ {bytes : List ℕ} {at : Decoder R} (passed : ReadsPast source old bytes at) where
-      -- what is read there is due
+      -- The bytes that it reads next were due.
       gone : {known : Option (List ℕ)} (read : List ℕ) → Consumes (view source at) known read → (rest : List ℕ)
           × (view source at ≡ Some (read ++ rest)) × (known ≡ Some rest) × (due ≡ bytes ++ (read ++ rest))
       gone read consumes =
@@ -82,13 +82,13 @@ module _ {R E : Type 0} (source : Ghosts R E) (depth room : ℕ) (old : Decoder 
           let behind = consumes_told _ _ came.0 read came.1 consumes in
           (behind.0, came.1 ∙ ap Some behind.2, behind.1, came.2 ∙ ap (◌++◌ bytes) behind.2)
 
-      -- a strict decoder takes only the shortest spelling
+      -- If the decoder is strict there, the skip takes only the shortest spelling.
       strictly : at.strict ≡ true → strictness old ≡ true
       strictly on =
           let mode = sym passed.mode ∙ on in
           strict_settled old.waiting old.strict (ready.none_waits mode) ∙ mode
 
-      -- a fault stands there, by which these bytes are consumed
+      -- A fault at the point, which consumes `read`, is the fault that stops the skip.
       met : {point : Point} {answer : Answer} {written : List ℕ} {new : Decoder R} (read : List ℕ)
           → ReachesItem (strictness old) depth bytes point → Consumes (view source at) (view source new) read
           → new.offset ≡ at.offset + length read
@@ -105,7 +105,7 @@ module _ {R E : Type 0} (source : Ghosts R E) (depth room : ℕ) (old : Decoder 
             offset = omega (arith, offset, passed.offset);
           }
 
-      -- where a title is due
+      -- A failed read of a title tells the fault.
       title_told : {point : Point} (error : Error E) (new : Decoder R) → ReachesItem (strictness old) depth bytes point
           → IsAtTitle point → DecoderPullAnswer source at (Err error) new → Told error new
       title_told {point = point} (e.Io fault) new reach title fails =
@@ -131,7 +131,7 @@ module _ {R E : Type 0} (source : Ghosts R E) (depth room : ℕ) (old : Decoder 
           absurd (omega (arith, next_read_small fails.read))
       title_told e.Waiting new reach title fails = absurd fails
 
-      -- where a body is due
+      -- A failed read of a body tells the fault.
       body_told : {k : Kind} {len start place : ℕ} (error : Error E) (new : Decoder R)
           → ReachesItem (strictness old) depth bytes (BodyDue k len start) → place ≡ old.offset + start
           → StopsRest source k [] len room place at error new → Told error new
@@ -162,13 +162,13 @@ module _ {R E : Type 0} (source : Ghosts R E) (depth room : ℕ) (old : Decoder 
           absurd (omega arith)
       body_told e.Waiting new reach there fails = absurd fails.stops
 
-    -- behind a beginning of an item
+    -- The bytes read are a beginning of an item.
     module _ {bytes : List ℕ} {levels : ℕ} {closable : Bool} {at : Decoder R}
         (item : ItemDue (strictness old) false depth bytes levels closable) (passed : ReadsPast source old bytes at) where
-      -- a string of indefinite length began
+      -- A string of indefinite length began.
       module _ (k : Kind) {titled : Decoder R} (pulled : PullsTitle source at (kind_header k None) titled)
           (steady : IsSteady source at → IsSteady source titled) where
-        -- a beginning of it was read
+        -- After a beginning of the string, the point is within the string.
         inside : {between : Decoder R} → SkipsInside source k titled between
             → (all : List ℕ) × ReachesItem (strictness old) depth all (In k) × ReadsPast source old all between
         inside {between = between} part =
@@ -185,13 +185,13 @@ module _ {R E : Type 0} (source : Ghosts R E) (depth room : ℕ) (old : Decoder 
               simp (append_assoc, lone) at behind,
             )
 
-        -- no further title
+        -- If no further title comes, the error tells the fault.
         meets_title : {error : Error E} {new : Decoder R} → MeetsNoTitle source k titled error new → Told error new
         meets_title {error = error} {new = new} meets =
             let w = inside meets.part in
             title_told w.2 error new w.1 tt meets.fails
 
-        -- the body of a further title
+        -- If the body after a further title fails, the error tells the fault.
         meets_body : {error : Error E} {new : Decoder R} → MeetsBody source k room titled error new → Told error new
         meets_body {error = error} {new = new} meets =
             let w = inside meets.part in
@@ -201,7 +201,7 @@ module _ {R E : Type 0} (source : Ghosts R E) (depth room : ℕ) (old : Decoder 
             let reach = at_piece w.1 title.is_title (behind_taken source w.2 title) in
             body_told behind error new reach w.2.offset meets.ends
 
-        -- a title that may not stand there
+        -- If a title comes that may not stand in the string, the error tells the fault.
         meets_other : {n : ℕ} {new : Decoder R} → MeetsOther source k titled n new → Told (e.Syntax n) new
         meets_other meets =
             let w = inside meets.part in
@@ -214,7 +214,7 @@ module _ {R E : Type 0} (source : Ghosts R E) (depth room : ℕ) (old : Decoder 
                   (λ rest here left. OtherTitle other.header rest other.pulled.is_title refused refl),
             )
 
-        -- by its answer
+        -- A failed read of a string of indefinite length tells the fault.
         open_told : (error : Error E) (new : Decoder R) → SkipsString source k None room titled (Err error) new
             → Told error new
         open_told (e.Io fault) new (inl meets) = meets_title meets
@@ -226,7 +226,7 @@ module _ {R E : Type 0} (source : Ghosts R E) (depth room : ℕ) (old : Decoder 
         open_told e.TooLong new (inr meets) = meets_body meets
         open_told e.Waiting new meets = absurd meets
 
-      -- a string that fails, by its length
+      -- A failed read of any string tells the fault.
       string_told : (k : Kind) (len : Option ℕ) {titled : Decoder R} (error : Error E) (new : Decoder R)
           → PullsTitle source at (kind_header k len) titled → (IsSteady source at → IsSteady source titled)
           → SkipsString source k len room titled (Err error) new → Told error new
@@ -275,7 +275,7 @@ module _ {R E : Type 0} (source : Ghosts R E) (depth room : ℕ) (old : Decoder 
               string_told stops.due stops.passed meets.kind meets.len error new meets.pulled meets.steady meets.fails
         ]
 
-    -- where it is ready, it takes the shortest spelling alone where it is strict
+    -- If the decoder is ready, its strictness is its mode.
     pub ready_mode : strictness old ≡ old.strict
     ready_mode = strict_mode old.waiting old.strict ready.none_waits
 

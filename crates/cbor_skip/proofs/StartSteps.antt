@@ -33,7 +33,7 @@ nest_start header nest e = grind arith
 nest_same : (header nest : Header) → start_of header ≡ s.Nest nest → header ≡ nest
 nest_same header nest e = grind arith
 
--- what its header begins is what its title began
+-- The title's start and its header make the same beginning.
 pub begins_nest : {R E : Type 0} (source : Ghosts R E) {old new : Decoder R} (header nest : Header) (begun : Begun)
     → start_of header ≡ s.Nest nest → BeginsNest nest begun → PullsTitle source old header new
     → IsBegun source begun old new
@@ -42,18 +42,18 @@ begins_nest source header nest begun e begins pulled =
     let is = nest_start header nest e in
     grind arith
 
--- a value is an item by itself
+-- A value is an item by itself.
 pub value_start : {strict : Bool} {depth : ℕ} (header : Header) → start_of header ≡ s.Value
     → Completes strict depth header []
 value_start header e = grind (arith, positive, negative, float, simple)
 
 module _ {R E : Type 0} (source : Ghosts R E) (kind : Kind) (len : Option ℕ) {old titled : Decoder R} where
-  -- a string's title was pulled
+  -- If the title starts a string, the header of this string was pulled.
   pub string_pulled : (header : Header) → start_of header ≡ string_begun kind len → PullsTitle source old header titled
       → PullsTitle source old (kind_header kind len) titled
   string_pulled header e pulled = rw (string_start kind len header e) at pulled
 
-  -- and behind it the string failed
+  -- If the read of the string fails after its title, the read of the title and the string stops.
   pub string_stops : {room : ℕ} {error : Error E} {new : Decoder R}
       → PullsTitle source old (kind_header kind len) titled → (IsSteady source old → IsSteady source titled)
       → SkipsString source kind len room titled (Err error) new → StopsTitle source room old error new

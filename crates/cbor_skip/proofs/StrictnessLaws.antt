@@ -1,4 +1,4 @@
--- An item in its shortest spelling is also one in any spelling. A decoder's strictness says which titles it gave.
+-- An item in its shortest spelling is also an item in any spelling. A decoder's strictness says which titles it gave.
 use Rattle.std.proofs.Common.{◌≡◌, ℕ, Bool, true, false, List, Option, None, arith}
 use Rattle.ciborium_ll_io.specs.declared.io.Read.{Ghosts}
 use Rattle.ciborium_ll_grammar.specs.declared.hdr.Header.{Header}
@@ -69,17 +69,17 @@ strict_by w b e = grind arith
 pub strict_settled : (w : Option Header) (b : Bool) → w ≡ None → strict_unless_waiting w b ≡ b
 strict_settled w b e = grind arith
 
--- where no header waits on a strict one, it is its mode
+-- If no header waits on a strict decoder, its strictness is its mode.
 pub strict_mode : (w : Option Header) (b : Bool) → (b ≡ true → w ≡ None) → strict_unless_waiting w b ≡ b
 strict_mode w b none = grind arith
 
 module _ {R E : Type 0} (source : Ghosts R E) where
-  -- a title that was given
+  -- A title that the decoder gave is taken.
   pub pulled_taken : {old new : Decoder R} {x : Header} (p : PullsTitle source old x new)
       → IsTakenTitle (strictness old) p.title x
   pulled_taken p = taken_when _ p.title _ (λ on. grind arith)
 
-  -- the mode stays, and behind a title no header waits
+  -- A decoder that is strict stays strict after a title.
   pub pulled_keeps : {old new : Decoder R} {x : Header} → PullsTitle source old x new → strictness old ≡ true
       → strictness new ≡ true
   pulled_keeps p on = grind arith
@@ -88,12 +88,12 @@ module _ {R E : Type 0} (source : Ghosts R E) where
       → strictness new ≡ true
   passed_keeps p on = grind arith
 
-  -- a title that was given behind these bytes
+  -- A title that the decoder gave after `bytes` is taken.
   pub behind_taken : {old at new : Decoder R} {bytes : List ℕ} {x : Header} → ReadsPast source old bytes at
       → (p : PullsTitle source at x new) → IsTakenTitle (strictness old) p.title x
   behind_taken passed p = taken_when _ p.title _ (λ on. let still = passed_keeps passed on in grind arith)
 
-  -- and behind what was read none waits where none did
+  -- If no header waited on a strict decoder, none waits after the bytes that it read.
   pub none_behind : {old new : Decoder R} {bytes : List ℕ} → ReadsPast source old bytes new
       → (old.strict ≡ true → old.waiting ≡ None) → new.strict ≡ true → new.waiting ≡ None
   none_behind p none on = grind arith

@@ -10,7 +10,7 @@ use Rattle.ciborium_ll_grammar.specs.Items.{AreItems, AreTakenStrings, IsTakenTi
 use Rattle.ciborium_ll_grammar.specs.Faults.{IsInside, Point, Due, In, BodyDue}
 
 -- A nest: a header that items follow, one level deeper. It is that of a tag (RFC 7049, 2.4), an array or a map (2.1,
--- 2.2.1).
+-- 2.2.1). The titles `c1`, `82` and `bf` begin nests, and `61` begins none.
 abbrev pub IsNest : Header → Type 0
 IsNest (h.Tag number) = Unit {0}
 IsNest (h.Array len) = Unit {0}
@@ -18,7 +18,8 @@ IsNest (h.Map len) = Unit {0}
 IsNest header = ⊥
 
 -- After the header and `count` items one more may stand: one item after a tag (RFC 7049, 2.4), as many as an array
--- counts, two for each pair of a map (2.1), and any number in the indefinite forms (2.2.1).
+-- counts, two for each pair of a map (2.1), and any number in the indefinite forms (2.2.1). After `82 01` one more may
+-- stand, and after `82 01 02` none.
 abbrev pub TakesMore : Header → ℕ → Type 0
 TakesMore (h.Tag number) count = count < 1
 TakesMore (h.Array (Some len)) count = count < len
@@ -27,7 +28,7 @@ TakesMore (h.Array None) count = Unit {0}
 TakesMore (h.Map None) count = Unit {0}
 TakesMore header count = ⊥
 
--- How many items the nest contains, if its header tells it: one after a tag, as many as an array counts, and two for
+-- The number of items in the nest, if its header tells it: one after a tag, as many as an array counts, and two for
 -- each pair of a map (RFC 7049, 2.1 and 2.4). For example, the map `a2` has 4 items.
 abbrev pub item_count : Header → Option ℕ
 item_count (h.Tag number) = Some 1
@@ -36,7 +37,8 @@ item_count (h.Map (Some len)) = Some (2 * len)
 item_count header = None
 
 -- Whether a break may stand in place of the next item. It may in an array of indefinite length, and in a map of
--- indefinite length after whole pairs, which are an even number of items (RFC 7049, 2.2.1).
+-- indefinite length after whole pairs, which are an even number of items (RFC 7049, 2.2.1). It may after `bf 01 02`,
+-- and not after `bf 01`.
 abbrev pub may_close : Header → ℕ → Bool
 may_close (h.Array None) count = true
 may_close (h.Map None) count = count % 2 == 0
@@ -45,6 +47,7 @@ may_close header count = false
 -- `ItemDue strict outer depth bytes levels closable`: the bytes are a beginning of an item to the depth, and then an
 -- item to `levels` levels is due. If `strict` holds, the beginning is in the shortest spelling. `closable` says whether
 -- a break may stand in place of the item that is due; `outer` says the same of the whole item (RFC 7049, 2.1 to 2.4).
+-- After `82 01` with depth 3, an item to 2 levels is due, and no break may stand.
 pub data ItemDue (strict : Bool) : Bool → ℕ → List ℕ → ℕ → Bool → Type 0 where
   -- Nothing was read.
   here : {outer : Bool} {depth : ℕ} → ItemDue strict outer depth [] depth outer
@@ -55,15 +58,17 @@ pub data ItemDue (strict : Bool) : Bool → ℕ → List ℕ → ℕ → Bool �
       → ItemDue strict outer (suc depth) (title ++ (items ++ more)) levels closable
 
 -- Within a string that isn't closed: if only the shortest spelling is taken, the open holds only strings of a definite
--- length, each under a strict title (RFC 7049, 2.2.2 and 3.9).
+-- length, each under a strict title (RFC 7049, 2.2.2 and 3.9). So `5f 41 01` is taken, and `5f 5f` and `5f 58 01 01`
+-- are not.
 abbrev pub IsTakenInside : Bool → Kind → List ℕ → List (List ℕ) → Type 0
 IsTakenInside true kind opens bodies = (strings : List ℕ)
     × (opens ≡ shortest_title (kind_header kind None) ++ strings) × AreTakenStrings true kind strings bodies
 IsTakenInside false kind opens bodies = Unit {0}
 
 -- `ReachesItem strict depth bytes point`: the bytes are a beginning of an item to the depth, and lead to the point. If
--- `strict` holds, the beginning is in the shortest spelling. At the point an item is due; within a string a further one
--- or its end; or a body (RFC 7049, 2.2.2 and 3.9).
+-- `strict` holds, the beginning is in the shortest spelling. An item is due at the point, or a further string or the
+-- end of a string, or a body (RFC 7049, 2.2.2 and 3.9). With depth 1, an item is due after `82 01`, a string or the end
+-- after `5f`, and a body of 2 bytes after `42`.
 pub data ReachesItem (strict : Bool) (depth : ℕ) : List ℕ → Point → Type 0 where
   at_item : {bytes : List ℕ} {levels : ℕ} {closable : Bool} → ItemDue strict false depth bytes levels closable
       → ReachesItem strict depth bytes Due
@@ -72,7 +77,7 @@ pub data ReachesItem (strict : Bool) (depth : ℕ) : List ℕ → Point → Type
       → IsTakenInside strict kind opens bodies → AreWritable kind bodies
       → ReachesItem strict depth (bytes ++ opens) (In kind)
   -- The place is the end of the title less the length of the shortest title. If the title is longer than the shortest
-  -- title, the place is later than the title's start.
+  -- title, the place is later than the title's start: 1 after `58 02`, and 0 after `42`.
   at_body : {bytes title : List ℕ} {len : ℕ} (kind : Kind) → ReachesItem strict depth bytes Due
       → IsTitle title (kind_header kind (Some len)) → IsTakenTitle strict title (kind_header kind (Some len))
       → ReachesItem strict depth (bytes ++ title)

@@ -1,4 +1,4 @@
--- How often the reader fails in a read, by the error of the read.
+-- The number of failures of the reader in a read, by the error of the read.
 use Rattle.std.specs.Prelude.{◌≡◌, ℕ, ◌+◌}
 use Rattle.ciborium_ll_decoder.specs.declared.dec.Error.{Error}
 use Rattle.ciborium_ll_decoder.specs.declared.dec.Error.TheVariants as e

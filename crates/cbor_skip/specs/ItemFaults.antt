@@ -7,7 +7,8 @@ use Rattle.ciborium_ll_grammar.specs.Items.{IsItem, IsTakenTitle}
 use Rattle.ciborium_ll_grammar.specs.Faults.{Point, Answer, FirstFault}
 use Rattle.cbor_skip.specs.Due.{IsNest, ItemDue, ReachesItem}
 
--- The bytes begin with an item to the depth, in any spelling or in the shortest (RFC 7049, 2.1 to 2.4 and 3.9).
+-- The bytes begin with an item to the depth, in any spelling or in the shortest (RFC 7049, 2.1 to 2.4 and 3.9). With
+-- depth 1, `82 01 02 03` begins with the item `82 01 02`.
 pub record BeginsWithItem (strict : Bool) (depth : ℕ) (bytes : List ℕ) : Type 0 where
   pub item : List ℕ
   pub rest : List ℕ
@@ -17,7 +18,8 @@ pub record BeginsWithItem (strict : Bool) (depth : ℕ) (bytes : List ℕ) : Typ
 -- The bytes are at fault after a beginning of an item: a title is cut off, is none, or may not stand within its string,
 -- or a body is cut off or is no text. If only the shortest spelling is taken, there are three more faults: a title that
 -- isn't the shortest, a simple value from 24 to 31, and an open within a string (RFC 7049, 2.2.2 and 3.9). The fault is
--- a row of `FirstFault strict`, whose part on writing is left open.
+-- a row of `FirstFault strict`, whose part on writing is left open. With depth 1, in `81 1c` the byte `1c` begins no
+-- title.
 pub record HasItemFault (strict : Bool) (depth : ℕ) (bytes : List ℕ) : Type 0 where
   pub before : List ℕ
   pub point : Point
@@ -29,7 +31,8 @@ pub record HasItemFault (strict : Bool) (depth : ℕ) (bytes : List ℕ) : Type 
   pub is : bytes ≡ before ++ ahead
   pub fault : FirstFault strict before [] point ahead answer written consumed
 
--- After a beginning of an item a further one is due, and a break stands there that may not (RFC 7049, 2.2.1).
+-- After a beginning of an item a further item is due, and a break stands there that may not (RFC 7049, 2.2.1), as in
+-- `82 01 ff` and in `bf 01 ff` with depth 1.
 pub record HasEarlyBreak (strict : Bool) (depth : ℕ) (bytes : List ℕ) : Type 0 where
   pub before : List ℕ
   pub rest : List ℕ
@@ -37,7 +40,8 @@ pub record HasEarlyBreak (strict : Bool) (depth : ℕ) (bytes : List ℕ) : Type
   pub item_due : ItemDue strict false depth before levels false
   pub is : bytes ≡ before ++ 0xff ∷ rest
 
--- After a beginning of an item a tag, an array or a map stands for which no level is left.
+-- After a beginning of an item a tag, an array or a map stands for which no level is left: with depth 1, at `80` in `81
+-- 80`.
 pub record HasDeepNest (strict : Bool) (depth : ℕ) (bytes : List ℕ) : Type 0 where
   pub before : List ℕ
   pub title : List ℕ

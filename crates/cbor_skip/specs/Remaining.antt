@@ -7,6 +7,7 @@ use Rattle.cbor_skip.specs.declared.remaining.Remaining.TheVariants as r
 
 -- After the header and `count` items these items remain. A tag has one item, an array as many as it counts, and a map
 -- two for each pair (RFC 7049, 2.1 and 2.4). A break ends any number of items, and in a map an even number (2.2.1).
+-- After `83 01`, `Items(2)` remains, and after `a1 01`, `Value(0)`.
 abbrev pub IsRemaining : Header → ℕ → Remaining → Type 0
 IsRemaining (h.Tag number) count (r.Items more) = count + more ≡ 1
 IsRemaining (h.Array (Some len)) count (r.Items more) = count + more ≡ len
@@ -17,19 +18,19 @@ IsRemaining (h.Map None) count r.OpenPairs = (pairs : ℕ) × (count ≡ 2 * pai
 IsRemaining (h.Map None) count r.OpenValue = (pairs : ℕ) × (count ≡ 2 * pairs + 1)
 IsRemaining header count remaining = ⊥
 
--- Nothing is due.
+-- Whether nothing is due.
 abbrev pub is_done : Remaining → Bool
 is_done (r.Items zero) = true
 is_done (r.Pairs zero) = true
 is_done remaining = false
 
--- A break may stand in place of the next item.
+-- Whether a break may stand in place of the next item.
 abbrev pub closes : Remaining → Bool
 closes r.OpenItems = true
 closes r.OpenPairs = true
 closes remaining = false
 
--- The next item is the value of a pair.
+-- Whether the next item is the value of a pair.
 abbrev pub is_value : Remaining → Bool
 is_value (r.Value count) = true
 is_value r.OpenValue = true

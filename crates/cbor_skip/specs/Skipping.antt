@@ -26,7 +26,7 @@ abbrev pub strictness : {R : Type 0} → Decoder R → Bool
 strictness decoder = strict_unless_waiting decoder.waiting decoder.strict
 
 -- The beginning that the header of a nest makes: the number of its items, or the header, if that number is not told or
--- not counted.
+-- not counted. The title `82` makes 2 items, and `9f` makes its header.
 abbrev pub BeginsNest : Header → Begun → Type 0
 BeginsNest header b.Item = ⊥
 BeginsNest header b.Break = ⊥
@@ -78,14 +78,14 @@ module _ {R E : Type 0} (source : Ghosts R E) where
     pub passed : ReadsPast source old bytes between
     pub stops : StopsDue levels closable room between error new
 
-  -- One item was read. A strict decoder read it in its shortest spelling.
+  -- The decoder read one item, in its shortest spelling if it is strict. If `17 02` is due, the item is `17`.
   pub record ReadsItem (depth : ℕ) (old new : Decoder R) : Type 0 where
     pub item : List ℕ
     pub is_item : IsItem (strictness old) depth item
     pub passed : ReadsPast source old item new
 
   -- A title began an item, which was read whole and is an item to any depth; or a break; or a nest, which may count its
-  -- items.
+  -- items. The titles `01`, `ff` and `82` make these three beginnings.
   abbrev pub IsBegun : Begun → Decoder R → Decoder R → Type 0
   IsBegun b.Item old new = (depth : ℕ) → ReadsItem depth old new
   IsBegun b.Break old new = PullsTitle source old h.Break new

@@ -19,13 +19,14 @@ module _ {R E : Type 0} (source : Ghosts R E) where
     pub fits-title : decoder.offset + length due + 8 < offset_limit
     pub fits-chunk : decoder.offset + length due + room < offset_limit
 
-  -- The bytes began with an item, and exactly the bytes that follow are left.
+  -- The bytes began with an item, and exactly the bytes that follow are left. If `01 07` is due, `07` is left.
   pub record SkipsFront (strict : Bool) (depth : ℕ) (due : List ℕ) (old new : Decoder R) : Type 0 where
     pub front : BeginsWithItem strict depth due
     pub left : view source new ≡ Some front.rest
     pub offset : new.offset ≡ old.offset + length front.item
 
-  -- The read met a fault. The answer and the bytes that are consumed are the fault's own.
+  -- The read met a fault. The answer and the bytes that are consumed are the fault's own. If `81 1c 05` is due, with
+  -- depth 1, `05` is left.
   pub record MeetsItemFault (strict : Bool) (depth : ℕ) (due : List ℕ) (answer : Answer) (old new : Decoder R) : Type 0
     where
       pub fault : HasItemFault strict depth due
@@ -33,7 +34,8 @@ module _ {R E : Type 0} (source : Ghosts R E) where
       pub left : view source new ≡ Some (drop fault.consumed fault.ahead)
       pub offset : new.offset ≡ old.offset + length fault.before + fault.consumed
 
-  -- A break stood at a place that allows none. The answer names its offset, and the break is consumed.
+  -- A break stood at a place that allows none. The answer names its offset, and the break is consumed. In `82 01 ff`
+  -- from offset 0 on, with depth 1, the offset is 2.
   pub record FindsBreak (strict : Bool) (depth : ℕ) (due : List ℕ) (old : Decoder R) (at : ℕ) (new : Decoder R) : Type 0
     where
       pub fault : HasEarlyBreak strict depth due
@@ -41,7 +43,8 @@ module _ {R E : Type 0} (source : Ghosts R E) where
       pub left : view source new ≡ Some fault.rest
       pub offset : new.offset ≡ at + 1
 
-  -- A tag, an array or a map stood too deep. The answer names its title's offset, and the title is consumed.
+  -- A tag, an array or a map stood too deep. The answer names its title's offset, and the title is consumed. In `81 80`
+  -- from offset 0 on, with depth 1, the offset is 1.
   pub record FindsNest (strict : Bool) (depth : ℕ) (due : List ℕ) (old : Decoder R) (at : ℕ) (new : Decoder R) : Type 0
     where
       pub fault : HasDeepNest strict depth due

@@ -5,7 +5,7 @@
 ghost use Rattle.std.specs.Prelude.{ℕ, Bool, List};
 ghost use Rattle.cbor_skip.specs.ItemFaults.{HasDeepNest, HasEarlyBreak, HasItemFault, BeginsWithItem};
 
-/// Nothing stops the read of bytes that begin with a whole item, in any spelling or in the shortest.
+/// Nothing stops the read of bytes that begin with a whole item.
 pub fn no_item_fault()
     ensures fault { (strict : Bool) (depth : ℕ) (bytes : List ℕ) → BeginsWithItem strict depth bytes
         → HasItemFault strict depth bytes → ⊥ }

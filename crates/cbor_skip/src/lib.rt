@@ -1,8 +1,7 @@
 // SPDX-License-Identifier: Apache-2.0
-//! Skips one item of CBOR (RFC 7049, 2.1 to 2.4), whatever it contains. No call takes memory.
+//! Skips one item of CBOR (RFC 7049, 2.1 to 2.4), whatever it contains.
 //!
-//! The crate rests on the contracts of the parts of `ciborium_ll`. Each call returns over any reader, also over one
-//! that never ends.
+//! No call takes memory. Each call returns over any reader, also over one that never ends.
 #![tactic(auto)]
 
 ghost use Rattle.std.specs.Prelude.{◌≡◌, ◌<◌, ◌≤◌, ◌↔◌, ℕ, Bool, false, List, length, IsOk, MatchResult, Some};
@@ -31,12 +30,12 @@ use ciborium_ll_io::io::Read;
 /// Why no item was skipped.
 #[derive(Debug, Drop)]
 pub enum SkipError<E> {
-    /// The decoder failed, and this is its error.
+    /// The decoder failed with this error.
     Read(Error<E>),
-    /// A break stands at this offset, but an item is due and nothing may end there. It is outside of arrays and maps of
-    /// indefinite length, or in place of a value in a map of indefinite length.
+    /// A break stands at this offset in place of an item. It may stand there only as the end of an array of indefinite
+    /// length, or of a map of indefinite length after whole pairs.
     Break(usize),
-    /// The title of a tag, an array or a map stands at this offset, deeper than was allowed.
+    /// No level is left for the tag, array or map at this offset.
     Deep(usize),
 }
 
@@ -189,17 +188,15 @@ fn skip_rest<R: Read>(
 
 /// Skips one item, with tags, arrays and maps nested at most `depth` levels deep (RFC 7049, 2.1 to 2.4).
 ///
-/// `depth` is at most 256. A tag, an array and a map take a level, also an empty one; a string takes none. Strings go
-/// through `buffer`, which has four bytes at least. The call takes no memory except for the stack, on which each level
-/// has a frame.
+/// `depth` is at most 256, and each level has a frame on the stack. A tag, an array and a map take a level, also an
+/// empty one; a string takes none. Strings go through `buffer`, which has four bytes at least.
 ///
-/// `Ok` means that one whole item was there, each body of a text UTF-8 by itself, and that the decoder is after it. A
-/// strict decoder read the item in its shortest spelling (3.9).
+/// `Ok` means that the decoder is after one whole item, each body of a text UTF-8 by itself. A strict decoder read the
+/// item in its shortest spelling (3.9).
 ///
 /// # Errors
 ///
-/// - `Break(offset)`: a break stands in place of an item. It may stand there only as the end of an array of indefinite
-///   length, or of a map of indefinite length after whole pairs.
+/// - `Break(offset)`: a break stands in place of an item, as [`SkipError::Break`] says.
 /// - `Deep(offset)`: no level is left for the tag, array or map at this offset.
 /// - `Read` with `Syntax(offset)`: the bytes are no title, a title that may not stand within its string, or a body that
 ///   is no text, at the place that [`Error::Syntax`] names. A strict decoder also refuses a title that isn't strict,
@@ -207,16 +204,12 @@ fn skip_rest<R: Read>(
 /// - `Read` with `Io`: the reader failed.
 /// - `Read` with `TooLong`: the offset can't take the next read.
 ///
-/// `Break` and `Deep` consume the title at that offset, after the bytes that were read before.
+/// `Break` and `Deep` consume the title at that offset.
 ///
 /// # Conditions for success
 ///
-/// Over a reader that tells its bytes, `Ok` means that the bytes that were due began with that item, and that exactly
-/// the bytes that follow are due.
-///
-/// Suppose that the reader is also steady, that the offset fits, and that no header waits on a strict decoder. `Ok`
-/// then comes exactly if the bytes begin with an item to the depth, for a strict decoder in its shortest spelling.
-/// Otherwise the answer is `Break`, `Deep` or a fault of the bytes, with its place.
+/// If the reader is steady, the offset fits and no header waits on a strict decoder, `Ok` comes exactly if the bytes
+/// begin with an item. Otherwise the answer then is `Break`, `Deep` or a fault of the bytes.
 ///
 /// Whatever the answer, the decoder moves on as [`Decoder`] says.
 ///

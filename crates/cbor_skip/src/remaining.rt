@@ -7,9 +7,8 @@ ghost use Rattle.cbor_skip.specs.Remaining.{IsRemaining, closes, is_done, is_val
 
 use ciborium_ll_grammar::hdr::Header;
 
-/// The items that are still due within a tag, an array or a map.
-///
-/// Pairs count as pairs, so no count is greater than the one in the header.
+/// The items that are still due within a tag, an array or a map. Pairs count as pairs, so no count is greater than the
+/// header's.
 #[derive(Clone, Copy)]
 pub enum Remaining {
     /// This many items.

@@ -20,28 +20,28 @@ use Rattle.cbor_skip.proofs.+nests.Goals.{skip_items-in_default-via-in-Items+els
 use Rattle.cbor_skip.proofs.+nests.Goals.{skip_items-in_default-via-in-Item-1}
 use Rattle.cbor_skip.proofs.+nests.Goals.{skip_rest-in-Items+else-depth-gt0, skip_rest-in-Nest+else-depth-gt0-2}
 
--- a number above 0 is behind another one
+-- A number above 0 is the successor of a number.
 one_before : (n : ℕ) → 0 < n → suc (n - 1) ≡ n
 one_before n some = omega arith
 
--- no level is left for a nest
+-- If no level is left, a nest is too deep.
 too_deep : {R E : Type 0} (source : Ghosts R E) {closable : Bool} {depth room at : ℕ} {before new : Decoder R}
     {header : Header} → depth ≤ 0 → at ≡ before.offset → IsNest header → PullsTitle source before header new
     → StopsItem source closable depth room before (s.Deep at) new
 too_deep source {depth = depth} none place nest pulled = let none_left : depth ≡ 0 = omega arith in
     stops_here source (search)
 
--- the decoder is nearer to the last offset
+-- After a read of some bytes, the decoder is nearer to the last offset.
 nearer_now : {R : Type 0} (before old new : Decoder R) → old ≡ before → old.offset < new.offset
     → 2 ^ 64 - new.offset < 2 ^ 64 - before.offset
 nearer_now before old new same risen = rw (sym same) (nearer old new new risen (omega arith))
 
--- and so where more was read
+-- After a read of some bytes and any further read, the decoder is nearer to the last offset.
 nearer_behind : {R : Type 0} (before old between new : Decoder R) → old ≡ before → old.offset < between.offset
     → between.offset ≤ new.offset → 2 ^ 64 - new.offset < 2 ^ 64 - before.offset
 nearer_behind before old between new same risen rises = rw (sym same) (nearer old between new risen rises)
 
--- ---- so many items: the ends
+-- ---- `count` items: the ends
 
 pub skip_items-items-init : goal.skip_items-items-init
 skip_items-items-init g t c = record {
@@ -56,7 +56,7 @@ skip_items-returns-clause-skipped g t c =
     let last = none_due g.R.Read c.items.levels c.items.decoder in
     c.items.invariant.whole (Ok (tt {0})) c.items.decoder (rw none last)
 
--- ---- so many items: the errors
+-- ---- `count` items: the errors
 
 pub skip_items-returns-in_err-begun-clause-skipped : goal.skip_items-returns-in_err-begun-clause-skipped
 skip_items-returns-in_err-begun-clause-skipped g t c =
@@ -66,7 +66,7 @@ skip_items-returns-in_err-begun-clause-skipped g t c =
     let stops = title_stops g.R.Read c.offset-place.ensures.same c.items.auto.buffer c.in_err-begun.ensures.begun in
     rw same (c.items.invariant.whole (Err (s.Read error)) c.skip_title.new.decoder (stops_first g.R.Read some stops))
 
--- ---- what remains: the ends
+-- ---- the items that remain: the ends
 
 pub skip_within-items-init : goal.skip_within-items-init
 skip_within-items-init g t c = record {
@@ -79,7 +79,7 @@ skip_within-returns-clause-skipped g t c =
     let done : is_done c.items.remaining ≡ true = search rules in
     ended g.R.Read c.items.invariant.so_far done
 
--- ---- what remains: the errors
+-- ---- the items that remain: the errors
 
 pub skip_within-returns-in_err-begun-clause-skipped : goal.skip_within-returns-in_err-begun-clause-skipped
 skip_within-returns-in_err-begun-clause-skipped g t c =
@@ -101,7 +101,7 @@ skip_within-returns-in_err-begun-clause-moves_on g t c =
     MovesOn-then g.R.Read _ _ _ c.items.invariant.moves_on
     (rw c.offset-place.ensures.same at c.skip_title.ensures.moves_on)
 
--- ---- and is nearer to the last offset
+-- ---- the decoder is nearer to the last offset
 
 pub skip_items-items-preserved-then-levels-gt0 : goal.skip_items-items-preserved-then-levels-gt0
 skip_items-items-preserved-then-levels-gt0 g t c =
@@ -259,7 +259,7 @@ skip_rest-returns-in-Items-clause-moves_on g t c = c.skip_items.ensures.moves_on
 pub skip_rest-returns-in-Nest-clause-moves_on : goal.skip_rest-returns-in-Nest-clause-moves_on
 skip_rest-returns-in-Nest-clause-moves_on g t c = c.skip_within.ensures.moves_on
 
--- ---- and is nearer to the last offset
+-- ---- the decoder is nearer to the last offset
 
 pub skip_items-items-smaller-then-levels-gt0 : goal.skip_items-items-smaller-then-levels-gt0
 skip_items-items-smaller-then-levels-gt0 g t c =
@@ -276,7 +276,7 @@ skip_within-items-smaller g t c =
     nearer_behind c.items.decoder _ c.skip_title.new.decoder c.skip_rest.new.decoder
     c.offset-place.ensures.same (c.in_ok-begun.ensures.rises (search rules)) c.skip_rest.ensures.moves_on.rises
 
--- ---- what is asked of the calls, which a search finds
+-- ---- the premises of the calls, which a search finds
 
 pub skip_rest-skip_items-requires : goal.skip_rest-skip_items-requires
 skip_rest-skip_items-requires g t c = search rules

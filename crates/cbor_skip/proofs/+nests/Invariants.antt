@@ -4,14 +4,14 @@ use Rattle.cbor_skip.proofs.ItemRuns.{Decides}
 use Rattle.cbor_skip.proofs.ItemSteps.{SoFar}
 use Rattle.cbor_skip.proofs.+nests.Given as goal
 
--- what a nest contains is a level deeper
+-- The contents of a nest are one level deeper.
 abbrev pub decreases-skip_items : goal.decreases-skip_items
 decreases-skip_items g l = 2 * l.depth + 1
 
 abbrev pub decreases-skip_within : goal.decreases-skip_within
 decreases-skip_within g l = 2 * l.depth + 1
 
--- and the rest of an item begins at its own level
+-- The rest of an item is at the item's own level.
 abbrev pub decreases-skip_rest : goal.decreases-skip_rest
 decreases-skip_rest g l = 2 * l.depth
 

@@ -11,12 +11,12 @@ use Rattle.cbor_skip.proofs.ItemSteps.{reads_plain, reads_string}
 use Rattle.cbor_skip.proofs.StartSteps.{begins_nest, break_start, nest_start, string_pulled, string_stops, value_start}
 use Rattle.cbor_skip.proofs.skip_title.Goals as goal
 
--- a title that was pulled has some bytes
+-- A title that was pulled has at least one byte.
 pull_rises : {R E : Type 0} (source : Ghosts R E) {old new : Decoder R} {header : Header}
     → PullsTitle source old header new → old.offset < new.offset
 pull_rises source pulled = omega (arith, title_some pulled.title _ pulled.is_title, pulled.offset)
 
--- and more may be read behind them
+-- The offset also rises if the decoder reads more after the title.
 rises_behind : {old between new : ℕ} → old < between → between ≤ new → old < new
 rises_behind risen rises = omega (arith, risen, rises)
 
