@@ -28,7 +28,7 @@ fn main(rt: HostRuntime) -> ExitCode {
     }
 }
 
-/// Returns what the words after the program's name ask for, or `None` if they ask for nothing.
+/// Returns the task that the words after the program's name ask for, or `None` if they ask for none.
 fn task_of(rt: &HostRuntime) -> io::Result<Option<Task>> {
     let mut words = Vec::new(rt.alloc());
     for word in env::args(rt)?.skip(1) {

@@ -16,11 +16,11 @@ const MOST_SIZE: usize = 4096;
 /// What a task does with the bytes.
 #[derive(Clone, Copy)]
 pub enum Work {
-    /// It pulls headers. It reads bodies of strings as titles.
+    /// It pulls headers, and reads bodies of strings as titles.
     Pull,
     /// It pulls headers by a strict decoder.
     StrictPull,
-    /// It pulls and pushes headers. It reads bodies of strings as titles.
+    /// It pulls and pushes headers, and reads bodies of strings as titles.
     Push,
     /// It copies elements.
     Recode,
@@ -43,9 +43,9 @@ pub struct Task {
     pub work: Work,
     /// The size of the buffer that bodies of strings are read through, and the limit of the segments of `Text`.
     pub size: usize,
-    /// How many elements it copies, or how many items it skips.
+    /// The number of elements that it copies, or of items that it skips.
     pub count: usize,
-    /// How often it does so.
+    /// The number of times that it does so.
     pub rounds: usize,
 }
 
@@ -104,7 +104,7 @@ fn pulled_by(mut decoder: Decoder<SliceReader<'_>>, most: usize, before: u64) ->
     sum
 }
 
-/// Adds how many titles were written.
+/// Adds the number of titles written.
 #[inline(never)]
 fn pushed(input: &[u8], output: &mut [u8], before: u64) -> u64 {
     let mut decoder = Decoder::from(SliceReader::new(input));
@@ -125,7 +125,7 @@ fn pushed(input: &[u8], output: &mut [u8], before: u64) -> u64 {
     sum
 }
 
-/// Adds how many bytes the elements have, if they were copied.
+/// Adds the number of bytes of the elements, if they were copied.
 #[inline(never)]
 fn recoded(input: &[u8], output: &mut [u8], count: usize, buffer: &mut [u8], before: u64) -> u64
     requires room { LEAST_BUFFER ≤ length buffer.old }
@@ -139,7 +139,7 @@ fn recoded(input: &[u8], output: &mut [u8], count: usize, buffer: &mut [u8], bef
     )
 }
 
-/// Adds how many bytes the elements have, if a strict decoder copied them.
+/// Adds the number of bytes of the elements, if a strict decoder copied them.
 #[inline(never)]
 fn strictly_recoded(
     input: &[u8],
@@ -159,7 +159,7 @@ fn strictly_recoded(
     )
 }
 
-/// Adds how many bytes the elements have, if this decoder copied them.
+/// Adds the number of bytes of the elements, if this decoder copied them.
 #[inline(always)]
 fn recoded_by(
     mut decoder: Decoder<SliceReader<'_>>,
@@ -177,7 +177,7 @@ fn recoded_by(
     }
 }
 
-/// Adds how many bytes the string has, if it was read to its end.
+/// Adds the number of bytes of the string, if it was read to its end.
 #[inline(never)]
 fn skipped(input: &[u8], buffer: &mut [u8], before: u64) -> u64
     requires room { LEAST_BUFFER ≤ length buffer.old }
@@ -194,7 +194,7 @@ fn skipped(input: &[u8], buffer: &mut [u8], before: u64) -> u64
     }
 }
 
-/// Adds how many bytes the items have, if all of them were skipped.
+/// Adds the number of bytes of the items, if all of them were skipped.
 #[inline(never)]
 fn items_skipped(input: &[u8], count: usize, buffer: &mut [u8], before: u64) -> u64
     requires room { LEAST_BUFFER ≤ length buffer.old }
@@ -208,7 +208,7 @@ fn items_skipped(input: &[u8], count: usize, buffer: &mut [u8], before: u64) -> 
     before.wrapping_add(decoder.offset() as u64)
 }
 
-/// Adds how many bytes were read.
+/// Adds the number of bytes read.
 #[inline(never)]
 fn bodies_skipped(input: &[u8], buffer: &mut [u8], before: u64) -> u64
     requires room { LEAST_BUFFER ≤ length buffer.old }
@@ -228,7 +228,7 @@ fn bodies_skipped(input: &[u8], buffer: &mut [u8], before: u64) -> u64
     before.wrapping_add(decoder.offset() as u64)
 }
 
-/// Adds how many bytes the text has in segments.
+/// Adds the number of bytes that the text has in segments.
 #[inline(never)]
 fn written(text: &str, limit: usize, output: &mut [u8], before: u64) -> u64 {
     let mut encoder = Encoder::from(SliceWriter::new(output));

@@ -1,4 +1,4 @@
--- The bytes that each call takes.
+-- Laws of the bytes that each call takes.
 use Rattle.std.proofs.Common.{◌≡◌, ℕ, ◌+◌, List, [], ◌∷◌, ◌++◌, length, Option, Some, None}
 use Rattle.std.proofs.Common.{Bool, ◌-◌}
 use Rattle.std.proofs.Common.{refl, sym, ap, subst, ◌∙◌, arith, length-append, true, inl, inr}
@@ -25,7 +25,7 @@ use Rattle.uses.specs.Cose.{to_tag, to_array}
 use Rattle.uses.specs.Cose.{to_protected, to_unprotected, to_payload, to_signature, Took, TookBody}
 use Rattle.uses.specs.Cose.{TookString, TookPayload, TookMap, StopsAtPart, StopsSign1}
 
--- where the bytes are known, what was taken is in front of them
+-- If all bytes are known, they begin with the bytes that were taken.
 pub taken_front : (all : List ℕ) (new : Option (List ℕ)) (bytes : List ℕ) → Consumes (Some all) new bytes
     → Begins bytes all
 taken_front all None bytes taken = absurd taken
@@ -61,7 +61,7 @@ module _ {R E : Type 0} (source : Ghosts R E) where
     mode = second.mode ∙ first.mode;
   }
 
-  -- behind what was read none waits where none did
+  -- If no header waited, none waits after the bytes that were read.
   settled : (titled new : Decoder R) (rest : List ℕ) → titled.waiting ≡ None → ReadsPast source titled rest new
       → new.waiting ≡ None
   settled titled new rest none passed = elim passed.waiting [
@@ -69,7 +69,7 @@ module _ {R E : Type 0} (source : Ghosts R E) where
     | inr waits ↦ waits
   ]
 
-  -- the title of a map, and then its items
+  -- The title of a map and then its items are a map.
   pub took_map : (old titled new : Decoder R) (len : Option ℕ) (span : Span) → old.strict ≡ true
       → old.waiting ≡ None → PullsTitle source old (h.Map len) titled → ReadsWithin source (h.Map len) (MAP_DEPTH - 1)
       titled new → span.start ≡ old.offset → span.end ≡ new.offset → TookMap source old span new
@@ -98,7 +98,7 @@ module _ {R E : Type 0} (source : Ghosts R E) where
         took = whole;
       }
 
-  -- the title of a byte string, and then its body
+  -- The title of a byte string and then its body are a byte string.
   pub took_string : (old titled new : Decoder R) (len : ℕ) (span : Span) → old.strict ≡ true → old.waiting ≡ None
       → PullsTitle source old (h.Bytes (Some len)) titled → TookBody source len titled span new
       → TookString source old span new
@@ -119,7 +119,7 @@ module _ {R E : Type 0} (source : Ghosts R E) where
         took = whole;
       }
 
-  -- all of it
+  -- All parts, one after the other, are a COSE_Sign1.
   pub began : (bytes : List ℕ) (first tagged opened one two three last : Decoder R) (protected unprotected : Span)
       (payload : Option Span) (signature : Span)
       → view source first ≡ Some bytes → first.offset ≡ 0
@@ -158,9 +158,9 @@ module _ {R E : Type 0} (source : Ghosts R E) where
         is_signature = subst (λ (n : ℕ). IsByteString s.bytes n signature) at_s s.is_string;
       }
 
-  -- ---- how far the read came
+  -- ---- the part that the read reached
 
-  -- these bytes were taken from the first on, and behind them this is due
+  -- The bytes `before` were taken from the first decoder on, and the part `due` is due after them.
   pub record Came (first : Decoder R) (before : List ℕ) (due : Due) (now : Decoder R) : Type 0 where
     pub took : Took source first before now
     pub reached : ReachesPart before due
@@ -206,13 +206,13 @@ module _ {R E : Type 0} (source : Ghosts R E) where
           (subst (λ (n : ℕ). IsPayload payload.bytes n span) (at_before before now came.took) payload.is_payload);
     }
 
-    -- what is left is told where the first bytes are
+    -- If the first bytes are told, the bytes that are left are told.
     rest_told : (bytes before : List ℕ) (left : Option (List ℕ)) → Consumes (Some bytes) left before
         → (rest : List ℕ) × (bytes ≡ before ++ rest) × (left ≡ Some rest)
     rest_told bytes before None taken = absurd taken
     rest_told bytes before (Some rest) taken = (rest, taken, refl)
 
-    -- and there it stopped
+    -- If the read stops at the part that is due, no COSE_Sign1 was read.
     pub stopped : (bytes before : List ℕ) (due : Due) (now ended : Decoder R) (error : CoseError E)
         → view source first ≡ Some bytes → first.strict ≡ true → ((d : Decoder R) → IsSteady source d)
         → Came first before due now → StopsAtPart source (IsAllowed due) now error ended → StopsSign1 source bytes error

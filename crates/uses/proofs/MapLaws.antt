@@ -1,4 +1,4 @@
--- A map written pair by pair.
+-- Laws of a map that is written pair by pair.
 use Rattle.std.proofs.Common.{◌≡◌, ℕ, List, [], ◌∷◌, length, Option, Some, None, Result, Ok, IsErr, refl, sym, subst}
 use Rattle.std.proofs.Common.{arith, append-nil}
 use Rattle.std.proofs.KnownBytes.{Appends-nil}
@@ -14,7 +14,7 @@ use Rattle.ciborium_ll.proofs.EncodingLaws.{WritesBytes-stopped, WritesBytes-the
 use Rattle.uses.specs.declared.maps.Entry.{Entry}
 use Rattle.uses.specs.Maps.{entry_bytes, entries_bytes, map_bytes}
 
--- without a limit a text is one string
+-- Without a limit, a text is one string.
 one_spelling : (text : List ℕ) (marks : List Mark) → IsWritten Text (value_limit Text None text) text marks
     → spelling marks ≡ body_spelling Text text
 one_spelling text marks (in_one within) = append-nil (body_spelling Text text)
@@ -25,14 +25,14 @@ Shrinks-nothing None = tt
 Shrinks-nothing (Some n) = omega arith
 
 module _ {W F : Type 0} (sink : Ghosts W F) where
-  -- a text written without a limit
+  -- A write of a text without a limit writes one string.
   pub text_bytes : {T : Type 0} (text : List ℕ) (old : W) (result : Result T F) (new : W)
       → WritesValue sink Text None text old result new → WritesBytes sink old result (body_spelling Text text) new
   text_bytes text old result new wrote =
       subst (λ (bytes : List ℕ). WritesBytes sink old result bytes new) (one_spelling text wrote.marks wrote.written)
       wrote.bytes
 
-  -- the title and the pairs in front were written: what a write of the rest does now, one of the map does
+  -- The title and the first pairs were written. A write of the other pairs then makes a write of the map.
   pub record Midway (entries rest : List Entry) (old now : W) : Type 0 where
     pub goes_on : (result : Result (Unit {0}) F) (new : W) → WritesBytes sink now result (entries_bytes rest) new
         → WritesBytes sink old result (map_bytes entries) new
@@ -46,7 +46,7 @@ module _ {W F : Type 0} (sink : Ghosts W F) where
         wrote w;
   }
 
-  -- one pair more was written
+  -- The next pair was written, and the other pairs are left.
   pub midway_more : (entries rest behind : List Entry) (entry : Entry) (old now new : W) → rest ≡ entry ∷ behind
       → Midway entries rest old now → WritesAll sink now (entry_bytes entry) new → Midway entries behind old new
   midway_more entries rest behind entry old now new split m wrote = record {
@@ -56,7 +56,7 @@ module _ {W F : Type 0} (sink : Ghosts W F) where
         (WritesBytes-then sink now new last result (entry_bytes entry) (entries_bytes behind) wrote w));
   }
 
-  -- one pair more was not written
+  -- If the write of the next pair fails, the write of the map fails.
   pub midway_stops : (entries rest behind : List Entry) (entry : Entry) (old now new : W)
       (result : Result (Unit {0}) F) → IsErr result → rest ≡ entry ∷ behind → Midway entries rest old now
       → WritesFront sink now (entry_bytes entry) new → WritesBytes sink old result (map_bytes entries) new
@@ -65,7 +65,7 @@ module _ {W F : Type 0} (sink : Ghosts W F) where
       (subst (λ (z : List Entry). WritesBytes sink now result (entries_bytes z) new) (sym split)
       (WritesBytes-stopped sink now new result (entry_bytes entry) (entries_bytes behind) fails wrote))
 
-  -- all pairs were written
+  -- If no pair is left, the map was written.
   pub midway_last : (entries rest : List Entry) (old now : W) → rest ≡ [] → Midway entries rest old now
       → WritesAll sink old (map_bytes entries) now
   midway_last entries rest old now none m =

@@ -18,7 +18,7 @@ use Rattle.cbor_skip.specs.Skipping.{StopsDue, StopsItem, StopsWithin, SkipsWith
 use Rattle.cbor_skip.proofs.ItemSteps.{SoFar, stops_within}
 use Rattle.uses.specs.Cose.{EndsPairs}
 
--- a break ends the items of a map, by what remains
+-- If a break may stand after the items of a map, the items and the break complete the map.
 pairs_closed : (strict : Bool) (len : Option ℕ) (depth count : ℕ) (items : List ℕ) (remaining : Remaining)
     → IsRemaining (h.Map len) count remaining → closes remaining ≡ true → AreItems strict depth count items
     → Completes strict (suc depth) (h.Map len) (items ++ 0xff ∷ [])
@@ -29,7 +29,7 @@ pairs_closed strict (Some n) depth count items (r.Pairs m) is may i = absurd cc
 pairs_closed strict (Some n) depth count items (r.Value m) is may i = absurd cc
 pairs_closed strict len depth count items remaining is may i = absurd is
 
--- what is due of an item is due of one in place of which a break may stand, or nothing of it was read
+-- A beginning of an item is empty, or also begins an item in place of which a break may stand.
 due_open : (strict : Bool) (depth : ℕ) (bytes : List ℕ) (levels : ℕ) (closable : Bool)
     → ItemDue strict false depth bytes levels closable
     → ItemDue strict true depth bytes levels closable ⊎ ((bytes ≡ []) × (levels ≡ depth))
@@ -37,7 +37,7 @@ due_open strict depth bytes levels closable here = inr (refl, refl)
 due_open strict depth bytes levels closable (within is_title taken more items due) =
     inl (within is_title taken more items due)
 
--- an item has bytes
+-- An item has at least one byte.
 pub item_some : (strict : Bool) (depth : ℕ) (item : List ℕ) → IsItem strict depth item → 0 < length item
 item_some strict depth item (more_items {title = title} {rest = rest} {others = others} {header = header} is_title
     taken rests more) =
@@ -48,7 +48,7 @@ none_long [] none = refl
 none_long (byte ∷ bytes) none = absurd (omega (arith, none))
 
 module _ {R E : Type 0} (source : Ghosts R E) where
-  -- an error that is not that of a break at its place stops an item where it begins, though a break may stand there
+  -- An error other than a break at the item's place stops the item at its start, also if a break may stand there.
   stops_open : (levels depth room : ℕ) (closable : Bool) (between new : Decoder R) (place : ℕ) (error : SkipError E)
       → levels ≡ depth → between.offset ≡ place → (error ≡ s.Break place → ⊥)
       → StopsDue source levels closable room between error new → StopsDue source depth true room between error new
@@ -63,7 +63,7 @@ module _ {R E : Type 0} (source : Ghosts R E) where
   stops_open levels depth room closable between new place (s.Break found) same at other stops =
       absurd (other (ap (λ (n : ℕ). s.Break n) (stops.place ∙ at)))
 
-  -- where a break at the place of the item is none of the errors, it stops as one in place of which a break may stand
+  -- An error other than a break at the item's place stops the item, also if a break may stand in its place.
   pub stops_outer : (outer : Bool) (depth room : ℕ) (old new : Decoder R) (error : SkipError E)
       → (outer ≡ true → error ≡ s.Break old.offset → ⊥) → StopsItem source false depth room old error new
       → StopsItem source outer depth room old error new
@@ -91,7 +91,7 @@ module _ {R E : Type 0} (source : Ghosts R E) where
         }
       ]
 
-  -- a break in place of the next item ends the map, where one may
+  -- A break in place of the next item ends the map, if a break may stand there.
   pub break_closes : (len : Option ℕ) (depth room : ℕ) (old now new : Decoder R) (remaining : Remaining) (at : ℕ)
       → SoFar source (h.Map len) depth old now remaining → closes remaining ≡ true
       → (IsSteady source now → IsSteady source new) → at ≡ now.offset
@@ -112,7 +112,7 @@ module _ {R E : Type 0} (source : Ghosts R E) where
         passed = subst (λ (w : List ℕ). ReadsPast source old (so_far.items ++ w) new) lone passed;
       }
 
-  -- what the error of an item says of the map
+  -- The error of an item gives the answer for the map.
   pub pairs_end : (len : Option ℕ) (depth room : ℕ) (old now new : Decoder R) (remaining : Remaining)
       (error : SkipError E) (place : ℕ) (result : Result (Unit {0}) (SkipError E))
       → SoFar source (h.Map len) depth old now remaining → is_done remaining ≡ false

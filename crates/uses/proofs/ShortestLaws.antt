@@ -1,4 +1,4 @@
--- An item in its shortest spelling, element by element.
+-- Laws of an item in its shortest spelling, element by element.
 use Rattle.std.proofs.Common.{◌≡◌, ℕ, suc, ◌<◌, List, [], ◌∷◌, ◌++◌, length, take, drop, ◌-◌, None, Some, refl, sym}
 use Rattle.std.proofs.Common.{Bool, true, false}
 use Rattle.std.proofs.Common.{ap, subst, ◌∙◌, arith, append_assoc, append-nil, length-append, length-drop}
@@ -41,7 +41,7 @@ one_of element marks e =
     subst (λ (z : List Mark). IsRun 1 element z) (append-nil marks)
     (subst (λ (z : List ℕ). IsRun 1 z (marks ++ [])) (append-nil element) (next e done))
 
--- a run of one is an element
+-- A run of one element is this element.
 record IsOne (bytes : List ℕ) (marks : List Mark) : Type 0 where
   pub element : IsElement bytes marks
 
@@ -50,7 +50,7 @@ of_one bytes marks (next {first = x} {marks = ns} e done) =
     subst (λ (z : List Mark). IsElement (x ++ []) z) (sym (append-nil ns))
     (subst (λ (z : List ℕ). IsElement z ns) (sym (append-nil x)) e)
 
--- one element more
+-- A strict run and one more strict element are a strict run.
 pub strict_more : (count : ℕ) (run element : List ℕ) (marks others : List Mark) → IsStrictRun count run marks
     → IsStrictRun 1 element others
     → IsStrictRun (suc count) (run ++ element) (marks ++ others)
@@ -61,7 +61,7 @@ strict_more count run element marks others first second = record {
   meant = all_both IsNoSmallSimple marks others first.meant second.meant;
 }
 
--- the first element of a strict run, and the others
+-- The first element of a strict run, and the other elements.
 record Parts (bytes : List ℕ) : Type 0 where
   pub element : List ℕ
   pub marks : List Mark
@@ -90,7 +90,7 @@ parts count bytes marks (next {count = n} {first = x} {rest = y} {marks = ns} {o
       whole = refl;
     }
 
--- behind elements in front of a strict run, one of it is next
+-- If a strict run begins with `seen` elements and bytes are left, the rest begins with an element of a strict run.
 pub strict_behind : (front : List ℕ) (marks : List Mark) (seen : ℕ) → IsRun seen front marks
     → (count : ℕ) (bytes : List ℕ) (all : List Mark)
     → IsStrictRun count bytes all → (rest : List ℕ) → bytes ≡ front ++ rest → 0 < length rest → BeginsWithElements true 1 rest
@@ -117,7 +117,7 @@ strict_behind front marks seen (next {count = n} {first = x} {rest = y} {marks =
 
 -- ---- the loop
 
--- elements of all the bytes were read, each in its shortest spelling, and the rest is left
+-- Elements in their shortest spelling were read from all the bytes, and `rest` is left.
 pub record Spelled (all rest : List ℕ) : Type 0 where
   pub front : List ℕ
   pub count : ℕ
@@ -146,13 +146,13 @@ spelled_more all rest element others marks so_far one split = record {
   whole = so_far.whole ∙ ap (λ (z : List ℕ). so_far.front ++ z) split ∙ sym (append_assoc so_far.front element others);
 }
 
--- the item in front, by the offset behind it
+-- The item at the start is the bytes up to the offset after the item.
 pub taken : (bytes item behind : List ℕ) (len : ℕ) → bytes ≡ item ++ behind → len ≡ length item → take len bytes ≡ item
 taken bytes item behind len split counted =
     ap (λ (z : List ℕ). take len z) split ∙ ap (λ (n : ℕ). take n (item ++ behind)) counted
     ∙ take-append_seam item behind
 
--- an item in front, in whatever spelling
+-- An item at the start is also an item in any spelling.
 abbrev pub any_front : (strict : Bool) (depth : ℕ) (bytes : List ℕ) → BeginsWithItem strict depth bytes
     → BeginsWithItem false depth bytes
 any_front strict depth bytes front = record {
@@ -162,7 +162,7 @@ any_front strict depth bytes front = record {
   is = front.is;
 }
 
--- all of the item was read
+-- If all of the item was read, the bytes begin with an item in its shortest spelling.
 pub shortest_in_front : (depth : ℕ) (bytes rest : List ℕ) (len : ℕ) (front : BeginsWithItem false depth bytes) → len
     ≡ length front.item
     → Spelled (take len bytes) rest → length rest ≡ 0 → ShortestInFront depth bytes len
@@ -184,7 +184,7 @@ shortest_in_front depth bytes rest len front counted so_far none =
       counted = counted;
     }
 
--- no element in its shortest spelling is next
+-- If no element in its shortest spelling is next, the bytes begin with no item in its shortest spelling.
 pub no_shortest : (depth : ℕ) (bytes rest : List ℕ) (len : ℕ) (front : BeginsWithItem false depth bytes) → len
     ≡ length front.item
     → Spelled (take len bytes) rest → 0 < length rest → (BeginsWithElements true 1 rest → ⊥) → (other : ℕ)
@@ -205,12 +205,12 @@ element_some bytes marks (string kind (definite {title = t} {body = b} title) so
 element_some bytes marks (string kind (indefinite {title = t} {strings = x} title strings) sound) =
     omega (arith, title_some t (kind_header kind None) title, length-append t (x ++ 0xff ∷ []))
 
--- a strict run of one takes a byte at least
+-- A strict run of one element takes at least one byte.
 pub takes_some : (len : ℕ) (bytes : List ℕ) (marks : List Mark) → IsStrictRun 1 (take len bytes) marks → 0 < len
 takes_some len bytes marks strict =
     omega (arith, element_some (take len bytes) marks (of_one (take len bytes) marks strict.run), length-take len bytes)
 
--- the bytes behind so many, as a slice's range has them
+-- The bytes are their first `len` bytes and the other bytes, as a slice's range gives them.
 pub split_rest : (len : ℕ) (bytes : List ℕ) → bytes ≡ take len bytes ++ take (length bytes - len) (drop len bytes)
 split_rest len bytes =
     sym (take-append-drop len bytes) ∙ sym (ap (λ (z : List ℕ). take len bytes ++ z)

@@ -17,7 +17,7 @@ use Rattle.uses.proofs.MapLaws.{text_bytes}
 use Rattle.uses.proofs.SumLaws.{opens_array}
 
 module _ {R E : Type 0} (source : Reader R E) where
-  -- the header of an array was pulled of a decoder that was asked for its offset, and its integers were added
+  -- If the header of an array was pulled and its integers were added, the array was summed or stopped.
   pub array_sums : (len : Option ℕ) (old asked opened new : Decoder R) (header : Header) (result : Result ℤ (SumError E))
       → asked ≡ old → header ≡ h.Array len → PullsTitle source asked header opened
       → SumsBehind source (h.Array len) opened result new → SumsOrStops source old result new
@@ -25,7 +25,7 @@ module _ {R E : Type 0} (source : Reader R E) where
       opens_array source len old opened new result (rw (same, array) at pulled) sums
 
 module _ {W F : Type 0} (sink : Writer W F) where
-  -- a text was written, and then another one or not
+  -- A write of a text and then a write of another text, which may fail, make one write of both.
   pub texts_written : {T : Type 0} (first second : List ℕ) (old mid new : W) (done : T) (result : Result T F)
       → WritesValue sink {T = T} Text None first old (Ok done) mid → WritesValue sink Text None second mid result new
       → WritesBytes sink old result (body_spelling Text first ++ body_spelling Text second) new
@@ -33,7 +33,7 @@ module _ {W F : Type 0} (sink : Writer W F) where
       WritesBytes-then sink old mid new result (body_spelling Text first) (body_spelling Text second)
       (text_bytes sink first old (Ok done) mid wrote) (text_bytes sink second mid result new next)
 
-  -- the first one was not
+  -- A failed write of the first text is a failed write of both.
   pub text_unwritten : {T : Type 0} (first : List ℕ) (more : List ℕ) (old new : W) (fault : F) (result : Result T F)
       → IsErr result → WritesValue sink {T = T} Text None first old (Err fault) new
       → WritesBytes sink old result (body_spelling Text first ++ more) new

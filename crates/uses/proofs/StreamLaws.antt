@@ -1,4 +1,4 @@
--- A copy of a stream, and the flush after it.
+-- Laws of a copy of a stream, and of the flush after the copy.
 use Rattle.std.proofs.Common.{◌≡◌, ℕ, zero, suc, false, ◌+◌, IsTrue, IsSome, Option, List, [], ◌++◌, length, drop}
 use Rattle.std.proofs.Common.{None, Some, Result, Ok, Err, refl, sym, ap, subst, ◌∙◌, inl, inr, arith}
 use Rattle.ciborium_ll.specs.Types.Read.{Ghosts as Reader}
@@ -22,7 +22,7 @@ use Rattle.ciborium_ll.proofs.StrictFaultLaws.{no_fault}
 use Rattle.uses.specs.Streams.{AreReady, CopiesSo, IsNormalised, Normalises, NormalisesAnyhow, StopsAtFault}
 use Rattle.uses.specs.Streams.{CopiesAndFlushes, FlushesSo, RecodesFrom, FailsToRead, TellBytes}
 
--- a room that is told stays told
+-- A room that was told before a write is told after the write.
 room_stays : (old new : Option ℕ) (count room : ℕ) → old ≡ Some room → Shrinks old new count → IsSome new
 room_stays None new count room told shrinks = absurd cc
 room_stays (Some old) None count room told shrinks = absurd shrinks
@@ -31,7 +31,7 @@ room_stays (Some old) (Some new) count room told shrinks = refl
 module _ {R E W F : Type 0} (source : Reader R E) (sink : Writer W F) where
   -- ---- the decoder and the writer at first
 
-  -- a fresh decoder and encoder, over a reader and a writer that tell their bytes
+  -- If the reader and the writer tell their bytes, the fresh decoder and the encoder's writer tell them.
   pub told : (reader : R) (writer writer' : W) (decoder : Decoder R) (due written : List ℕ) → IsFresh reader 0 decoder
       → writer' ≡ writer → TellBytes source sink reader writer due written
       → IsTold source sink false (sides decoder writer') due written
@@ -43,7 +43,7 @@ module _ {R E W F : Type 0} (source : Reader R E) (sink : Writer W F) where
     none_waits = λ on. fresh.none_waits;
   }
 
-  -- they are ready for a copy
+  -- If the reader and the writer are ready, the fresh decoder and the encoder's writer are ready for a copy.
   pub ready : (count : ℕ) (reader : R) (writer writer' : W) (decoder : Decoder R) (due written : List ℕ)
       → IsFresh reader 0 decoder → writer' ≡ writer → AreReady source sink count reader writer due written
       → IsReady source sink false count 64 (sides decoder writer') due written
@@ -57,7 +57,7 @@ module _ {R E W F : Type 0} (source : Reader R E) (sink : Writer W F) where
     fits-chunk = (let fits = are.fits in omega (arith, fresh.offset, fits));
   }
 
-  -- ---- no header waits behind a copy from a fresh decoder
+  -- ---- no header waits after a copy from a fresh decoder
 
   passed_settled : (old new : Decoder R) (bytes : List ℕ) → ReadsPast source old bytes new → old.waiting ≡ None
       → new.waiting ≡ None
@@ -113,7 +113,7 @@ module _ {R E W F : Type 0} (source : Reader R E) (sink : Writer W F) where
   stop_settled count room old new (r.Write fault) none stops =
       passed_settled old.decoder new.decoder (stops.bytes ++ stops.read) stops.passed none
 
-  -- the bytes that are due are then those of the reader
+  -- If no header waits, the bytes due are the bytes of the reader.
   due_ahead : (new : Decoder R) (reader' : R) (rest : List ℕ) → new.waiting ≡ None → reader' ≡ new.reader
       → view source new ≡ Some rest → source.ahead reader' ≡ Some rest
   due_ahead new reader' rest none same due =
@@ -132,7 +132,7 @@ module _ {R E W F : Type 0} (source : Reader R E) (sink : Writer W F) where
           (copied_settled count due written old new writer' fresh.none_waits copied) same copied.left;
     }
 
-    -- a writer that told its room tells it still
+    -- A writer that told its room before the copy tells its room after the copy.
     pub room_told : (room : ℕ) → sink.room writer ≡ Some room
         → CopiesAll source sink count (sides old writer) (sides new writer') → IsSome (sink.room writer')
     room_told room told all =
@@ -195,7 +195,7 @@ module _ {R E W F : Type 0} (source : Reader R E) (sink : Writer W F) where
           (stop_settled count 64 _ _ (r.Write fault) fresh.none_waits stops) same anyhow.left;
     })
 
-  -- ---- the flush behind it, whose answer is that of the call
+  -- ---- the flush after the copy, whose answer is the answer of the call
 
   module _ (count : ℕ) (due written : List ℕ) (reader' : R) (copied last : W)
       (copies : CopiesSo source sink count due written reader' copied) where

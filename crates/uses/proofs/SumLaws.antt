@@ -1,4 +1,4 @@
--- The loop over the integers of an array.
+-- Laws of the loop over the integers of an array.
 use Rattle.std.proofs.Common.{ℕ, suc, ◌<◌, ℤ, pos, [], ◌++◌, Option, Result, Ok, Err, true, false, subst, sym, inr}
 use Rattle.std.proofs.Common.{arith}
 use Rattle.ciborium_ll.specs.Types.Read.{Ghosts}
@@ -26,13 +26,13 @@ module _ {R E : Type 0} (source : Ghosts R E) where
     passed = ReadsPast-pull source old now new reads.bytes adds.header adds.pulled reads.passed steady;
   }
 
-  -- a title takes a byte
+  -- A title takes at least one byte.
   pub adds_rises : (total sum : ℤ) (old new : Decoder R) → AddsInteger source total old sum new
       → old.offset < new.offset
   adds_rises total sum old new adds =
       omega (arith, adds.pulled.offset, title_some adds.pulled.title adds.header adds.pulled.is_title)
 
-  -- what is no break is none where no break may end the array
+  -- A stop of an array of indefinite length is also a stop of an array of a definite length.
   pub stops_counted : (total : ℤ) (old new : Decoder R) (error : SumError E) → StopsNext source true total old error new
       → StopsNext source false total old error new
   stops_counted total old new (s.Read error) stops = stops
@@ -46,7 +46,7 @@ module _ {R E : Type 0} (source : Ghosts R E) where
   }
   stops_counted total old new (s.OutOfRange at) stops = stops
 
-  -- what is said of the integers is said of the array
+  -- The sum of the integers after the header is the sum of the array.
   pub opens_array : (len : Option ℕ) (old opened new : Decoder R) (result : Result ℤ (SumError E))
       → PullsTitle source old (h.Array len) opened → SumsBehind source (h.Array len) opened result new
       → SumsOrStops source old result new

@@ -1,4 +1,4 @@
--- Bodies that are read into a text.
+-- Laws of bodies that are read into a text.
 use Rattle.std.proofs.Common.{◌≡◌, Bool, ℕ, ◌+◌, ◌<◌, ◌≤◌, List, [], ◌∷◌, ◌++◌, length, Option, Some, IsTrue, Result}
 use Rattle.std.proofs.Common.{Ok}
 use Rattle.std.proofs.Common.{Err, refl, sym, ap, subst, ◌∙◌, inr, arith, append_assoc, append-nil, length-append}
@@ -33,13 +33,13 @@ use Rattle.uses.specs.Texts.{SegmentsStop, StopsText}
 
 -- ---- bodies
 
--- bodies and one more, joined
+-- Bodies and one more body, joined, are the joined bodies and then this body.
 pub joined_more : (bodies : List (List ℕ)) (body : List ℕ) → joined (bodies ++ body ∷ []) ≡ joined bodies ++ body
 joined_more [] body = append-nil body
 joined_more (first ∷ bodies) body =
     ap (λ (z : List ℕ). first ++ z) (joined_more bodies body) ∙ sym (append_assoc first (joined bodies) body)
 
--- bodies that are text are a text when joined
+-- Bodies of text, joined, are a text.
 joined_text : (bodies : List (List ℕ)) → AreWritable Text bodies → IsCharacters (joined bodies)
 joined_text [] sound = IsCharacters-nil
 joined_text (body ∷ bodies) sound = IsCharacters-append body (joined bodies) sound.0 (joined_text bodies sound.1)
@@ -47,7 +47,7 @@ joined_text (body ∷ bodies) sound = IsCharacters-append body (joined bodies) s
 module _ {R E : Type 0} (source : Reader R E) where
   -- ---- the loop over segments
 
-  -- these bodies were read, and are the text so far
+  -- These bodies were read, and joined they are the text so far.
   pub record GatheredSoFar (progress : Progress) (old : Decoder R) (count : ℕ) (text : List ℕ) (last : Progress)
       (now : Decoder R) : Type 0 where
     pub bodies : List (List ℕ)
@@ -55,12 +55,12 @@ module _ {R E : Type 0} (source : Reader R E) where
     pub whole : text ≡ joined bodies
     pub gathers : Gathers source progress old bodies last now
 
-  -- an empty text, at the start
+  -- At the start no body was read, and the text is empty.
   pub gathered_none : (progress : Progress) (old : Decoder R) (text : List ℕ) → text ≡ []
       → GatheredSoFar progress old 0 text progress old
   gathered_none progress old text empty = record { bodies = []; counted = refl; whole = empty; gathers = none }
 
-  -- what `advance` promises of a string that is as strict as its decoder was
+  -- The promises of `advance` about a string that is as strict as its decoder was.
   abbrev pub as_strict : (strict mode : Bool) (last after : Progress) (now new : Decoder R)
       (answer : Result (Option Body) (Error E)) → strict ≡ mode → AdvancesTo source Text strict last now answer after
       new
@@ -73,7 +73,7 @@ module _ {R E : Type 0} (source : Reader R E) where
     moves_on = moves_on;
   }
 
-  -- one body more
+  -- After the read of one more body, the text has this body at its end.
   pub gathered_more : (progress : Progress) (old : Decoder R) (count : ℕ) (text text' : List ℕ) (last : Progress)
       (now titled new : Decoder R) (body : Body) → GatheredSoFar progress old count text last now
       → (announced : GoesOnTo source Text old.strict last now (Ok (Some body)) titled)
@@ -86,7 +86,7 @@ module _ {R E : Type 0} (source : Reader R E) where
     gathers = more body so_far.gathers announced reads;
   }
 
-  -- what `advance` answered behind them
+  -- `advance` answered after the bodies read so far.
   pub goes_on : (strict : Bool) (progress : Progress) (old : Decoder R) (count : ℕ) (text : List ℕ)
       (last after : Progress) (now new : Decoder R) (answer : Result (Option Body) (Error E)) → strict ≡ old.strict
       → (so_far : GatheredSoFar progress old count text last now)
@@ -100,7 +100,7 @@ module _ {R E : Type 0} (source : Reader R E) where
     advances = as_strict strict old.strict last after now new answer same advances opens moves_on;
   }
 
-  -- the writer had no memory for a chunk
+  -- If the writer did not take a chunk, there was no memory for the chunk.
   lacks : {W F : Type 0} (sink : Writer W F) (len room : ℕ) (old new : Sides R W) → 0 < room
       → BodyUnwritten source sink Text len room old new → LacksMemory source len old.decoder new.decoder
   lacks sink len room old new some stops =
@@ -123,7 +123,7 @@ module _ {R E : Type 0} (source : Reader R E) where
 
   module _ (limit : ℕ) (progress : Progress) (old : Decoder R) (bodies : List (List ℕ)) (body : Body)
       (titled new : Decoder R) (announced : AdvancesBehind source progress old bodies (Ok (Some body)) titled) where
-    -- the read of a body failed
+    -- A failed read of a body stops the segments.
     pub body_fails : (error other : Error E) (room : ℕ) → other ≡ error → room ≡ 64
         → EndsBody source Text [] body.length room body.place titled (Err error) new
         → SegmentsStop source limit progress old (t.Read other) new
@@ -136,7 +136,7 @@ module _ {R E : Type 0} (source : Reader R E) where
           ends);
     })
 
-    -- there was no memory for a body
+    -- A lack of memory for a body stops the segments.
     pub body_lacks : {W F : Type 0} (sink : Writer W F) (room : ℕ) (text text' : W) → 0 < room
         → BodyUnwritten source sink Text body.length room (sides titled text) (sides new text')
         → SegmentsStop source limit progress old t.Memory new
@@ -148,11 +148,11 @@ module _ {R E : Type 0} (source : Reader R E) where
       stops = lacks sink body.length room (sides titled text) (sides new text') some stops;
     }
 
-  -- ---- behind the header of a text
+  -- ---- after the header of a text
 
   module _ (len : Option ℕ) (old titled pushed : Decoder R) (pulled : PullsTitle source old (h.Text len) titled)
       (back : TakesBack source titled (h.Text len) pushed) where
-    -- what was read so far of the string
+    -- The bodies that were gathered are the bodies of the string read so far.
     gathers_read : (bodies : List (List ℕ)) (last : Progress) (now : Decoder R)
         → Gathers source (p.Open 0) pushed bodies last now
         → ReadSoFar source Text len pulled.title titled bodies last now
@@ -164,7 +164,7 @@ module _ {R E : Type 0} (source : Reader R E) where
         announced.moves_on.steady len
         body now (gathers_read others before from so_far) announced.advanced reads
 
-    -- the whole text
+    -- All bodies of the string are the whole text.
     pub reads_text : (limit : ℕ) (text : List ℕ) (new : Decoder R) → (IsSteady source old → IsSteady source titled)
         → GathersAll source limit (p.Open 0) pushed text new → ReadsText source limit old text new
     reads_text limit text new steady all =
@@ -184,7 +184,7 @@ module _ {R E : Type 0} (source : Reader R E) where
           passed = ReadsPast-then source old titled new pulled.title read.behind title read.passed;
         }
 
-    -- a header that came, that was given back, and what was read behind it: the decoder moved on
+    -- If a header came and was given back, and the decoder then moved on, it moved on from the start.
     pub text_moves_on : (new : Decoder R) → MovesOn source old titled → refusals_of pushed ≡ refusals_of titled
         → MovesOn source pushed new → MovesOn source old new
     text_moves_on new first same behind = record {
@@ -200,7 +200,7 @@ module _ {R E : Type 0} (source : Reader R E) where
       );
     }
 
-    -- where the segments stop, the text does
+    -- If the segments stop, the text stops.
     pub stops_text : (limit : ℕ) (error : TextError E) (new : Decoder R)
         → SegmentsStop source limit (p.Open 0) pushed error new → StopsText source limit old error new
     stops_text limit (t.Read error) new stops =
@@ -211,7 +211,7 @@ module _ {R E : Type 0} (source : Reader R E) where
     stops_text limit t.Memory new stops =
         record { len = len; titled = titled; pulled = pulled; pushed = pushed; back = back; done = stops }
 
-  -- a text that was read is UTF-8
+  -- A text that was read is UTF-8.
   pub text_is_utf8 : (limit : ℕ) (old : Decoder R) (text : List ℕ) (new : Decoder R)
       → ReadsText source limit old text new → IsUtf8 text
   text_is_utf8 limit old text new reads =

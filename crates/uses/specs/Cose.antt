@@ -23,6 +23,7 @@ use Rattle.uses.specs.declared.cose.TheConstants.{MAP_DEPTH}
 -- ---- the parts
 
 -- The bytes are a byte string with its shortest title, which begins at this offset. The span is the span of its body.
+-- At offset 2, `42 01 02` has the span from 3 up to 5.
 pub record IsByteString (bytes : List ℕ) (at : ℕ) (span : Span) : Type 0 where
   pub body : List ℕ
   pub is : bytes ≡ shortest_title (h.Bytes (Some (length body))) ++ body
@@ -30,7 +31,7 @@ pub record IsByteString (bytes : List ℕ) (at : ℕ) (span : Span) : Type 0 whe
   pub starts : span.start + length body ≡ span.end
 
 -- The bytes are a map in its shortest spelling (RFC 7049, 3.9), which begins at this offset. The span is the span of
--- the whole map.
+-- the whole map. At offset 3, `a0` has the span from 3 up to 4.
 pub record IsMap (bytes : List ℕ) (at : ℕ) (span : Span) : Type 0 where
   pub is_item : IsItem true MAP_DEPTH bytes
   pub len : Option ℕ
@@ -39,12 +40,13 @@ pub record IsMap (bytes : List ℕ) (at : ℕ) (span : Span) : Type 0 where
   pub starts : span.start ≡ at
   pub ends : span.end ≡ at + length bytes
 
--- The bytes are a payload: null if it is detached, or a byte string.
+-- The bytes are a payload: null (`f6`) if it is detached, or a byte string.
 abbrev pub IsPayload : List ℕ → ℕ → Option Span → Type 0
 IsPayload bytes at None = bytes ≡ 0xf6 ∷ []
 IsPayload bytes at (Some span) = IsByteString bytes at span
 
 -- The bytes begin with a tagged COSE_Sign1: tag 18, an array of four, and its parts at these places (RFC 9052, 4.2).
+-- The bytes `d2 84 40 a0 f6 40` are one whose parts are empty and whose payload is detached.
 pub record BeginsSign1 (bytes : List ℕ) (parts : Sign1) : Type 0 where
   pub protected : List ℕ
   pub unprotected : List ℕ
@@ -58,17 +60,17 @@ pub record BeginsSign1 (bytes : List ℕ) (parts : Sign1) : Type 0 where
   pub is_signature : IsByteString signature (2 + length protected + length unprotected + length payload)
       parts.signature
 
--- ---- how far a read comes
+-- ---- the part that a read reaches
 
--- The header of a byte string of a definite length.
+-- The header of a byte string of a definite length: of `42`, but not of `5f`.
 abbrev pub BeginsBytes : Header → Type 0
 BeginsBytes header = (len : ℕ) × (header ≡ h.Bytes (Some len))
 
--- The header of a payload: null, or a byte string of a definite length (RFC 9052, 4.2).
+-- The header of a payload: null, or a byte string of a definite length (RFC 9052, 4.2), as of `f6` or `42`.
 abbrev pub BeginsPayload : Header → Type 0
 BeginsPayload header = (header ≡ h.Simple 22) ⊎ BeginsBytes header
 
--- The header of a map.
+-- The header of a map: of `a1` or `bf`.
 abbrev pub BeginsMap : Header → Type 0
 BeginsMap header = (len : Option ℕ) × (header ≡ h.Map len)
 
@@ -91,7 +93,7 @@ IsAllowed PayloadDue header = BeginsPayload header
 IsAllowed SignatureDue header = BeginsBytes header
 
 -- `ReachesPart bytes due`: the bytes are a beginning of a tagged COSE_Sign1, after which this part is due (RFC 9052,
--- 4.2).
+-- 4.2). After `d2 84 40` the unprotected map is due.
 pub data ReachesPart : List ℕ → Due → Type 0 where
   to_tag : ReachesPart [] TagDue
   to_array : ReachesPart (0xd2 ∷ []) ArrayDue
@@ -145,7 +147,7 @@ module _ {R E : Type 0} (source : Ghosts R E) where
     pub is_map : IsMap bytes old.offset span
     pub took : Took old bytes new
 
-  -- ---- why no more was read
+  -- ---- the reasons that a read stops
 
   -- A beginning of a body of this length was read, and the read of at most 64 further bytes failed.
   pub record BodyFails (len : ℕ) (old : Decoder R) (error : Error E) (new : Decoder R) : Type 0 where

@@ -13,7 +13,7 @@ use Rattle.uses.specs.declared.settings.Settings.{Settings}
 use Rattle.uses.specs.declared.settings.TheConstants.{SETTINGS_DEPTH}
 
 -- The bytes are a text string, whose bodies are UTF-8, each by itself, and joined are the text (RFC 7049, 2.1 and
--- 2.2.2).
+-- 2.2.2). The bytes `7f 61 61 61 62 ff` are the text `ab`.
 pub record IsText (bytes text : List ℕ) : Type 0 where
   pub bodies : List (List ℕ)
   pub is_string : IsString Text bytes bodies
@@ -34,7 +34,7 @@ pub data IsEntry : List ℕ → Settings → Settings → Type 0 where
       → IsEntry (key ++ value) settings settings
 
 -- `AreEntries count bytes old new`: the bytes are `count` entries, joined, and they turn the settings `old` into `new`
--- (RFC 7049, 2.1).
+-- (RFC 7049, 2.1). After `01 61 61 02 05`, two entries, the host is `a` and the port is 5.
 pub data AreEntries : ℕ → List ℕ → Settings → Settings → Type 0 where
   no_entries : {settings : Settings} → AreEntries zero [] settings settings
   one_more : {count : ℕ} {bytes entry : List ℕ} {old between new : Settings} → AreEntries count bytes old between

@@ -60,7 +60,7 @@ module _ {R E W F : Type 0} (source : Reader R E) (sink : Writer W F) where
       RecodesFrom count reader writer (Err (r.Write fault)) reader' writer' ⊎
       FlushesBehind count reader writer (Err fault) reader' writer'
 
-  -- ---- what is asked where bytes are told
+  -- ---- the premises over bytes that are told
 
   -- The reader tells its bytes, and the writer tells the bytes written.
   pub record TellBytes (reader : R) (writer : W) (due written : List ℕ) : Type 0 where
@@ -80,14 +80,15 @@ module _ {R E W F : Type 0} (source : Reader R E) (sink : Writer W F) where
   -- ---- the copy
 
   -- The bytes began with `count` elements. Their shortest spelling was appended, and exactly the bytes after them are
-  -- left.
+  -- left. Over `18 17 05` with a count of 1, `17` is appended and `05` is left.
   pub record CopiesSo (count : ℕ) (due written : List ℕ) (reader : R) (writer : W) : Type 0 where
     pub front : BeginsWithElements false count due
     pub output : sink.written writer ≡ Some (written ++ spelling front.marks)
     pub left : source.ahead reader ≡ Some front.rest
 
   -- The bytes began with fewer elements, and the first fault stopped the copy. The writer has everything written before
-  -- the fault, and the reader the bytes after those that the fault consumes.
+  -- the fault, and the reader the bytes after those that the fault consumes. Over `01 1c 05` with a count of 2, `01` is
+  -- appended and `05` is left.
   pub record StopsAtFault (count : ℕ) (due written : List ℕ) (answer : Answer) (reader : R) (writer : W) : Type 0 where
     pub fault : HasFault false count due
     pub answered : fault.answer ≡ answer
@@ -106,7 +107,7 @@ module _ {R E W F : Type 0} (source : Reader R E) (sink : Writer W F) where
     pub output : sink.written writer ≡ Some (written ++ stop.written)
     pub left : source.ahead reader ≡ Some stop.rest
 
-  -- ---- the flush behind it
+  -- ---- the flush after the copy
 
   -- All elements were copied, and their writer was flushed.
   pub record Normalises (count : ℕ) (due written : List ℕ) (reader : R) (writer : W) : Type 0 where
@@ -120,7 +121,7 @@ module _ {R E W F : Type 0} (source : Reader R E) (sink : Writer W F) where
     pub copies : CopiesSo count due written reader copied
     pub kept : IsSome (sink.room copied) → sink.written writer ≡ sink.written copied
 
-  -- ---- both, by the answer
+  -- ---- the copy and the flush, by the answer
 
   -- The effect of `normalise` if all is ready. An error `Read` names the first fault, and an error `Write` is the error
   -- of the flush.

@@ -11,18 +11,20 @@ use Rattle.ciborium_ll.specs.Decoding.{MovesOn, ReadsPast, DecoderPullAnswer, Pu
 use Rattle.uses.specs.declared.sums.SumError.{SumError}
 use Rattle.uses.specs.declared.sums.SumError.TheVariants as s
 
--- The integer of a header (RFC 7049, 2.1): n, or -1 - n.
+-- The integer of a header (RFC 7049, 2.1): n, or -1 - n. The title `05` is 5, and `24` is -5.
 abbrev pub IsInteger : Header → ℤ → Type 0
 IsInteger (h.Positive n) number = number ≡ pos n
 IsInteger (h.Negative n) number = number ≡ negsuc n
 IsInteger header number = ⊥
 
--- A break may end the array with this header: the array has an indefinite length (RFC 7049, 2.2.1).
+-- Whether a break may end the array with this header: the array has an indefinite length, as after `9f` (RFC 7049,
+-- 2.2.1).
 abbrev pub is_closable : Header → Bool
 is_closable (h.Array None) = true
 is_closable header = false
 
 -- `HaveSum count bytes total`: the bytes are titles of `count` integers, and the total is their sum (RFC 7049, 2.1).
+-- The bytes `01 20` have 2 integers and the total 0.
 pub data HaveSum : ℕ → List ℕ → ℤ → Type 0 where
   none : HaveSum zero [] (pos 0)
   more : {count : ℕ} {bytes title : List ℕ} {total : ℤ} {header : Header} (number : ℤ) → HaveSum count bytes total
@@ -47,7 +49,7 @@ module _ {R E : Type 0} (source : Ghosts R E) where
     pub no_integer : (number : ℤ) → IsInteger header number → ⊥
     pub no_end : closable ≡ true → header ≡ h.Break → ⊥
 
-  -- An integer came with which the sum is out of range.
+  -- An integer came with which the sum is out of range: `01`, for example, if the total is 2^63 - 1.
   pub record PassesRange (total : ℤ) (old : Decoder R) (at : ℕ) (new : Decoder R) : Type 0 where
     pub header : Header
     pub pulled : PullsTitle source old header new
@@ -69,7 +71,7 @@ module _ {R E : Type 0} (source : Ghosts R E) where
   AddsNext total old (Ok None) new = PullsTitle source old h.Break new
   AddsNext total old (Err error) new = StopsNext true total old error new
 
-  -- ---- those of an array
+  -- ---- the integers of an array
 
   -- Titles of `count` integers were read, whose sum is the total.
   pub record ReadsIntegers (old : Decoder R) (count : ℕ) (total : ℤ) (new : Decoder R) : Type 0 where
@@ -77,13 +79,14 @@ module _ {R E : Type 0} (source : Ghosts R E) where
     pub have_sum : HaveSum count bytes total
     pub passed : ReadsPast source old bytes new
 
-  -- The array ends after `count` integers: its header counts as many, or a break came (RFC 7049, 2.2.1).
+  -- The array ends after `count` integers: its header counts as many, or a break came (RFC 7049, 2.2.1). The array `82`
+  -- ends after 2 integers, and `9f` at `ff`.
   abbrev pub EndsArray : Header → ℕ → Decoder R → Decoder R → Type 0
   EndsArray (h.Array (Some len)) count between new = (count ≡ len) × (new ≡ between)
   EndsArray (h.Array None) count between new = PullsTitle source between h.Break new
   EndsArray header count between new = ⊥
 
-  -- One more integer may follow after `count` integers.
+  -- One more integer may follow after `count` integers: after `82 01` it may, and after `82 01 02` it may not.
   abbrev pub ArrayGoesOn : Header → ℕ → Type 0
   ArrayGoesOn (h.Array (Some len)) count = count < len
   ArrayGoesOn (h.Array None) count = Unit {0}
@@ -124,7 +127,7 @@ module _ {R E : Type 0} (source : Ghosts R E) where
     pub place : at ≡ old.offset
     pub no_array : (len : Option ℕ) → header ≡ h.Array len → ⊥
 
-  -- The sum of an array, or the reason that there is none, by the answer (RFC 7049, 2.1).
+  -- The sum of an array, or the reason that there is none, by the answer (RFC 7049, 2.1). For `82 01 20` it is 0.
   abbrev pub SumsOrStops : Decoder R → Result ℤ (SumError E) → Decoder R → Type 0
   SumsOrStops old (Ok total) new = OpensArray old (Ok total) new
   SumsOrStops old (Err (s.Read error)) new =

@@ -20,12 +20,12 @@ use Rattle.ciborium_ll.specs.Segments.{PullsOther}
 use Rattle.uses.specs.declared.texts.TextError.{TextError}
 use Rattle.uses.specs.declared.texts.TextError.TheVariants as t
 
--- The header begins no text.
+-- The header begins no text: `41` begins none, and `61` begins a text.
 abbrev pub BeginsOther : Header → Type 0
 BeginsOther header = (len : Option ℕ) → header ≡ h.Text len → ⊥
 
 -- The greatest number of segments of a text of at most `limit` bytes: one more than the limit, because the only segment
--- of an empty text is empty.
+-- of an empty text is empty. For a limit of 3 it is 4.
 abbrev pub most_segments : ℕ → ℕ
 most_segments limit = min (limit + 1) (2 ^ 64 - 2)
 
@@ -33,7 +33,8 @@ module _ {R E : Type 0} (source : Ghosts R E) where
   -- ---- the text that was read
 
   -- Exactly the bytes of one string were consumed (RFC 7049, 2.1 and 2.2.2). Its bodies are UTF-8, each by itself, and
-  -- joined they are the text. There are no more bodies than the limit allows.
+  -- joined they are the text. There are no more bodies than the limit allows. With a limit of 2, `7f 61 61 61 62 ff`
+  -- gives the text `61 62`.
   pub record ReadsText (limit : ℕ) (old : Decoder R) (text : List ℕ) (new : Decoder R) : Type 0 where
     pub bytes : List ℕ
     pub bodies : List (List ℕ)
@@ -43,7 +44,7 @@ module _ {R E : Type 0} (source : Ghosts R E) where
     pub few : length bodies ≤ most_segments limit
     pub passed : ReadsPast source old bytes new
 
-  -- ---- how it is read
+  -- ---- the steps of the read
 
   -- `Gathers progress old bodies progress' new`: `advance` announced these bodies, one after the other. Each was read
   -- whole, and the decoder is after it (RFC 7049, 2.1 and 2.2.2).
@@ -85,14 +86,15 @@ module _ {R E : Type 0} (source : Ghosts R E) where
   abbrev pub GathersText : ℕ → Decoder R → List ℕ → Decoder R → Type 0
   GathersText limit old text new = IsBehindHeader (λ pushed left. GathersAll limit (p.Open 0) pushed text left) old new
 
-  -- ---- why no text was read
+  -- ---- the reasons that no text was read
 
   -- `advance` failed after the bodies that were read.
   pub record FailsAtTitle (progress : Progress) (old : Decoder R) (error : Error E) (new : Decoder R) : Type 0 where
     pub bodies : List (List ℕ)
     pub fails : AdvancesBehind progress old bodies (Err error) new
 
-  -- `advance` announced a body with which the text is longer than the limit, and nothing of the body was read.
+  -- `advance` announced a body with which the text is longer than the limit, and nothing of the body was read: at the
+  -- title `64`, for example, with a limit of 3.
   pub record MeetsLongBody (limit : ℕ) (progress : Progress) (old new : Decoder R) : Type 0 where
     pub bodies : List (List ℕ)
     pub body : Body

@@ -38,9 +38,9 @@ pub struct Sign1 {
 /// Why no COSE_Sign1 was read.
 #[derive(Debug, Drop)]
 pub enum CoseError<E> {
-    /// The decoder failed, and this is its error.
+    /// The decoder failed with this error.
     Read(Error<E>),
-    /// The read of the unprotected map failed, and this is its error.
+    /// The read of the unprotected map failed with this error.
     Skip(SkipError<E>),
     /// The title at this offset may not stand there.
     Unexpected(usize),
@@ -68,18 +68,17 @@ impl<E> From<SkipError<E>> for CoseError<E> {
 
 /// Returns the places of the parts of the tagged COSE_Sign1 (RFC 9052, 4.2) with which the bytes begin.
 ///
-/// Any bytes may follow. The COSE_Sign1 is tag 18 and an array of four: a byte string, a map, a byte string or null,
-/// and a byte string. Each title must be the shortest, within the map too. No byte string may have an indefinite
-/// length. The map may be nested 16 levels deep. The call tests no other contents of the map and the byte strings.
+/// The COSE_Sign1 is tag 18 and an array of four: a byte string, a map, a byte string or null, and a byte string. Each
+/// title must be the shortest, within the map too. No byte string may have an indefinite length. The map may be nested
+/// 16 levels deep. The call tests no other contents.
 ///
 /// # Errors
 ///
-/// The bytes before an error are the beginning of a COSE_Sign1. The call reads bodies in pieces of at most 64 bytes.
+/// The bytes before an error are the beginning of a COSE_Sign1.
 ///
-/// - `Read`: the decoder, which is strict, failed at a title or in the body of a byte string. `Syntax(offset)` means
-///   that no title begins at the offset, or that the title is not the shortest. `Io` means that the bytes end too
-///   early.
-/// - `Skip`: the read of the map failed, with this error.
+/// - `Read`: the decoder failed at a title or in the body of a byte string. `Syntax(offset)` means that no title begins
+///   at the offset, or a longer one. `Io` means that the bytes end too early.
+/// - `Skip`: the read of the map failed.
 /// - `Unexpected(offset)`: the title at this offset may not stand there.
 pub fn read_sign1<'a>(bytes: &'a [u8]) -> Result<Sign1, CoseError<EndOfFile>>
     ensures begins { IfOk result (λ parts. BeginsSign1 bytes.now parts) }
@@ -183,8 +182,8 @@ fn map<R: Read>(decoder: &mut Decoder<R>) -> Result<Span, CoseError<R::Error>>
 
 /// Skips the pairs of a map, after its header.
 ///
-/// It does not skip the map as one item: a header that was given back comes again, whatever its spelling was. A strict
-/// decoder takes the items after the title in their shortest spelling alone.
+/// It does not give the header back and skip the whole map, because a strict decoder takes a header that waits in any
+/// spelling.
 fn pairs<R: Read>(decoder: &mut Decoder<R>, len: Option<usize>) -> Result<(), SkipError<R::Error>>
     ensures { SkipsPairs R.Read len decoder.old result decoder.new }
 {

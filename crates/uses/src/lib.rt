@@ -1,5 +1,5 @@
 // SPDX-License-Identifier: Apache-2.0
-//! Callers of the library, as a user writes them. The contract of each function says what the function is for.
+//! Callers of the library, as a user writes them.
 #![tactic(auto)]
 
 mod cose;

@@ -16,10 +16,8 @@ pub struct Entry<'a> {
     pub value: &'a str,
 }
 
-/// Writes a map from texts to texts (RFC 7049, 2.1). The map has a definite length, each text is one string, and each
-/// title is the shortest.
-///
-/// A writer into a lent slice stays on it.
+/// Writes a map from texts to texts (RFC 7049, 2.1), of a definite length, each text as one string and each title the
+/// shortest.
 ///
 /// # Errors
 ///

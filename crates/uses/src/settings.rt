@@ -26,20 +26,20 @@ pub const SETTINGS_DEPTH: usize = 16;
 /// The settings that a map has.
 #[derive(Debug, Drop)]
 pub struct Settings {
-    /// The text of key 1, or `None` if the map lacks this key.
+    /// The text of key 1, if the map has this key.
     pub host: Option<String>,
-    /// The number of key 2, or `None` if the map lacks this key.
+    /// The number of key 2, if the map has this key.
     pub port: Option<u64>,
 }
 
 /// Why no settings were read.
 #[derive(Debug, Drop)]
 pub enum SettingsError<E> {
-    /// The decoder failed, and this is its error.
+    /// The decoder failed with this error.
     Read(Error<E>),
-    /// The read of the host failed, and this is its error.
+    /// The read of the host failed with this error.
     Text(TextError<E>),
-    /// The read of the value of another key failed, and this is its error.
+    /// The read of the value of another key failed with this error.
     Skip(SkipError<E>),
     /// The title at this offset may not stand there.
     Unexpected(usize),
@@ -112,17 +112,16 @@ fn read_known<R: Read>(
 
 /// Reads a map of settings (RFC 7049, 2.1), of a definite length, whose keys are numbers.
 ///
-/// After `Ok`, exactly the bytes of one map are consumed. The host is the text of key 1, and the port the number of key
-/// 2. If a key comes twice, its last value counts. The call skips the value of every other key, which may be nested 16
-/// levels deep. Whatever the answer, the decoder moves on as `Decoder` says.
+/// `Ok` consumes exactly one map. If a key comes twice, its last value counts. The call skips the value of every other
+/// key, which may be nested 16 levels deep.
 ///
 /// # Errors
 ///
 /// The bytes read before an error are consumed.
 ///
-/// - `Read`: the decoder failed at a title, with this error.
-/// - `Text`: the read of the host failed, with this error.
-/// - `Skip`: the read of the value of another key failed, with this error.
+/// - `Read`: the decoder failed at a title.
+/// - `Text`: the read of the host failed.
+/// - `Skip`: the read of the value of another key failed.
 /// - `Unexpected(offset)`: the title at this offset begins no map of a definite length, no key or no port.
 pub fn read_settings<R: Read>(
     alloc: Global,

@@ -13,8 +13,8 @@ pub const DEPTH: usize = 64;
 
 /// Returns the number of bytes of the item in its shortest spelling with which the bytes begin (RFC 7049, 3.9).
 ///
-/// Any bytes may follow the item. `None` comes exactly if the bytes begin with no item of this spelling whose tags,
-/// arrays and maps are nested at most 64 levels deep. A check of a message that was signed as bytes may rely on this.
+/// `None` comes exactly if there is no such item, nested at most 64 levels deep. A check of a message that was signed
+/// as bytes may rely on this.
 pub fn shortest_item_len(bytes: &[u8]) -> Option<usize>
     ensures { MatchOption result ((len : ℕ) → ShortestInFront DEPTH bytes.now len → ⊥)
         (λ len. ShortestInFront DEPTH bytes.now len) }

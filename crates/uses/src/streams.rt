@@ -11,19 +11,12 @@ use ciborium_ll::{Decoder, Encoder, RecodeError};
 /// Copies `count` elements from a reader to a writer, each in its shortest spelling, flushes the writer, and returns
 /// both.
 ///
-/// An element is a header that begins no string, or a whole string (RFC 7049, 2.1 and 2.2).
+/// An element is a header that begins no string, or a whole string (RFC 7049, 2.1 and 2.2). The copy is that of
+/// `recode`, by a new decoder and a buffer of 64 bytes. A writer that tells its room keeps the copy after a failed
+/// flush too.
 ///
-/// Over any reader and writer, the copy is the copy of `recode` by a new decoder and a buffer of 64 bytes. After all
-/// elements the call flushes the writer. The reader comes back as `recode` left it, and so does the writer, but for the
-/// flush. The elements read are consumed, and the writer has their copy. A writer that tells its room keeps the copy
-/// after a failed flush too.
-///
-/// If both sides tell their bytes, `Ok` says that the writer got the shortest spelling of `count` elements and was
-/// flushed. The reader then has the bytes that follow the elements.
-///
-/// Let the reader also be steady, the offset fit and the writer have room: for the spelling of the elements if that
-/// many are next, and otherwise for all bytes due. `Read` then comes exactly if the bytes begin with fewer elements,
-/// and names the first fault. `Write` is then the error of the flush alone, with all elements written.
+/// If the reader is steady, the offset fits and the writer has room, `Read` comes exactly if the bytes begin with fewer
+/// elements, and `Write` only if the flush fails.
 ///
 /// # Errors
 ///

@@ -12,7 +12,7 @@ use ciborium_ll::{Decoder, Error, Header};
 /// Why there is no sum.
 #[derive(Debug, Drop)]
 pub enum SumError<E> {
-    /// The decoder failed, and this is its error.
+    /// The decoder failed with this error.
     Read(Error<E>),
     /// The title at this offset begins no array.
     NoArray(usize),
@@ -34,15 +34,13 @@ impl<E> From<Error<E>> for SumError<E> {
 
 /// Returns the sum of an array of integers (RFC 7049, 2.1), of a definite length or not (2.2.1).
 ///
-/// After `Ok`, exactly the header of an array was read, and titles of integers whose sum is the answer: as many as the
-/// header counts, or up to a break. After an error, some of the titles were read. Whatever the answer, the decoder
-/// moves on as `Decoder` says.
+/// `Ok` consumes exactly the array. The sum of `82 01 20` is 0.
 ///
 /// # Errors
 ///
 /// The bytes read before an error are consumed.
 ///
-/// - `Read`: the decoder failed, with this error.
+/// - `Read`: the decoder failed.
 /// - `NoArray(offset)`: the title at this offset begins no array.
 /// - `NoNumber(offset)`: the title at this offset is no integer.
 /// - `OutOfRange(offset)`: with the integer at this offset, the sum so far leaves the range of `i64`.

@@ -13,7 +13,7 @@ use std::alloc::Global;
 /// Why no text was read.
 #[derive(Debug, Drop)]
 pub enum TextError<E> {
-    /// The decoder failed, and this is its error.
+    /// The decoder failed with this error.
     Read(Error<E>),
     /// The title at this offset begins no text.
     NoText(usize),
@@ -36,20 +36,16 @@ impl<E> From<Error<E>> for TextError<E> {
 /// Reads a whole text (RFC 7049, 2.1) of a definite length or not (2.2.2), of at most `limit` bytes in at most `limit +
 /// 1` segments.
 ///
-/// After `Ok`, exactly the bytes of one text string are consumed. Its bodies are UTF-8, each by itself, and joined they
-/// are the text. The steps follow one another: `pull` gives the header, which is given back. `advance` announces each
-/// body, which is read whole, and then says that the string has ended.
-///
-/// After an error, the decoder is where the last step left it. Whatever the answer, it moves on as `Decoder` says.
+/// `Ok` consumes exactly one text string. Its bodies are UTF-8, each by itself, and joined they are the text.
 ///
 /// # Errors
 ///
 /// The bytes read before an error are consumed.
 ///
-/// - `Read`: `pull`, `advance` or the read of a body failed, with the decoder's error.
+/// - `Read`: the decoder failed at a title or in a body.
 /// - `NoText(offset)`: the title at this offset begins no text.
-/// - `TooLong`: with the next body, the text would be longer than `limit`. The body is not read, so the text takes no
-///   more memory than the limit allows. Or there are more than `limit + 1` segments, because too many are empty.
+/// - `TooLong`: with the next body, which is not read, the text would be longer than `limit`. Or there are more than
+///   `limit + 1` segments.
 /// - `Memory`: there is no memory for a part of a body.
 pub fn read_string<R: Read>(
     alloc: Global,

@@ -27,6 +27,6 @@ returns-in_err-body-in-Bytes-Some-clause-stops g c =
       fails = c.in_err-body-in-Bytes-Some.ensures.fails;
     }))
 
--- a payload that is null is taken
+-- The call takes a payload that is null.
 pub returns-in-Simple-eq22-clause-stops : goal.returns-in-Simple-eq22-clause-stops
 returns-in-Simple-eq22-clause-stops g c = tt

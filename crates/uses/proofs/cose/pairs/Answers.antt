@@ -24,7 +24,7 @@ returns-in-Err g c =
     c.items.remaining _ c.offset-place.result _ c.items.invariant some moves_on.steady c.offset-place.ensures.value stops
     (rw c.closes.ensures at c.ended.ensures)
 
--- each item takes a byte
+-- Each item takes at least one byte.
 pub items-smaller : goal.items-smaller
 items-smaller g c =
     let item : ReadsItem g.R.Read (MAP_DEPTH - 1) c.items.decoder c.skip_item.new.decoder =

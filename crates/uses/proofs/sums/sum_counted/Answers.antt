@@ -13,7 +13,7 @@ numbers-init g c = record {
   moves_on = MovesOn-none g.R.Read c.args.decoder.now;
 }
 
--- a break is no integer
+-- A break is no integer.
 pub returns-in-None-clause-sums : goal.returns-in-None-clause-sums
 returns-in-None-clause-sums g c =
     let pulled = rw (c.in-None.is, c.offset-place.ensures.same) at c.in_ok-sum.ensures.adds in

@@ -9,6 +9,6 @@ invariant-numbers g l = record {
   moves_on : MovesOn g.R.Read l.initial.decoder l.decoder;
 }
 
--- each title takes a byte
+-- Each title takes at least one byte.
 abbrev pub decreases-numbers : goal.decreases-numbers
 decreases-numbers g l = 2 ^ 64 - l.decoder.offset
