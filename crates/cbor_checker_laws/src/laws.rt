@@ -14,7 +14,7 @@ use ciborium_ll_io::io::Read;
 
 /// A skip of all bytes stops at the fault that a checker names after a part of them, at the same place.
 ///
-/// Any bytes may follow that part. [`feed_and_skip`](crate::feed_and_skip) says when two faults have one place.
+/// [`feed_and_skip`](crate::feed_and_skip) says when two faults have one place.
 pub fn same_faults()
     ensures syntax { (strict : Bool) (depth : ℕ) (fed more : List ℕ) (fault : Fault) → Names strict depth fed fault
         → (met : HasItemFault strict depth (fed ++ more)) → (at : ℕ) → met.answer ≡ Syntax at
@@ -30,8 +30,7 @@ pub fn same_faults()
 /// A skip of all bytes answers the fault that a checker names after a part of them, at the same place, or that the
 /// bytes end too early.
 ///
-/// Any bytes may follow that part. The skip is to the same depth, as strict, and as `SkipsTold` says, which the clause
-/// `told` of `skip_item` promises.
+/// The skip is to the same depth, as strict, and as `SkipsTold` says, which the clause `told` of `skip_item` promises.
 pub fn skip_answers<R: Read>()
     ensures { (strict : Bool) (depth : ℕ) (fed more : List ℕ) (fault : Fault) → Names strict depth fed fault
         → (old new : Decoder R) (result : Result (Unit {0}) (SkipError R.Error))

@@ -22,8 +22,8 @@ const BUFFER_SIZE: usize = 64;
 
 /// Returns the answers of [`Checker::feed`] and of [`skip_item`] to the same bytes.
 ///
-/// Both read an item nested at most `depth` levels deep, in its shortest spelling if `strict` holds. `depth` is at most
-/// 256. The checker takes a beginning of the bytes, and all of them if more are due.
+/// Both read an item nested at most `depth` levels deep, in its shortest spelling if `strict` holds. The checker takes
+/// a beginning of the bytes, and all of them if more are due.
 ///
 /// If the checker names a fault, the skip answers the same fault at the same place, or that the bytes end too early. A
 /// nest too deep whose title isn't the shortest is two faults at one place. The checker then names the nest, and the

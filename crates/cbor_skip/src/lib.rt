@@ -1,7 +1,7 @@
 // SPDX-License-Identifier: Apache-2.0
 //! Skips one item of CBOR (RFC 7049, 2.1 to 2.4), whatever it contains.
 //!
-//! No call takes memory. Each call returns over any reader, also over one that never ends.
+//! No call takes memory, and each returns, also over a reader that never ends.
 #![tactic(auto)]
 
 ghost use Rattle.std.specs.Prelude.{◌≡◌, ◌<◌, ◌≤◌, ◌↔◌, ℕ, Bool, false, List, length, IsOk, MatchResult, Some};
@@ -188,19 +188,19 @@ fn skip_rest<R: Read>(
 
 /// Skips one item, with tags, arrays and maps nested at most `depth` levels deep (RFC 7049, 2.1 to 2.4).
 ///
-/// `depth` is at most 256, and each level has a frame on the stack. A tag, an array and a map take a level, also an
-/// empty one; a string takes none. Strings go through `buffer`, which has four bytes at least.
+/// `depth` is at most 256. Each tag, array or map takes a level, also an empty one, and a frame on the stack. Strings
+/// go through `buffer`, which has four bytes at least.
 ///
 /// `Ok` means that the decoder is after one whole item, each body of a text UTF-8 by itself. A strict decoder read the
 /// item in its shortest spelling (3.9).
 ///
 /// # Errors
 ///
-/// - `Break(offset)`: a break stands in place of an item, as [`SkipError::Break`] says.
-/// - `Deep(offset)`: no level is left for the tag, array or map at this offset.
-/// - `Read` with `Syntax(offset)`: the bytes are no title, a title that may not stand within its string, or a body that
-///   is no text, at the place that [`Error::Syntax`] names. A strict decoder also refuses a title that isn't strict,
-///   and an open within a string.
+/// - `Break(offset)`: a break stands in place of an item.
+/// - `Deep(offset)`: no level is left for a tag, an array or a map.
+/// - `Read` with `Syntax(offset)`: no title, a title that may not stand within its string, or a body that is no text,
+///   at the place that [`Error::Syntax`] names. A strict decoder also refuses a title that isn't strict, and an open
+///   within a string.
 /// - `Read` with `Io`: the reader failed.
 /// - `Read` with `TooLong`: the offset can't take the next read.
 ///
@@ -209,9 +209,7 @@ fn skip_rest<R: Read>(
 /// # Conditions for success
 ///
 /// If the reader is steady, the offset fits and no header waits on a strict decoder, `Ok` comes exactly if the bytes
-/// begin with an item. Otherwise the answer then is `Break`, `Deep` or a fault of the bytes.
-///
-/// Whatever the answer, the decoder moves on as [`Decoder`] says.
+/// begin with an item.
 ///
 /// # Examples
 ///

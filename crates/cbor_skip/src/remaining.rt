@@ -26,7 +26,7 @@ pub enum Remaining {
 }
 
 impl Remaining {
-    /// Returns the items that the header of a tag, an array or a map announces.
+    /// Returns the items that a header of a tag, array or map announces.
     pub fn behind(header: Header) -> Remaining
         requires { IsNest header }
         ensures { IsRemaining header 0 result }

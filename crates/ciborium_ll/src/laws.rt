@@ -1,8 +1,8 @@
-//! Functions whose contracts tie the library's calls together, and the laws of its definitions.
+//! Functions whose contracts tie the library's calls together, and laws of its definitions, each the contract of an
+//! empty function.
 //!
-//! The functions for laws are empty: their contracts are the laws. The laws on strings, elements, runs, faults and
-//! items speak of the definitions alone. The clauses `front` and `told` of `recode` tie it to elements, runs and
-//! faults. `Encoder::bytes` and `Encoder::text` are tied to elements, and `skip_item` of `cbor_skip` to items.
+//! The clauses `front` and `told` of `recode` tie it to elements, runs and faults. `Encoder::bytes` and `Encoder::text`
+//! are tied to elements, and `skip_item` of `cbor_skip` to items.
 
 mod copy;
 mod drains;

@@ -4,7 +4,7 @@
 //! A [`Decoder`] gives the headers of items, and the bodies of strings chunk by chunk. An [`Encoder`] writes headers,
 //! each as its shortest title, and strings in pieces of a limited length.
 //!
-//! Only [`io::VecWriter`] allocates memory, out of the allocator that its caller names.
+//! Only [`io::VecWriter`] allocates memory, from its caller's allocator.
 #![tactic(auto)]
 
 pub mod io;

@@ -1,6 +1,6 @@
 //! Readers and writers, and the facts that they tell.
 //!
-//! A contract speaks of bytes only if a reader or a writer tells them. Telling costs nothing at run time.
+//! A contract speaks of bytes only if a reader or a writer tells them, which costs nothing at run time.
 
 ghost use Rattle.std.specs.Prelude.{◌≡◌, ℕ, ◌+◌, ◌<◌, List, Bool, length, IsTrue, IsSome, IfSome, OnOk, OnErr};
 ghost use Rattle.std.specs.declared.option.Option.{Option};
@@ -31,7 +31,7 @@ pub trait Read {
     /// The number of calls that failed so far.
     ghost failures: { Self → ℕ };
 
-    /// Fills the whole of `data` with the next bytes, and consumes exactly these.
+    /// Fills `data` with the next bytes, and consumes them.
     ///
     /// # Errors
     ///
@@ -90,7 +90,7 @@ pub trait Write {
 
         ensures target { target self.new ≡ target self.old };
 
-    /// Passes on the bytes that the writer kept back. Each writer states in `flushed` the meaning of `Ok`.
+    /// Passes on the bytes that the writer kept back.
     ///
     /// # Errors
     ///

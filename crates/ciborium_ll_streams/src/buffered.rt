@@ -18,7 +18,7 @@ use std::io;
 #[derive(Debug, Drop)]
 pub struct FaultKept;
 
-/// Reads from a reader of std, and reads ahead into a slice that the caller lends. It is never steady.
+/// Reads from a reader of std, ahead into a slice that the caller lends. It is never steady.
 ///
 /// A slice of some 8 KiB serves well. If the slice is empty, each read calls the inner reader.
 #[derive(Drop)]
@@ -50,14 +50,14 @@ impl<'a, T: io::Read> BufferedReader<'a, T> {
         }
     }
 
-    /// Returns the bytes that it read ahead and gave to no caller.
+    /// Returns the bytes read ahead that no caller got.
     pub fn buffer(&self) -> &[u8]
         ensures { result.now ≡ buffered_read_ahead self.now }
     {
         self.window.held()
     }
 
-    /// Returns the fault of the last call that failed, if it keeps one, and keeps it no longer.
+    /// Takes the fault of the last failed call, if it keeps one.
     pub fn take_fault(&mut self) -> Option<ReadFault>
         ensures fault { result ≡ buffered_read_fault self.old }
         ensures none { buffered_read_fault self.new ≡ None }
@@ -70,8 +70,7 @@ impl<'a, T: io::Read> BufferedReader<'a, T> {
         self.fault.take()
     }
 
-    /// Returns the inner reader, the bytes that it read ahead and gave to no caller, and the fault of the last call
-    /// that failed.
+    /// Returns the inner reader, the bytes read ahead, and the fault kept.
     pub fn into_parts(self) -> (T, &'a [u8], Option<ReadFault>)
         ensures source { result.0 ≡ buffered_source self.entry }
         ensures read_ahead { result.1.now ≡ buffered_read_ahead self.entry }
@@ -195,7 +194,7 @@ impl<'a, T: io::Read> Read for BufferedReader<'a, T> {
 
     ghost steady_is_told = { λ _ h. Prim.search rules };
 
-    /// Fills the whole of `data` from the bytes read ahead. If they are too few, it calls `read` as often as needed.
+    /// Fills `data` from the bytes read ahead, and then by as many calls of `read` as needed.
     ///
     /// # Errors
     ///
@@ -236,8 +235,7 @@ impl<'a, T: io::Read> Read for BufferedReader<'a, T> {
 
 /// Writes to a writer of std, and keeps bytes back in a slice that the caller lends. It tells no room.
 ///
-/// A slice of some 8 KiB serves well. If the slice is empty, each write calls the inner writer. `flush` passes the kept
-/// bytes on, and so does a write for which the slice has no room. Dropping the writer passes nothing on.
+/// A slice of some 8 KiB serves well. Dropping the writer passes no kept bytes on.
 #[derive(Drop)]
 pub struct BufferedWriter<'a, T> {
     sink: T,
@@ -276,7 +274,7 @@ impl<'a, T: io::Write> BufferedWriter<'a, T> {
         self.window.held()
     }
 
-    /// Returns the fault of the last call that failed, if it keeps one, and keeps it no longer.
+    /// Takes the fault of the last failed call, if it keeps one.
     pub fn take_fault(&mut self) -> Option<WriteFault>
         ensures fault { result ≡ buffered_write_fault self.old }
         ensures none { buffered_write_fault self.new ≡ None }
@@ -290,7 +288,7 @@ impl<'a, T: io::Write> BufferedWriter<'a, T> {
         self.fault.take()
     }
 
-    /// Returns the inner writer, the bytes kept back, and the fault of the last call that failed.
+    /// Returns the inner writer, the bytes kept back, and the fault kept.
     pub fn into_parts(self) -> (T, &'a [u8], Option<WriteFault>)
         ensures sink { result.0 ≡ buffered_sink self.entry }
         ensures kept_back { result.1.now ≡ buffered_kept_back self.entry }
@@ -390,15 +388,13 @@ impl<'a, T: io::Write> Write for BufferedWriter<'a, T> {
 
     ghost target = { λ _. None };
 
-    /// Appends the whole of `data`.
-    ///
-    /// It keeps `data` back if the slice has space. Otherwise it first writes the bytes kept back, and then `data` too,
-    /// unless the whole slice has room for `data`.
+    /// Appends `data`, and keeps it back if the slice has space. Otherwise it first writes the bytes kept back, and
+    /// then `data` too, unless the whole slice has room for it.
     ///
     /// # Errors
     ///
     /// - `FaultKept`: a call of the inner writer failed (`Failed`) or took no byte (`Zero`). No failure loses bytes
-    ///   that were kept back before.
+    ///   kept back before.
     #[inline(always)]
     fn write_all(&mut self, data: &[u8]) -> Result<(), FaultKept>
         // The trait's.

@@ -1,5 +1,5 @@
 // SPDX-License-Identifier: Apache-2.0
-//! Readers and writers of bytes over readers and writers of std, and a writer into memory that grows.
+//! Readers and writers over those of std, and a writer into memory that grows.
 //!
 //! This crate is a part of `ciborium_ll`, whose module `io` exports it.
 #![tactic(auto)]

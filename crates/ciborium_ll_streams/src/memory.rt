@@ -17,7 +17,7 @@ impl From<OutOfMemory> for AllocError {
     }
 }
 
-/// Writes to the end of a `Vec<u8>`, which grows. It tells the bytes that it wrote, and no room.
+/// Writes to the end of a `Vec<u8>`, which grows. It tells no room.
 #[derive(Drop)]
 pub struct VecWriter {
     bytes: Vec<u8>,

@@ -68,7 +68,7 @@ impl<T: io::Read> Read for StdReader<T> {
 
     ghost steady_is_told = { λ _ h. Prim.search rules };
 
-    /// Fills the whole of `data`, by as many calls of `read` as needed.
+    /// Fills `data` by as many calls of `read` as needed.
     ///
     /// # Errors
     ///
@@ -162,7 +162,7 @@ impl<T: io::Write> Write for StdWriter<T> {
 
     ghost target = { λ _. None };
 
-    /// Appends the whole of `data`, by as many calls of `write` as needed.
+    /// Appends `data` by as many calls of `write` as needed.
     ///
     /// # Errors
     ///

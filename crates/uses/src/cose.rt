@@ -76,8 +76,8 @@ impl<E> From<SkipError<E>> for CoseError<E> {
 ///
 /// The bytes before an error are the beginning of a COSE_Sign1.
 ///
-/// - `Read`: the decoder failed at a title or in the body of a byte string. `Syntax(offset)` means that no title begins
-///   at the offset, or a longer one. `Io` means that the bytes end too early.
+/// - `Read`: the decoder failed. After `Syntax(offset)`, no title begins at the offset, or a longer one. After `Io`,
+///   the bytes end too early.
 /// - `Skip`: the read of the map failed.
 /// - `Unexpected(offset)`: the title at this offset may not stand there.
 pub fn read_sign1<'a>(bytes: &'a [u8]) -> Result<Sign1, CoseError<EndOfFile>>

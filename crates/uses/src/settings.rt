@@ -121,7 +121,7 @@ fn read_known<R: Read>(
 ///
 /// - `Read`: the decoder failed at a title.
 /// - `Text`: the read of the host failed.
-/// - `Skip`: the read of the value of another key failed.
+/// - `Skip`: the read of another key's value failed.
 /// - `Unexpected(offset)`: the title at this offset begins no map of a definite length, no key or no port.
 pub fn read_settings<R: Read>(
     alloc: Global,

@@ -8,26 +8,23 @@ use ciborium_ll::io::{Read, Write};
 use ciborium_ll::recode::recode;
 use ciborium_ll::{Decoder, Encoder, RecodeError};
 
-/// Copies `count` elements from a reader to a writer, each in its shortest spelling, flushes the writer, and returns
-/// both.
+/// Copies `count` elements (RFC 7049, 2.1 and 2.2) from a reader to a writer, each in its shortest spelling, flushes
+/// the writer, and returns both.
 ///
-/// An element is a header that begins no string, or a whole string (RFC 7049, 2.1 and 2.2). The copy is that of
-/// `recode`, by a new decoder and a buffer of 64 bytes. A writer that tells its room keeps the copy after a failed
-/// flush too.
+/// The copy is that of `recode`, by a new decoder and a buffer of 64 bytes. A writer that tells its room keeps the copy
+/// after a failed flush too.
 ///
 /// If the reader is steady, the offset fits and the writer has room, `Read` comes exactly if the bytes begin with fewer
 /// elements, and `Write` only if the flush fails.
 ///
 /// # Errors
 ///
-/// These are the errors of `recode`, after which nothing is flushed, and `Write` with the error of the flush. If both
-/// sides tell their bytes:
+/// After an error of `recode` nothing is flushed. If both sides tell their bytes:
 ///
 /// - `Read(Syntax(offset))`: the first fault, with its place. The writer has everything that is written before the
-///   fault, and the reader the bytes after those that the fault consumes.
+///   fault.
 /// - `Read(Io)`, `Read(TooLong)`: the writer has the spelling of a part of the elements.
-/// - `Write`: the writer has a beginning of this spelling, and the reader the bytes after those read. Or the writer has
-///   everything, and the flush failed.
+/// - `Write`: the writer has a beginning of this spelling, or has everything and the flush failed.
 pub fn normalise<R: Read, W: Write>(
     reader: R,
     writer: W,

@@ -43,7 +43,7 @@ impl<E> From<Error<E>> for SumError<E> {
 /// - `Read`: the decoder failed.
 /// - `NoArray(offset)`: the title at this offset begins no array.
 /// - `NoNumber(offset)`: the title at this offset is no integer.
-/// - `OutOfRange(offset)`: with the integer at this offset, the sum so far leaves the range of `i64`.
+/// - `OutOfRange(offset)`: with the integer at this offset, the sum leaves the range of `i64`.
 #[tactic(auto, using(crate::proofs::Steps::array_sums))]
 pub fn sum_numbers<R: Read>(decoder: &mut Decoder<R>) -> Result<i64, SumError<R::Error>>
     ensures { SumsArray R.Read decoder.old result decoder.new }

@@ -36,7 +36,7 @@ impl<E> From<Error<E>> for TextError<E> {
 /// Reads a whole text (RFC 7049, 2.1) of a definite length or not (2.2.2), of at most `limit` bytes in at most `limit +
 /// 1` segments.
 ///
-/// `Ok` consumes exactly one text string. Its bodies are UTF-8, each by itself, and joined they are the text.
+/// Exactly the bytes of one text string are consumed. Each of its bodies is UTF-8.
 ///
 /// # Errors
 ///

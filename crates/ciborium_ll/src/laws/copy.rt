@@ -11,17 +11,17 @@ use ciborium_ll_recode::recode::RecodeError;
 
 /// Pulls `count` headers, and pushes each of them before it pulls the next.
 ///
-/// It copies no bodies: it reads the bytes after a string's title as the next title.
+/// It reads the bytes after a string's title as the next title.
 ///
 /// If the decoder is not strict, the reader is steady, the room covers the bytes due and the offset fits, the copy
-/// succeeds exactly if `count` titles are next. Otherwise it then names the first fault.
+/// succeeds exactly if `count` titles are next.
 ///
 /// # Errors
 ///
-/// - `RecodeError::Read`: a `pull` failed, with this error. All headers before it were written. `Syntax(offset)` is the
-///   first byte with which no title begins. `Io` of a steady reader means that the bytes end before or within a title,
-///   whose first byte is consumed.
-/// - `RecodeError::Write`: a `push` failed, with this error.
+/// - `RecodeError::Read`: a `pull` failed, after all headers before it were written. `Syntax(offset)` is the first byte
+///   with which no title begins. `Io` of a steady reader means that the bytes end before or within a title, whose first
+///   byte is consumed.
+/// - `RecodeError::Write`: a `push` failed.
 pub fn copy_headers<R: Read, W: Write>(
     decoder: &mut Decoder<R>,
     encoder: &mut Encoder<W>,

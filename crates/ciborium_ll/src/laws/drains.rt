@@ -85,17 +85,17 @@ pub fn drained_in_all<R: Read, W: Write, P: Chunked>()
 
 /// Reads a body of bytes by one `pull` for each size, and writes each chunk.
 ///
-/// It ends if the body has ended, if a call fails, or after the last size. A size is the length in bytes of the front
-/// of `buffer` that one `pull` gets. [`drained_in_all`] says what the chunks add up to.
+/// A size is the length in bytes of the front of `buffer` that one `pull` gets. [`drained_in_all`] says what the chunks
+/// add up to.
 ///
 /// If the reader is steady, the offset fits, the whole body is there and the writer has room for it, no call fails. The
 /// answer is then `Ended`, after the fewest calls, exactly if some first sizes, but not all, add up to the body's
-/// length or more. Otherwise all sizes are used, and every byte read is written.
+/// length or more.
 ///
 /// # Errors
 ///
-/// - `RecodeError::Read`: a `pull` failed, with this error.
-/// - `RecodeError::Write`: a write failed with this error, and a beginning of the chunk is written.
+/// - `RecodeError::Read`: a `pull` failed.
+/// - `RecodeError::Write`: a write failed, with a beginning of the chunk written.
 pub fn drain_bytes<R: Read, W: Write>(
     segment: &mut Segment<'_, R, Bytes>,
     sizes: &[usize],
@@ -124,7 +124,7 @@ pub fn drain_bytes<R: Read, W: Write>(
 ///
 /// # Errors
 ///
-/// - `RecodeError::Read`: a `pull` failed, with this error, also because the body is no text.
+/// - `RecodeError::Read`: a `pull` failed, or the body is no text.
 /// - `RecodeError::Write`: as [`drain_bytes`] says.
 pub fn drain_text<R: Read, W: Write>(
     segment: &mut Segment<'_, R, Text>,

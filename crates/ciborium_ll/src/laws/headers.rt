@@ -7,7 +7,7 @@ use ciborium_ll_decoder::dec::{Decoder, Error};
 use ciborium_ll_grammar::hdr::{Float, Header};
 use ciborium_ll_io::io::Read;
 
-/// Tells if two headers are equal. Floats are equal if their widths and bits are.
+/// Tells if two headers are equal.
 pub fn same_header(one: Header, other: Header) -> bool
     ensures { IsTrue result ↔ (one ≡ other) }
 {

@@ -7,8 +7,7 @@ ghost use Rattle.ciborium_ll_grammar.specs.Shortening.{Shortens};
 
 /// Says that `Shortens` means the same as elements and their marks. Each definition is a test of the other.
 ///
-/// `Shortens` relates the bytes read to the bytes written, and the marks are the trace of an element. The copy is
-/// unique, no longer than the elements, and its own copy.
+/// `Shortens` relates the bytes read to the bytes written, and the marks are the trace of an element.
 pub fn shortened_run()
     ensures same { (strict : Bool) (count : ℕ) (due copy rest : List ℕ) → (Shortens strict count due copy rest
         ↔ ((front : BeginsWithElements strict count due) × (copy ≡ spelling front.marks) × (rest ≡ front.rest))) }

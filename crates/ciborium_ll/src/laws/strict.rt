@@ -9,9 +9,8 @@ ghost use Rattle.ciborium_ll_grammar.specs.StrictElements.{AreStrictElements};
 /// Says that a strict decoder takes exactly the elements that `recode` copies unchanged, without a simple value from 24
 /// to 31 (RFC 7049, 2.3).
 ///
-/// This excludes each longer title (3.9), and a string of indefinite length inside another string (2.2.2), because no
-/// spelling contains the inner open and break. Only `f8` with a byte from 24 to 31 is its own spelling and still
-/// refused.
+/// This excludes each longer title (3.9), and a string of indefinite length inside another string (2.2.2). Only `f8`
+/// with a byte from 24 to 31 is its own spelling and still refused.
 pub fn strict_run()
     ensures unchanged { (count : ℕ) (bytes : List ℕ) (front : BeginsWithElements false count bytes) → (BeginsWithElements true count bytes
         ↔ ((spelling front.marks ≡ front.elements) × AllByRecursion IsNoSmallSimple front.marks)) }

@@ -7,10 +7,7 @@ use super::failures::Failures;
 use super::slices::OutOfSpace;
 use super::taken::Taken;
 
-/// Takes bytes and keeps none of them, so it needs no memory. It tells its room, and to contracts the bytes that it
-/// took.
-///
-/// A caller uses it for a copy whose answer alone matters.
+/// Takes bytes and keeps none of them, so it needs no memory. A caller uses it for a copy whose answer alone matters.
 #[derive(Drop)]
 pub struct Discard {
     taken: Taken,

@@ -5,7 +5,7 @@ ghost use Rattle.std.specs.Borrow.{ftrue};
 
 use std::marker::{Model, PhantomData};
 
-/// The number of failed calls of a reader or a writer. It has no greatest value and takes no bytes.
+/// A count of failed calls, which has no greatest value and takes no bytes.
 #[derive(Drop)]
 pub struct Failures {
     marker: PhantomData<()>,

@@ -10,7 +10,7 @@ use super::{Read, Write};
 #[derive(Debug, Drop)]
 pub struct EndOfFile;
 
-/// Reads from a slice. It is steady, and tells the bytes that are left.
+/// Reads from a slice. It is steady.
 #[derive(Drop)]
 pub struct SliceReader<'a> {
     left: &'a [u8],
@@ -110,8 +110,7 @@ fn copy_array<const N: usize>(to: &mut [u8], from: &[u8])
 #[derive(Debug, Drop)]
 pub struct OutOfSpace;
 
-/// Writes into a slice, from its front on, and leaves the rest as it was. It tells the bytes that it wrote, its room
-/// and its slice.
+/// Writes into a slice, from its front on, and leaves the rest as it was. It tells its slice.
 #[derive(Drop)]
 pub struct SliceWriter<'a> {
     buffer: &'a mut [u8],
