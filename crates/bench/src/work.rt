@@ -13,7 +13,7 @@ use ciborium_ll::{Decoder, Encoder, Error, Header};
 /// The greatest buffer that bodies of strings are read through.
 const MOST_SIZE: usize = 4096;
 
-/// What a task does with the bytes.
+/// The work of a task on the bytes.
 #[derive(Clone, Copy)]
 pub enum Work {
     /// It pulls headers, and reads bodies of strings as titles.
@@ -39,7 +39,7 @@ pub enum Work {
 /// A work, and how it is done.
 #[derive(Clone, Copy)]
 pub struct Task {
-    /// What the task does.
+    /// The work that the task does.
     pub work: Work,
     /// The size of the buffer that bodies of strings are read through, and the limit of the segments of `Text`.
     pub size: usize,

@@ -68,7 +68,7 @@ module _ (fault : Fault) (s : Bool) (d : ℕ) (gs : List Level) (a n : ℕ) (k :
   string_title t rest bad (known is) = string_known is
   string_title t rest bad (untaken never e) = e
 
--- ---- a title where an item is due
+-- ---- a title in place of an item
 
 -- A nest stands at a place for which no level is left.
 pub record DeepAt (x : Header) (d : ℕ) (fault : Fault) (a : ℕ) : Type 0 where

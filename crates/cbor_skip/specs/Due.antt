@@ -17,8 +17,8 @@ IsNest (h.Array len) = Unit {0}
 IsNest (h.Map len) = Unit {0}
 IsNest header = ⊥
 
--- After the header and `count` items one more may stand: one item after a tag (RFC 7049, 2.4), as many as an array
--- counts, two for each pair of a map (2.1), and any number in the indefinite forms (2.2.1). After `82 01` one more may
+-- After the header and `count` items one more may stand. A tag takes one item (RFC 7049, 2.4), an array as many as it
+-- counts, and a map two for each pair (2.1). The indefinite forms take any number (2.2.1). After `82 01` one more may
 -- stand, and after `82 01 02` none.
 abbrev pub TakesMore : Header → ℕ → Type 0
 TakesMore (h.Tag number) count = count < 1

@@ -31,8 +31,8 @@ pub record HasItemFault (strict : Bool) (depth : ℕ) (bytes : List ℕ) : Type 
   pub is : bytes ≡ before ++ ahead
   pub fault : FirstFault strict before [] point ahead answer written consumed
 
--- After a beginning of an item a further item is due, and a break stands there that may not (RFC 7049, 2.2.1), as in
--- `82 01 ff` and in `bf 01 ff` with depth 1.
+-- After a beginning of an item a further item is due, and a break stands there that may not (RFC 7049, 2.2.1). With
+-- depth 1, `82 01 ff` and `bf 01 ff` have such a break.
 pub record HasEarlyBreak (strict : Bool) (depth : ℕ) (bytes : List ℕ) : Type 0 where
   pub before : List ℕ
   pub rest : List ℕ

@@ -93,7 +93,7 @@ module _ {R E : Type 0} (source : Ghosts R E) where
       (header : Header) × (item_count header ≡ Some count) × PullsTitle source old header new
   IsBegun (b.Nest header) old new = IsNest header × PullsTitle source old header new
 
-  -- The decoder read `count` items.
+  -- The decoder read `count` items: 2, for example, if it read `01 02`.
   pub record ReadsCounted (count depth : ℕ) (old new : Decoder R) : Type 0 where
     pub items : List ℕ
     pub are_items : AreItems (strictness old) depth count items
@@ -121,13 +121,14 @@ module _ {R E : Type 0} (source : Ghosts R E) where
   SkipsItem depth room old (Ok done) new = ReadsItem depth old new
   SkipsItem depth room old (Err error) new = StopsItem false depth room old error new
 
-  -- After the header of a nest the rest of the nest was read.
+  -- After the header of a nest the rest of the nest was read: `01 02` after `82`, or `01 02 ff` after `9f`.
   pub record ReadsWithin (header : Header) (depth : ℕ) (old new : Decoder R) : Type 0 where
     pub rest : List ℕ
     pub completes : Completes (strictness old) (suc depth) header rest
     pub passed : ReadsPast source old rest new
 
-  -- After the header of a nest `count` items were read, and a beginning of one more.
+  -- After the header of a nest `count` items were read, and a beginning of one more. If `01 1c` follows `82`, `count`
+  -- is 1.
   pub record StopsWithin (header : Header) (depth room : ℕ) (old : Decoder R) (error : SkipError E) (new : Decoder R)
       : Type 0 where
     pub count : ℕ

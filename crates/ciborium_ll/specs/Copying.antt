@@ -35,7 +35,7 @@ pub record TitlesInFront (count : ℕ) (bytes : List ℕ) : Type 0 where
   pub titles : AreTitles front headers
 
 module _ {R E W F : Type 0} (source : Reader R E) (sink : Writer W F) where
-  -- The titles of the headers were read, and their shortest titles were written.
+  -- The titles of the headers were read, and their shortest titles were written: `81 18 17`, for example, and `81 17`.
   pub record Copies (headers : List Header) (old new : Sides R W) : Type 0 where
     pub bytes : List ℕ
     pub titles : AreTitles bytes headers
@@ -103,7 +103,8 @@ module _ {R E W F : Type 0} (source : Reader R E) (sink : Writer W F) where
     pub titles : AreTitles front headers
     pub output : sink.written writer' ≡ Some (written ++ shortest_titles headers)
 
-  -- `count` titles were copied, and the bytes that follow them are left.
+  -- `count` titles were copied, and the bytes that follow them are left. If `81 18 17 05` is due and `count` is 2, `05`
+  -- is left.
   pub record CopiesSoMany (count : ℕ) (due written : List ℕ) (old : Decoder R) (new : Sides R W) : Type 0 where
     pub headers : List Header
     pub all : length headers ≡ count

@@ -83,7 +83,8 @@ module _ {W F : Type 0} (sink : Ghosts W F) where
     pub target : sink.target new ≡ sink.target old
 
 module _ {R E W F : Type 0} (source : Reader R E) (sink : Ghosts W F) where
-  -- The bytes were copied unchanged, and exactly the bytes that follow them are left.
+  -- The bytes were copied unchanged, and exactly the bytes that follow them are left: `05` after `81 17`, if `81 17 05`
+  -- was due.
   pub record CopiesSame {T X : Type 0} (bytes rest written : List ℕ) (result : Result T X) (new : Decoder R)
       (writer' : W) : Type 0 where
     pub ok : IsOk result

@@ -5,7 +5,8 @@ use Rattle.ciborium_ll_io.specs.declared.io.Write.{Ghosts}
 use Rattle.ciborium_ll_io.specs.Transfer.{Shrinks, AppendsFront}
 
 module _ {W F : Type 0} (sink : Ghosts W F) where
-  -- All of the bytes were appended, a told room is less by their number, and no call failed.
+  -- All of the bytes were appended, a told room is less by their number, and no call failed. A write of `82 01` after
+  -- `00` makes `00 82 01`.
   pub record WritesAll (old : W) (bytes : List ℕ) (new : W) : Type 0 where
     pub appended : Appends (sink.written old) (sink.written new) bytes
     pub room : Shrinks (sink.room old) (sink.room new) (length bytes)

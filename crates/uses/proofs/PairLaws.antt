@@ -29,7 +29,7 @@ pairs_closed strict (Some n) depth count items (r.Pairs m) is may i = absurd cc
 pairs_closed strict (Some n) depth count items (r.Value m) is may i = absurd cc
 pairs_closed strict len depth count items remaining is may i = absurd is
 
--- A beginning of an item is empty, or also begins an item in place of which a break may stand.
+-- A beginning of an item is empty, or also a beginning if a break may stand in place of the whole item.
 due_open : (strict : Bool) (depth : ℕ) (bytes : List ℕ) (levels : ℕ) (closable : Bool)
     → ItemDue strict false depth bytes levels closable
     → ItemDue strict true depth bytes levels closable ⊎ ((bytes ≡ []) × (levels ≡ depth))

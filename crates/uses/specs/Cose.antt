@@ -83,7 +83,7 @@ pub data Due : Type 0 where
   PayloadDue : Due
   SignatureDue : Due
 
--- The header may stand there if this part is due.
+-- The header may stand there if this part is due: first the header of `d2`, and then that of `84`.
 abbrev pub IsAllowed : Due → Header → Type 0
 IsAllowed TagDue header = header ≡ h.Tag 18
 IsAllowed ArrayDue header = header ≡ h.Array (Some 4)

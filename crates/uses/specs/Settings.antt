@@ -54,7 +54,7 @@ module _ {R E : Type 0} (source : Ghosts R E) where
     pub is_entry : IsEntry bytes before after
     pub passed : ReadsPast source old bytes new
 
-  -- A key was read that is neither the host's nor the port's.
+  -- A key was read that is neither the host's nor the port's: `03`, for example.
   pub record ReadsOtherKey (old new : Decoder R) : Type 0 where
     pub number : ℕ
     pub pulled : PullsTitle source old (h.Positive number) new
@@ -73,7 +73,8 @@ module _ {R E : Type 0} (source : Ghosts R E) where
     pub are_entries : AreEntries count bytes before after
     pub passed : ReadsPast source old bytes new
 
-  -- A map was read, whose entries turn no settings into these (RFC 7049, 2.1).
+  -- A map was read, whose entries turn no settings into these (RFC 7049, 2.1). After `a1 02 05` the port is 5, and
+  -- there is no host.
   pub record ReadsSettings (old : Decoder R) (settings : Settings) (new : Decoder R) : Type 0 where
     pub count : ℕ
     pub opened : Decoder R

@@ -33,7 +33,7 @@ pub data HaveSum : ℕ → List ℕ → ℤ → Type 0 where
 module _ {R E : Type 0} (source : Ghosts R E) where
   -- ---- one integer more
 
-  -- An integer came, and the sum includes it.
+  -- An integer came, and the sum includes it: after `20` the sum is the total less 1.
   pub record AddsInteger (total : ℤ) (old : Decoder R) (sum : ℤ) (new : Decoder R) : Type 0 where
     pub header : Header
     pub pulled : PullsTitle source old header new
@@ -41,7 +41,8 @@ module _ {R E : Type 0} (source : Ghosts R E) where
     pub is_integer : IsInteger header number
     pub sum-is : sum ≡ total +ℤ number
 
-  -- A header came that is no integer, and no break that may end the array.
+  -- A header came that is no integer, and no break that may end the array: that of `60`, or of `ff` if the length is
+  -- definite.
   pub record MeetsNoInteger (closable : Bool) (old : Decoder R) (at : ℕ) (new : Decoder R) : Type 0 where
     pub header : Header
     pub pulled : PullsTitle source old header new
@@ -120,7 +121,7 @@ module _ {R E : Type 0} (source : Ghosts R E) where
     pub pulled : PullsTitle source old (h.Array len) opened
     pub sums : SumsBehind (h.Array len) opened result new
 
-  -- A header came that begins no array.
+  -- A header came that begins no array: that of `a0`, for example.
   pub record MeetsNoArray (old : Decoder R) (at : ℕ) (new : Decoder R) : Type 0 where
     pub header : Header
     pub pulled : PullsTitle source old header new

@@ -47,7 +47,7 @@ module _ {R E : Type 0} (source : Ghosts R E) where
   -- ---- the steps of the read
 
   -- `Gathers progress old bodies progress' new`: `advance` announced these bodies, one after the other. Each was read
-  -- whole, and the decoder is after it (RFC 7049, 2.1 and 2.2.2).
+  -- whole, and the decoder is after it (RFC 7049, 2.1 and 2.2.2). In `7f 61 61 61 62 ff` they are `61` and `62`.
   pub data Gathers (progress : Progress) (old : Decoder R) : List (List ℕ) → Progress → Decoder R → Type 0 where
     none : Gathers progress old [] progress old
     more : {bodies : List (List ℕ)} {last : Progress} {now titled new : Decoder R} (body : Body)
@@ -101,7 +101,8 @@ module _ {R E : Type 0} (source : Ghosts R E) where
     pub goes_on : AdvancesBehind progress old bodies (Ok (Some body)) new
     pub too_long : limit < length (joined bodies) + body.length
 
-  -- More segments were read than the limit allows, and nothing after the last segment.
+  -- More segments were read than the limit allows, and nothing after the last segment. With a limit of 0, 2 segments
+  -- are too many.
   pub record MeetsTooMany (limit : ℕ) (progress : Progress) (old new : Decoder R) : Type 0 where
     pub bodies : List (List ℕ)
     pub last : Progress

@@ -76,7 +76,7 @@ impl<E> From<SkipError<E>> for CoseError<E> {
 ///
 /// The bytes before an error are the beginning of a COSE_Sign1.
 ///
-/// - `Read`: the decoder failed. After `Syntax(offset)`, no title begins at the offset, or a longer one. After `Io`,
+/// - `Read`: the decoder failed. `Syntax(offset)` means that no title begins there, or a longer one. `Io` means that
 ///   the bytes end too early.
 /// - `Skip`: the read of the map failed.
 /// - `Unexpected(offset)`: the title at this offset may not stand there.

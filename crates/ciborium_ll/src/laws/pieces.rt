@@ -98,7 +98,7 @@ pub fn write_pieces<W: Write>(
 /// Copies elements in their shortest spelling, for example the elements of [`write_pieces`].
 ///
 /// If the decoder is not strict, the reader is steady, the writer has room and the offset fits, the copy changes
-/// nothing, for any limits of segments and any `buffer` of four bytes or more.
+/// nothing. This holds for any limits of segments and any `buffer` of four bytes or more.
 ///
 /// # Errors
 ///
