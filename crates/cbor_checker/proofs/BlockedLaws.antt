@@ -18,7 +18,7 @@ use Rattle.cbor_checker.specs.Blocked.{blocked, is_single}
 use Rattle.cbor_checker.specs.Spots.{Spot, at_phase, settled, string_done, item_done, item_entered, refused}
 use Rattle.cbor_checker.specs.Steps.{SomeTaken, NoneTaken, titled, TitleStep, cut, early, whole, none}
 
--- ---- no fault behind a whole item
+-- ---- no fault after a whole item
 
 pub settled_sound : (levels : List Level) (d : ℕ) (spot : Spot) (fault : Fault)
     → (settled d levels spot).phase ≡ p.Faulted fault → ⊥
@@ -31,11 +31,11 @@ string_sound i spot fault is = grind (arith, settled_sound)
 
 -- ---- a number, a float or a simple value
 
--- it may stand wherever an item is due
+-- A number, a float or a simple value may stand wherever an item is due.
 pub value_free : (d place : ℕ) (kind : TitleKind) → is_single kind ≡ true → blocked w.Nothing d place kind ≡ None
 value_free d place kind v = grind arith
 
--- where its title announces bytes, its first byte tells it
+-- If the first byte announces more bytes, the title of a number, a float or a simple value ends its item.
 pub value_entered : (byte : ℕ) (v t : List ℕ) (x : Header) (kind : TitleKind) (spot : Spot) → IsTitle t x → t ≡ byte ∷ v
     → 0 < affix_len (byte % 32) → IsTitleKind kind (byte / 32) (byte % 32) → is_single kind ≡ true
     → item_entered x spot ≡ item_done spot
@@ -69,7 +69,7 @@ module _ (spot : Spot) (kind : TitleKind) (byte : ℕ) (bytes : List ℕ) (front
       let known = rw same at b in
       let faulted = rw o.is at is in grind (arith, settled_sound, string_sound))
 
--- ---- where a byte of a title leads, as the code finds it
+-- ---- the spot after a byte of a title, as the code finds it
 
 module _ (spot new : Spot) (row : Row) (some : 0 < length spot.front) (says : IsRow (slice_index spot.front 0) row)
     (goes : SomeTaken spot.strict spot.front) where

@@ -1,4 +1,4 @@
--- What is due after a whole title.
+-- The bytes that are due after a whole title.
 use Rattle.std.proofs.Common.{◌≡◌, ℕ, zero, suc, ◌*◌, List, [], ◌∷◌, ◌++◌, Some, None, refl, subst, inl, inr}
 use Rattle.std.proofs.Common.{append_assoc, append-nil, arith}
 use Rattle.ciborium_ll_grammar.specs.declared.hdr.Header.{Header}
@@ -30,7 +30,7 @@ break_bytes t x (numbered m s n p) e = absurd (grind arith)
 break_bytes t x (alone m x' o) e = grind arith
 
 module _ (spot : Spot) (clear : spot.front ≡ []) (plain : spot.within ≡ w.Nothing) where
-  -- ---- behind a title, an item is completed
+  -- ---- after a title, an item is completed
 
   abbrev Behind : List ℕ → Type 0
   Behind = Ends spot.strict spot.depth spot.levels
@@ -61,14 +61,14 @@ module _ (spot : Spot) (clear : spot.front ≡ []) (plain : spot.within ≡ w.No
       nest_on _ l.OpenPairs (2 * n) u _ rest y same i ((n, refl), refl) k (rw append_assoc at e)
   completes_on d x r rest y c same k e = rw e ((settles spot.levels spot.depth spot rest clear).0 k)
 
-  -- an item in front of a title's bytes
+  -- If an item begins with the title `t`, the spot after the title waits for the bytes `y` after `t`.
   item_on : (t y item rest : List ℕ) (x : Header) → IsTitle t x → IsItem spot.strict spot.depth item → Behind rest
       → t ++ y ≡ item ++ rest → Waits (item_entered x spot) y
   item_on t y item rest x p (more_items {title = t'} {rest = r} {header = x'} p' g c no_items) k e =
       let o = one_title t t' y (r ++ rest) x x' p p' (simp (e, append_assoc, append-nil)) in
       rw o.1 (completes_on spot.depth x' r rest y c refl k o.2)
 
-  -- a break there
+  -- If a break begins with the title `t`, the spot after the title waits for the bytes `y` after `t`.
   breaks_on : (levels : List Level) (t y : List ℕ) (x : Header) → IsTitle t x
       → Breaks spot.strict spot.depth levels (t ++ y) → levels ≡ spot.levels → Waits (item_entered x spot) y
   breaks_on [] t y x p o same = absurd o
@@ -100,7 +100,7 @@ module _ (spot : Spot) (clear : spot.front ≡ []) (plain : spot.within ≡ w.No
         let is_item = item_of spot.strict spot.depth t r x p g c in
         let there : t ++ y ≡ (t ++ r) ++ rest = simp (e, append_assoc) in inl (search)
 
-    -- what a nest takes completes it
+    -- If the bytes that a nest takes complete the header, the spot after its title waits for a rest of the item.
     nest_back : (depth : ℕ) (level : Level) → depth ≡ spot.depth
         → ((d n : ℕ) (items end : List ℕ) → Takes level n end → AreItems spot.strict d n items
         → Completes spot.strict (suc d) x (items ++ end))

@@ -13,7 +13,7 @@ use Rattle.cbor_checker.proofs.LiveLaws.{FrontSound, fed_sound, fed_goes}
 
 -- ---- a fault
 
--- there is a fault just where no item begins so
+-- There is a fault exactly if no item begins with the bytes so far.
 pub fault_exact : (s : Bool) (d : ℕ) (fed : List ℕ) (spot : Spot) → IsFed s d fed spot
     → IsAtFault spot ↔ ((more : List ℕ) → IsItem s d (fed ++ more) → ⊥)
 fault_exact s d fed spot is = (
@@ -23,7 +23,7 @@ fault_exact s d fed spot is = (
 
 -- ---- an end
 
--- a title is due where no byte follows: there is none
+-- A title that is due does not come if no byte follows.
 no_title : (spot : Spot) → FrontSound spot → Titled spot.strict (spot.front ++ []) → ⊥
 no_title spot (inl clear) o =
     let begun = announced o.title o.header o.is_title in grind (arith, length-append)
@@ -34,7 +34,7 @@ no_title spot (inr c) o =
 body_none : (n : ℕ) (P Then : List ℕ → Type 0) → BodyThen (suc n) P Then [] → ⊥
 body_none n P Then o = let whole = ap length o.is in omega (arith, whole, o.long, length-append o.body o.rest)
 
--- the item has ended just where the bytes so far are one
+-- The item has ended exactly if the bytes so far are an item.
 pub ended_exact : (s : Bool) (d : ℕ) (fed : List ℕ) (spot : Spot) → IsFed s d fed spot → HasEnded spot ↔ IsItem s d fed
 ended_exact s d fed spot is =
     let same = fed_same s d fed spot is [] in

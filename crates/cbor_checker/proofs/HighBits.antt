@@ -19,7 +19,7 @@ bit_test number j =
     (leb number (j + 16) || eqb (bit_at (get_or HIGH_BITS number 0) (8 * j + 7)) 1)
     && (leb (suc (j + 16)) number || eqb (bit_at (get_or OTHER_BITS number 0) (8 * j + 7)) 1)
 
--- each number with each of eight bytes
+-- The test holds for each number below 33 with each of eight bytes.
 bits_say : (number j : ℕ) → number < 33 → j < 8 → bit_test number j ≡ true
 bits_say number j less lt =
     let row : (8 * number + j) / 8 ≡ number = omega (arith, lt) in
@@ -42,7 +42,7 @@ eight xs at =
     slice_index xs at ∷ slice_index xs (at + 1) ∷ slice_index xs (at + 2) ∷ slice_index xs (at + 3)
     ∷ slice_index xs (at + 4) ∷ slice_index xs (at + 5) ∷ slice_index xs (at + 6) ∷ slice_index xs (at + 7) ∷ []
 
--- each is a byte where those of the list are
+-- Eight bytes of a list are bytes if all numbers of the list are.
 pub eight_bytes : (xs : List ℕ) (at : ℕ) → ((i : ℕ) → get_or xs i 0 < 256) → (i : ℕ) → get_or (eight xs at) i 0 < 256
 eight_bytes xs at below (suc (suc (suc (suc (suc (suc (suc (suc i)))))))) = omega arith
 eight_bytes xs at below zero = below at
@@ -70,7 +70,7 @@ low_in word mask other from until xs at none mask_is other_is first last same j 
 pub none_set : (a b : ℕ) → bit_or a b ≡ 0 → (a ≡ 0) × (b ≡ 0)
 none_set a b e = omega (arith, or_add_and a b, and_le_l a b, and_le_r a b)
 
--- so many bytes from there on are ASCII, of which some stand behind the first ones of both words
+-- A part of up to 16 bytes is ASCII if both words have no high bit in the bytes of this part.
 pub part_ascii : (xs : List ℕ) (at len start : ℕ) → at + len ≤ length xs → start ≤ at → at - start + len ≤ 16
     → ((j : ℕ) → j < 8 → at - start + 16 ≤ j + 16 → j + 16 < at - start + len + 16 → slice_index xs (start + j) < 128)
     → ((j : ℕ) → j < 8 → at - start + 8 ≤ j + 16 → j + 16 < at - start + len + 8

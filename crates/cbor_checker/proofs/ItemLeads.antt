@@ -27,13 +27,13 @@ use Rattle.ciborium_ll_grammar.proofs.TitleLaws.{shortest_no_longer}
 use Rattle.cbor_checker.specs.declared.phase.Within.TheVariants as w
 use Rattle.cbor_checker.specs.Plain.{IsPlainItem, passed}
 
--- by the kind of its first byte a title may stand there
+-- The kind of this first byte allows a title to stand there.
 pub record MayStand (within : Within) (depth place b : ℕ) : Type 0 where
   pub kind : TitleKind
   pub is : IsTitleKind kind (b / 32) (b % 32)
   pub free : blocked within depth place kind ≡ None
 
--- a title isn't whole in front of bytes that it has
+-- A title isn't whole before a byte that belongs to it.
 is_cut : (t fs r : List ℕ) (b x : ℕ) (header : Header) → IsTitle t header → t ≡ (b ∷ fs) ++ x ∷ r
     → length fs < affix_len (b % 32)
 is_cut t fs r b x header is e =
@@ -44,11 +44,11 @@ is_cut t fs r b x header is e =
     let whole = ap length tails in
     omega (arith, long, whole, length-append fs (x ∷ r))
 
--- with these bytes in front, of so many in all
+-- The spot with this front and this offset.
 abbrev at_front : Spot → List ℕ → ℕ → Spot
 at_front u front n = record u { front = front; offset = n }
 
--- all bytes of a title behind the first, which is in front
+-- The bytes of a title after its first byte, which is in the front, lead to the spot after the whole title.
 module _ (u : Spot) (b : ℕ) (header : Header) (at : u.phase ≡ p.Title) (may : MayStand u.within u.depth u.place b) where
   cut_step : (fs r : List ℕ) (x k : ℕ) → IsTitle (b ∷ fs ++ x ∷ r) header
       → IsTakenTitle u.strict (b ∷ fs ++ x ∷ r) header → TitleStep (at_front u (b ∷ fs) k) (at_front u (b ∷ fs) k)
@@ -69,7 +69,7 @@ module _ (u : Spot) (b : ℕ) (header : Header) (at : u.phase ≡ p.Title) (may 
       go x (below 0 (omega arith)) (title_one x (at_front u (b ∷ fs) k) _ at (cut_step front ys y (k + 1) is' taken'))
       (affix_leads y ys front (k + 1) n (below_rest x (y ∷ ys) below) is' taken' (omega (arith, e)))
 
--- all of a title, where nothing of it came
+-- All bytes of a title lead to the spot after the title, if none of them came before.
 fresh_leads : (t : List ℕ) (n : ℕ) (s : Spot) (header : Header) → Below t → s.phase ≡ p.Title → n ≡ length t → 0 < n
     → IsTitle t header → IsTakenTitle s.strict t header → (1 < n → MayStand s.within s.depth s.offset (slice_index t 0))
     → Leads (record s { front = [] }) t
@@ -86,13 +86,13 @@ fresh_leads (b ∷ y ∷ ys) n s header below at long some is taken may =
     (title_one b (record s { front = [] }) _ at (cut_step u b header at stands [] ys y (s.offset + 1) is taken))
     (affix_leads u b header at stands y ys [] (s.offset + 1) _ (below_rest b (y ∷ ys) below) is taken (omega arith))
 
--- so many bytes in front as the first one announces are all of a title
+-- If the first byte announces `n - 1` bytes, the first `n` bytes are as long as a title that begins so.
 pub front_whole : (xs : List ℕ) (n : ℕ) → n ≤ length xs → n ≡ 1 + affix_len (slice_index xs 0 % 32)
     → length (take n xs) ≡ 1 + affix_len (slice_index (take n xs) 0 % 32)
 front_whole xs n le whole =
     let first = get_or-take n xs 0 0 (omega (arith, whole)) in rw first (length-take-le n xs le ∙ whole)
 
--- a whole title in front
+-- A whole title at the start of a list leads to the spot after the title.
 pub title_leads : (xs : List ℕ) (n : ℕ) (s : Spot) (header : Header) → Below xs → s.phase ≡ p.Title
     → length s.front ≡ 0 → 0 < n → n ≤ length xs → IsTitle (take n xs) header → IsTakenTitle s.strict (take n xs) header
     → (1 < n → MayStand s.within s.depth s.offset (slice_index xs 0))
@@ -104,9 +104,9 @@ title_leads xs n s header below at clear some le is taken may =
     (fresh_leads (take n xs) n s header (below_take n xs le below) at (sym (length-take-le n xs le)) some is taken
     (rw (get_or-take n xs 0 0 some) may))
 
--- ---- where an item is due
+-- ---- an item is due
 
--- an item is due, and nothing of its title came
+-- An item is due, and nothing of its title came.
 abbrev pub due : Spot → Spot
 due s = record s { phase = p.Title; front = []; within = w.Nothing }
 
@@ -117,7 +117,7 @@ pub from_due : {bytes : List ℕ} (s : Spot) → s.phase ≡ p.Title → length 
     → (To : Spot → Spot) → Leads (due s) bytes (To (due s)) → Leads s bytes (To s)
 from_due {bytes} s at clear in_none To = subst (λ (z : Spot). Leads z bytes (To z)) (sym (due_is s at clear in_none))
 
--- a plain item leads behind it, whatever is in the empty front there
+-- A plain item leads to the spot after an item, with any empty front.
 pub plain_leads : (xs front : List ℕ) (n offset : ℕ) (s new : Spot) → IsPlainItem s.strict (take n xs) → n ≤ length xs
     → s.phase ≡ p.Title → length s.front ≡ 0 → s.within ≡ w.Nothing → length front ≡ 0 → offset ≡ s.offset + n
     → new ≡ item_done (record s { front = front; place = s.offset; offset = offset }) → Leads s (take n xs) new
@@ -125,7 +125,7 @@ plain_leads xs front n offset s new plain le at clear in_none none counts e =
     let behind : offset ≡ s.offset + length (take n xs) = omega (arith, counts, length-take-le n xs le) in
     rw (e, length_zero front none, behind) (plain s at clear in_none refl)
 
--- ---- a title and the body behind it
+-- ---- a title and the body after it
 
 below_drop : (n : ℕ) (xs : List ℕ) → Below xs → Below (drop n xs)
 below_drop n xs below = λ i less.
@@ -150,7 +150,7 @@ text_come xs (suc k) u below le ends =
     (omega arith) le (omega arith) ends (between_ends _)
     (rw (none_left (suc k)) (sym (left_alike true 0 s.Between (counted_by (suc k) (due u)) (p.Text (suc k) s.Between))))
 
--- a title of so many bytes, which is taken and may stand there, and so many bytes of a body
+-- A title of `n` bytes, which is taken and may stand there, and a body of `len` bytes are a plain item.
 module _ (xs : List ℕ) (n len all : ℕ) (strict : Bool) (below : Below xs) (some : 0 < n) (sum : all ≡ n + len)
     (le : all ≤ length xs) (may : 1 < n → (d place : ℕ) → MayStand w.Nothing d place (slice_index xs 0)) where
   titled_item : (header : Header) → IsTitle (take n xs) header × IsTakenTitle strict (take n xs) header
@@ -169,14 +169,14 @@ module _ (xs : List ℕ) (n len all : ℕ) (strict : Bool) (below : Below xs) (s
       (rw (to, bytes) (leads_more from (item_entered header (passed n from)) _ (take n xs) (take len (drop n xs)) first
       (body s)))
 
-  -- a byte string
+  -- A byte string is a plain item.
   pub bytes_item : IsTitle (take n xs) (h.Bytes (Some len)) × IsTakenTitle strict (take n xs) (h.Bytes (Some len))
       → IsPlainItem strict (take all xs)
   bytes_item title =
       titled_item (h.Bytes (Some len)) title (λ s. bytes_come (drop n xs) len (passed n (due s)) (below_drop n xs below)
       (omega (arith, length-drop n xs)))
 
-  -- a text, under its shortest title
+  -- A text with its shortest title is a plain item.
   pub text_item : IsTitle (take n xs) (h.Text (Some len)) × IsTakenTitle strict (take n xs) (h.Text (Some len))
       → title_len (h.Text (Some len)) ≡ n → s.Between ≡ after s.Between (take len (drop n xs))
       → IsPlainItem strict (take all xs)
@@ -187,14 +187,14 @@ module _ (xs : List ℕ) (n len all : ℕ) (strict : Bool) (below : Below xs) (s
       let placed : body_placed len u ≡ u = ap (λ (z : ℕ). record u { place = z }) here in
       rw placed (text_come (drop n xs) len u (below_drop n xs below) (omega (arith, length-drop n xs)) ends))
 
--- the shortest title of a text under one byte has one
+-- If a text's title has one byte, its shortest title has one byte.
 pub one_long : (t : List ℕ) (len : ℕ) → IsTitle t (h.Text (Some len)) → length t ≡ 1 → title_len (h.Text (Some len)) ≡ 1
 one_long t len is long =
     let least : 0 < title_len (h.Text (Some len)) = omega arith in
     let most = shortest_no_longer t (h.Text (Some len)) is in
     omega (arith, least, most, long)
 
--- a title alone that is an item
+-- A title that is an item by itself is a plain item.
 pub title_item : (xs : List ℕ) (n : ℕ) (strict : Bool) (header : Header) → Below xs → 0 < n → n ≤ length xs
     → (1 < n → (d place : ℕ) → MayStand w.Nothing d place (slice_index xs 0))
     → IsTitle (take n xs) header × IsTakenTitle strict (take n xs) header

@@ -11,9 +11,9 @@ use Rattle.cbor_checker.specs.declared.phase.Within.{Within}
 use Rattle.cbor_checker.specs.Spots.{Spot, settled, string_done, bytes_due, entered}
 use Rattle.cbor_checker.specs.Steps.{text_left}
 
--- ---- a title and the end of an item or a string leave what came of a title, and count nothing
+-- ---- a title and the end of an item or a string change no front and no offset
 
--- a body that is due has bytes left, and may end behind as many
+-- A body that is due has bytes left, and its text may end with them.
 abbrev pub Ready : Phase → Type 0
 Ready (p.Bytes zero) = ⊥
 Ready (p.Text zero state) = ⊥

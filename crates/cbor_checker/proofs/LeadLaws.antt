@@ -22,7 +22,7 @@ use Rattle.cbor_checker.proofs.TellLaws.{step_counts}
 
 -- ---- bytes that lead somewhere
 
--- they were fed behind those before
+-- Bytes that lead on from a fed spot are fed after the bytes before.
 pub leads_fed : (s : Bool) (d : ℕ) (fed xs : List ℕ) (spot new : Spot) → IsFed s d fed spot → Leads spot xs new
     → IsFed s d (fed ++ xs) new
 leads_fed s d fed xs spot new is stay = rw append-nil is
@@ -34,7 +34,7 @@ leads_more a b c xs ys stay f = f
 leads_more a b c xs ys (go {bytes = zs} {next = m} x below one rest) f =
     go x below one (leads_more m b c zs ys rest f)
 
--- each is counted
+-- Each byte adds one to the offset.
 pub leads_counts : (spot new : Spot) (xs : List ℕ) → Leads spot xs new → new.offset ≡ spot.offset + length xs
 leads_counts spot new xs stay = omega arith
 leads_counts spot new xs (go {bytes = ys} {next = m} b below one rest) =
@@ -43,19 +43,19 @@ leads_counts spot new xs (go {bytes = ys} {next = m} b below one rest) =
 not_due : (phase : Phase) (spot new : Spot) (b : ℕ) → is_due phase ≡ false → StepIn phase spot b new → ⊥
 not_due phase spot new b off step = grind arith
 
--- none comes where none is due
+-- If no byte is due, no byte leads on.
 pub leads_stays : (spot new : Spot) (xs : List ℕ) → is_due spot.phase ≡ false → Leads spot xs new
     → (xs ≡ []) × (new ≡ spot)
 leads_stays spot new xs off stay = (refl, refl)
 leads_stays spot new xs off (go {next = m} b below one rest) = absurd (not_due spot.phase spot m b off one)
 
--- one byte
+-- One byte leads to the spot of its step.
 pub one_leads : (xs : List ℕ) (spot new : Spot) → Below xs → 0 < length xs → Step spot (slice_index xs 0) new
     → Leads spot (take 1 xs) new
 one_leads [] spot new below some step = absurd (omega arith)
 one_leads (x ∷ xs) spot new below some step = go x (below 0 (omega arith)) step stay
 
--- ---- what was due does not count behind a body
+-- ---- a step in a body does not depend on the phase before
 
 settled_alike : (gs : List Level) (d : ℕ) (s : Spot) (a : Phase) → settled d gs (at_phase a s) ≡ settled d gs s
 settled_alike [] d s a = refl
@@ -70,7 +70,7 @@ left_alike m len x s a = grind (arith, settled_alike)
 
 -- ---- bytes of a byte string
 
--- the spot with nothing of a title, to which so many bytes came
+-- The spot with an empty front and this offset.
 abbrev at_count : ℕ → Spot → Spot
 at_count n s = record s { front = []; offset = n }
 
@@ -90,7 +90,7 @@ body_leads (x ∷ y ∷ ys) left total n s below at all on some =
     (omega (arith, on)) (omega arith) in
     go x (below 0 (omega arith)) (rw here refl) (rw (due_alike left (at_count n s) (p.Bytes (suc k))) at rest)
 
--- as many as are there
+-- Bytes of a byte string lead on together, if no more come than are due.
 pub bytes_lead : (xs : List ℕ) (n left : ℕ) (s new : Spot) → Below xs → s.phase ≡ p.Bytes left → 0 < n
     → n ≤ length xs → n ≤ left → new ≡ bytes_due (left - n) (counted_by n s) → Leads s (take n xs) new
 bytes_lead xs n left s new below at some le within e =
@@ -119,7 +119,7 @@ chars_lead (x ∷ y ∷ ys) left total n state s below at all on some may =
     go x (below 0 (omega arith)) (rw (here, goes))
     (rw (left_alike true left (after behind (y ∷ ys)) (at_count n s) (p.Text (suc k) behind)) at rest)
 
--- as many as are there, or as make a text
+-- Bytes of a text lead on together, if the text can go on after them.
 pub text_leads : (xs : List ℕ) (n left : ℕ) (state behind : State) (s new : Spot) → Below xs
     → s.phase ≡ p.Text left state → 0 < n → n ≤ length xs → n ≤ left → behind ≡ after state (take n xs)
     → may_end behind (left - n) ≡ true
@@ -135,42 +135,42 @@ pub run_more : (xs : List ℕ) (at n : ℕ) (s m new : Spot) → Leads s (take a
     → Leads m (take n (take (length xs - at) (drop at xs))) new → Leads s (take (at + n) xs) new
 run_more xs at n s m new so_far run = rw take-add (leads_more s m new _ _ so_far (rw take_rest at run))
 
--- so many came, and the others have room
+-- After the first `at` bytes, the offset leaves room for the rest.
 pub run_room : (xs : List ℕ) (at most : ℕ) (s m : Spot) → at ≤ length xs → s.offset + length xs ≤ most
     → Leads s (take at xs) m → m.offset + length (take (length xs - at) (drop at xs)) ≤ most
 run_room xs at most s m le room so_far =
     omega (arith, leads_counts s m (take at xs) so_far, length-take-le at xs le, rest_long xs at, le, room)
 
--- where none came, those behind are all
+-- If no byte came before, the next bytes lead on from the first spot.
 pub none_before : (xs : List ℕ) (at n : ℕ) (s m new : Spot) → at ≡ 0 → Leads s (take at xs) m → Leads m (take n xs) new
     → Leads s (take n xs) new
 none_before xs at n s m new none so_far run = leads_more s m new [] (take n xs) (rw none at so_far) run
 
--- and there is as much room
+-- If no byte came before, all bytes still have room.
 pub none_room : (xs : List ℕ) (at most : ℕ) (s m : Spot) → at ≡ 0 → s.offset + length xs ≤ most
     → Leads s (take at xs) m → m.offset + length xs ≤ most
 none_room xs at most s m none room so_far = omega (arith, leads_counts s m [] (rw none at so_far), room)
 
--- of a list only so many counted
+-- A part of the first `most` bytes is a part of all bytes.
 pub run_front : (xs : List ℕ) (n most : ℕ) (s new : Spot) → n ≤ length (take most xs) → most ≤ length xs
     → Leads s (take n (take most xs)) new → Leads s (take n xs) new
 run_front xs n most s new le fits run =
     let long = length-take-le most xs fits in
     let short : n ≤ most = omega (arith, le, long) in rw take-take at run
 
--- ---- the front of bytes that is text
+-- ---- the longest start of bytes that is text
 
 pub front_long : (x front : List ℕ) → IsFront x front (drop (length front) x) → length front ≤ length x
 front_long x front is = omega (arith, ap length is.parts, length-append front (drop (length front) x))
 
--- behind all bytes the state is that behind the ones that follow the front
+-- The state after all bytes is the state after the bytes that follow the front.
 pub whole_state : (x front : List ℕ) (behind : State) → IsFront x front (drop (length front) x)
     → behind ≡ after s.Between (drop (length front) x) → behind ≡ after s.Between x
 whole_state x front behind is e =
     let rest = drop (length front) x in
     cc (after-append s.Between front rest, text_ends front is.text, is.parts)
 
--- behind the front it is the one between two characters
+-- The state after the front is `Between`.
 pub front_state : (xs front : List ℕ) (n : ℕ) → n ≤ length xs
     → IsFront (take n xs) front (drop (length front) (take n xs)) → s.Between ≡ after s.Between (take (length front) xs)
 front_state xs front n le is =
@@ -183,7 +183,7 @@ front_state xs front n le is =
 pub between_ends : (left : ℕ) → may_end s.Between left ≡ true
 between_ends left = le-leb 0 left (omega arith)
 
--- one byte of a text
+-- One byte of a text makes a step.
 pub text_one : (left : ℕ) (state : State) (x : ℕ) (s new : Spot) → s.phase ≡ p.Text left state → 0 < left
     → (let behind = after_byte state x in new ≡ text_left (may_end behind (left - 1)) (left - 1) behind (counted s))
     → Step s x new
@@ -191,6 +191,6 @@ text_one zero state x s new at some e = absurd (omega arith)
 text_one (suc left) state x s new at some e =
     let less : suc left - 1 ≡ left = omega arith in subst (λ (z : Phase). StepIn z s x new) (sym at) (rw less at e)
 
--- one byte of a title
+-- One byte of a title makes a step.
 pub title_one : (x : ℕ) (s new : Spot) → s.phase ≡ p.Title → TitleStep (with_byte x s) new → Step s x new
 title_one x s new at step = subst (λ (z : Phase). StepIn z s x new) (sym at) step

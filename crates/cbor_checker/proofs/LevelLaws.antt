@@ -1,4 +1,4 @@
--- What is due after the end of a level or of a string.
+-- The bytes that are due after the end of a level or of a string.
 use Rattle.std.proofs.Common.{◌≡◌, ℕ, suc, ◌-◌, ◌⊎◌, Bool, true, List, [], ◌∷◌, ◌++◌, Option, Some, None, refl, subst}
 use Rattle.std.proofs.Common.{inl, inr, arith, append_assoc, append-nil}
 use Rattle.ciborium_ll_grammar.specs.declared.hdr.Header.{Header}
@@ -14,7 +14,7 @@ use Rattle.cbor_checker.proofs.Waiting.{Takes, EndsLevel, Ends, ItemThen, BreakT
 
 -- ---- one level
 
--- behind one item more
+-- If a level takes `n + 1` items, the level after one item takes `n` items.
 next_takes : (f g : Level) (n : ℕ) (e : List ℕ) → next f ≡ Some g → Takes f (suc n) e → Takes g n e
 next_takes l.OpenPairs g n e d ((k, q), u) =
     let same : l.OpenValue ≡ g = cc in rw (← same) ((k - 1, omega (arith, q)), u)
@@ -25,9 +25,9 @@ next_back l.OpenPairs g n e d t =
     let same : g ≡ l.OpenValue = cc in let ((k, q), u) = rw same at t in ((suc k, omega (arith, q)), u)
 next_back f g n e d t = grind arith
 
--- ---- a level where one item more is due
+-- ---- a level with one more item due
 
--- an item of a title and what completes it
+-- A title and the bytes that complete its header are an item.
 pub item_of : (s : Bool) (d : ℕ) (t r : List ℕ) (x : Header) → IsTitle t x → IsTakenTitle s t x → Completes s d x r
     → IsItem s d (t ++ r)
 item_of s d t r x p g c = subst (λ (z : List ℕ). IsItem s d (t ++ z)) (append-nil r) (more_items p g c no_items)
@@ -44,7 +44,7 @@ module _ (s : Bool) (f g : Level) (d : ℕ) (Then : List ℕ → Type 0) (goes :
       let behind : EndsLevel s g d Then (a ++ (e ++ rest)) = search in
       let there : y ≡ (t ++ r) ++ (a ++ (e ++ rest)) = simp (is, append_assoc) in inl (search)
 
-  -- an item in front of items
+  -- One item and then the other items of a level end the level.
   item_then_items : (n : ℕ) (item a e rest y : List ℕ) → IsItem s d item → AreItems s d n a → Takes g n e → Then rest
       → y ≡ item ++ (a ++ (e ++ rest)) → EndsLevel s f d Then y
   item_then_items n item a e rest y (more_items {title = t} {rest = r} {header = x} q v c no_items) i u k is =
@@ -61,11 +61,11 @@ module _ (s : Bool) (f g : Level) (d : ℕ) (Then : List ℕ → Type 0) (goes :
 
 -- ---- all levels
 
--- both ways
+-- Each of both implies the other.
 abbrev pub Same : Type 0 → Type 0 → Type 0
 Same A B = (A → B) × (B → A)
 
--- a level that is done is nothing
+-- A level without an item due ends with no byte.
 done_level : (s : Bool) (f : Level) (d : ℕ) (Then : List ℕ → Type 0) → next f ≡ None → (n : ℕ) (items e rest y : List ℕ)
     → AreItems s d n items → Takes f n e → Then rest → y ≡ items ++ (e ++ rest) → Then y
 done_level s f d Then done n items e rest y no_items t k is =
@@ -89,13 +89,13 @@ settled_next (Some g) f fs d spot y e clear same =
       λ waits. level_closes spot.strict f g d _ e y waits,
     )
 
--- what is due behind a whole item
+-- After a whole item, the spot waits for the bytes that end all levels.
 pub settles : (fs : List Level) (d : ℕ) (spot : Spot) (y : List ℕ) → spot.front ≡ []
     → Same (Ends spot.strict d fs y) (Waits (settled d fs spot) y)
 settles [] d spot y clear = (λ e. e, λ e. e)
 settles (f ∷ fs) d spot y clear = settled_next (next f) f fs d spot y refl clear (settles fs (suc d) spot y clear)
 
--- what is due behind a string
+-- After a string of a definite length, the spot waits for the bytes that are due then.
 pub string_ends : (i : Within) (spot : Spot) (y : List ℕ) → spot.front ≡ [] → i ≡ spot.within
     → Same (StringDone spot.strict i spot.depth spot.levels y) (Waits (string_done i spot) y)
 string_ends w.Nothing spot y clear same = settles spot.levels spot.depth spot y clear

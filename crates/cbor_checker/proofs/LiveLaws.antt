@@ -29,16 +29,16 @@ use Rattle.cbor_checker.proofs.StepLaws.{fed_same}
 use Rattle.cbor_checker.proofs.TitleDueLaws.{title_enters}
 use Rattle.cbor_checker.proofs.KeptLaws.{Ready, string_kept, bytes_kept, entered_kept}
 
--- ---- what ends levels and strings
+-- ---- the end of levels and strings
 
--- zeros are items, under their shortest titles
+-- Zeros are items in their shortest spelling.
 zeros : (s : Bool) (d n : ℕ) → (items : List ℕ) × AreItems s d n items
 zeros s d zero = ([], no_items)
 zeros s d (suc n) =
     let (others, are) = zeros s d n in
     (0 ∷ others, more_items (numbered Unsigned Small 0 (omega arith)) (grind arith) positive are)
 
--- so many items end the level
+-- Each level ends with some number of items and an end.
 level_ending : (level : Level) → (n : ℕ) × (end : List ℕ) × Takes level n end
 level_ending (l.Items n) = (n, [], (refl, refl))
 level_ending (l.Pairs n) = (2 * n, [], (refl, refl))
@@ -73,9 +73,9 @@ some_due s w.Nothing d levels =
     (item ++ rest, inl (search))
 some_due s i d levels = some_done s i d levels
 
--- ---- what ends a text
+-- ---- the end of a text
 
--- a byte goes on to its end
+-- Some byte continues a text that may end with `n + 1` more bytes.
 some_byte : (state : State) (n : ℕ) → may_end state (suc n) ≡ true → (b : ℕ) × (may_end (after_byte state b) n ≡ true)
 unfolding is_from after_first after_next
 some_byte s.Between n may = (0, le-leb 0 n (omega arith))
@@ -92,7 +92,7 @@ some_body state (suc n) may =
 
 -- ---- spots that are sound
 
--- no title came, or a part of one that is taken and may stand there
+-- No title came, or a part of a title that is taken and may stand there.
 abbrev pub FrontSound : Spot → Type 0
 FrontSound spot = (spot.front ≡ []) ⊎ (AreBytes spot.front × IsCutTitle spot.front
     × SomeTaken spot.strict spot.front × ((behind : List ℕ) (x : Header) (fault : Fault)
@@ -120,7 +120,7 @@ fed_sound s d fed spot fresh = (tt, λ at. inl refl)
 fed_sound s d fed spot (more {bytes = a} {spot = before} b byte is step) =
     step_sound before.phase before spot b refl (fed_sound s d a before is) byte step
 
--- ---- and goes on
+-- ---- a sound spot without a fault waits for some bytes
 
 abbrev NoFault : Spot → Type 0
 NoFault spot = (fault : Fault) → spot.phase ≡ p.Faulted fault → ⊥
@@ -135,7 +135,7 @@ first_goes : (spot : Spot) → spot.front ≡ []
     → (y : List ℕ) × TitleDue spot.strict spot.within spot.depth spot.levels (spot.front ++ y)
 first_goes spot clear = rw clear (some_due spot.strict spot.within spot.depth spot.levels)
 
--- from a sound spot, if some do where a title is due
+-- A sound spot without a fault waits for some bytes, if this spot does with a title due.
 live_in : (phase : Phase) (spot : Spot) → phase ≡ spot.phase → Ready phase → NoFault spot
     → (phase ≡ p.Title → (y : List ℕ) × WaitsIn p.Title spot y) → (y : List ℕ) × WaitsIn phase spot y
 live_in p.Title spot e ready goes title = title refl
@@ -158,7 +158,7 @@ title_goes spot (inr (bytes, c, (behind, header, is_title, taken), may)) =
     let due = (title_enters spot.within before (spot.front ++ behind) goes.0 header refl refl is_title taken).1
     goes.1 in (behind ++ goes.0, rw append_assoc at due)
 
--- where there is no fault, some bytes make an item
+-- If there is no fault, some bytes make an item of the bytes so far.
 pub fed_goes : (s : Bool) (d : ℕ) (fed : List ℕ) (spot : Spot) → IsFed s d fed spot → NoFault spot
     → (y : List ℕ) × IsItem s d (fed ++ y)
 fed_goes s d fed spot is goes =

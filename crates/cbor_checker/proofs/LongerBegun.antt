@@ -24,11 +24,11 @@ ruleset tests = (arith, nat_tests)
 
 -- ---- a number whose first half is 0 has a smaller form
 
--- the bytes of a list in front are those of the whole
+-- Two lists that begin the same bytes agree at each index that both have.
 same_at : (a m t r : List ℕ) → a ++ m ≡ t ++ r → (i : ℕ) → i < length a → i < length t → get_or a i 0 ≡ get_or t i 0
 same_at a m t r e i la lt = cc (get_or_append_left t r 0 i lt, get_or_append_left a m 0 i la)
 
--- no such title is the shortest
+-- A title that begins longer is not the shortest of its header.
 by_title : (front m t r : List ℕ) (x : Header) → BeginsLonger front → 0 < length front → IsTitle t x
     → front ++ m ≡ t ++ r → IsStrictTitle t x → ⊥
 by_title front m t r x longer some (numbered k s n p) e strict =
@@ -36,24 +36,24 @@ by_title front m t r x longer some (numbered k s n p) e strict =
 by_title front m t r x longer some (alone k y o) e strict =
     let first = same_at front m (first_byte k 31 ∷ []) r e 0 some (omega arith) in omega arith
 
--- bytes that begin so begin no such title
+-- No strict title begins with bytes that begin a longer title.
 pub longer_none : (front : List ℕ) → 0 < length front → BeginsLonger front → NoneTaken true front
 longer_none front some longer = λ more title rest header is_title strict e.
     by_title front more title rest header longer some is_title e strict
 
--- ---- others go on to one that is the shortest
+-- ---- other bytes begin a shortest title
 
--- bytes of 255
+-- Numbers of 255 are bytes.
 AreBytes-full : (n : ℕ) → AreBytes (replicate n 255)
 AreBytes-full zero = tt
 AreBytes-full (suc n) = (omega arith, AreBytes-full n)
 
--- the number of a title that ends so is high enough
+-- A title whose missing bytes are 255 has a number that needs its size.
 module _ (a : List ℕ) (k : ℕ) (some : 0 < length a) (more : 0 < k) (never : BeginsLonger a → ⊥) where
   abbrev Whole : List ℕ
   Whole = a ++ replicate k 255
 
-  -- each of its bytes came, or is 255
+  -- Each byte of this title came before, or is 255.
   byte_at : (t : List ℕ) → t ≡ Whole → (i : ℕ) → i < length t
       → ((i < length a) × (get_or a i 0 ≡ get_or t i 0)) ⊎ ((length a ≤ i) × (get_or t i 0 ≡ 255))
   byte_at t e i lt =
@@ -72,7 +72,7 @@ module _ (a : List ℕ) (k : ℕ) (some : 0 < length a) (more : 0 < k) (never : 
   whole_taken t x (alone m y o) e =
       absurd (omega (arith, ap length e, length-append a (replicate k 255), length-replicate {A = ℕ} k 255, some, more))
 
--- bytes that begin no longer title go on to the shortest of some header
+-- Bytes that begin no longer title begin the shortest title of some header.
 longer_some : (b : ℕ) (a : List ℕ) → b < 256 → AreBytes a → length a < affix_len (b % 32)
     → (BeginsLonger (b ∷ a) → ⊥) → SomeTaken true (b ∷ a)
 longer_some b a byte bytes less never =
@@ -102,7 +102,7 @@ strict_some [] f some short never = absurd (omega (arith, some))
 strict_some (b ∷ a) f some short never =
     longer_some b a (f 0) (are_bytes a (λ i. f (suc i))) (omega (arith, short)) never
 
--- where any spelling is taken, each beginning of a title goes on to one
+-- If any spelling is taken, each beginning of a title begins a title that is taken.
 pub any_some : (s : Bool) (xs : List ℕ) → s ≡ false → ((i : ℕ) → get_or xs i 0 < 256) → 0 < length xs
     → length xs ≤ affix_len (slice_index xs 0 % 32) → SomeTaken s xs
 any_some s [] any f some short = absurd (omega (arith, some))
@@ -112,13 +112,13 @@ any_some s (b ∷ a) any f some short =
 
 -- ---- a whole title
 
--- bytes with which no title begins
+-- No title that is taken begins with refused bytes.
 pub refused_none : (s : Bool) (xs : List ℕ) → BeginsRefused xs → NoneTaken s xs
 refused_none s [] r = absurd r
 refused_none s (b ∷ a) r = λ more title rest header is_title taken e.
     title_refused title rest header is_title (subst BeginsRefused e r)
 
--- the bytes of parts that are longer
+-- No title that is taken begins with the bytes of longer parts.
 pub parts_none : (major : ℕ) (minor : Minor) (xs : List ℕ) → major < 8 → IsMinor minor
     → refused_when_strict major minor ≡ true → parts_bytes major minor ≡ xs → NoneTaken true xs
 parts_none major minor xs l p longer is = λ more title rest header is_title taken e.
@@ -126,7 +126,7 @@ parts_none major minor xs l p longer is = λ more title rest header is_title tak
     let same = one_title (parts_bytes major minor) title more rest o.0 header o.1 is_title (cc) in
     parts_refused major minor header l p (rw same.0 is_title) longer (rw same.0 taken)
 
--- the header that parts mean is under a title that is taken
+-- The header of parts that are not longer has a title that is taken.
 pub some_taken : (header : Option Header) (s : Bool) (major : ℕ) (minor : Minor) (xs : List ℕ) → major < 8
     → IsMinor minor → (s ≡ true → refused_when_strict major minor ≡ false) → parts_bytes major minor ≡ xs
     → IfSome header (IsTitle (parts_bytes major minor)) → IfSome header (IsTakenTitle s xs)
@@ -134,7 +134,7 @@ some_taken (Some header) true major minor xs l p shortest is title =
     rw (← is) (parts_taken major minor header l p title (shortest refl))
 some_taken header s major minor xs l p shortest is title = tt
 
--- parts that mean nothing
+-- No title that is taken begins with the bytes of parts without a header.
 pub none_means : (header : Option Header) (s : Bool) (major : ℕ) (minor : Minor) (xs : List ℕ)
     → parts_bytes major minor ≡ xs → IfNone header ((minor_code minor ≡ 31) × IsNeverOpen major)
     → IfNone header (NoneTaken s xs)

@@ -44,7 +44,7 @@ step_one : (phase : Phase) (spot a b : Spot) (byte : ℕ) → StepIn phase spot 
 step_one p.Title spot a b byte f g = title_one (with_byte byte spot) a b f g
 step_one phase spot a b byte f g = grind (arith, nat_tests)
 
--- one byte more than none
+-- An empty list does not end with a byte.
 no_last : (xs : List ℕ) (b : ℕ) → [] ≡ xs ++ b ∷ [] → ⊥
 no_last xs b e = let l = ap length e in omega (arith, l, length-append xs (b ∷ []))
 
@@ -70,6 +70,6 @@ one_from s d fed a (more {bytes = xs} {spot = u} c byte is step) other b
     let first : Step u c b = rw spots at (subst (λ (z : ℕ). Step v z b) (sym o.1) step') in
     step_one u.phase u a b c step first
 
--- the same bytes lead to one spot
+-- The same bytes lead to one spot.
 pub one_spot : (s : Bool) (d : ℕ) (fed : List ℕ) (a b : Spot) → IsFed s d fed a → IsFed s d fed b → a ≡ b
 one_spot s d fed a b f g = one_from s d fed a f fed b g refl

@@ -31,7 +31,7 @@ use Rattle.cbor_checker.proofs.ItemLeads.{bytes_item, one_long, text_item, title
 
 -- ---- text
 
--- where the longest front of some bytes that is text leaves no character begun, they are a text
+-- If the longest start of bytes that is text leaves no character begun, all bytes are text.
 pub front_ends : (xs front : List ℕ) (state : State) → IsFront xs front (drop (length front) xs)
     → state ≡ after s.Between (drop (length front) xs) → state ≡ s.Between → s.Between ≡ after s.Between xs
 front_ends xs front state is behind between =
@@ -65,7 +65,7 @@ span_tells first len text_len both =
     let parts = and_parts (item_test first len text_len) _ both in
     (item_tells first len text_len parts.0, let less = parts.1 in grind (arith, nat_tests))
 
--- each of the 256 numbers passes its test
+-- The table has a true entry for each of the 256 first bytes.
 pub span_says : (first len text_len : ℕ) → first < 256 → len ≡ get_or LENS first 0
     → text_len ≡ get_or TEXT_LENS first 0 → IsSpan first len text_len × (0 < len → text_len < len)
 span_says first len text_len l len_is text_len_is =
@@ -76,7 +76,8 @@ span_says first len text_len l len_is text_len_is =
 
 -- ---- titles of one and of two bytes
 
--- where a number takes this size it is a title, and where it takes no smaller one it is taken
+-- A number below the limit of its size has a title of that size. If no smaller size fits, a strict checker takes that
+-- title.
 numbered_taken : (strict : Bool) (t : List ℕ) (major : Major) (size : Size) (n : ℕ) → t ≡ numbered_title major size n
     → n < size_limit size → refused_when_strict (major_code major) (minor_as size n) ≡ false
     → IsTitle t (numbered_header major size n) × IsTakenTitle strict t (numbered_header major size n)
@@ -100,16 +101,16 @@ two_taken strict xs major some e fits short =
     let parts : take 2 xs ≡ numbered_title major One (slice_index xs 1) = rw (take_two xs some, same, e) refl in
     numbered_taken strict (take 2 xs) major One (slice_index xs 1) parts fits short
 
--- ---- what the numbers of a first byte say of the item
+-- ---- the item of a first byte, by the numbers in the tables
 
--- a byte before the reserved minors names a title
+-- A byte with a minor below 28 names a title.
 named : (b : ℕ) → b % 32 < 28 → NamesNoTitle (b / 32) (b % 32) → ⊥
 named b less none = grind (arith, nat_tests)
 
 strings_free : (d place : ℕ) → (blocked w.Nothing d place k.Bytes ≡ None) × (blocked w.Nothing d place k.Text ≡ None)
 strings_free d place = grind (arith, nat_tests)
 
--- the major type of a value
+-- The major type of a number, a float or a simple value.
 record ValueMajor (code : ℕ) : Type 0 where
   major : Major
   is : major_code major ≡ code
@@ -121,7 +122,8 @@ major_of code (inl e) = record { major = Unsigned; is = sym e; value = refl; end
 major_of code (inr (inl e)) = record { major = Negative; is = sym e; value = refl; ends = λ n u. refl }
 major_of code (inr (inr e)) = record { major = Other; is = sym e; value = refl; ends = λ n u. refl }
 
--- of a longer title any spelling is taken, and the body of a text is one by itself
+-- Bytes of the length in the table are a plain item, if a text's body is text. A longer title needs a checker that is
+-- not strict.
 pub span_plain : (xs : List ℕ) (len text_len : ℕ) (strict : Bool) → Below xs → 0 < length xs
     → IsSpan (slice_index xs 0) len text_len → 0 < len → len ≤ length xs → (24 ≤ slice_index xs 0 % 32 → strict ≡ false)
     → s.Between ≡ after s.Between (take text_len (drop 1 xs)) → IsPlainItem strict (take len xs)
@@ -144,7 +146,7 @@ span_plain (b ∷ xs) len text_len strict below some (inr (inr (inr (inr v)))) l
     text_item (b ∷ xs) 1 (b % 32) len strict below (omega arith) v.0 le (λ more. absurd (omega (arith, more))) title
     (one_long (b ∷ []) (b % 32) title.0 refl) (rw v.3 at text)
 
--- a text of which the first byte tells the length
+-- A text whose first byte gives its length is a plain item.
 pub short_text : (xs : List ℕ) (len : ℕ) (strict : Bool) → Below xs → 0 < length xs → slice_index xs 0 / 32 ≡ 3
     → slice_index xs 0 % 32 < 24 → len ≡ 1 + slice_index xs 0 % 32 → len ≤ length xs
     → s.Between ≡ after s.Between (take (len - 1) (drop 1 xs)) → IsPlainItem strict (take len xs)
@@ -153,7 +155,7 @@ short_text xs len strict below some major small is le text =
     span_plain xs len (slice_index xs 0 % 32) strict below some (inr (inr (inr (inr (is, small, major, refl)))))
     (omega (arith, is)) le (λ high. absurd (omega (arith, high, small))) (rw body at text)
 
--- ---- a string of which one byte behind the first says how long it is
+-- ---- a string whose length is in the byte after the first
 
 module _ (xs : List ℕ) (len : ℕ) (strict : Bool) (below : Below xs) (some : 1 < length xs)
     (least : 24 ≤ slice_index xs 1) (e : len ≡ 2 + slice_index xs 1) (le : len ≤ length xs) where
@@ -178,9 +180,9 @@ module _ (xs : List ℕ) (len : ℕ) (strict : Bool) (below : Below xs) (some : 
       (two_taken strict xs TextString some is (below 1 some) (le-ltb c 24 least))
       (rw (le-ltb c 24 least, lt-ltb c (2 ^ 8) long) refl) (rw less at text)
 
--- ---- items one behind the other
+-- ---- items one after another
 
--- one more
+-- One more plain item follows the plain items before.
 pub plain_more : (strict : Bool) (offset first last most left at len : ℕ) (xs : List ℕ) → at ≤ length xs → 0 < left
     → left ≤ most → ArePlain strict offset first (most - left) last (take at xs)
     → IsPlainItem strict (take len (drop at xs))

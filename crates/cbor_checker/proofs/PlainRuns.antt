@@ -4,7 +4,7 @@ use Rattle.std.proofs.lemmas.List.{append-nil, append_assoc, length-append, leng
 use Rattle.std.proofs.Math.Seq.{take-add}
 use Rattle.cbor_checker.specs.Plain.{ArePlain, more, none}
 
--- some and then others
+-- Plain items after plain items are plain items.
 pub plain_join : (strict : Bool) (offset first middle n : ℕ) (xs : List ℕ) → ArePlain strict offset first n middle xs
     → (m last : ℕ) (ys : List ℕ) → ArePlain strict (offset + length xs) middle m last ys
     → ArePlain strict offset first (n + m) last (xs ++ ys)
@@ -16,7 +16,7 @@ plain_join strict offset first middle n xs one _ _ _ (more {count = m} {last = l
     let joined = plain_join strict offset first middle n xs one m last bytes others in
     rw (count, place, append_assoc xs bytes item) at (more joined is)
 
--- a run of some from there on, where so many are left of all
+-- A run of plain items follows the plain items before, and `less` items are left.
 pub plain_runs : (strict : Bool) (offset first middle last most left less at len : ℕ) (xs : List ℕ) → at ≤ length xs
     → left ≤ most → less ≤ left → ArePlain strict offset first (most - left) middle (take at xs)
     → ArePlain strict (offset + at) middle (left - less) last (take len (take (length xs - at) (drop at xs)))
@@ -28,6 +28,6 @@ plain_runs strict offset first middle last most left less at len xs le fits fewe
     rw long (rw take_rest at other) in
     rw (take-add at len xs) (rw count at (plain_join strict offset first middle (most - left) (take at xs) one _ _ _ next))
 
--- a run of none leaves all
+-- A run without bytes leaves all items.
 pub none_taken : (left most len : ℕ) → left ≤ most → (left < most → 0 < len) → len ≡ 0 → left ≡ most
 none_taken left most len fits some none_is = grind arith

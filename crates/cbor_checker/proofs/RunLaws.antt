@@ -33,11 +33,11 @@ next_lowered level count n e = grind (arith, nat_tests)
 last_lowered : (level : Level) (count : ℕ) → counted_behind level ≡ Some count → next (lowered 0 level) ≡ None
 last_lowered level count e = grind (arith, nat_tests)
 
--- with as many as it has it stays
+-- A level that is lowered to its own count stays as it is.
 lowered_same : (level : Level) (count : ℕ) → counted_behind level ≡ Some count → lowered count level ≡ level
 lowered_same level count e = grind (arith, nat_tests)
 
--- ---- where the items lead
+-- ---- the spot after the items
 
 run_leads : (s : Spot) (rest : List Level) (level : Level) (all count left last : ℕ) (bytes : List ℕ)
     → counted_behind level ≡ Some all → ArePlain s.strict s.offset s.place count last bytes
@@ -57,11 +57,11 @@ stack_of : (levels : List Level) (level : Level) (left : ℕ) → Some level ≡
     → counted_behind level ≡ Some left → levels ≡ lowered left level ∷ others levels
 stack_of levels level left e all = let same = lowered_same level left all in grind (arith, nat_tests)
 
--- with other nests, at another place
+-- The spot with other nests, another place and another offset.
 abbrev moved : ℕ → List Level → ℕ → ℕ → Spot → Spot
 moved depth levels place offset s = record s { depth = depth; levels = levels; place = place; offset = offset }
 
--- bytes that lead somewhere from where an item is due in the innermost nest
+-- Bytes that lead on in the lowered level lead on in the innermost level.
 module _ (s : Spot) (level : Level) (left : ℕ) (at : s.phase ≡ p.Title) (clear : length s.front ≡ 0)
     (in_none : s.within ≡ w.Nothing) (is : Some level ≡ innermost s.levels)
     (all : counted_behind level ≡ Some left) where
@@ -74,7 +74,7 @@ module _ (s : Spot) (level : Level) (left : ℕ) (at : s.phase ≡ p.Title) (cle
       from_due s at clear in_none To (subst (λ (z : List Level). Leads (record (due s) { levels = z }) bytes
       (To (due s))) (sym known) leads)
 
-  -- another item is due in the nest
+  -- After some of the items, another item is due in the nest.
   pub run_goes : (last : ℕ) (bytes : List ℕ) (behind : ℕ) → 0 < behind → behind ≤ left + 1
       → ArePlain s.strict s.offset s.place (left + 1 - behind) last bytes
       → Leads s bytes (moved s.depth (lowered (behind - 1) level ∷ others s.levels) last (s.offset + length bytes) s)
@@ -83,7 +83,7 @@ module _ (s : Spot) (level : Level) (left : ℕ) (at : s.phase ≡ p.Title) (cle
       (λ z. moved z.depth (lowered (behind - 1) level ∷ others z.levels) last (z.offset + length bytes) z) (omega arith)
       (run_leads s (others s.levels) level left (left + 1 - behind) (behind - 1) last bytes all plain)
 
-  -- the last one has come
+  -- After all items, the nest is done.
   pub run_ends : (last : ℕ) (bytes : List ℕ) (count : ℕ) → count ≡ suc left
       → ArePlain s.strict s.offset s.place count last bytes
       → Leads s bytes (item_done (moved (s.depth + 1) (others s.levels) last (s.offset + length bytes) s))
@@ -119,19 +119,19 @@ title_enters b n major inner level e small byte left enters = λ s at clear none
     (title_leads (b ∷ []) 1 (due s) header (below_one b byte) refl refl (omega arith) (omega arith)
     title.0 title.1 (λ more. absurd (omega (arith, more)))))
 
--- that of an array of one item more
+-- The title of an array with `k + 1` items leaves `k` items after the next item.
 pub array_enters : (b k : ℕ) → b ≡ 129 + k → k < 23 → IsNestTitle b (l.Items k)
 array_enters b k e small =
     title_enters b (suc k) Array (l.Items (suc k)) (l.Items k) (omega (arith, e)) (omega (arith, small))
     (omega (arith, e, small)) refl (λ spot. refl)
 
--- that of a map of one pair more
+-- The title of a map with `k + 1` pairs leaves a value and `k` pairs after the next item.
 pub map_enters : (b k : ℕ) → b ≡ 161 + k → k < 23 → IsNestTitle b (l.Value k)
 map_enters b k e small =
     title_enters b (suc k) Map (l.Pairs (suc k)) (l.Value k) (omega (arith, e)) (omega (arith, small))
     (omega (arith, e, small)) refl (λ spot. refl)
 
--- ---- the items behind it
+-- ---- the items after the title
 
 one_byte : (xs : List ℕ) → 0 < length xs → slice_index xs 0 ∷ [] ≡ take 1 xs
 one_byte xs some = grind (arith, nat_tests)
@@ -139,7 +139,7 @@ one_byte xs some = grind (arith, nat_tests)
 module _ (s : Spot) (level : Level) (left last len : ℕ) (xs : List ℕ) (at : s.phase ≡ p.Title)
     (clear : length s.front ≡ 0) (in_none : s.within ≡ w.Nothing) (deep : 0 < s.depth) (le : len ≤ length xs - 1)
     (enters : IsNestTitle (slice_index xs 0) level) (all : counted_behind level ≡ Some left) where
-  -- behind the title
+  -- The spot after the title of the nest.
   abbrev m : Spot
   m = item_due (s.depth - 1) (level ∷ s.levels) (passed 1 (due s))
 
@@ -155,7 +155,7 @@ module _ (s : Spot) (level : Level) (left last len : ℕ) (xs : List ℕ) (at : 
   long : length items ≡ len
   long = length-take-le len (take (length xs - 1) (drop 1 xs)) (omega (arith, rest_long xs 1, le))
 
-  -- another item is due in the nest
+  -- After some of the items, another item is due in the nest.
   pub nest_goes : 0 < length xs → (behind : ℕ) → 0 < behind → behind ≤ left + 1
       → ArePlain s.strict (s.offset + 1) s.offset (left + 1 - behind) last items → Leads s (take (1 + len) xs)
       (moved (s.depth - 1) (lowered (behind - 1) level ∷ s.levels) last (s.offset + 1 + len) s)
@@ -163,7 +163,7 @@ module _ (s : Spot) (level : Level) (left last len : ℕ) (xs : List ℕ) (at : 
       leads_in some (λ z. moved (z.depth - 1) (lowered (behind - 1) level ∷ z.levels) last (z.offset + 1 + len) z)
       (rw long at (run_goes m level left refl refl refl refl all last items behind due_more fits plain))
 
-  -- the last one has come
+  -- After all items, the nest is done.
   pub nest_ends : 0 < length xs → (count : ℕ) → count ≡ suc left
       → ArePlain s.strict (s.offset + 1) s.offset count last items
       → Leads s (take (1 + len) xs) (item_done (record s { place = last; offset = s.offset + 1 + len }))

@@ -8,7 +8,7 @@ use Rattle.cbor_checker.specs.Levels.{closes, next}
 use Rattle.cbor_checker.specs.Stack.{innermost, others}
 use Rattle.cbor_checker.specs.Spots.{Spot, settled, item_done, item_due, nested, broken}
 
--- the levels and the depth that it had, what was due and the open strings do not count
+-- `settled` does not depend on the levels, the depth, the phase or the open strings of the spot.
 settled_same : (fs : List Level) (d : ℕ) (s : Spot) (a : ℕ) (b : List Level) (phase : Phase) (i : Within)
     → settled d fs (record s { depth = a; levels = b; phase = phase; within = i }) ≡ settled d fs s
 settled_same [] d s a b phase i = refl
@@ -32,7 +32,7 @@ pub nested_goes : (s new : Spot) (inner left : Level) → (s.depth ≡ 0 → ⊥
     → new ≡ item_due (s.depth - 1) (left ∷ s.levels) s → new ≡ nested s.depth inner s
 nested_goes s new inner left some e is = is ∙ nest_goes s.depth s inner left some e
 
--- an empty one takes a level and gives it back
+-- An empty nest takes a level and gives it back.
 nest_ends : (depth : ℕ) (s : Spot) (inner : Level) → (depth ≡ 0 → ⊥) → next inner ≡ None
     → settled depth s.levels s ≡ nested depth inner s
 nest_ends depth s inner some e = grind (arith, nat_tests)

@@ -13,7 +13,7 @@ use Rattle.cbor_checker.specs.Stack.{levels_of, others}
 use Rattle.std.proofs.Math.Nat.{eq-or-lt_of_le}
 use Rattle.std.proofs.lemmas.Bool.Decides.{nat_tests}
 
--- only so many numbers count
+-- Only the first `n` numbers of both arrays count.
 pub same_levels : (n : ℕ) (kinds counts kinds' counts' : List ℕ)
     → ((i : ℕ) → i < n → get_or kinds' i 0 ≡ get_or kinds i 0)
     → ((i : ℕ) → i < n → get_or counts' i 0 ≡ get_or counts i 0) → levels_in n kinds' counts' ≡ levels_in n kinds counts
@@ -23,7 +23,7 @@ same_levels (suc n) kinds counts kinds' counts' k c =
     (λ i less. c i (omega (arith, less))) in
     cc (k n (omega arith), c n (omega arith), below)
 
--- one more nest
+-- The numbers of one more nest add a nest to the list.
 pub levels_push : (n m : ℕ) (kinds counts : List ℕ) (kind count : ℕ) (level : Level) (levels : List Level)
     → n < length kinds → n < length counts → m ≡ n + 1 → level_in kind count ≡ Some level
     → levels_in n kinds counts ≡ Some levels
@@ -39,7 +39,7 @@ others_in : (here : Option Level) (below : Option (List Level)) (levels : List L
     → within_others here below ≡ Some levels → below ≡ Some (others levels)
 others_in here below levels is = grind (arith, nat_tests)
 
--- another one in the place of the last
+-- New numbers for the last nest replace the innermost nest.
 pub levels_put : (m n : ℕ) (kinds counts : List ℕ) (kind count : ℕ) (level : Level) (levels : List Level) → m ≡ n + 1
     → n < length kinds → n < length counts → level_in kind count ≡ Some level → levels_in m kinds counts ≡ Some levels
     → levels_in m (set kinds n kind) (set counts n count) ≡ Some (level ∷ others levels)
@@ -51,7 +51,7 @@ levels_put m n kinds counts kind count level levels e ltk ltc is all =
 levels_first : (here : Option Level) (below : Option (List Level)) → below ≡ None → within_others here below ≡ None
 levels_first here below e = grind (arith, nat_tests)
 
--- where one is none, they are none
+-- If one pair of numbers is no nest, the numbers are no nests.
 pub levels_none : (m n : ℕ) (kinds counts : List ℕ) → n < m → level_in (get_or kinds n 0) (get_or counts n 0) ≡ None
     → levels_in m kinds counts ≡ None
 levels_none zero n kinds counts lt is = absurd (omega arith)
@@ -62,21 +62,21 @@ levels_none (suc m) n kinds counts lt is =
       | inr less ↦ levels_first _ _ (levels_none m n kinds counts less is)
     ]
 
--- where there are levels, they are these
+-- If there are nests, they are those of `levels_of`.
 pub some_levels : (known : Option (List Level)) → IsSome known → known ≡ Some (levels_of known)
 some_levels known some = grind (arith, nat_tests)
 
 pub is_some : (known : Option (List Level)) (levels : List Level) → known ≡ Some levels → IsSome known
 is_some known levels is = rw is refl
 
--- numbers that were copied to the front are read there
+-- A number that was copied to the front has the same value there.
 pub front_read : (numbers front behind : List ℕ) (n i : ℕ) → front ≡ take n numbers → length front ≡ n → i < n
     → get_or (front ++ behind) i 0 ≡ get_or numbers i 0
 front_read numbers front behind n i same long less =
     get_or-append front behind 0 i (omega (arith, long, less))
     ∙ ap (λ (z : List ℕ). get_or z i 0) same ∙ get_or-take n numbers i 0 less
 
--- ---- an item more of an innermost level of items, of which one is left
+-- ---- one more item in an innermost level of items with an item left
 
 settled_items : (d count : ℕ) (rest : List Level) (s : Spot) → 0 < count
     → settled d (l.Items count ∷ rest) s ≡ item_due d (l.Items (count - 1) ∷ rest) s
@@ -84,7 +84,7 @@ settled_items d count rest s some = grind (arith, nat_tests)
 
 module _ (m n : ℕ) (kinds counts : List ℕ) (levels : List Level) (e : m ≡ n + 1) (ltk : n < length kinds)
     (ltc : n < length counts) (items : get_or kinds n 0 ≡ 0) (is : levels_in m kinds counts ≡ Some levels) where
-  -- its count alone may change
+  -- The new count replaces the old count of the innermost level.
   counted : (count : ℕ) → levels_in m kinds (set counts n count) ≡ Some (l.Items count ∷ others levels)
   counted count =
       rw (set-get_or kinds n 0) at

@@ -1,4 +1,4 @@
--- What is due after one more byte.
+-- The bytes that are due after one more byte.
 use Rattle.std.proofs.Common.{◌≡◌, ℕ, zero, suc, Bool, true, false, List, [], ◌∷◌, ◌++◌, length, None, refl, sym, ap}
 use Rattle.std.proofs.Common.{subst, ◌∙◌, inl, inr, arith, append_assoc, append-nil}
 use Rattle.std.proofs.lemmas.Bool.Decides.{nat_tests}
@@ -28,9 +28,9 @@ use Rattle.cbor_checker.proofs.LevelLaws.{Same}
 use Rattle.cbor_checker.proofs.StringLaws.{bytes_body, no_body, First, breaks, whole as whole_string, opens, first_of}
 use Rattle.cbor_checker.proofs.TitleDueLaws.{title_enters}
 
--- ---- where a title is due, one comes
+-- ---- if a title is due, a title comes
 
--- a title that is taken is in front
+-- The bytes begin with a title that is taken.
 pub record Titled (s : Bool) (y : List ℕ) : Type 0 where
   pub title : List ℕ
   pub header : Header
@@ -43,7 +43,7 @@ item_titled : (s : Bool) (d : ℕ) (item rest y : List ℕ) → IsItem s d item 
 item_titled s d item rest y (more_items {title = t} {rest = r} q g c no_items) e =
     let is = e ∙ append_assoc t (r ++ []) rest in search
 
--- the break has one title
+-- Any checker takes the title `ff` of a break.
 break_taken : (s : Bool) → IsTakenTitle s (0xff ∷ []) h.Break
 break_taken s = grind (arith, nat_tests)
 
@@ -73,7 +73,7 @@ due_titled s (w.Text n) d levels y o = first_titled s Text _ y (first_of s Text 
 itself : (A : Type 0) → Same A A
 itself A = (λ a. a, λ a. a)
 
--- where no title that begins so may stand, nothing goes on
+-- If no title with this beginning may stand there, no bytes complete the item.
 module _ (spot : Spot) (fault : Fault) (is_cut : IsCutTitle spot.front)
     (all : (behind : List ℕ) (x : Header) → IsTitle (spot.front ++ behind) x
     → (titled x spot).phase ≡ p.Faulted fault) where
@@ -164,7 +164,7 @@ fresh_same s d y = (
   ],
 )
 
--- the bytes that make a whole item of those so far are those that the spot waits for
+-- The bytes that complete the item of all bytes so far are those that the spot waits for.
 pub fed_same : (s : Bool) (d : ℕ) (fed : List ℕ) (spot : Spot) → IsFed s d fed spot → (y : List ℕ)
     → Same (IsItem s d (fed ++ y)) (Waits spot y)
 fed_same s d fed spot fresh y = fresh_same s d y

@@ -1,4 +1,4 @@
--- What an open string contains after a title.
+-- The contents of an open string after a title.
 use Rattle.std.proofs.Common.{◌≡◌, ℕ, zero, suc, Bool, true, false, List, [], ◌∷◌, ◌++◌, length, Some, None, refl, ap}
 use Rattle.std.proofs.Common.{◌∙◌, arith, append_assoc}
 use Rattle.std.proofs.lemmas.Bool.Decides.{nat_tests}
@@ -17,7 +17,7 @@ use Rattle.cbor_checker.proofs.LevelLaws.{Same, string_ends}
 
 -- ---- bodies
 
--- where no byte of a body is left, what may stand behind it does
+-- A body without bytes left waits for the bytes that may follow the string.
 pub no_body : (P : List ℕ → Type 0) (spot : Spot) (y : List ℕ) → spot.front ≡ [] → P []
     → Same (BodyThen 0 P (StringDone spot.strict spot.within spot.depth spot.levels) y)
     (Waits (string_done spot.within spot) y)
@@ -45,7 +45,7 @@ text_body (suc len) spot y clear = (λ b. b, λ b. b)
 pub taken_none : (s : Bool) (k : Kind) → AreTakenStrings s k [] []
 taken_none s k = grind (arith, nat_tests, no_flat)
 
--- one string of a definite length more is taken
+-- One more string of a definite length is taken.
 taken_more : (s : Bool) (k : Kind) (t b rest : List ℕ) (bs : List (List ℕ))
     → IsTitle t (kind_header k (Some (length b))) → IsTakenTitle s t (kind_header k (Some (length b)))
     → AreTakenStrings s k rest bs → AreTakenStrings s k ((t ++ b) ++ rest) (b ∷ bs)
@@ -55,7 +55,7 @@ flat_strings : {k : Kind} {u : List ℕ} {bs : List (List ℕ)} → AreFlat k u 
 flat_strings no_flat = none
 flat_strings (more_flat q g f) = more (definite q) (flat_strings f)
 
--- what stands first in what ends an open string: the break, a string of a definite length, or a further open
+-- The start of the bytes that end an open string: a break, a string of a definite length, or a further open.
 pub data First (s : Bool) (k : Kind) (Then : List ℕ → Type 0) (y : List ℕ) : Type 0 where
   breaks : (rest : List ℕ) → Then rest → y ≡ 0xff ∷ rest → First s k Then y
   whole : (t b far : List ℕ) → IsTitle t (kind_header k (Some (length b)))
@@ -71,7 +71,7 @@ module _ (s : Bool) (k : Kind) (Then : List ℕ → Type 0) where
   ends_with u bs rest are taken sound k =
       record { strings = u; bodies = bs; rest = rest; are = are; taken = taken; sound = sound; behind = k; is = refl }
 
-  -- behind a title, what such a string takes
+  -- After the title of a string within an open string, its body and the rest end the open string.
   pub body_back : (t y : List ℕ) (len : ℕ) → IsTitle t (kind_header k (Some len))
       → IsTakenTitle s t (kind_header k (Some len)) → BodyThen len (IsWritable k) (EndsString s k Then) y
       → EndsString s k Then (t ++ y)
@@ -96,7 +96,8 @@ module _ (s : Bool) (k : Kind) (Then : List ℕ → Type 0) where
   pub end_back : (t y : List ℕ) → t ≡ 0xff ∷ [] → Then y → EndsString s k Then (t ++ y)
   end_back t y e behind = rw e (ends_with [] [] y none (taken_none s k) tt behind)
 
--- the first where any spelling is taken, and where the shortest is
+-- If any spelling is taken, the bytes that end an open string have such a start. The same holds for the shortest
+-- spelling.
 any_first : (k : Kind) (Then : List ℕ → Type 0) (u rest y : List ℕ) (bs : List (List ℕ)) → AreStrings k u bs
     → AreWritable k bs → Then rest → y ≡ u ++ 0xff ∷ rest → First false k Then y
 any_first k Then u rest y bs none sound behind e = breaks rest behind e

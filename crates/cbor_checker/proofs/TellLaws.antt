@@ -1,4 +1,4 @@
--- What the answer of a checker says of the bytes so far.
+-- The meaning of a checker's answer for the bytes so far.
 use Rattle.std.proofs.Common.{◌≡◌, ℕ, zero, suc, ◌+◌, ◌%◌, ◌≤◌, Bool, true, List, [], ◌∷◌, ◌++◌, length, slice_index}
 use Rattle.std.proofs.Common.{refl, sym, ap, subst, ◌∙◌, arith, append-nil, length-append}
 use Rattle.std.proofs.lemmas.Bool.Decides.{nat_tests}
@@ -87,13 +87,13 @@ pub tells : (s : Bool) (d : ℕ) (fed : List ℕ) (spot : Spot) → IsFed s d fe
 tells s d fed spot is left short =
     tells_in spot.phase s d fed spot refl is (λ y i. (fed_same s d fed spot is y).0 i) left short
 
--- the same of an answer that is the spot's
+-- An answer that is the answer of the spot has the same meaning.
 pub told : (s : Bool) (d : ℕ) (fed : List ℕ) (spot : Spot) (progress : Progress) → progress ≡ progress_of spot
     → IsFed s d fed spot → has_left spot.phase ≡ true
     → length spot.front ≤ affix_len (slice_index spot.front 0 % 32) → Tells s d fed progress
 told s d fed spot progress e is left short = subst (Tells s d fed) (sym e) (tells s d fed spot is left short)
 
--- no spot has more bytes than can be counted
+-- No spot answers `TooLong`.
 pub never_long : (phase : Phase) (spot : Spot) → progress_in phase spot ≡ r.TooLong → ⊥
 never_long p.Title spot is = cc
 never_long (p.Bytes left) spot is = cc
@@ -101,6 +101,6 @@ never_long (p.Text left state) spot is = cc
 never_long p.Ended spot is = cc
 never_long (p.Faulted fault) spot is = cc
 
--- where more bytes are due by the answer they are by the phase
+-- If the answer is `More`, more bytes are due by the phase.
 pub more_due : (phase : Phase) (spot : Spot) (due : ℕ) → r.More due ≡ progress_in phase spot → is_due phase ≡ true
 more_due phase spot due e = grind (arith, nat_tests)

@@ -1,4 +1,4 @@
--- What is due after a whole title, wherever it stands.
+-- The bytes that are due after a whole title, wherever it stands.
 use Rattle.std.proofs.Common.{◌≡◌, ℕ, zero, suc, Bool, false, List, [], ◌∷◌, ◌++◌, length, Some, None, arith, refl}
 use Rattle.std.proofs.lemmas.Bool.Decides.{nat_tests}
 use Rattle.ciborium_ll_grammar.specs.declared.hdr.Header.{Header}
@@ -19,7 +19,7 @@ use Rattle.cbor_checker.proofs.StringLaws.{bytes_body, text_body, First, breaks,
 use Rattle.cbor_checker.proofs.StringLaws.{open_back, end_back}
 use Rattle.cbor_checker.proofs.EnterLaws.{enters, entered_back, break_bytes}
 
--- ---- what is due of either kind
+-- ---- the bytes that are due of either kind
 
 abbrev kind_within : Kind → ℕ → Within
 kind_within Bytes n = w.Bytes n
@@ -42,7 +42,8 @@ kind_enters k n len spot = grind (arith, nat_tests)
 itself : (A : Type 0) → Same A A
 itself A = (λ a. a, λ a. a)
 
--- where the shortest spelling alone is taken nothing goes on behind an open within another one
+-- If only the shortest spelling is taken, no bytes follow an open within an open string. Otherwise the spot waits for
+-- those of `string_open`.
 opened : (s : Bool) (i : Within) (spot : Spot) (y : List ℕ)
     → Same ((s ≡ false) × Waits (string_open i spot) y) (Waits (open_entered s i spot) y)
 opened s i spot y = grind (arith, nat_tests)
@@ -52,7 +53,7 @@ sound_as : {len : ℕ} {P Q Then : List ℕ → Type 0} {y : List ℕ} → BodyT
 sound_as b f =
     record { body = b.body; rest = b.rest; long = b.long; sound = f b.body b.sound; behind = b.behind; is = b.is }
 
--- what is due behind the strings that are open within others, and behind a body
+-- The bytes that are due after strings that are open within others, and after a body.
 module _ (spot : Spot) (y : List ℕ) (clear : spot.front ≡ []) where
   open_same : (k : Kind) (n : ℕ) → Same (EndsStrings spot.strict k n (Ends spot.strict spot.depth spot.levels) y)
       (Waits (string_open (kind_within k n) spot) y)
@@ -127,7 +128,7 @@ string_title k n spot t y x clear inside p g = (
 
 -- ---- all
 
--- what is due behind a title
+-- After a title that is taken, the spot waits for the rest of the bytes that were due.
 pub title_enters : (i : Within) (spot : Spot) (t y : List ℕ) (x : Header) → spot.front ≡ [] → spot.within ≡ i
     → IsTitle t x → IsTakenTitle spot.strict t x
     → Same (TitleDue spot.strict i spot.depth spot.levels (t ++ y)) (Waits (entered i x spot) y)

@@ -15,7 +15,7 @@ use Rattle.cbor_checker.specs.declared.phase.Within.TheVariants as w
 use Rattle.cbor_checker.specs.Levels.{closes}
 use Rattle.cbor_checker.specs.Spots.{Spot}
 
--- a level takes so many items and then this end
+-- A level takes this many items and then this end.
 abbrev pub Takes : Level → ℕ → List ℕ → Type 0
 Takes (l.Items more) count end = (count ≡ more) × (end ≡ [])
 Takes (l.Pairs more) count end = (count ≡ 2 * more) × (end ≡ [])
@@ -24,7 +24,7 @@ Takes l.OpenItems count end = Unit {0} × (end ≡ 0xff ∷ [])
 Takes l.OpenPairs count end = ((pairs : ℕ) × (count ≡ 2 * pairs)) × (end ≡ 0xff ∷ [])
 Takes l.OpenValue count end = ((pairs : ℕ) × (count ≡ suc (2 * pairs))) × (end ≡ 0xff ∷ [])
 
--- the bytes end the level, and those behind it are so
+-- The bytes end the level, and then come bytes with the property `Then`.
 pub record EndsLevel (strict : Bool) (level : Level) (depth : ℕ) (Then : List ℕ
     → Type 0) (bytes : List ℕ) : Type 0 where
   pub count : ℕ
@@ -36,12 +36,12 @@ pub record EndsLevel (strict : Bool) (level : Level) (depth : ℕ) (Then : List 
   pub behind : Then rest
   pub is : bytes ≡ items ++ (end ++ rest)
 
--- the bytes end all levels
+-- The bytes end all levels.
 abbrev pub Ends : Bool → ℕ → List Level → List ℕ → Type 0
 Ends strict depth [] bytes = bytes ≡ []
 Ends strict depth (level ∷ levels) bytes = EndsLevel strict level depth (Ends strict (suc depth) levels) bytes
 
--- the bytes are an item, and those behind it are so
+-- The bytes are an item, and then come bytes with the property `Then`.
 pub record ItemThen (strict : Bool) (depth : ℕ) (Then : List ℕ → Type 0) (bytes : List ℕ) : Type 0 where
   pub item : List ℕ
   pub rest : List ℕ
@@ -49,7 +49,7 @@ pub record ItemThen (strict : Bool) (depth : ℕ) (Then : List ℕ → Type 0) (
   pub behind : Then rest
   pub is : bytes ≡ item ++ rest
 
--- a break ends the innermost level, and the bytes behind it end the others
+-- A break ends the innermost level, and then come bytes with the property `Then`.
 pub record BreakThen (level : Level) (Then : List ℕ → Type 0) (bytes : List ℕ) : Type 0 where
   pub rest : List ℕ
   pub may : closes level ≡ true
@@ -60,12 +60,12 @@ abbrev pub Breaks : Bool → ℕ → List Level → List ℕ → Type 0
 Breaks strict depth [] bytes = ⊥
 Breaks strict depth (level ∷ levels) bytes = BreakThen level (Ends strict (suc depth) levels) bytes
 
--- where an item is due
+-- The bytes that are due if an item is due: an item, or a break in its place.
 abbrev pub ItemDue : Bool → ℕ → List Level → List ℕ → Type 0
 ItemDue strict depth levels bytes = ItemThen strict depth
     (Ends strict depth levels) bytes ⊎ Breaks strict depth levels bytes
 
--- the bytes end an open string, and those behind it are so
+-- The bytes end an open string, and then come bytes with the property `Then`.
 pub record EndsString (strict : Bool) (kind : Kind) (Then : List ℕ → Type 0) (bytes : List ℕ) : Type 0 where
   pub strings : List ℕ
   pub bodies : List (List ℕ)
@@ -76,28 +76,29 @@ pub record EndsString (strict : Bool) (kind : Kind) (Then : List ℕ → Type 0)
   pub behind : Then rest
   pub is : bytes ≡ strings ++ 0xff ∷ rest
 
--- what stands behind the innermost of so many open strings, and one more
+-- The bytes after the innermost open string: they end this many more open strings, and then come bytes with the
+-- property `Then`.
 abbrev pub Behind : Bool → Kind → ℕ → (List ℕ → Type 0) → List ℕ → Type 0
 Behind strict kind zero Then bytes = Then bytes
 Behind strict kind (suc more) Then bytes = EndsString strict kind (Behind strict kind more Then) bytes
 
--- the bytes end them all
+-- The bytes end all open strings.
 abbrev pub EndsStrings : Bool → Kind → ℕ → (List ℕ → Type 0) → List ℕ → Type 0
 EndsStrings strict kind more Then bytes = EndsString strict kind (Behind strict kind more Then) bytes
 
--- behind a title or a string, where a title is due
+-- The bytes that are due if a title is due, for an item or within an open string.
 abbrev pub TitleDue : Bool → Within → ℕ → List Level → List ℕ → Type 0
 TitleDue strict w.Nothing depth levels bytes = ItemDue strict depth levels bytes
 TitleDue strict (w.Bytes more) depth levels bytes = EndsStrings strict Bytes more (Ends strict depth levels) bytes
 TitleDue strict (w.Text more) depth levels bytes = EndsStrings strict Text more (Ends strict depth levels) bytes
 
--- behind a string of a definite length
+-- The bytes that are due after a string of a definite length.
 abbrev pub StringDone : Bool → Within → ℕ → List Level → List ℕ → Type 0
 StringDone strict w.Nothing depth levels bytes = Ends strict depth levels bytes
 StringDone strict (w.Bytes more) depth levels bytes = EndsStrings strict Bytes more (Ends strict depth levels) bytes
 StringDone strict (w.Text more) depth levels bytes = EndsStrings strict Text more (Ends strict depth levels) bytes
 
--- a body of so many bytes
+-- A body of this many bytes, and then come bytes with the property `Then`.
 pub record BodyThen (len : ℕ) (Sound Then : List ℕ → Type 0) (bytes : List ℕ) : Type 0 where
   pub body : List ℕ
   pub rest : List ℕ
@@ -121,6 +122,6 @@ WaitsIn (p.Text len state) spot bytes =
 WaitsIn p.Ended spot bytes = bytes ≡ []
 WaitsIn (p.Faulted fault) spot bytes = ⊥
 
--- these bytes behind the spot make a whole item of all
+-- These bytes after the spot complete the item of all bytes.
 abbrev pub Waits : Spot → List ℕ → Type 0
 Waits spot bytes = WaitsIn spot.phase spot bytes

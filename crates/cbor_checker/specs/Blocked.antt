@@ -7,8 +7,8 @@ use Rattle.cbor_checker.specs.declared.phase.Fault.TheVariants as f
 use Rattle.cbor_checker.specs.declared.phase.Within.{Within}
 use Rattle.cbor_checker.specs.declared.phase.Within.TheVariants as w
 
--- The fault of a title of this kind that may not stand at the place: a nest without a level left, or another kind
--- within a string (RFC 7049, 2.2.2), as `61` after `5f`.
+-- The fault of a title of this kind that may not stand at the place (RFC 7049, 2.2.2). It is a nest without a level
+-- left, or another kind within a string, as `61` after `5f`.
 abbrev pub blocked : Within → ℕ → ℕ → TitleKind → Option Fault
 blocked w.Nothing zero place k.Array = Some (f.Deep place)
 blocked w.Nothing zero place k.Map = Some (f.Deep place)
@@ -19,8 +19,8 @@ blocked (w.Bytes more) depth place kind = Some (f.Syntax place)
 blocked (w.Text more) depth place k.Text = None
 blocked (w.Text more) depth place kind = Some (f.Syntax place)
 
--- A title of this kind that has a number is an item by itself: a number, a float or a simple value (RFC 7049, 2.1 and
--- 2.3).
+-- A title of this kind that has a number is an item by itself (RFC 7049, 2.1 and 2.3): a number as `19 01 00`, a float
+-- as `f9 3c 00`, or a simple value as `f4`.
 abbrev pub is_single : TitleKind → Bool
 is_single k.Positive = true
 is_single k.Negative = true

@@ -6,6 +6,7 @@ use Rattle.cbor_checker.specs.declared.level.Level.{Level}
 use Rattle.cbor_checker.specs.declared.level.Level.TheVariants as l
 
 -- The contents of a nest, by its header: one item, a counted number of items or pairs, or any number up to a break.
+-- `82` has two items, `a2` two pairs, and `c1` one item.
 abbrev pub contents : Header → Level
 contents (h.Tag number) = l.Items 1
 contents (h.Array (Some count)) = l.Items count
@@ -14,7 +15,7 @@ contents (h.Map (Some count)) = l.Pairs count
 contents (h.Map None) = l.OpenPairs
 contents header = l.Items 0
 
--- The rest of a nest after one more item, if an item is due.
+-- The rest of a nest after one more item, if an item is due: two items leave one, and one pair leaves its value.
 abbrev pub next : Level → Option Level
 next (l.Items zero) = None
 next (l.Items (suc count)) = Some (l.Items count)
@@ -25,7 +26,8 @@ next l.OpenItems = Some l.OpenItems
 next l.OpenPairs = Some l.OpenValue
 next l.OpenValue = Some l.OpenPairs
 
--- A break may stand in place of the item that is due: any item of an open array, or a key of an open map.
+-- A break may stand in place of the item that is due: any item of an open array, or a key of an open map. So `9f ff`
+-- and `bf ff` are items, and `bf 01 ff` is not.
 abbrev pub closes : Level → Bool
 closes l.OpenItems = true
 closes l.OpenValue = true

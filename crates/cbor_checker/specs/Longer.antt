@@ -1,7 +1,7 @@
--- Beginnings that only longer titles have.
+-- Bytes with which only longer titles begin.
 use Rattle.std.specs.Prelude.{◌≡◌, ℕ, ◌<◌, ◌%◌, ◌⊎◌, List, length, slice_index}
 
--- The byte at this index is there and is 0.
+-- The byte at this index is there and is 0, as the byte of `19 00` at 1.
 abbrev pub HasZero : List ℕ → ℕ → Type 0
 HasZero bytes at = (at < length bytes) × (slice_index bytes at ≡ 0)
 

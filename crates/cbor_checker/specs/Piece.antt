@@ -1,4 +1,4 @@
--- What a checker does with a piece.
+-- The work of a checker on a piece.
 use Rattle.std.specs.Prelude.{◌≡◌, ◌≤◌, ◌+◌, ◌<◌, ◌^◌, Bool, ℕ, false, List, ◌++◌, length, take}
 use Rattle.cbor_checker.specs.declared.progress.Feed.{Feed}
 use Rattle.cbor_checker.specs.declared.progress.Progress.TheVariants as r

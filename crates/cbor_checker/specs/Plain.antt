@@ -9,11 +9,11 @@ use Rattle.cbor_checker.specs.declared.level.Level.TheVariants as l
 use Rattle.cbor_checker.specs.Spots.{Spot, item_done, item_due}
 use Rattle.cbor_checker.specs.Steps.{Leads}
 
--- This many bytes came, and began with the last title.
+-- The spot after this many bytes that begin with a title. The place is the offset of that title.
 abbrev pub passed : ℕ → Spot → Spot
 passed len spot = record spot { front = []; place = spot.offset; offset = spot.offset + len }
 
--- If an item is due, these bytes are an item and lead past it (RFC 7049, 2.1).
+-- If an item is due, these bytes are an item and lead past it, as `01` and `61 61` do (RFC 7049, 2.1).
 abbrev pub IsPlainItem : Bool → List ℕ → Type 0
 IsPlainItem strict bytes = (spot : Spot) → spot.phase ≡ p.Title → length spot.front ≡ 0 → spot.within ≡ w.Nothing
     → spot.strict ≡ strict → Leads spot bytes (item_done (passed (length bytes) spot))
@@ -23,9 +23,9 @@ abbrev pub IsValueMajor : ℕ → Type 0
 IsValueMajor major = (major ≡ 0) ⊎ ((major ≡ 1) ⊎ (major ≡ 7))
 
 -- The numbers in the tables of first bytes, by the major type and the lower five bits (RFC 7049, 2.1). `len` is the
--- length of the item with its title, and 0 says nothing. `text_len` is the length of a text's body. The item is a
--- number or a simple value of one byte, a string below 24 bytes, or a longer title of a number, a float or a simple
--- value.
+-- length of the item with its title, and 0 says nothing. `text_len` is the length of a text's body. They are 3 and 2
+-- for `62`, and `len` is 3 for `19`. The item is a number or a simple value of one byte, or a string below 24 bytes. Or
+-- it is a longer title of a number, a float or a simple value.
 abbrev pub IsSpan : ℕ → ℕ → ℕ → Type 0
 IsSpan first len text_len =
     (len ≡ 0)
@@ -35,22 +35,22 @@ IsSpan first len text_len =
     × IsValueMajor (first / 32)
     ⊎ (len ≡ 1 + first % 32) × (first % 32 < 24) × (first / 32 ≡ 3) × (text_len ≡ first % 32))))
 
--- This many plain items, joined. The first begins at the offset, and the place is the offset of the last, or the given
--- place if there is none.
+-- `ArePlain strict offset first count last bytes`: these bytes are `count` plain items, joined, and begin at the
+-- offset. `last` is the offset of the last item, or `first` if there is none. In `01 02` at 5, the last item is at 6.
 pub data ArePlain (strict : Bool) (offset first : ℕ) : ℕ → ℕ → List ℕ → Type 0 where
   none : ArePlain strict offset first zero first []
   more : {count last : ℕ} {bytes item : List ℕ} → ArePlain strict offset first count last bytes
       → IsPlainItem strict item
       → ArePlain strict offset first (suc count) (offset + length bytes) (bytes ++ item)
 
--- How many items are due in a nest after the current item, if they are counted (RFC 7049, 2.1).
+-- How many items are due in a nest after the current item, if they are counted (RFC 7049, 2.1): four for two pairs.
 abbrev pub counted_behind : Level → Option ℕ
 counted_behind (l.Items count) = Some count
 counted_behind (l.Pairs count) = Some (2 * count)
 counted_behind (l.Value count) = Some (2 * count + 1)
 counted_behind level = None
 
--- This many items, as pairs: 4 are two pairs, 5 a value and two pairs.
+-- This many items, as pairs: 4 are two pairs, and 5 are a value and two pairs.
 abbrev pub pairs_of : ℕ → Level
 pairs_of left = if left % 2 == 0 then l.Pairs (left / 2) else l.Value (left / 2)
 
@@ -60,7 +60,7 @@ lowered left (l.Items count) = l.Items left
 lowered left level = pairs_of left
 
 -- If an item is due and a level is left, this byte is the title of a nest. `level` is the rest of the nest after the
--- item that is due in it (RFC 7049, 2.1).
+-- item that is due in it (RFC 7049, 2.1): one item for `82`.
 abbrev pub IsNestTitle : ℕ → Level → Type 0
 IsNestTitle first level = (spot : Spot) → spot.phase ≡ p.Title → length spot.front ≡ 0 → spot.within ≡ w.Nothing
     → 0 < spot.depth → Leads spot (first ∷ []) (item_due (spot.depth - 1) (level ∷ spot.levels) (passed 1 spot))

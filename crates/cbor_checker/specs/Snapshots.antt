@@ -22,8 +22,8 @@ abbrev pub text_in : ℕ → Option State → Option Phase
 text_in left (Some state) = Some (p.Text left state)
 text_in left None = None
 
--- What is due, by the number of its kind. `number` counts the bytes due of a body, or is the place of a fault. 0 is no
--- kind.
+-- The phase with these numbers. `number` counts the bytes due of a body, or is the place of a fault. Kind 2 with the
+-- number 7 is seven bytes of a byte string, and 5 with 7 is a fault of syntax at 7. 0 is no kind.
 abbrev pub phase_in : ℕ → ℕ → ℕ → Option Phase
 phase_in kind number text =
     if kind == 1 then Some p.Title else
@@ -38,14 +38,16 @@ phase_in kind number text =
 abbrev pub strict_in : ℕ → Option Bool
 strict_in number = if number == 0 then Some false else (if number == 1 then Some true else None)
 
--- The strings that are open, by the number of their kind and how many there are within the first.
+-- The strings that are open, by the number of their kind and how many there are within the first. Kind 1 with the
+-- number 1 is two open byte strings, as after `5f 5f`.
 abbrev pub within_in : ℕ → ℕ → Option Within
 within_in kind more =
     if kind == 0 then Some w.Nothing else
     (if kind == 1 then Some (w.Bytes more) else
     (if kind == 2 then Some (w.Text more) else None))
 
--- The rest of a nest after the item that is due in it, by the number of its kind and a count.
+-- The rest of a nest after the item that is due in it, by the number of its kind and a count. Kind 1 with the count 2
+-- is two pairs.
 abbrev pub level_in : ℕ → ℕ → Option Level
 level_in kind count =
     if kind == 0 then Some (l.Items count) else
@@ -61,14 +63,15 @@ within_others (Some level) (Some levels) = Some (level ∷ levels)
 within_others (Some level) None = None
 within_others None levels = None
 
--- This many nests, each by its kind and its count. The innermost is the last of them.
+-- This many nests, each by its kind and its count. The innermost is the last of them: the kinds 0 and 1 with the counts
+-- 2 and 3 are three pairs within two items.
 abbrev pub levels_in : ℕ → List ℕ → List ℕ → Option (List Level)
 levels_in zero kinds counts = Some []
 levels_in (suc len) kinds counts =
     within_others (level_in (slice_index kinds len) (slice_index counts len)) (levels_in len kinds counts)
 
 -- A checker can have this phase and these open strings with the other numbers. The nests and the levels left are at
--- most 256. Each open string has come with a byte, a body has bytes left, and a title isn't whole.
+-- most 256, and each open string has come with a byte. A body has bytes left, and a title isn't whole.
 pub record IsState (snapshot : Snapshot) (phase : Phase) (within : Within) : Type 0 where
   pub room : snapshot.nests + snapshot.depth ≤ 256
   pub counted : open_count within ≤ snapshot.offset

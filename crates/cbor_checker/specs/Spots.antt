@@ -13,9 +13,9 @@ use Rattle.cbor_checker.specs.declared.phase.Within.TheVariants as w
 use Rattle.cbor_checker.specs.declared.phase.Fault.TheVariants as f
 use Rattle.cbor_checker.specs.Levels.{closes, contents, next}
 
--- In turn: only the shortest spelling is taken, what is due, the bytes of a title that isn't whole, and the open
--- strings. Then the levels left, the nests around the item (the innermost first), the place that a fault would name,
--- and how many bytes came.
+-- The parts in turn: whether only the shortest spelling is taken, what is due, the bytes of a title that isn't whole,
+-- and the open strings. Then the levels left, the nests around the item (the innermost first), the place that a fault
+-- would name, and how many bytes came.
 pub record Spot : Type 0 where
   pub strict : Bool
   pub phase : Phase
@@ -30,13 +30,13 @@ pub record Spot : Type 0 where
 abbrev pub at_phase : Phase → Spot → Spot
 at_phase phase spot = record spot { phase = phase }
 
--- An item is due in the innermost nest. Its rest after the item is the first of `levels`.
+-- An item is due in the innermost nest. The first of `levels` is the rest of that nest after the item.
 abbrev pub item_due : ℕ → List Level → Spot → Spot
 item_due depth levels spot =
     record spot { phase = p.Title; within = w.Nothing; depth = depth; levels = levels }
 
--- The spot after a whole item: nests that are done end too. Without a nest left, the whole item has ended (RFC 7049,
--- 2.1, 2.2.1 and 2.4).
+-- The spot after a whole item: nests that are done end too, as the array of `82 01 02` with its second item. Without a
+-- nest left, the whole item has ended (RFC 7049, 2.1, 2.2.1 and 2.4).
 abbrev pub settled : ℕ → List Level → Spot → Spot
 settled depth [] spot = record spot { phase = p.Ended; within = w.Nothing; depth = depth; levels = [] }
 settled depth (level ∷ levels) spot =
@@ -46,32 +46,34 @@ settled depth (level ∷ levels) spot =
 abbrev pub item_done : Spot → Spot
 item_done spot = settled spot.depth spot.levels spot
 
--- The spot after a string of a definite length, which is an item or a piece of an open string (RFC 7049, 2.2.2).
+-- The spot after a string of a definite length (RFC 7049, 2.2.2). The string is an item, or a piece of an open string,
+-- as `41 01` in `5f 41 01 ff`.
 abbrev pub string_done : Within → Spot → Spot
 string_done w.Nothing spot = item_done spot
 string_done (w.Bytes more) spot = at_phase p.Title spot
 string_done (w.Text more) spot = at_phase p.Title spot
 
--- This many bytes of a byte string are due; with 0 the string is done (RFC 7049, 2.1).
+-- This many bytes of a byte string are due; with 0, as after `40`, the string is done (RFC 7049, 2.1).
 abbrev pub bytes_due : ℕ → Spot → Spot
 bytes_due zero spot = string_done spot.within spot
 bytes_due (suc len) spot = at_phase (p.Bytes (suc len)) spot
 
--- This many bytes of a text are due, from its first byte on; with 0 the text is done (RFC 7049, 2.1).
+-- This many bytes of a text are due, from its first byte on; with 0, as after `60`, the text is done (RFC 7049, 2.1).
 abbrev pub text_due : ℕ → Spot → Spot
 text_due zero spot = string_done spot.within spot
 text_due (suc len) spot = at_phase (p.Text (suc len) s.Between) spot
 
--- Strings are open, and a piece of them or a break is due (RFC 7049, 2.2.2).
+-- Strings are open, and a piece of them or a break is due, as after `5f` (RFC 7049, 2.2.2).
 abbrev pub string_open : Within → Spot → Spot
 string_open within spot = record spot { phase = p.Title; within = within }
 
--- The spot after the title of a nest (RFC 7049, 2.1 and 2.4).
+-- The spot after the title of a nest (RFC 7049, 2.1 and 2.4). Without a level left there is a fault, and an empty nest,
+-- as `80`, is done.
 abbrev pub nested : ℕ → Level → Spot → Spot
 nested zero inner spot = at_phase (p.Faulted (f.Deep spot.place)) spot
 nested (suc depth) inner spot = settled depth (inner ∷ spot.levels) spot
 
--- The spot after a break in place of an item (RFC 7049, 2.2.1).
+-- The spot after a break in place of an item (RFC 7049, 2.2.1): `9f ff` is done, and `81 ff` has a fault at 1.
 abbrev pub broken : List Level → Spot → Spot
 broken [] spot = at_phase (p.Faulted (f.Break spot.place)) spot
 broken (level ∷ levels) spot =
@@ -84,11 +86,12 @@ broken (level ∷ levels) spot =
 abbrev pub refused : Spot → Spot
 refused spot = at_phase (p.Faulted (f.Syntax spot.place)) spot
 
--- A fault in this text's body names the byte from which its shortest title would reach the body.
+-- A fault in this text's body names the byte from which its shortest title would reach the body. In `78 01 ff` this is
+-- the byte at 1.
 abbrev pub body_placed : ℕ → Spot → Spot
 body_placed len spot = record spot { place = spot.offset - title_len (h.Text (Some len)) }
 
--- The spot after the whole title of an item (RFC 7049, 2.1 to 2.4).
+-- The spot after the whole title of an item (RFC 7049, 2.1 to 2.4): `01` is a whole item, and `42` begins a body.
 abbrev pub item_entered : Header → Spot → Spot
 item_entered (h.Bytes (Some len)) spot = bytes_due len spot
 item_entered (h.Bytes None) spot = string_open (w.Bytes zero) spot
@@ -101,24 +104,28 @@ item_entered (h.Map count) spot = nested spot.depth (contents (h.Map count)) spo
 item_entered h.Break spot = broken spot.levels spot
 item_entered header spot = item_done spot
 
--- The spot after a break within strings, with this many more open (RFC 7049, 2.2.2).
+-- The spot after a break within strings, with this many more open (RFC 7049, 2.2.2). The first break of `5f 5f ff ff`
+-- leaves one string open.
 abbrev pub string_closed : (ℕ → Within) → ℕ → Spot → Spot
 string_closed within zero spot = item_done spot
 string_closed within (suc more) spot = string_open (within more) spot
 
--- The spot after an open within an open string of its kind (RFC 7049, 2.2.2). The shortest spelling has none (3.9).
+-- The spot after an open within an open string of its kind (RFC 7049, 2.2.2), as the second byte of `5f 5f`. The
+-- shortest spelling has none (3.9).
 abbrev pub open_entered : Bool → Within → Spot → Spot
 open_entered true within spot = refused spot
 open_entered false within spot = string_open within spot
 
--- The spot after a whole title within a byte string (RFC 7049, 2.2.2).
+-- The spot after a whole title within a byte string (RFC 7049, 2.2.2): `41` begins a piece, `ff` ends the string, and
+-- `61` is a fault.
 abbrev pub bytes_entered : Header → ℕ → Spot → Spot
 bytes_entered (h.Bytes (Some len)) more spot = bytes_due len spot
 bytes_entered (h.Bytes None) more spot = open_entered spot.strict (w.Bytes (suc more)) spot
 bytes_entered h.Break more spot = string_closed w.Bytes more spot
 bytes_entered header more spot = refused spot
 
--- The spot after a whole title within a text (RFC 7049, 2.2.2).
+-- The spot after a whole title within a text (RFC 7049, 2.2.2): `61` begins a piece, `ff` ends the string, and `41` is
+-- a fault.
 abbrev pub text_entered : Header → ℕ → Spot → Spot
 text_entered (h.Text (Some len)) more spot = text_due len spot
 text_entered (h.Text None) more spot = open_entered spot.strict (w.Text (suc more)) spot

@@ -41,12 +41,13 @@ with_byte byte spot = record spot {
 abbrev pub titled : Header → Spot → Spot
 titled header spot = entered spot.within header (record spot { front = [] })
 
--- A title that begins with these bytes is taken (RFC 7049, 2.1 and 3.9).
+-- A title that begins with these bytes is taken, as `19 01 00` for `19` (RFC 7049, 2.1 and 3.9).
 abbrev pub SomeTaken : Bool → List ℕ → Type 0
 SomeTaken strict front =
     (more : List ℕ) × (header : Header) × IsTitle (front ++ more) header × IsTakenTitle strict (front ++ more) header
 
--- Nothing that begins with these bytes begins with a title that is taken (RFC 7049, 2.1 and 3.9).
+-- Nothing that begins with these bytes begins with a title that is taken (RFC 7049, 2.1 and 3.9). So it is with `1c`,
+-- and if `strict` with `19 00`.
 abbrev pub NoneTaken : Bool → List ℕ → Type 0
 NoneTaken strict front =
     (more title rest : List ℕ) (header : Header) → IsTitle title header → IsTakenTitle strict title header
@@ -54,23 +55,25 @@ NoneTaken strict front =
 
 -- The spot that a byte of a title leads to. The byte stands at the end of the front (RFC 7049, 2.1).
 pub data TitleStep (spot : Spot) : Spot → Type 0 where
-  -- The title isn't whole. Some titles with this beginning are taken, and all of them may stand here.
+  -- The title isn't whole. Some titles with this beginning are taken, and all of them may stand here. So it is with
+  -- `19` if an item is due.
   cut : IsCutTitle spot.front → SomeTaken spot.strict spot.front
       → ((more : List ℕ) (header : Header) (fault : Fault) → IsTitle (spot.front ++ more) header
       → (titled header spot).phase ≡ p.Faulted fault → ⊥)
       → TitleStep spot spot
-  -- The title isn't whole. Some titles with this beginning are taken, and none of them may stand here.
+  -- The title isn't whole. Some titles with this beginning are taken, and none of them may stand here. So it is with
+  -- `78` within a byte string.
   early : (fault : Fault) → IsCutTitle spot.front → SomeTaken spot.strict spot.front
       → ((more : List ℕ) (header : Header) → IsTitle (spot.front ++ more) header
       → (titled header spot).phase ≡ p.Faulted fault)
       → TitleStep spot (at_phase (p.Faulted fault) spot)
-  -- The title is whole, and is taken.
+  -- The title is whole, and is taken, as `01`.
   whole : (header : Header) → IsTitle spot.front header → IsTakenTitle spot.strict spot.front header
       → TitleStep spot (titled header spot)
-  -- No title that is taken begins with these bytes.
+  -- No title that is taken begins with these bytes, as with `1c`.
   none : NoneTaken spot.strict spot.front → TitleStep spot (refused (record spot { front = [] }))
 
--- The spot after a byte of a text, with this many bytes left.
+-- The spot after a byte of a text, with this many bytes left. With `false`, no text has this beginning.
 abbrev pub text_left : Bool → ℕ → State → Spot → Spot
 text_left false left state spot = refused spot
 text_left true zero state spot = string_done spot.within spot

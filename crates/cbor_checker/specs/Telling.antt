@@ -23,12 +23,12 @@ is_due p.Ended = false
 is_due (p.Faulted fault) = false
 is_due phase = true
 
--- How many bytes a title lacks at least: `19` lacks two.
+-- How many bytes a title lacks at least: `19` lacks two, and `19 01` lacks one.
 abbrev pub title_due : List ℕ → ℕ
 title_due [] = 1
 title_due (byte ∷ bytes) = affix_len (byte % 32) - length bytes
 
--- The answer, by what is due. It says how many bytes are missing.
+-- The answer, by what is due. It says how many bytes are missing: two after `19`.
 abbrev pub progress_in : Phase → Spot → Progress
 progress_in p.Title spot = r.More (title_due spot.front)
 progress_in (p.Bytes left) spot = r.More left
@@ -61,8 +61,9 @@ abbrev pub IsAnswer : Progress → Spot → Type 0
 IsAnswer r.TooLong spot = IsMore (progress_of spot)
 IsAnswer progress spot = progress ≡ progress_of spot
 
--- What the answer says of all bytes so far (RFC 7049, 2.1 to 2.4). `More`: they are no item, some more bytes make them
--- an item, and all that do are at least `due`. `Ended`: they are one item, of this length. `Fault`: no item begins so.
+-- The meaning of the answer for all bytes so far (RFC 7049, 2.1 to 2.4). `More`: they are no item, some more bytes make
+-- them an item, and all that do are at least `due`. `Ended`: they are one item, of this length. `Fault`: no item begins
+-- so. `82 01` gets `More 1`, `82 01 02` gets `Ended 3`, and `ff` gets a fault.
 abbrev pub Tells : Bool → ℕ → List ℕ → Progress → Type 0
 Tells strict depth bytes (r.More due) =
     (1 ≤ due) × ((more : List ℕ) × IsItem strict depth (bytes ++ more))
@@ -71,7 +72,8 @@ Tells strict depth bytes (r.Ended len) = IsItem strict depth bytes × (len ≡ l
 Tells strict depth bytes (r.Fault fault) = (more : List ℕ) → IsItem strict depth (bytes ++ more) → ⊥
 Tells strict depth bytes r.TooLong = 2 ^ 64 ≤ length bytes + 1
 
--- What the last answer says of all bytes: they end between items or within an item, or no item begins so.
+-- The meaning of the last answer for all bytes: they end between items or within an item, or no item begins so. `82 01`
+-- ends within an item.
 abbrev pub TellsEnd : Bool → ℕ → List ℕ → End → Type 0
 TellsEnd strict depth bytes e.Between = (bytes ≡ []) ⊎ IsItem strict depth bytes
 TellsEnd strict depth bytes (e.Short due) = (0 < length bytes) × Tells strict depth bytes (r.More due)
@@ -82,7 +84,7 @@ abbrev pub EndedIn : Phase → Type 0
 EndedIn p.Ended = Unit {0}
 EndedIn phase = ⊥
 
--- The item is whole at the spot.
+-- The item is whole at the spot, as after `01`.
 abbrev pub HasEnded : Spot → Type 0
 HasEnded spot = EndedIn spot.phase
 
@@ -91,6 +93,6 @@ abbrev pub FaultIn : Phase → Type 0
 FaultIn (p.Faulted fault) = Unit {0}
 FaultIn phase = ⊥
 
--- No item goes on from the spot.
+-- No item goes on from the spot, as after `ff`.
 abbrev pub IsAtFault : Spot → Type 0
 IsAtFault spot = FaultIn spot.phase

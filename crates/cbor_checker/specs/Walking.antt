@@ -28,6 +28,6 @@ spot_at w = record {
   offset = w.offset;
 }
 
--- The bytes of a piece from this index on.
+-- The bytes of a piece from this index on: `02` of `01 02` from 1 on.
 abbrev pub rest_of : List ℕ → ℕ → List ℕ
 rest_of bytes at = take (length bytes - at) (drop at bytes)

@@ -12,10 +12,9 @@ use crate::tell::answer;
 use ciborium_ll_grammar::limits::MOST_LEVELS;
 use ciborium_ll_grammar::spelling::Spelling;
 
-/// Checks one item of CBOR (RFC 7049, 2.1 to 2.4) whose bytes come in pieces.
+/// Checks one item of CBOR (RFC 7049, 2.1 to 2.4), whose bytes a caller gives in pieces to [`Checker::feed`].
 ///
-/// A caller gives each piece to [`Checker::feed`]. The checker takes no memory, and reads nothing by itself. It has a
-/// fixed size, most of it for the 256 levels of tags, arrays and maps around an item.
+/// A checker has a fixed size, most of it for the 256 levels of tags, arrays and maps around an item.
 #[derive(Drop)]
 pub struct Checker {
     position: Position,
@@ -37,8 +36,8 @@ impl Checker {
 
     /// Makes a checker for one item, before its first byte.
     ///
-    /// Tags, arrays and maps may be nested at most `depth` levels deep. Each takes a level, even if it is empty; a
-    /// string takes none. The `depth` is at most 256.
+    /// Tags, arrays and maps may be nested at most `depth` levels deep, and `depth` is at most 256. Each takes a level,
+    /// even if it is empty; a string takes none.
     #[inline(always)]
     pub fn new(depth: usize) -> Checker
         requires { depth ≤ MOST_LEVELS }
@@ -47,13 +46,11 @@ impl Checker {
         Checker::with_spelling(depth, Spelling::Any)
     }
 
-    /// Makes a checker for one item in its shortest spelling (RFC 7049, 3.9), before its first byte.
+    /// Makes a checker for one item in its shortest spelling (RFC 7049, 3.9), with the `depth` of [`Checker::new`].
     ///
     /// Each title is the shortest of its header, no simple value from 24 to 31 occurs, and strings within an open
-    /// string have a definite length. The `depth` is that of [`Checker::new`], and at most 256.
-    ///
-    /// Any other spelling is a `Syntax` at the title's offset. The fault comes with the first byte that shows it, as
-    /// `19 00` does. But a nest that is too deep is `Deep`, whatever its title is.
+    /// string have a definite length. Any other spelling is a `Syntax` at the title's offset, with the first byte that
+    /// shows it, as `19 00` does. But a nest that is too deep is `Deep`, whatever its title is.
     #[inline(always)]
     pub fn strict(depth: usize) -> Checker
         requires { depth ≤ MOST_LEVELS }
@@ -62,10 +59,7 @@ impl Checker {
         Checker::with_spelling(depth, Spelling::Shortest)
     }
 
-    /// Makes a checker for one item in this spelling, before its first byte.
-    ///
-    /// With `Any` it is the checker of [`Checker::new`], and with `Shortest` that of [`Checker::strict`]. The `depth` is
-    /// at most 256.
+    /// Makes the checker of [`Checker::new`] for `Any`, and that of [`Checker::strict`] for `Shortest`.
     #[inline(always)]
     pub fn with_spelling(depth: usize, spelling: Spelling) -> Checker
         requires { depth ≤ MOST_LEVELS }
@@ -78,9 +72,8 @@ impl Checker {
         }
     }
 
-    /// Returns how far the item has come: the last answer of [`Checker::feed`], or `More(1)` before the first piece.
-    ///
-    /// After a `TooLong` it returns `More`, since bytes are due that can't be counted.
+    /// Returns the last answer of [`Checker::feed`], or `More(1)` before the first piece. After a `TooLong` it returns
+    /// `More`.
     pub fn progress(&self) -> Progress
         ensures answers { result ≡ progress_of (spot_of self.now) }
         ensures tells { (strict : Bool) (depth : ℕ) (fed : List ℕ) → IsFed strict depth fed (spot_of self.now)
@@ -113,15 +106,9 @@ impl Checker {
     /// Takes a piece of the item's bytes, of any length, and returns how many bytes it took and how far the item has
     /// come.
     ///
-    /// The call takes all bytes, or those up to the end of the item or up to and with the byte at fault. After the end
-    /// or a fault, a later call takes nothing and answers the same. The cuts between pieces change nothing: a checker
-    /// that took two pieces equals a checker that took both, joined.
-    ///
-    /// - `More(n)`: at least n more bytes are due, for the rest of a title or a body.
-    /// - `Ended(n)`: the item has ended, and has n bytes.
-    /// - `Fault(fault)`: no item begins as the bytes so far do. The fault comes with the first byte that makes this
-    ///   true.
-    /// - `TooLong`: `usize::MAX` bytes came, and the item goes on. The call takes no byte after these.
+    /// The call takes all bytes, or those up to the end of the item, or those up to and with the byte at fault. After
+    /// the end or a fault, a later call answers the same. A checker that took two pieces equals a checker that took
+    /// both, joined.
     #[inline(always)]
     pub fn feed(&mut self, bytes: &[u8]) -> Feed
         ensures taken { result.taken ≤ length bytes.now }
@@ -139,9 +126,8 @@ impl Checker {
         self.position.feed(&mut self.kinds, &mut self.counts, bytes)
     }
 
-    /// Writes the state into `snapshot` as plain numbers, from which [`Checker::restore`] makes this checker again.
-    ///
-    /// It writes the numbers of those levels that are in use.
+    /// Writes the state into `snapshot` as plain numbers, for [`Checker::load`] and [`Checker::restore`]. It writes the
+    /// numbers of only those levels that are in use.
     #[inline(always)]
     pub fn save(&self, snapshot: &mut Snapshot)
         ensures { Holds snapshot.new (spot_of self.now) }
@@ -157,9 +143,6 @@ impl Checker {
     }
 
     /// Becomes the checker that [`Checker::save`] wrote, and returns whether there is one.
-    ///
-    /// If the numbers are those of no state, the checker stays as it was. The call does not find all memory that was
-    /// overwritten, as `Snapshot` says.
     #[inline(always)]
     pub fn load(&mut self, snapshot: &Snapshot) -> bool
         ensures some { result ≡ true → Holds snapshot.now (spot_of self.new) }

@@ -12,8 +12,8 @@ pub fn one_state()
         → spot ≡ other }
 {}
 
-/// The item has ended exactly if the bytes so far are an item. There is a fault exactly if no item begins as they do.
-/// For a strict checker, the item is in its shortest spelling.
+/// The item has ended exactly if the bytes so far are an item, for a strict checker in its shortest spelling. There is
+/// a fault exactly if no such item begins as they do.
 pub fn exact_states()
     ensures ended { (strict : Bool) (depth : ℕ) (bytes : List ℕ) (spot : Spot) → IsFed strict depth bytes spot
         → (HasEnded spot ↔ IsItem strict depth bytes) }

@@ -1,9 +1,7 @@
 // SPDX-License-Identifier: Apache-2.0
-//! Checks items of CBOR (RFC 7049, 2.1 to 2.4) whose bytes come in pieces of any length. No call takes memory, and none
-//! waits for a reader.
+//! Checks items of CBOR (RFC 7049, 2.1 to 2.4) whose bytes come in pieces of any length.
 //!
-//! The crate uses the table of first bytes, the states of texts and the definitions of items of `ciborium_ll`. Each
-//! call returns, and a checker takes each byte once.
+//! Each call returns. No call takes memory, waits for a reader, or takes a byte twice.
 #![tactic(auto)]
 
 mod checker;

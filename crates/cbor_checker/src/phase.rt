@@ -7,16 +7,13 @@ use ciborium_ll_text::state::State;
 
 /// Why no item begins with the bytes so far, whatever follows them. The number is an offset in bytes.
 ///
-/// It is the offset of the title that may not stand there. If a text's body is not UTF-8, it is the place that
-/// `Error::Syntax` of `ciborium_ll` names.
-///
-/// A list of bytes has at most one fault, with one offset (`one_state`). They are those of `skip_item` of `cbor_skip`,
-/// unless `skip_item` ends short before them. The fault differs only for a nest that is too deep and whose title isn't
-/// the shortest: a strict checker names the nest. Laws of `cbor_checker_laws` say so.
+/// A list of bytes has at most one fault (`one_state`). It is the fault of `skip_item` of `cbor_skip`, unless
+/// `skip_item` ends short before it. The fault differs only for a nest that is too deep and has a longer title: a
+/// strict checker names the nest. Laws of `cbor_checker_laws` say so.
 #[derive(Clone, Copy, Debug, PartialEq, Eq)]
 pub enum Fault {
     /// At this offset stands no title, or a title that its string may not contain. For a strict checker, it may also be
-    /// a longer title, a simple value below 32 in two bytes, or an open within a string.
+    /// a longer title, a simple value below 32 in two bytes, or an open string within a string.
     ///
     /// Or a text's body is not UTF-8, and the offset is the place that `Error::Syntax` of `ciborium_ll` names.
     Syntax(usize),

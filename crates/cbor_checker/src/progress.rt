@@ -11,17 +11,16 @@ pub enum Progress {
     /// The item has ended, and has this many bytes. It is nested to the depth at most, and for a strict checker it is
     /// in its shortest spelling.
     Ended(usize),
-    /// No item begins as the bytes so far do.
+    /// No item begins as the bytes so far do. This answer comes with the first byte that makes this true.
     Fault(Fault),
-    /// The item is longer than a `usize` counts.
+    /// `usize::MAX` bytes came, and the item goes on. The checker takes no byte after these.
     TooLong,
 }
 
 /// The answer to a piece.
 #[derive(Clone, Copy, Debug, PartialEq, Eq)]
 pub struct Feed {
-    /// How many bytes of the piece the checker took: all of them, those up to the end of the item, or those up to and
-    /// with the byte at fault. With `TooLong` it took those that a `usize` still counts.
+    /// How many bytes of the piece the checker took.
     pub taken: usize,
     /// How far the item has come.
     pub progress: Progress,

@@ -13,16 +13,15 @@ use crate::progress::Feed;
 use ciborium_ll_grammar::limits::{LONGEST_TITLE, MOST_LEVELS};
 use ciborium_ll_grammar::titles::are_begun;
 
-/// The state of a [`Checker`](crate::Checker) as plain numbers, in the caller's own memory: for a program in C, or a
-/// program that keeps many checkers.
+/// The state of a [`Checker`](crate::Checker) as plain numbers in the caller's memory, for a program in C or one that
+/// keeps many checkers.
 ///
-/// [`Checker::save`](crate::Checker::save) writes it, and [`Checker::restore`](crate::Checker::restore) makes a checker
-/// from it. Only these calls say which number means what; numbers that are all 0 are no state. The struct has no bytes
-/// between its fields or after them.
+/// Only the calls of a checker say which number means what; numbers that are all 0 are no state. The struct has no
+/// bytes between its fields or after them.
 ///
-/// A restored checker equals the saved checker. The calls refuse numbers of no state: a kind that doesn't exist, or a
-/// number out of the few bounds that there are. So they do not find all memory that was overwritten: numbers of another
-/// state restore that state, even if no bytes lead to it.
+/// A restored checker equals the saved checker. The calls refuse a kind that doesn't exist, or a number out of the few
+/// bounds that there are. They do not find all memory that was overwritten: numbers of another state restore that
+/// state, even if no bytes lead to it.
 #[derive(Drop)]
 #[repr(C)]
 pub struct Snapshot {
@@ -79,12 +78,11 @@ impl Snapshot {
         }
     }
 
-    /// Feeds the next piece to the checker that these numbers hold, and returns its answer.
+    /// Feeds the next piece to the checker that these numbers hold, and returns its answer, or `None` if they are no
+    /// state.
     ///
-    /// The numbers become those of the checker after the piece, as [`Checker::restore`](crate::Checker::restore),
-    /// [`Checker::feed`](crate::Checker::feed) and [`Checker::save`](crate::Checker::save) make them. But the call
-    /// changes the numbers of nests in place, and copies none. If the numbers are those of no state, the call returns
-    /// `None`, and they stay as they were.
+    /// The call does what [`Checker::restore`](crate::Checker::restore), [`Checker::feed`](crate::Checker::feed) and
+    /// [`Checker::save`](crate::Checker::save) do, but copies no numbers of nests.
     #[inline(always)]
     pub fn feed(&mut self, bytes: &[u8]) -> Option<Feed>
         ensures found { (spot : Spot) → Holds self.old spot → IsSome result }

@@ -6,7 +6,7 @@ use Rattle.cbor_checker.specs.Places.{spot_in}
 use Rattle.cbor_checker.specs.Spots.{Spot}
 use Rattle.cbor_checker.proofs.snapshot.Snapshot.feed.Goals as goal
 
--- all bytes are taken where more are due, since else they are too many
+-- If more bytes are due, the call takes all bytes, since otherwise there are too many.
 all_taken : {More : Type 0} (n m : ℕ) → n ≤ m → (ltb n m ≡ true → More → ⊥) → More → n ≡ m
 all_taken n m within none more =
     let whole : n < m → ⊥ = λ less. none (lt-ltb n m less) more in omega (arith, within, whole)

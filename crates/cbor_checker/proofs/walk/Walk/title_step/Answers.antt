@@ -6,7 +6,7 @@ use Rattle.cbor_checker.specs.Steps.{with_byte}
 use Rattle.cbor_checker.proofs.BlockedLaws.{step_early, step_cut, step_whole, step_none}
 use Rattle.cbor_checker.proofs.walk.Walk.title_step.Goals as goal
 
--- one byte more, and no longer too few, are as many as the first one announces
+-- If one more byte makes the title long enough, the title has exactly the bytes that its first byte announces.
 one_more : (front : List ℕ) (byte : ℕ) → length front ≤ affix_len (slice_index front 0 % 32)
     → affix_len (slice_index (front ++ byte ∷ []) 0 % 32) < length (front ++ byte ∷ [])
     → length (front ++ byte ∷ []) ≡ 1 + affix_len (slice_index (front ++ byte ∷ []) 0 % 32)
