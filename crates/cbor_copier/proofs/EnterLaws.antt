@@ -31,7 +31,7 @@ use Rattle.cbor_copier.proofs.KeptLaws.{due_kept, body_kept}
 use Rattle.cbor_copier.proofs.Reached.{kind_of, RunLeft, InOpen, Here, between, in_open, OfKind, place_of, body_place}
 use Rattle.cbor_copier.proofs.Reached.{Misplaced, Titling, Begun, Bodying, Broken, Holds, clear}
 
--- ---- what is due is a part of the elements
+-- ---- the bytes that are due are a part of the elements
 
 pub reaches : {count left : ℕ} {bytes : List ℕ} {marks : List Mark} {i : Within} → Here count left bytes marks i
     → Reaches count bytes marks (place_of i)
@@ -45,14 +45,14 @@ pub some_due : {count left : ℕ} {bytes : List ℕ} {marks : List Mark} {i : Wi
 some_due (between r some) = some
 some_due (in_open o some) = some
 
--- a title that may not stand there is a fault
+-- A title that may not stand there is a fault.
 pub misplaced_fault : {before title ahead : List ℕ} {marks : List Mark} (i : Within) (header : Header) (rest : List ℕ)
     → IsTitle title header → Misplaced i header → ahead ≡ title ++ rest
     → FirstFault false before marks (place_of i) ahead (Syntax (length before)) (spelling marks) (length title)
 misplaced_fault w.Nothing header rest q bad is = absurd bad
 misplaced_fault (w.Open kind more) header rest q bad is = OtherTitle header rest q (inl bad) is
 
--- of what is not strict nothing more is asked
+-- A copy that is not strict needs no strict spelling.
 pub lenient : {bytes more : List ℕ} {marks : List Mark} → false ≡ true → IsStrictSpelling bytes marks more
 lenient strict = absurd cc
 
@@ -68,7 +68,7 @@ longer : {count : ℕ} {bytes : List ℕ} (more : List ℕ) → BeginsWithElemen
 longer {bytes = bytes} more o =
     let is : bytes ++ more ≡ o.elements ++ (o.rest ++ more) = simp (o.is, append_assoc) in search is
 
--- where there is a fault at this place whatever follows, once so many bytes do
+-- If a fault names this place for all bytes that follow, once `need` bytes do, the bytes so far are at this fault.
 pub breaks : {place count : ℕ} {bytes output before : List ℕ} {marks : List Mark} {at : Point} (ahead : List ℕ)
     → Reaches count before marks at → bytes ≡ before ++ ahead → (need : ℕ)
     → ((more : List ℕ) → AreBytes more → need ≤ length more → (consumed : ℕ)
@@ -86,10 +86,10 @@ breaks {place} {count} {bytes} {output} ahead reach is need each =
       record { more = zeros; more_bytes = sound; comes_to = fault zeros sound (omega (arith, long)) },
     )
 
--- ---- more behind what came
+-- ---- more bytes after the bytes so far
 
 module _ {count left : ℕ} {bytes : List ℕ} {marks : List Mark} where
-  -- an element
+  -- One more element leaves one element fewer.
   pub one_more : {rest : ℕ} {others : List Mark} {more : List ℕ} → RunLeft count left bytes marks → rest + 1 ≡ left
       → IsElement more others → RunLeft count rest (bytes ++ more) (marks ++ others)
   one_more r one e = record {
@@ -99,7 +99,7 @@ module _ {count left : ℕ} {bytes : List ℕ} {marks : List Mark} where
   }
 
   module _ {kind : Kind} {more : ℕ} (o : InOpen kind more count left bytes marks) where
-    -- bytes within open strings, with these bodies
+    -- More strings within open strings add their bodies to the marks.
     grown : (n : ℕ) (x : List ℕ) (bodies : List (List ℕ)) → IsInsideAt kind (suc n) (o.opens ++ x) (o.bodies ++ bodies)
         → AreWritable kind bodies → InOpen kind n count left (bytes ++ x) (marks ++ pieces kind bodies)
     grown n x bodies at sound =
@@ -108,17 +108,17 @@ module _ {count left : ℕ} {bytes : List ℕ} {marks : List Mark} where
         simp (o.marks_are, pieces-append, append_assoc) in
         search (AreWritable-append kind o.bodies bodies o.sound sound)
 
-    -- or with none
+    -- Bytes within open strings without a body add no mark.
     grown_by : (n : ℕ) (x : List ℕ) → IsInsideAt kind (suc n) (o.opens ++ x) o.bodies
         → InOpen kind n count left (bytes ++ x) marks
     grown_by n x at = rw (append-nil marks) at (grown n x [] (rw (append-nil o.bodies) at) tt)
 
-  -- a break that closes one of several open strings
+  -- A break closes the innermost of several open strings.
   pub closes : {kind : Kind} {more : ℕ} → InOpen kind (suc more) count left bytes marks
       → InOpen kind more count left (bytes ++ 0xff ∷ []) marks
   closes {kind} {more} o = grown_by o more _ (close_inner kind more o.opens o.bodies o.inside)
 
--- and the last one
+-- A break that closes the last open string ends an element.
 pub closes_last : {kind : Kind} {count left rest : ℕ} {bytes : List ℕ} {marks : List Mark}
     → InOpen kind zero count left bytes marks → rest + 1 ≡ left
     → RunLeft count rest (bytes ++ 0xff ∷ []) (marks ++ Close ∷ [])
@@ -126,7 +126,7 @@ closes_last {kind} o one =
     rw (o.is, o.marks_are, append_assoc o.elements, append_assoc o.element_marks)
     (one_more o.run one (close_last kind o.opens o.bodies o.inside o.sound))
 
--- what came behind a string: it is an element, or a piece of an open string
+-- A string has ended. The string is an element, or a piece of an open string.
 abbrev pub Behind : Within → ℕ → ℕ → List ℕ → List Mark → Type 0
 Behind w.Nothing count left bytes marks = RunLeft count (left - 1) bytes marks
 Behind (w.Open kind more) count left bytes marks = Here count left bytes marks (w.Open kind more)
@@ -156,15 +156,15 @@ string_behind {marks = marks} kind title body (in_open {kind = outer} {more = mo
       out = rw (← of_kind) (simp (spelling-append, append-nil));
     }
 
--- ---- where they lead
+-- ---- the spots that the bytes lead to
 
--- a title is due at the spot
+-- If a title is due after these bytes, a spot with an empty front waits for the title.
 pub title_due : {count : ℕ} {bytes : List ℕ} {marks : List Mark} {spot : Spot}
     → Here count spot.left bytes marks spot.within → spot.front ≡ [] → Titling count bytes spot (spelling marks)
 title_due {bytes = bytes} {spot = spot} here bare =
     let is : bytes ≡ bytes ++ spot.front = simp (bare, append-nil) in search inl
 
--- all elements have come
+-- If no element is left, the bytes are all elements.
 pub run_all : {count : ℕ} {bytes : List ℕ} {marks : List Mark} → RunLeft count zero bytes marks
     → IsRun count bytes marks
 run_all r = let e : r.before ≡ _ = omega (arith, r.counted) in rw e at r.run
@@ -179,7 +179,7 @@ done_leads : (count : ℕ) (bytes : List ℕ) (marks : List Mark) (i : Within) (
 done_leads count bytes marks w.Nothing spot e r bare = due_leads (spot.left - 1) spot r bare
 done_leads count bytes marks (w.Open kind more) spot e here bare = title_due (rw e at here) bare
 
--- a part of a body came
+-- A part of a body came, and the rest of the body is due.
 module _ {kind : StringKind} {count len : ℕ} {before title : List ℕ} {marks : List Mark} where
   body_rest : {more : ℕ} {spot : Spot} (part : List ℕ)
       → Begun kind count spot.left spot.place len before title marks spot.within → IsWritable (kind_of kind) part
@@ -210,13 +210,13 @@ break_bytes (alone major header o) e = absurd cc
 break_bytes (numbered Other Small n q) e = absurd cc
 break_bytes (numbered major size n q) e = absurd cc
 
--- nothing is a body
+-- An empty list is a body of either kind.
 empty_writable : (kind : StringKind) → IsWritable (kind_of kind) []
 empty_writable k.Bytes = tt
 empty_writable k.Text = IsCharacters-nil
 
 module _ (count : ℕ) (before title : List ℕ) (marks : List Mark) where
-  -- where it led, and what it put out
+  -- The title leads to this spot, which puts out the rest of the output.
   abbrev Leads : Spot → Type 0
   Leads new = Holds count (before ++ title) new (spelling marks ++ new.put)
 
@@ -229,14 +229,14 @@ module _ (count : ℕ) (before title : List ℕ) (marks : List Mark) where
       rw (body_kept kind len spot).2
       (simp (append-nil, ← out) at (body_leads kind len spot [] b (empty_writable kind) (omega arith) bare))
 
-  -- behind a whole element of this last mark
+  -- A whole element with this last mark leads to the spot after an element.
   element_titled : (spot : Spot) (mark : Mark) → RunLeft count (spot.left - 1) (before ++ title) (marks ++ mark ∷ [])
       → spot.front ≡ [] → spot.put ≡ mark_spelling mark → Leads (element_done spot)
   element_titled spot mark r bare out =
       rw (due_kept (spot.left - 1) spot).2
       (simp (spelling-append, append-nil, ← out) at (due_leads (spot.left - 1) spot r bare))
 
-  -- a title is due
+  -- A title is due at the new spot.
   due_titled : (new : Spot) (others : List Mark) → Here count new.left (before ++ title) others new.within
       → new.front ≡ [] → spelling others ≡ spelling marks ++ new.put
       → Titling count (before ++ title) (putting [] new) (spelling marks ++ new.put)
@@ -244,11 +244,11 @@ module _ (count : ℕ) (before title : List ℕ) (marks : List Mark) where
 
   module _ (phase : Phase) (left place offset : ℕ) (some : 0 < left) (named : place ≡ length before)
       (counted : offset ≡ length (before ++ title)) where
-    -- the spot with nothing of a title, and what it then puts out
+    -- The spot with an empty front, which puts out these bytes.
     abbrev old : Within → List ℕ → Spot
     old i put = clear phase i left place offset put
 
-    -- within an open string
+    -- An open within an open string leads to one more open string.
     inner_titled : (kind : StringKind) (more : ℕ) (o : InOpen (kind_of kind) more count left before marks)
         → IsTitle title (kind_header (kind_of kind) None)
         → Leads (string_open kind (suc more) (old (w.Open kind more) []))
@@ -271,7 +271,7 @@ module _ (count : ℕ) (before title : List ℕ) (marks : List Mark) where
     break_titled kind (suc more) o q =
         due_titled _ marks (in_open (rw (break_bytes q refl) (closes o)) some) refl (simp append-nil)
 
-    -- where an element is due
+    -- The title of an element that is no string leads to the spot after an element.
     plain_titled : (header : Header) → RunLeft count left before marks → IsPlain header → IsTitle title header
         → Leads (element_done (old w.Nothing (shortest_title header)))
     plain_titled header r is_plain q =

@@ -11,7 +11,7 @@ use Rattle.cbor_copier.specs.declared.phase.Phase.{Phase}
 use Rattle.cbor_copier.specs.declared.phase.Phase.TheVariants as p
 use Rattle.cbor_copier.specs.Fronts.{most_cut, most_front, has_left}
 
--- one byte more of a character that isn't whole
+-- One more byte of a character that isn't whole has room.
 pub text_room : (state : State) (byte left length : ℕ) → length ≤ most_cut state
     → may_end (after_byte state byte) left ≡ true
     → (after_byte state byte ≡ s.Between → ⊥)
@@ -19,17 +19,17 @@ pub text_room : (state : State) (byte left length : ℕ) → length ≤ most_cut
 unfolding is_from after_first after_next
 text_room state byte left length fits may cut = grind (arith, nat_tests)
 
--- a character that isn't whole has bytes left
+-- If a character isn't whole, its text has bytes left.
 pub text_some : (state : State) (left : ℕ) → may_end state left ≡ true → (state ≡ s.Between → ⊥)
     → has_left (p.Text left state) ≡ true
 text_some state zero may cut = absurd (cut (none_left state may))
 text_some state (suc left) may cut = refl
 
--- of a character at most four bytes are held back
+-- At most four bytes of a character are held back.
 few_cut : (state : State) → most_cut state ≤ 4
 few_cut state = grind arith
 
--- of a title or of a character at most eight bytes are held back
+-- At most eight bytes of a title or of a character are held back.
 pub few_held : (phase : Phase) (front : List ℕ) → length front ≤ most_front phase front → length front ≤ 8
 few_held p.Title front fits = omega (arith, fits, affix_most (slice_index front 0 % 32))
 few_held (p.Bytes left) front fits = omega (arith, fits)

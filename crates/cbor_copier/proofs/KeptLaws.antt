@@ -28,7 +28,7 @@ use Rattle.cbor_copier.specs.declared.phase.StringKind.TheVariants as k
 use Rattle.cbor_copier.specs.declared.phase.Within.TheVariants as w
 use Rattle.cbor_copier.specs.Blocked.{is_blocked}
 
--- what is held back, how many bytes came and what was put out stay, and it is no fault
+-- The front, the offset and the output stay, and the new spot is no fault.
 abbrev pub Kept : Spot → Spot → Type 0
 Kept new old = (new.front ≡ old.front) × (new.offset ≡ old.offset) × (new.put ≡ old.put) × (Faults new → ⊥)
 
@@ -47,7 +47,8 @@ body_kept k.Text (suc len) spot = (refl, refl, refl, λ f. cc f.1)
 
 -- ---- a whole title
 
--- it puts out its shortest one or nothing, and where it may not stand, and only there, it is a fault
+-- A title keeps the front and the offset, and puts out its shortest title or nothing. The new spot is a fault exactly
+-- if the title may not stand there.
 pub record Entered (i : Within) (header : Header) (spot new : Spot) : Type 0 where
   pub front : new.front ≡ spot.front
   pub offset : new.offset ≡ spot.offset
@@ -83,7 +84,7 @@ enters (w.Open kind (suc more)) h.Break spot = by_kept (refl, refl, refl, λ f. 
 enters (w.Open k.Bytes more) header spot = by_fault tt
 enters (w.Open k.Text more) header spot = by_fault tt
 
--- what was put out is no longer than the title
+-- The output of a title is no longer than the title.
 pub entered_put : (i : Within) (header : Header) (spot : Spot) (title : List ℕ) → IsTitle title header → spot.put ≡ []
     → length (entered i header spot).put ≤ length title
 entered_put i header spot title q clear =
@@ -94,7 +95,7 @@ entered_put i header spot title q clear =
 
 -- ---- a byte
 
--- it is counted, and what it puts out and what is held back are no longer than it and what was held back
+-- The byte is counted. Its output and the new front have together at most one byte more than the front before.
 abbrev pub Stepped : Spot → Spot → Type 0
 Stepped old new = (new.offset ≡ old.offset + 1) × (length new.put + length new.front ≤ length old.front + 1)
 
@@ -123,7 +124,7 @@ steps (p.Bytes (suc left)) spot new b step =
 steps (p.Text (suc left) state) spot new b step = rw step (text_steps _ left b (after_byte state b) spot)
 steps phase spot new b step = absurd step
 
--- what was given of what was put out, what is pending of it and what is held back
+-- The end of the output, the pending bytes and the front are together at most `at + most`.
 pub given_grows : (new : Spot) (at end most : ℕ) (out out' rest : List ℕ) → length new.put + length new.front ≤ most
     → at ≤ length out → end ≤ length out' → take end out' ++ rest ≡ take at out ++ new.put
     → end + length rest + length new.front ≤ at + most
@@ -137,14 +138,14 @@ given_grows new at end most out out' rest grows before behind given =
       length-append (take at out) new.put,
     )
 
--- ---- the kind of a first byte tells whether a title that begins so may stand there
+-- ---- the kind of a first byte tells whether a title with this beginning may stand there
 
--- it is so, or it isn't
+-- The test says whether the statement holds.
 abbrev Says : Bool → Type 0 → Type 0
 Says true P = P
 Says false P = P → ⊥
 
--- a title of the kind may not stand there
+-- The test says whether a title of this kind is misplaced.
 blocked : (i : Within) (m : Major) (s : Size) (n : ℕ)
     → Says (is_blocked i (kind_of m)) (Misplaced i (numbered_header m s n))
 blocked w.Nothing m s n = λ bad. bad
@@ -155,7 +156,7 @@ blocked (w.Open k.Text more) Other Small n = tt
 blocked (w.Open k.Bytes more) m s n = tt
 blocked (w.Open k.Text more) m s n = tt
 
--- where a byte of a title leads, as the code finds it
+-- The spot after a byte of a title, as the code finds it.
 module _ (spot new : Spot) (kind : TitleKind) (some : 0 < length spot.front)
     (says : IsTitleKind kind (slice_index spot.front 0 / 32) (slice_index spot.front 0 % 32))
     (short : length spot.front ≤ affix_len (slice_index spot.front 0 % 32)) where

@@ -1,4 +1,4 @@
--- If there is no fault, some bytes make that many elements of all.
+-- If there is no fault, some bytes make that many elements of the bytes so far.
 use Rattle.std.proofs.Common.{◌≡◌, ℕ, zero, suc, ◌-◌, ◌<◌, true, List, [], ◌∷◌, ◌++◌, length, refl, ◌∙◌, arith, inl}
 use Rattle.std.proofs.Common.{inr, append_assoc, append-nil, length-append, replicate}
 use Rattle.std.proofs.lemmas.Bool.Decides.{nat_tests}
@@ -28,7 +28,7 @@ use Rattle.cbor_copier.proofs.KeptLaws.{enters}
 use Rattle.cbor_copier.proofs.Reached.{kind_of, RunLeft, InOpen, Here, between, in_open, Titling, Bodying, HoldsIn, clear}
 use Rattle.cbor_copier.proofs.StepLaws.{continued}
 
--- bytes behind which some do
+-- If the elements go on after `more`, they go on before `more`.
 before_those : {count : ℕ} {bytes : List ℕ} (more : List ℕ) → AreBytes more → SomeGoOn count (bytes ++ more)
     → SomeGoOn count bytes
 before_those {bytes = bytes} more are o =
@@ -80,9 +80,9 @@ body_goes {kind} {bytes = bytes} {spot = spot} end o long are sound =
     let behind = string_behind kind o.title whole o.begun.here o.begun.of_kind (rw exact at o.begun.is_title) sound in
     before_those end are (rw all (behind_goes spot.within _ _ _ _ behind.behind))
 
--- ---- what ends a text
+-- ---- the end of a text
 
--- a byte that brings it nearer to the end
+-- A byte that brings a text nearer to its end.
 next_of : State → ℕ
 next_of s.Between = 0
 next_of s.BehindE0 = 0xa0
@@ -97,7 +97,7 @@ next_byte : (state : State) → next_of state < 256
 unfolding next_of
 next_byte state = grind arith
 
--- so many bytes that end a text
+-- Bytes of this length that end a text from this state.
 record End (state : State) (n : ℕ) : Type 0 where
   bytes : List ℕ
   are_bytes : AreBytes bytes
@@ -129,7 +129,7 @@ text_goes {left} {spot = spot} {state = state} o state_is may =
 abbrev pub NoFault : Phase → Type 0
 NoFault phase = (place : ℕ) × (phase ≡ p.Faulted place) → ⊥
 
--- by what makes it of a spot where a title is due
+-- A spot without a fault goes on, if it does with a title due.
 goes_by : (phase : Phase) (count : ℕ) (bytes output : List ℕ) (spot : Spot)
     → (Titling count bytes spot output → SomeGoOn count bytes) → HoldsIn phase count bytes spot output → NoFault phase
     → SomeGoOn count bytes
@@ -141,7 +141,7 @@ goes_by p.Ended count bytes output spot title o goes =
     record { more = []; more_bytes = tt; marks = o.marks; run = rw append-nil o.run }
 goes_by (p.Faulted place) count bytes output spot title o goes = absurd (goes (place, refl))
 
--- with no part of a title
+-- A spot with a title due and an empty front goes on.
 clear_goes : {count : ℕ} {bytes output : List ℕ} {spot : Spot} → spot.front ≡ [] → Titling count bytes spot output
     → SomeGoOn count bytes
 clear_goes bare o = rw (o.is, bare, append-nil o.before) (here_goes o.here)

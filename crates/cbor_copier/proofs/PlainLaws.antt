@@ -50,7 +50,7 @@ len_test first len =
 len_tells : (first len : ℕ) → len_test first len ≡ true → IsLen first len
 len_tells first len e = grind (arith, nat_tests)
 
--- each of the 256 numbers passes its test
+-- The table has a true number for each of the 256 first bytes.
 pub len_says : (first len : ℕ) → first < 256 → len ≡ get_or LENS first 0 → IsLen first len
 len_says first len l len_is =
     let passes = agree_below_at (λ (b : ℕ). len_test b (get_or LENS b 0)) (λ (b : ℕ). true) 256 first refl l in
@@ -58,7 +58,7 @@ len_says first len l len_is =
 
 -- ---- text
 
--- where the longest front of some bytes that is text leaves no character begun, they are a text
+-- If the longest start of bytes that is text leaves no character begun, all bytes are text.
 pub front_ends : (xs front : List ℕ) (state : State) → IsFront xs front (drop (length front) xs)
     → state ≡ after s.Between (drop (length front) xs) → state ≡ s.Between → IsCharacters xs
 front_ends xs front state is behind between =
@@ -66,7 +66,7 @@ front_ends xs front state is behind between =
     text_from xs (ap (λ (z : List ℕ). after s.Between z) is.parts ∙ (after-append s.Between front rest
     ∙ (ap (λ (z : State). after z rest) (text_ends front is.text) ∙ (sym behind ∙ between))))
 
--- ---- where an element leads
+-- ---- the spot after an element
 
 due_put : (left : ℕ) (out : List ℕ) (spot : Spot) → (elements_due left (putting out spot)).put ≡ out
 due_put zero out spot = refl
@@ -105,11 +105,11 @@ due_phase : (left n place offset : ℕ) (phase : Phase)
 due_phase zero n place offset phase = refl
 due_phase (suc left) n place offset phase = refl
 
--- a title of one byte is the shortest one of its header
+-- A title of one byte is the shortest of its header.
 one_shortest : (b : ℕ) (header : Header) → IsTitle (b ∷ []) header → b ∷ [] ≡ shortest_title header
 one_shortest b header q = tight_title (b ∷ []) header q (shortest_some header)
 
--- a title that begins no string
+-- A title that begins no string and is the shortest of its header is kept.
 kept_title : (title : List ℕ) (header : Header) → Below title → 0 < length title → IsTitle title header
     → title ≡ shortest_title header → ((spot : Spot) → header_entered header spot ≡ element_done spot) → IsKept title
 kept_title title header below some is shortest ends count left place offset fed out led =
@@ -123,7 +123,7 @@ kept_title title header below some is shortest ends count left place offset fed 
     (rw (append-nil (out ++ []), append-nil out) led) in
     rw (append-nil (out ++ title), due_clear (left - 1) left offset (offset + n) (shortest_title header)) at gone
 
--- a string of one byte and its body
+-- The header of a string of this length.
 abbrev string_of : StringKind → ℕ → Header
 string_of k.Bytes len = h.Bytes (Some len)
 string_of k.Text len = h.Text (Some len)
@@ -138,7 +138,7 @@ body_put : (kind : StringKind) (len : ℕ) (out : List ℕ) (left place offset :
 body_put kind zero out left place offset = due_put (left - 1) out (bare left place offset)
 body_put kind (suc len) out left place offset = refl
 
--- behind the title of a string its body
+-- After the title of a string, its body leads to the spot after the element.
 string_on : (kind : StringKind) (b : ℕ) (body : List ℕ) → Below (b ∷ body) → IsPutOut kind body
     → (count left offset : ℕ) (fed out put : List ℕ)
     → IsFed count (fed ++ b ∷ []) (putting [] (body_due kind (length body) (putting put (bare left offset (offset + 1)))))
@@ -178,9 +178,9 @@ kept_string kind b body below is whole count left place offset fed out led =
     (rw (append-nil (out ++ []), append-nil out) led) in
     string_on kind b body below whole count left offset fed out out1 (rw (append-nil (out ++ b ∷ [])) at gone)
 
--- ---- what the number of a first byte says
+-- ---- the element of a first byte, by the number in the table
 
--- a major type that begins no string
+-- A major type that begins no string.
 record PlainMajor (code : ℕ) : Type 0 where
   major : Major
   is : major_code major ≡ code
@@ -204,7 +204,7 @@ small_title b major is small =
     let parts : 32 * major_code major + b % 32 ≡ b = omega (arith, is) in
     rw parts at (numbered major Small (b % 32) small)
 
--- of a text the body is one by itself
+-- Bytes of the length in the table are kept, if a text's body is text.
 pub kept_by : (xs : List ℕ) (len : ℕ) → Below xs → 0 < length xs → IsLen (slice_index xs 0) len → 0 < len
     → len ≤ length xs → (slice_index xs 0 / 32 ≡ 3 → IsCharacters (take (len - 1) (drop 1 xs))) → IsKept (take len xs)
 kept_by [] len below some is least le text = absurd (omega (arith, some))
@@ -230,9 +230,9 @@ kept_by (b ∷ xs) len below some (inr (inr v)) least le text =
           )
     ]
 
--- ---- elements one behind the other
+-- ---- elements one after another
 
--- one more
+-- One more kept element follows the kept elements before.
 pub kept_more : (last most left at len : ℕ) (xs : List ℕ) → at ≤ length xs → 0 < left → left ≤ most
     → (at ≡ 0 → left ≡ most) → (0 < at → AreKept (most - left) last (take at xs)) → IsKept (take len (drop at xs))
     → AreKept (most - (left - 1)) at (take (at + len) xs)
@@ -245,7 +245,7 @@ kept_more last most left (suc at) len xs le some fits none so_far item =
     let count : suc (most - left) ≡ most - (left - 1) = omega (arith, some, fits) in
     rw (take-add (suc at) len xs) (rw (count, length-take-le (suc at) xs le) at (more (so_far (omega arith)) item))
 
--- where they lead
+-- Kept elements lead to the spot after them, and go out as they are.
 pub kept_run : (n last : ℕ) (xs : List ℕ) → AreKept n last xs → (count left place offset : ℕ) (fed out : List ℕ)
     → n ≤ left → IsFed count fed (bare left place offset) out
     → IsFed count (fed ++ xs) (elements_due (left - n) (bare left (offset + last) (offset + length xs))) (out ++ xs)
@@ -264,7 +264,8 @@ kept_run n last xs (more {count = before} {last = last'} {bytes} {item} run kept
     rw (← append_assoc fed bytes item, ← append_assoc out bytes item)
     (rw (back, due_left m (suc m) left (offset + length bytes) ((offset + length bytes) + length item), far) at next)
 
--- a run of them: front is what was given before of the room, and end what is then
+-- A run of kept elements is given at once. `front` is the part of the room that was written before, and `end` is the
+-- part that is written then.
 pub run_given : (count n last left : ℕ) (xs : List ℕ) (spot new : Spot) (fed given front end : List ℕ) → AreKept n last xs
     → spot.phase ≡ p.Title → spot.within ≡ w.Nothing → spot.front ≡ [] → spot.put ≡ [] → n ≡ spot.left - left
     → left ≤ spot.left
@@ -301,7 +302,7 @@ short_four k n b fits parts major least = grind (arith, nat_tests)
 short_eight : (k n b : ℕ) → n < 2 ^ 64 → 32 * k + 27 ≡ b → k < 8 → (b < 224 → 2 ^ 32 ≤ n) → refused_when_strict k (m.Eight n) ≡ false
 short_eight k n b fits parts major least = grind (arith, nat_tests)
 
--- what stands behind the first byte of the shortest title
+-- The bytes after the first byte are those of a shortest title.
 abbrev Stays : ℕ → List ℕ → Type 0
 Stays b v =
     (b % 32 ≡ 24 → (24 ≤ get_or v 0 0) × (224 ≤ b → 32 ≤ get_or v 0 0))
@@ -376,7 +377,7 @@ front_at : (b : ℕ) (n : ℕ) (xs : List ℕ) → 0 < length xs → slice_index
 front_at b n [] some first = absurd (omega (arith, some))
 front_at b n (x ∷ xs) some first = rw first refl
 
--- the bytes in front are such a title
+-- A title with an affix is kept, if the title begins no string and is the shortest of its header.
 kept_long : (xs : List ℕ) (n b : ℕ) → Below xs → suc n ≤ length xs → slice_index xs 0 ≡ b
     → n ≡ affix_len (b % 32) → 24 ≤ b % 32 → b % 32 < 28 → b / 32 ≢ 2 → b / 32 ≢ 3
     → Stays b (take n (drop 1 xs)) → IsKept (take (suc n) xs)

@@ -21,13 +21,13 @@ abbrev pub kind_of : StringKind → Kind
 kind_of k.Bytes = Bytes
 kind_of k.Text = Text
 
--- the bytes are all of the elements but so many
+-- The bytes are all elements except the last `left`.
 pub record RunLeft (count left : ℕ) (bytes : List ℕ) (marks : List Mark) : Type 0 where
   pub before : ℕ
   pub run : IsRun before bytes marks
   pub counted : before + left ≡ count
 
--- behind those a string of the kind is open, and so many within it
+-- After the elements, a string of the kind is open, and `more` strings within that string.
 pub record InOpen (kind : Kind) (more count left : ℕ) (bytes : List ℕ) (marks : List Mark) : Type 0 where
   pub elements : List ℕ
   pub element_marks : List Mark
@@ -39,12 +39,12 @@ pub record InOpen (kind : Kind) (more count left : ℕ) (bytes : List ℕ) (mark
   pub is : bytes ≡ elements ++ opens
   pub marks_are : marks ≡ element_marks ++ Open kind ∷ pieces kind bodies
 
--- a header that may not stand there
+-- A header that may not stand there.
 abbrev pub Misplaced : Within → Header → Type 0
 Misplaced w.Nothing header = ⊥
 Misplaced (w.Open kind more) header = IsMisplaced (kind_of kind) header
 
--- a string of the kind may stand there
+-- A string of the kind may stand there.
 abbrev pub OfKind : Within → StringKind → Type 0
 OfKind w.Nothing kind = Unit {0}
 OfKind (w.Open outer more) kind = outer ≡ kind
@@ -53,24 +53,24 @@ abbrev pub place_of : Within → Point
 place_of w.Nothing = Due
 place_of (w.Open kind more) = In (kind_of kind)
 
--- the place that a fault of a body names
+-- The place that a fault of a body names.
 abbrev pub body_place : Within → List ℕ → List ℕ → Header → ℕ
 body_place w.Nothing before title header = length (before ++ title) - title_len header
 body_place (w.Open kind more) before title header = length before
 
--- no title came, or a part of one that may stand there
+-- No title came, or a part of a title that may stand there.
 abbrev pub FrontAt : Within → ℕ → ℕ → List ℕ → Type 0
 FrontAt i at place front = (front ≡ []) ⊎ (AreBytes front × IsCutTitle front
     × ((more : List ℕ) (header : Header) → IsTitle (front ++ more) header → Misplaced i header → ⊥)
     × (place ≡ at) × (0 < length front))
 
--- a title is due: an element is the next, or strings are open
+-- A title is due: that of the next element, or one within open strings.
 pub data Here (count left : ℕ) (bytes : List ℕ) (marks : List Mark) : Within → Type 0 where
   between : RunLeft count left bytes marks → 0 < left → Here count left bytes marks w.Nothing
   in_open : {kind : StringKind} {more : ℕ} → InOpen (kind_of kind) more count left bytes marks → 0 < left
       → Here count left bytes marks (w.Open kind more)
 
--- where a title is due
+-- The bytes so far lead to a spot with a title due.
 pub record Titling (count : ℕ) (bytes : List ℕ) (spot : Spot) (output : List ℕ) : Type 0 where
   pub before : List ℕ
   pub marks : List Mark
@@ -79,7 +79,7 @@ pub record Titling (count : ℕ) (bytes : List ℕ) (spot : Spot) (output : List
   pub out : output ≡ spelling marks
   pub front : FrontAt spot.within (length before) spot.place spot.front
 
--- behind its title a body of so many bytes is due, and this is the place that its fault names
+-- A body of `len` bytes is due after its title. A fault in the body names this place.
 pub record Begun (kind : StringKind) (count left place len : ℕ) (before title : List ℕ) (marks : List Mark) (i : Within)
     : Type 0 where
   pub here : Here count left before marks i
@@ -87,7 +87,7 @@ pub record Begun (kind : StringKind) (count left place len : ℕ) (before title 
   pub is_title : IsTitle title (kind_header (kind_of kind) (Some len))
   pub named : place ≡ body_place i before title (kind_header (kind_of kind) (Some len))
 
--- where so many bytes of a body are due
+-- The bytes so far lead to a spot with `left` bytes of a body due.
 pub record Bodying (kind : StringKind) (left count : ℕ) (bytes : List ℕ) (spot : Spot) (output : List ℕ) : Type 0 where
   pub before : List ℕ
   pub title : List ℕ
@@ -100,7 +100,7 @@ pub record Bodying (kind : StringKind) (left count : ℕ) (bytes : List ℕ) (sp
   pub out : output ≡ with_front marks (kind_of kind) len part
   pub sound : IsWritable (kind_of kind) part
 
--- there is a fault at this place
+-- There is a fault at this place.
 abbrev pub Broken : ℕ → ℕ → List ℕ → List ℕ → Type 0
 Broken place count bytes output = NoneGoOn count bytes × FaultsAt place count bytes output
 
@@ -114,11 +114,11 @@ HoldsIn (p.Text left state) count bytes spot output =
 HoldsIn p.Ended count bytes spot output = AreSpelled count bytes output
 HoldsIn (p.Faulted place) count bytes spot output = Broken place count bytes output
 
--- what the last byte put out does not count
+-- The bytes so far lead to the spot. The output of the last byte does not count.
 abbrev pub Holds : ℕ → List ℕ → Spot → List ℕ → Type 0
 Holds count bytes spot output = HoldsIn spot.phase count bytes (putting [] spot) output
 
--- a spot that holds no bytes back
+-- A spot that holds no bytes back.
 abbrev pub clear : Phase → Within → ℕ → ℕ → ℕ → List ℕ → Spot
 clear phase i left place offset put = record {
   phase = phase;

@@ -30,13 +30,13 @@ use Rattle.cbor_copier.specs.Telling.{is_due, progress_of, IsAnswer}
 use Rattle.cbor_copier.proofs.KeptLaws.{body_kept, enters}
 use Rattle.cbor_copier.proofs.Reached.{clear}
 
--- nothing came, and nothing is pending
+-- At the start, no byte came and nothing is pending.
 pub fed_fresh : (count : ℕ) (spot : Spot) (pending : List ℕ) → spot ≡ start count → pending ≡ []
     → IsFed count [] (putting [] spot) ([] ++ pending)
 fed_fresh zero spot pending e none = rw (e, none) fresh
 fed_fresh (suc count) spot pending e none = rw (e, none) fresh
 
--- what was put out is given, but for what is pending
+-- All output is given, except for the pending bytes.
 given_on : {count : ℕ} {fed fed' : List ℕ} {spot new : Spot} (given front pending front' pending' added : List ℕ)
     → pending ≡ [] → front' ++ pending' ≡ front ++ added
     → ((out : List ℕ) → IsFed count fed spot out → IsFed count fed' new (out ++ added))
@@ -45,7 +45,7 @@ given_on given front pending front' pending' added none e on is =
     rw (append_assoc given front' pending', e, ← append_assoc given front added)
     (on (given ++ front) (rw (none, append-nil) at is))
 
--- the first byte of some
+-- The first byte of a list is fed.
 pub first_on : (count : ℕ) (fed given front front' pending' bytes : List ℕ) (spot new : Spot) → 0 < length bytes
     → get_or bytes 0 0 < 256 → spot.put ≡ [] → Step spot (get_or bytes 0 0) new → front' ++ pending' ≡ front ++ new.put
     → IsFed count fed (putting [] spot) ((given ++ front) ++ spot.put)
@@ -55,14 +55,14 @@ first_on count fed given front front' pending' (x ∷ bytes) spot new some byte 
     let same : putting [] spot ≡ spot = ap (λ (z : List ℕ). record spot { put = z }) (sym none) in
     given_on given front spot.put front' pending' new.put none e (λ out is. more x new byte (rw same at is) step) is
 
--- bytes behind those so far of a list
+-- Bytes that are fed after the first `at` bytes of a list are the next bytes of the list.
 pub fed_behind : (count : ℕ) (fed output xs : List ℕ) (at n : ℕ) (spot : Spot)
     → IsFed count ((fed ++ take at xs) ++ take n (take (length xs - at) (drop at xs))) spot output
     → IsFed count (fed ++ take (at + n) xs) spot output
 fed_behind count fed output xs at n spot is =
     rw (take-add at n xs, ← take_rest xs at, ← append_assoc fed (take at xs)) is
 
--- what is the same from one place on is the same from each later one
+-- Lists that are the same from one place on are the same from each later place on.
 pub drop_later : (at next : ℕ) (xs ys : List ℕ) → at ≤ next → drop at xs ≡ drop at ys → drop next xs ≡ drop next ys
 drop_later at next xs ys later same =
     let parts : next ≡ at + (next - at) = omega (arith, later) in
@@ -70,22 +70,22 @@ drop_later at next xs ys later same =
 
 -- ---- the answer
 
--- where more bytes are due, nothing is pending
+-- If more bytes are due, nothing is pending.
 pub more_given : (pending : List ℕ) (phase : Phase) → progress_of pending phase ≡ r.More → pending ≡ []
 more_given [] phase e = refl
 more_given (byte ∷ pending) phase e = absurd cc
 
--- behind an end or a fault no more bytes are due
+-- After an end or a fault, no more bytes are due.
 pub not_more : (pending : List ℕ) (phase : Phase) → is_due phase ≡ false → progress_of pending phase ≡ r.More → ⊥
 not_more [] p.Ended off e = cc
 not_more pending phase off e = cc
 
--- no spot has more bytes than can be counted
+-- No spot answers `TooLong`.
 pub never_long : (pending : List ℕ) (phase : Phase) → progress_of pending phase ≡ r.TooLong → ⊥
 never_long [] p.Ended e = cc
 never_long pending phase e = cc
 
--- the answer of a spot is none of those that were not given
+-- The answer of `progress_of` is an answer of the state.
 pub is_answer : (progress : Progress) (pending : List ℕ) (phase : Phase) → progress ≡ progress_of pending phase
     → IsAnswer progress pending phase
 is_answer r.TooLong [] p.Ended e = absurd cc
@@ -94,7 +94,7 @@ is_answer progress pending phase e = e
 
 -- ---- bytes of a body
 
--- what was due, and what the last byte put out, does not count behind a body
+-- The spot after a body does not depend on the phase before, or on the output of the last byte.
 due_alike : (left : ℕ) (spot : Spot) (phase : Phase) (out : List ℕ)
     → putting [] (elements_due left (at_phase phase (putting out spot))) ≡ putting [] (elements_due left spot)
 due_alike zero spot phase out = refl
@@ -110,22 +110,22 @@ body_alike : (kind : StringKind) (len : ℕ) (spot : Spot) (phase : Phase) (out 
 body_alike kind zero spot phase out = done_alike spot.within spot phase out
 body_alike kind (suc len) spot phase out = refl
 
--- what is due within a body
+-- The phase within a body.
 abbrev phase_of : StringKind → ℕ → State → Phase
 phase_of k.Bytes left state = p.Bytes left
 phase_of k.Text left state = p.Text left state
 
--- so many bytes of a body are due, and these are held back
+-- The spot with this many bytes of a body due and this front.
 abbrev mid : StringKind → ℕ → State → List ℕ → ℕ → Spot → Spot
 mid kind left state front offset spot =
     record spot { phase = phase_of kind left state; front = front; offset = offset; put = [] }
 
--- all of these bytes are put out, with what is held back
+-- After these bytes of a body, nothing is held back.
 abbrev Ends : StringKind → State → List ℕ → List ℕ → Type 0
 Ends k.Bytes state front xs = front ≡ []
 Ends k.Text state front xs = after state xs ≡ s.Between
 
--- a byte came, and those behind it are put out
+-- A part of a body is fed, and after the rest `xs` nothing is held back.
 record Went (kind : StringKind) (count left : ℕ) (state : State) (spot : Spot) (offset : ℕ) (fed xs all : List ℕ)
     : Type 0 where
   front : List ℕ
@@ -163,7 +163,7 @@ byte_goes k.Text state count left l x offset front fed out xs spot byte all ends
     char_goes (after_byte state x) state count l (suc (suc l)) x offset front (fed ++ x ∷ []) out xs spot ends
     (more x (text_left true (suc l) (after_byte state x) old) byte is (rw may))
 
--- the last byte of them
+-- The last byte of a part of a body leads to the spot after the part.
 last_goes : {count : ℕ} {fed : List ℕ} (out : List ℕ) (kind : StringKind) (left offset : ℕ) (phase : Phase)
     (char : List ℕ) (spot : Spot)
     → (let new = body_due kind left (at_phase phase (putting char (record spot { front = []; offset = offset }))) in
@@ -207,7 +207,8 @@ ends_by : (kind : StringKind) (xs : List ℕ) → IsPutOut kind xs → Ends kind
 ends_by k.Bytes xs put = refl
 ends_by k.Text xs put = text_ends xs put
 
--- bytes of a body: front is what was given before of the room, and end what is then
+-- Bytes of a body are given at once. `front` is the part of the room that was written before, and `end` is the part
+-- that is written then.
 pub body_given : (kind : StringKind) (count left : ℕ) (xs : List ℕ) (spot new : Spot) (fed given front end : List ℕ)
     → Below xs → spot.phase ≡ body_phase kind left → spot.front ≡ [] → spot.put ≡ [] → 0 < length xs → length xs ≤ left
     → IsPutOut kind xs → new ≡ body_due kind (left - length xs) (counted_by (length xs) spot) → end ≡ front ++ xs
@@ -256,7 +257,7 @@ title_comes (y ∷ ys) front count x left place named offset end title header fe
     (fed ++ x ∷ []) out (below_rest x (y ∷ ys) below) q parts (omega (arith, on)) (begun front x _ ∙ from)
     (rw (append-nil out) at led))
 
--- a whole title, and what was given of what it puts out
+-- A whole title is fed, and a part of its output is given.
 pub title_given : (count n : ℕ) (title : List ℕ) (header : Header) (spot new : Spot)
     (fed given front front' pending' : List ℕ) → Below title → 0 < n → length title ≡ n → IsTitle title header
     → spot.phase ≡ p.Title → spot.within ≡ w.Nothing → spot.front ≡ [] → spot.put ≡ []
@@ -274,7 +275,7 @@ title_given count n (x ∷ xs) header spot new fed given front front' pending' b
     rw there (title_comes xs [] count x spot.left spot.place spot.offset spot.offset (spot.offset + n) (x ∷ xs) header
     fed out below q refl (rw (← long)) refl (rw begin at fed_is))) is
 
--- so many bytes in front as the first one announces are all of a title
+-- If the first byte announces `n - 1` bytes, the first `n` bytes are as long as a title that begins so.
 pub front_whole : (xs : List ℕ) (n : ℕ) → n ≤ length xs → n ≡ 1 + affix_len (slice_index xs 0 % 32)
     → length (take n xs) ≡ 1 + affix_len (slice_index (take n xs) 0 % 32)
 front_whole xs n le all = rw (length-take-le n xs le, get_or-take n xs 0 0 (omega (arith, all))) all

@@ -38,7 +38,7 @@ use Rattle.cbor_copier.specs.declared.phase.Phase.TheVariants as p
 
 -- ---- a title that was begun
 
--- bytes behind a part of a title, which end it
+-- The bytes end a title that begins with this front.
 pub record Continued (front bytes : List ℕ) : Type 0 where
   pub more : List ℕ
   pub more_bytes : AreBytes more
@@ -47,7 +47,7 @@ pub record Continued (front bytes : List ℕ) : Type 0 where
   pub is_title : IsTitle (front ++ more) header
   pub is : bytes ≡ more ++ rest
 
--- eight of them do
+-- Eight bytes end each title that was begun.
 pub continued : (front bytes : List ℕ) → 0 < length front → AreBytes front → AreBytes bytes → IsCutTitle front
     → 8 ≤ length bytes → Continued front bytes
 continued [] bytes some are are' is_cut long = absurd (omega (arith, some))
@@ -160,7 +160,7 @@ module _ (kind : StringKind) (count left b : ℕ) (bytes output : List ℕ) (spo
         length-append spot.front (b ∷ []),
       )
 
-  -- it is put out, with those that were held back
+  -- A byte of a body is put out with the bytes that were held back.
   put_leads : (new : Spot)
       → Begun kind count new.left new.place due.len due.before due.title due.marks new.within → new.front ≡ []
       → new.put ≡ spot.front ++ b ∷ [] → IsWritable (kind_of kind) (due.part ++ (spot.front ++ b ∷ []))
@@ -179,7 +179,7 @@ some_left state (suc left) may inner = omega arith
 
 module _ (count left b : ℕ) (bytes output : List ℕ) (spot : Spot) (state : State)
     (due : Bodying k.Text (suc left) count bytes spot output) (state_is : state ≡ after s.Between spot.front) where
-  -- the bytes of the body
+  -- The bytes of the body so far.
   abbrev ahead : List ℕ
   ahead = due.part ++ (spot.front ++ b ∷ [])
 
@@ -195,7 +195,7 @@ module _ (count left b : ℕ) (bytes output : List ℕ) (spot : Spot) (state : S
   front_is : (y : List ℕ) → take due.len (ahead ++ y) ≡ ahead ++ take left y
   front_is y = rw (← ahead_long) (take-append-add ahead y left)
 
-  -- no text goes on so
+  -- If the text may not end after the byte, no text begins with these bytes.
   no_text : may_end (after_byte state b) left ≡ false → (y : List ℕ) → left ≤ length y
       → IsCharacters (take due.len (ahead ++ y)) → ⊥
   no_text never y fits text =
@@ -230,7 +230,7 @@ module _ (count left b : ℕ) (bytes output : List ℕ) (spot : Spot) (state : S
     some_left next left (rw (← e) at may) (λ between. cc),
   )
 
--- ---- one byte more
+-- ---- one more byte
 
 step_holds : (phase : Phase) (count b : ℕ) (bytes output : List ℕ) (spot new : Spot) → phase ≡ spot.phase → b < 256
     → spot.offset ≡ length bytes → HoldsIn phase count bytes (putting [] spot) output → StepIn phase spot b new
@@ -264,7 +264,7 @@ fed_holds count bytes output spot (more {bytes = a} {output = before} {spot = ol
     step_holds old.phase count b a before old new refl byte (fed_counts count a before old is)
     (fed_holds count a before old is) step
 
--- ---- the same bytes lead to one spot, and put the same out
+-- ---- the same bytes lead to one spot, and put out the same bytes
 
 cut_refused : (xs : List ℕ) → IsCutTitle xs → BeginsRefused xs → ⊥
 cut_refused [] c r = r
@@ -276,7 +276,7 @@ whole_cut {xs} {x} q c = title_not_cut xs [] x q (rw append-nil c)
 whole_refused : {xs : List ℕ} {x : Header} → IsTitle xs x → BeginsRefused xs → ⊥
 whole_refused {xs} {x} q r = title_refused xs [] x q (rw append-nil r)
 
--- of titles that begin so none may stand there, or all may
+-- The titles with one beginning are not both all allowed and all faults.
 one_way : (spot : Spot) → AreBytes spot.front → IsCutTitle spot.front
     → ((more : List ℕ) (header : Header) → IsTitle (spot.front ++ more) header → Faults (titled header spot) → ⊥)
     → ((more : List ℕ) (header : Header) → IsTitle (spot.front ++ more) header → Faults (titled header spot)) → ⊥

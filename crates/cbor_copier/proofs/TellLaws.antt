@@ -1,4 +1,5 @@
--- What the answer of a copier says of the bytes so far. The bytes alone decide whether a copy has ended or has a fault.
+-- The meaning of a copier's answer for the bytes so far. The bytes alone decide whether a copy has ended or has a
+-- fault.
 use Rattle.std.proofs.Common.{◌≡◌, ℕ, zero, suc, true, false, ◌+◌, ◌/◌, ◌%◌, ◌<◌, ◌≤◌, ◌^◌, ◌↔◌, List, [], ◌∷◌, ◌++◌}
 use Rattle.std.proofs.Common.{length, refl, sym, ap, ◌∙◌, arith, inl, inr, append_assoc, append-nil, length-append}
 use Rattle.std.proofs.Common.{slice_index, drop, length-drop}
@@ -54,7 +55,7 @@ body_short {kind} {i = i} part front begun is short sound out =
     comes_at (body_reached i begun) is (CutBody {kind = kind_of kind} {consumed = length part} part front short refl
     sound (omega arith) (omega arith) (omega (arith, length-append part front))) out
 
--- ---- what is due
+-- ---- the bytes that are due
 
 told_in : (phase : Phase) (count : ℕ) (bytes output : List ℕ) (spot : Spot) → HoldsIn phase count bytes spot output
     → TellsWhole count bytes output (progress_in phase)
@@ -83,7 +84,7 @@ no_room : (phase : Phase) (count : ℕ) (bytes output : List ℕ) → TellsWhole
 no_room p.Ended count bytes output says = says
 no_room phase count bytes output says = says
 
--- what the answer says, by what is pending
+-- The answer is true of the bytes and the output, with any pending bytes.
 tells : (pending : List ℕ) (count : ℕ) (bytes given : List ℕ) (spot : Spot) → IsFed count bytes spot (given ++ pending)
     → Tells count bytes given (progress_of pending spot.phase)
 tells [] count bytes given spot is =
@@ -100,7 +101,7 @@ pub copier_tells : (copier : Copier) (progress : Progress) → progress ≡ prog
 copier_tells copier progress e count fed given is =
     rw e (tells copier.pending count fed given (putting [] (spot_of copier)) is)
 
--- too many came to be counted
+-- If no more bytes can be counted, `TooLong` is true of the bytes and the output.
 pub too_long : (copier : Copier) → r.More ≡ progress_of copier.pending copier.phase → 2 ^ 64 ≤ copier.offset + 1
     → (count : ℕ) (fed given : List ℕ) → IsCopied count fed given copier → Tells count fed given r.TooLong
 too_long copier e far count fed given is =
@@ -109,7 +110,7 @@ too_long copier e far count fed given is =
 
 -- ---- in terms of the bytes
 
--- so many elements stand in front of themselves
+-- Bytes that are `count` elements begin with `count` elements, whatever follows them.
 pub whole_in_front : (count : ℕ) (bytes more : List ℕ) (marks : List Mark) → IsRun count bytes marks
     → BeginsWithElements false count (bytes ++ more)
 whole_in_front count bytes more marks run = search (lenient, refl {A = List ℕ} {a = bytes ++ more})
@@ -117,7 +118,7 @@ whole_in_front count bytes more marks run = search (lenient, refl {A = List ℕ}
 pub in_front : {count : ℕ} {bytes : List ℕ} {marks : List Mark} → IsRun count bytes marks → BeginsWithElements false count bytes
 in_front {count} {bytes} {marks} run = rw (append-nil bytes) at (whole_in_front count bytes [] marks run)
 
--- so many elements are an end, and where none go on there is a fault
+-- The copy has ended exactly if the bytes are the elements. There is a fault exactly if no elements go on.
 exact_in : (phase : Phase) (count : ℕ) (bytes output : List ℕ) → TellsWhole count bytes output (progress_in phase)
     → (EndedIn phase ↔ ((marks : List Mark) × IsRun count bytes marks)) × (FaultIn phase ↔ NoneGoOn count bytes)
 exact_in p.Ended count bytes output says = (
@@ -141,7 +142,7 @@ pub fault_exact : (count : ℕ) (bytes output : List ℕ) (spot : Spot) → IsFe
     → IsAtFault spot ↔ NoneGoOn count bytes
 fault_exact count bytes output spot is = (exact_in spot.phase count bytes output (told is)).1
 
--- ---- where more bytes are due, each leads on
+-- ---- if more bytes are due, each byte leads on
 
 title_next : (spot : Spot) → 0 < length spot.front → AreBytes spot.front
     → length spot.front ≤ 1 + affix_len (slice_index spot.front 0 % 32) → (new : Spot) × TitleStep spot new
@@ -170,7 +171,7 @@ title_next spot some are long =
     blocked_next kind says short true e = (refused spot, step_early spot _ kind some says short e refl)
     blocked_next kind says short false e = (spot, step_cut spot _ kind some says short e refl)
 
--- no more follow the first byte than it announces
+-- A title has at most the bytes that its first byte announces.
 front_room : (i : Within) (at place b : ℕ) (front : List ℕ) → FrontAt i at place front
     → length (front ++ b ∷ []) ≤ 1 + affix_len (slice_index (front ++ b ∷ []) 0 % 32)
 front_room i at place b [] f = omega arith
@@ -190,9 +191,9 @@ next_in (p.Text zero state) count bytes output spot b o due byte = absurd (omega
 next_in (p.Text (suc left) state) count bytes output spot b o due byte = (_, refl)
 next_in phase count bytes output spot b o due byte = absurd cc
 
--- ---- what was put out so far
+-- ---- the output so far
 
--- where so many elements begin with the bytes so far, more are due
+-- If the elements begin with the bytes so far and one more byte, more bytes are due.
 due_by : (phase : Phase) (count b : ℕ) (bytes output more : List ℕ) (marks : List Mark)
     → TellsWhole count bytes output (progress_in phase) → AreBytes (b ∷ more) → IsRun count (bytes ++ b ∷ more) marks
     → is_due phase ≡ true
@@ -204,7 +205,7 @@ due_by (p.Faulted place) count b bytes output more marks says are run =
     absurd (says.0 (b ∷ more) are (in_front run))
 due_by phase count b bytes output more marks says are run = refl
 
--- where so many elements came, their spelling was put out
+-- If the copy has ended, the output is the spelling of the elements.
 ended_by : (phase : Phase) (count : ℕ) (bytes output : List ℕ) (marks : List Mark)
     → TellsWhole count bytes output (progress_in phase) → EndedIn phase → IsRun count bytes marks
     → spelling marks ≡ output
@@ -212,7 +213,7 @@ ended_by p.Ended count bytes output marks says has run =
     ap spelling (sym (one_run count bytes says.marks says.run bytes [] [] marks run refl).1) ∙ sym says.spelled
 ended_by phase count bytes output marks says has run = absurd has
 
--- bytes with which so many elements begin are fed
+-- Bytes with which the elements begin can be fed.
 pub fed_to : (more : List ℕ) (count : ℕ) (bytes output : List ℕ) (spot : Spot) → IsFed count bytes spot output
     → AreBytes more → SomeGoOn count (bytes ++ more)
     → (rest : List ℕ) × (new : Spot) × IsFed count (bytes ++ more) new (output ++ rest)
@@ -227,7 +228,7 @@ fed_to (b ∷ more) count bytes output spot is are goes =
     (more_fed b next.0 are.0 is next.1) are.1 (rw (← append_assoc bytes (b ∷ []) more) at goes) in
     (next.0.put ++ on.0, on.1, rw (append_assoc bytes (b ∷ []) more, append_assoc output) at on.2)
 
--- it begins what the whole puts out
+-- The output so far begins the spelling of all elements.
 pub spelled_on : (more : List ℕ) (count : ℕ) (bytes output : List ℕ) (spot : Spot) (marks : List Mark)
     → IsFed count bytes spot output → AreBytes more → IsRun count (bytes ++ more) marks
     → (rest : List ℕ) × (spelling marks ≡ output ++ rest)
@@ -240,13 +241,13 @@ spelled_on more count bytes output spot marks is are run =
 
 -- ---- no more bytes come
 
--- it says the same as the answer to a piece
+-- The answer at the end has the same meaning as the answer to a piece.
 end_by : (pending : List ℕ) (phase : Phase) (count : ℕ) (bytes given : List ℕ)
     → Tells count bytes given (progress_of pending phase) → TellsEnd count bytes given (end_of pending phase)
 end_by [] p.Ended count bytes given says = says
 end_by pending phase count bytes given says = says
 
--- it is an end where nothing is pending
+-- A copy that has ended with nothing pending answers `Ended`.
 ended_in : (phase : Phase) → EndedIn phase → end_of [] phase ≡ e.Ended
 ended_in p.Ended has = refl
 ended_in phase has = absurd has
@@ -256,7 +257,7 @@ pub copier_ends : (copier : Copier) (end : End) → end ≡ end_of copier.pendin
 copier_ends copier end is_end count fed given is =
     rw is_end (end_by copier.pending copier.phase count fed given (copier_tells copier _ refl count fed given is))
 
--- it is one exactly where the bytes are so many elements, and their spelling is written
+-- The answer is `Ended` exactly if the bytes are the elements and their spelling is written.
 pub copier_exact : (copier : Copier) (end : End) → end ≡ end_of copier.pending copier.phase
     → (count : ℕ) (fed given : List ℕ) → IsCopied count fed given copier
     → (end ≡ e.Ended) ↔ AreSpelled count fed given

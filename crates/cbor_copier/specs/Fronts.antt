@@ -9,22 +9,22 @@ use Rattle.cbor_copier.specs.declared.phase.Phase.TheVariants as p
 use Rattle.cbor_copier.specs.declared.phase.Within.{Within}
 use Rattle.cbor_copier.specs.declared.phase.Within.TheVariants as w
 
--- How many bytes of a character are held back at most, by how many more bytes end it. It has at most four (Unicode,
--- Table 3-7).
+-- How many bytes of a character are held back at most, by how many more bytes end it. A character has at most four
+-- (Unicode, Table 3-7): if two more end it, as after `e2`, at most two came.
 abbrev pub most_cut : State → ℕ
 most_cut s.Between = 0
 most_cut s.Damaged = 0
 most_cut state = 4 - tail_due state
 
 -- How many bytes of a title or a character are held back at most. For a title it is the length of the affix that its
--- first byte announces (RFC 7049, 2.1).
+-- first byte announces (RFC 7049, 2.1): two for `19`.
 abbrev pub most_front : Phase → List ℕ → ℕ
 most_front p.Title front = affix_len (slice_index front 0 % 32)
 most_front (p.Text left state) front = most_cut state
 most_front (p.Faulted place) front = 8
 most_front phase front = 0
 
--- How many strings are open (RFC 7049, 2.2.2).
+-- How many strings are open (RFC 7049, 2.2.2): two after `5f 5f`.
 abbrev pub open_count : Within → ℕ
 open_count w.Nothing = 0
 open_count (w.Open kind more) = suc more

@@ -17,19 +17,21 @@ bare left place offset = record {
   put = [];
 }
 
--- If an element is due, these bytes are an element, and go out as they are (RFC 7049, 2.1 and 3.9).
+-- If an element is due, these bytes are an element, and go out as they are (RFC 7049, 2.1 and 3.9). `01`, `81` and
+-- `42 01 02` do so, and `18 01` does not.
 abbrev pub IsKept : List ℕ → Type 0
 IsKept bytes = (count left place offset : ℕ) (fed out : List ℕ) → IsFed count fed (bare left place offset) out
     → IsFed count (fed ++ bytes) (elements_due (left - 1) (bare left offset (offset + length bytes))) (out ++ bytes)
 
--- This many elements of this kind, joined. The last begins at this index.
+-- This many elements of this kind, joined. The last begins at this index, as at 1 in `01 02`.
 pub data AreKept : ℕ → ℕ → List ℕ → Type 0 where
   one : {item : List ℕ} → IsKept item → AreKept 1 0 item
   more : {count last : ℕ} {bytes item : List ℕ} → AreKept count last bytes → IsKept item
       → AreKept (suc count) (length bytes) (bytes ++ item)
 
 -- The number in the table of a first byte, by its major type and its lower five bits (RFC 7049, 2.1). It is the length
--- of a title of one byte that begins no string, or of a string below 24 bytes. 0 says nothing.
+-- of a title of one byte that begins no string, or of a string below 24 bytes: 1 for `81`, and 3 for `42`. 0 says
+-- nothing.
 abbrev pub IsLen : ℕ → ℕ → Type 0
 IsLen first len =
     (len ≡ 0)

@@ -16,8 +16,8 @@ abbrev pub text_in : ℕ → Option State → Option Phase
 text_in left (Some state) = Some (p.Text left state)
 text_in left None = None
 
--- What is due, by the number of its kind. `number` counts the bytes due of a body, or is the place of a fault. 0 is no
--- kind.
+-- The phase with these numbers. `number` counts the bytes due of a body, or is the place of a fault. Kind 2 with the
+-- number 7 is seven bytes of a byte string, and 5 with 7 is a fault at 7. 0 is no kind.
 abbrev pub phase_in : ℕ → ℕ → ℕ → Option Phase
 phase_in kind number text =
     if kind == 1 then Some p.Title else
@@ -26,7 +26,8 @@ phase_in kind number text =
     (if kind == 4 then Some p.Ended else
     (if kind == 5 then Some (p.Faulted number) else None))))
 
--- The strings that are open, by the number of their kind and how many there are within the first.
+-- The strings that are open, by the number of their kind and how many there are within the first. Kind 1 with the
+-- number 1 is two open byte strings, as after `5f 5f`.
 abbrev pub within_in : ℕ → ℕ → Option Within
 within_in kind more =
     if kind == 0 then Some w.Nothing else
@@ -38,8 +39,8 @@ abbrev pub front_in : Snapshot → List ℕ
 front_in snapshot = take snapshot.front_len snapshot.front
 
 -- A copier can have this phase and these open strings with the other numbers. A body has bytes left, and each open
--- string has come with a byte. No more bytes are held back than a cut title or character has. No more are to be written
--- than the longest title has.
+-- string has come with a byte. No more bytes are held back than a cut title or character has, and no more are to be
+-- written than the longest title has.
 pub record IsState (snapshot : Snapshot) (phase : Phase) (within : Within) : Type 0 where
   pub some : has_left phase ≡ true
   pub counted : open_count within ≤ snapshot.offset

@@ -13,8 +13,9 @@ use Rattle.cbor_copier.specs.declared.phase.StringKind.TheVariants as k
 use Rattle.cbor_copier.specs.declared.phase.Within.{Within}
 use Rattle.cbor_copier.specs.declared.phase.Within.TheVariants as w
 
--- In turn: what is due, the bytes of a title or a character that are held back, the open strings, and how many elements
--- aren't whole. Then the place that a fault would name, how many bytes came, and what the last byte put out.
+-- The parts in turn: what is due, the bytes of a title or a character that are held back, the open strings, and how
+-- many elements aren't whole. Then the place that a fault would name, how many bytes came, and what the last byte put
+-- out.
 pub record Spot : Type 0 where
   pub phase : Phase
   pub front : List ℕ
@@ -32,7 +33,7 @@ at_phase phase spot = record spot { phase = phase }
 abbrev pub putting : List ℕ → Spot → Spot
 putting bytes spot = record spot { put = bytes }
 
--- This many elements are left.
+-- This many elements are due; with 0, the copy has ended.
 abbrev pub elements_due : ℕ → Spot → Spot
 elements_due zero spot = record spot { phase = p.Ended; within = w.Nothing; left = zero }
 elements_due (suc left) spot = record spot { phase = p.Title; within = w.Nothing; left = suc left }
@@ -41,27 +42,29 @@ elements_due (suc left) spot = record spot { phase = p.Title; within = w.Nothing
 abbrev pub element_done : Spot → Spot
 element_done spot = elements_due (spot.left - 1) spot
 
--- The spot after a string of a definite length, which is an element or a piece of an open string (RFC 7049, 2.2.2).
+-- The spot after a string of a definite length (RFC 7049, 2.2.2). The string is an element, or a piece of an open
+-- string, as `41 01` in `5f 41 01 ff`.
 abbrev pub string_done : Within → Spot → Spot
 string_done w.Nothing spot = element_done spot
 string_done (w.Open kind more) spot = at_phase p.Title spot
 
--- What is due in a body with this many bytes left.
+-- The phase in a body with this many bytes left.
 abbrev pub body_phase : StringKind → ℕ → Phase
 body_phase k.Bytes len = p.Bytes len
 body_phase k.Text len = p.Text len s.Between
 
--- Bytes of a body that go out as they are: any of a byte string, whole characters of a text (RFC 7049, 2.2.2).
+-- Bytes of a body that go out as they are: any of a byte string, whole characters of a text, as `c3 bc` (RFC 7049,
+-- 2.2.2).
 abbrev pub IsPutOut : StringKind → List ℕ → Type 0
 IsPutOut k.Bytes bytes = Unit {0}
 IsPutOut k.Text bytes = IsCharacters bytes
 
--- This many bytes of a body are due; with 0 the string is done (RFC 7049, 2.1).
+-- This many bytes of a body are due; with 0, as after `40`, the string is done (RFC 7049, 2.1).
 abbrev pub body_due : StringKind → ℕ → Spot → Spot
 body_due kind zero spot = string_done spot.within spot
 body_due kind (suc len) spot = at_phase (body_phase kind (suc len)) spot
 
--- Strings are open, and a piece of them or a break is due (RFC 7049, 2.2.2).
+-- Strings are open, and a piece of them or a break is due, as after `5f` (RFC 7049, 2.2.2).
 abbrev pub string_open : StringKind → ℕ → Spot → Spot
 string_open kind more spot = record spot { phase = p.Title; within = w.Open kind more }
 
@@ -70,33 +73,37 @@ abbrev pub refused : Spot → Spot
 refused spot = at_phase (p.Faulted spot.place) spot
 
 -- The spot after the title of a string that is an element. A fault in its body names the byte from which its shortest
--- title would reach the body.
+-- title would reach the body. In `78 01 ff` this is the byte at 1.
 abbrev pub string_entered : StringKind → Header → Option ℕ → Spot → Spot
 string_entered kind header (Some len) spot =
     body_due kind len (record spot { place = spot.offset - title_len header })
 string_entered kind header None spot = string_open kind zero spot
 
--- The spot after the whole title of an element: in a string, or after a whole element (RFC 7049, 2.1).
+-- The spot after the whole title of an element: in a string, as after `41`, or after a whole element, as after `81`
+-- (RFC 7049, 2.1).
 abbrev pub header_entered : Header → Spot → Spot
 header_entered (h.Bytes len) spot = string_entered k.Bytes (h.Bytes len) len spot
 header_entered (h.Text len) spot = string_entered k.Text (h.Text len) len spot
 header_entered header spot = element_done spot
 
--- The same, with the shortest title put out (RFC 7049, 2.1 and 3.9).
+-- The same, with the shortest title put out (RFC 7049, 2.1 and 3.9): `01` for `18 01`.
 abbrev pub element_entered : Header → Spot → Spot
 element_entered header spot = header_entered header (putting (shortest_title header) spot)
 
--- The spot after a break within strings, with this many more open. Only the last break goes out (RFC 7049, 2.2.2).
+-- The spot after a break within strings, with this many more open. Only the last break goes out (RFC 7049, 2.2.2), so
+-- `5f 5f ff ff` puts out `5f ff`.
 abbrev pub string_closed : StringKind → ℕ → Spot → Spot
 string_closed kind zero spot = element_done (putting (shortest_title h.Break) spot)
 string_closed kind (suc more) spot = string_open kind more spot
 
--- The spot after the title of a string within open strings of its kind. More opens do not go out (RFC 7049, 2.2.2).
+-- The spot after the title of a string within open strings of its kind. More opens do not go out (RFC 7049, 2.2.2), so
+-- `5f 5f` puts out `5f`.
 abbrev pub piece_entered : StringKind → ℕ → Header → Option ℕ → Spot → Spot
 piece_entered kind more header (Some len) spot = body_due kind len (putting (shortest_title header) spot)
 piece_entered kind more header None spot = string_open kind (suc more) spot
 
--- The spot after a whole title within open strings (RFC 7049, 2.2.2).
+-- The spot after a whole title within open strings (RFC 7049, 2.2.2). Within a byte string, `41` begins a piece, `ff`
+-- ends the string, and `61` is a fault.
 abbrev pub within_entered : StringKind → ℕ → Header → Spot → Spot
 within_entered k.Bytes more (h.Bytes len) spot = piece_entered k.Bytes more (h.Bytes len) len spot
 within_entered k.Text more (h.Text len) spot = piece_entered k.Text more (h.Text len) len spot

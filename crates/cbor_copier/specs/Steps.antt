@@ -47,28 +47,28 @@ Faults spot = (place : ℕ) × (spot.phase ≡ p.Faulted place)
 
 -- The spot that a byte of a title leads to. The byte stands at the end of the front (RFC 7049, 2.1).
 pub data TitleStep (spot : Spot) : Spot → Type 0 where
-  -- The title isn't whole, and all titles with this beginning may stand here.
+  -- The title isn't whole, and all titles with this beginning may stand here, as with `19` if an element is due.
   cut : IsCutTitle spot.front
       → ((more : List ℕ) (header : Header) → IsTitle (spot.front ++ more) header → Faults (titled header spot) → ⊥)
       → TitleStep spot spot
-  -- The title isn't whole, and no title with this beginning may stand here.
+  -- The title isn't whole, and no title with this beginning may stand here, as with `78` within a byte string.
   early : IsCutTitle spot.front
       → ((more : List ℕ) (header : Header) → IsTitle (spot.front ++ more) header → Faults (titled header spot))
       → TitleStep spot (refused spot)
-  -- The title is whole.
+  -- The title is whole, as `01`.
   whole : (header : Header) → IsTitle spot.front header → TitleStep spot (titled header spot)
-  -- No title begins with these bytes.
+  -- No title begins with these bytes, as with `1c`.
   none : BeginsRefused spot.front → TitleStep spot (refused (record spot { front = [] }))
 
 -- The spot with one more byte of a character.
 abbrev pub with_char : ℕ → Spot → Spot
 with_char byte spot = record spot { front = spot.front ++ byte ∷ []; offset = spot.offset + 1; put = [] }
 
--- A whole character is put out.
+-- A whole character is put out, as `c3 bc` after its second byte.
 abbrev pub char_put : Spot → Spot
 char_put spot = record spot { front = []; put = spot.front }
 
--- The spot after a byte of a text, with this many bytes left.
+-- The spot after a byte of a text, with this many bytes left. With `false`, no text has this beginning.
 abbrev pub text_left : Bool → ℕ → State → Spot → Spot
 text_left false left state spot = refused (record spot { front = [] })
 text_left true left s.Between spot = body_due k.Text left (char_put spot)
@@ -98,7 +98,7 @@ abbrev pub Step : Spot → ℕ → Spot → Type 0
 Step spot byte new = StepIn spot.phase spot byte new
 
 -- `IsFed count bytes spot output`: to a copy of `count` elements, these bytes have led from `start` to the spot, with a
--- `Step` for each. `output` is all that they put out.
+-- `Step` for each. `output` is all that they put out: `01` for `18 01`.
 pub data IsFed (count : ℕ) : List ℕ → Spot → List ℕ → Type 0 where
   fresh : IsFed count [] (start count) []
   more : {bytes output : List ℕ} {spot : Spot} (byte : ℕ) (new : Spot) → byte < 256 → IsFed count bytes spot output

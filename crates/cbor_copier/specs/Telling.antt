@@ -56,37 +56,40 @@ IsRoom progress = ⊥
 
 -- ---- what is said of all bytes so far
 
--- The bytes are that many elements, and the output is their shortest spelling (RFC 7049, 2.1, 2.2.2 and 3.9).
+-- The bytes are that many elements, and the output is their shortest spelling, as `18 01` and `01` (RFC 7049, 2.1,
+-- 2.2.2 and 3.9).
 pub record AreSpelled (count : ℕ) (bytes output : List ℕ) : Type 0 where
   pub marks : List Mark
   pub run : IsRun count bytes marks
   pub spelled : output ≡ spelling marks
 
--- If no more bytes come, a copy of that many elements is at this fault with this output (RFC 7049, 2.1 and 2.2.2).
+-- If no more bytes come, a copy of that many elements is at this fault with this output (RFC 7049, 2.1 and 2.2.2). One
+-- element with `61` is at `Short` with the output `61`.
 pub record ComesTo (count : ℕ) (bytes : List ℕ) (answer : Answer) (output : List ℕ) : Type 0 where
   pub fault : HasFault false count bytes
   pub answered : fault.answer ≡ answer
   pub written : fault.written ≡ output
 
--- Some more bytes make that many elements (RFC 7049, 2.1 and 2.2.2).
+-- Some more bytes make that many elements, as `20` after `18` does for one (RFC 7049, 2.1 and 2.2.2).
 pub record SomeGoOn (count : ℕ) (bytes : List ℕ) : Type 0 where
   pub more : List ℕ
   pub more_bytes : AreBytes more
   pub marks : List Mark
   pub run : IsRun count (bytes ++ more) marks
 
--- Whatever bytes follow, that many elements do not stand at the start (RFC 7049, 2.1 and 2.2.2).
+-- Whatever bytes follow, that many elements do not stand at the start, as with one and `1c` (RFC 7049, 2.1 and 2.2.2).
 abbrev pub NoneGoOn : ℕ → List ℕ → Type 0
 NoneGoOn count bytes = (more : List ℕ) → AreBytes more → BeginsWithElements false count (bytes ++ more) → ⊥
 
--- With some more bytes, a copy is at the fault of this place with this output (RFC 7049, 2.1 and 2.2.2).
+-- With some more bytes, a copy is at the fault of this place with this output (RFC 7049, 2.1 and 2.2.2). One element
+-- with `1c` is at the place 0 without output.
 pub record FaultsAt (place count : ℕ) (bytes output : List ℕ) : Type 0 where
   pub more : List ℕ
   pub more_bytes : AreBytes more
   pub comes_to : ComesTo count (bytes ++ more) (Syntax place) output
 
--- What an answer says if nothing is pending. `More`: the bytes are a part of that many elements. `Ended`: they are that
--- many elements. `Syntax`: no list of that many elements begins so.
+-- The meaning of an answer if nothing is pending. `More`: the bytes are a part of that many elements. `Ended`: they are
+-- that many elements. `Syntax`: no list of that many elements begins so.
 abbrev pub TellsWhole : ℕ → List ℕ → List ℕ → Progress → Type 0
 TellsWhole count bytes output r.More = ComesTo count bytes Short output × SomeGoOn count bytes
 TellsWhole count bytes output r.Room = ⊥
@@ -102,13 +105,13 @@ pub record LacksRoom (count : ℕ) (bytes output : List ℕ) : Type 0 where
   pub progress : Progress
   pub told : TellsWhole count bytes (output ++ pending) progress
 
--- What the answer says of all bytes so far and of the output.
+-- The meaning of the answer for all bytes so far and the output.
 abbrev pub Tells : ℕ → List ℕ → List ℕ → Progress → Type 0
 Tells count bytes output r.Room = LacksRoom count bytes output
 Tells count bytes output progress = TellsWhole count bytes output progress
 
--- What the last answer says of all bytes and of the output. `Ended`: they are that many elements, and all is written.
--- `Short`: they are a part of that many elements. `Syntax`: no list of that many elements begins so.
+-- The meaning of the last answer for all bytes and the output. `Ended`: they are that many elements, and all is
+-- written. `Short`: they are a part of that many elements. `Syntax`: no list of that many elements begins so.
 abbrev pub TellsEnd : ℕ → List ℕ → List ℕ → End → Type 0
 TellsEnd count bytes output e.Ended = AreSpelled count bytes output
 TellsEnd count bytes output e.Short = ComesTo count bytes Short output × SomeGoOn count bytes
@@ -122,7 +125,7 @@ abbrev pub EndedIn : Phase → Type 0
 EndedIn p.Ended = Unit {0}
 EndedIn phase = ⊥
 
--- The elements have come at the spot.
+-- The elements have come at the spot, as one after `01`.
 abbrev pub HasEnded : Spot → Type 0
 HasEnded spot = EndedIn spot.phase
 
@@ -131,6 +134,6 @@ abbrev pub FaultIn : Phase → Type 0
 FaultIn (p.Faulted place) = Unit {0}
 FaultIn phase = ⊥
 
--- No list of that many elements goes on from the spot.
+-- No list of that many elements goes on from the spot, as after `1c`.
 abbrev pub IsAtFault : Spot → Type 0
 IsAtFault spot = FaultIn spot.phase

@@ -42,11 +42,10 @@ fn whole_len(kind: StringKind, bytes: &[u8]) -> usize
     }
 }
 
-/// Copies elements of CBOR whose bytes come in pieces, each in its shortest spelling.
+/// Copies elements of CBOR in their shortest spelling. A caller gives their bytes in pieces to [`Copier::feed`], which
+/// writes into the caller's memory.
 ///
-/// An element is a header that begins no string, or a whole string (RFC 7049, 2.1 and 2.2). A caller gives each piece
-/// to [`Copier::feed`], which writes into the caller's memory. The copier takes no memory, and reads and writes nothing
-/// by itself.
+/// An element is a header that begins no string, or a whole string (RFC 7049, 2.1 and 2.2).
 #[derive(Drop)]
 pub struct Copier {
     phase: Phase,
@@ -530,13 +529,7 @@ impl Copier {
         }
     }
 
-    /// Returns how the copy stands if no more bytes come, in the terms of [`Copier::feed`]. The copier stays as it is.
-    ///
-    /// - `Ended`: exactly if the bytes so far are that many elements, and all output is exactly their shortest
-    ///   spelling.
-    /// - `Short`: the bytes are cut off. More bytes were due, and all that can be written is written.
-    /// - `Syntax(offset)`: no list of that many elements begins as the bytes so far do.
-    /// - `Room`: bytes are still to be written. [`Copier::feed`] writes them, also without a piece.
+    /// Returns how the copy stands if no more bytes come.
     pub fn end(&self) -> End
         ensures exactly { (count : ℕ) (fed given : List ℕ) → IsCopied count fed given self.now
             → (result ≡ e.Ended ↔ AreSpelled count fed given) }
@@ -555,35 +548,27 @@ impl Copier {
     }
 
     /// Takes a piece of the elements' bytes, of any length, and writes their shortest spelling to the start of `out`.
-    /// Returns how many bytes it took and wrote, and how far the copy has come.
     ///
-    /// The cuts between pieces and the lengths of the outputs change nothing of all that is written. The copier's state
-    /// is that of all bytes so far, and all that they put out is written, but for a few bytes that are pending. The
-    /// rest of `out` stays as it was.
+    /// The cuts between pieces and the lengths of the outputs change nothing of all that is written. Only a few bytes
+    /// may stay pending.
     ///
-    /// Each title becomes the shortest title of its header. The bodies of a string of indefinite length stay the same
-    /// segments in one string: strings within it lose their opens and breaks. The copier writes nothing of a title or a
+    /// Each title becomes the shortest title of its header. A string of indefinite length keeps the same segments of
+    /// its body in one string: strings within it lose their opens and breaks. The copier writes nothing of a title or a
     /// character that isn't whole. If `out` is full within one of them, the rest comes with the next call.
     ///
-    /// - `More`: the call took all of the piece, and all that can be written of the bytes so far is written. If no more
-    ///   bytes come, a copy of that many elements is short with exactly this output. Some more bytes make that many
-    ///   elements.
-    /// - `Room`: `out` is full, and with the bytes still to write one of the other answers holds. The caller gives the
-    ///   rest of the piece again. It never comes if nothing was pending and `out` has at least eight bytes more than
-    ///   the piece.
-    /// - `Ended`: that many elements came, and exactly their shortest spelling is written, as `recode` writes it. The
-    ///   call takes no byte after them.
-    /// - `Syntax(offset)`: no list of that many elements begins as the bytes so far do. It comes with the first byte
-    ///   that makes this true, which counts as taken. With some bytes after those so far, a copy at a fault of this
-    ///   place has this output.
-    /// - `TooLong`: `usize::MAX` bytes came, and the elements go on. The call takes no more, and the rest is as with
-    ///   `More`.
+    /// - `More`: all that can be written of the bytes so far is written. Some more bytes make that many elements. If
+    ///   none come, a copy is short with exactly this output.
+    /// - `Room`: `out` is full. The caller gives the rest of the piece again. After the bytes still to write, one of
+    ///   the other answers holds.
+    /// - `Ended`: exactly the shortest spelling of that many elements is written, as `recode` writes it. The call takes
+    ///   no byte after them.
+    /// - `Syntax(offset)`: the answer comes with the first byte that makes it true, which counts as taken. With some
+    ///   bytes after those so far, a copy at a fault of this place has this output.
+    /// - `TooLong`: the call takes no byte after `usize::MAX`, and the rest is as with `More`.
     ///
-    /// After `Ended` or `Syntax`, a later call takes and writes nothing, and answers the same.
-    ///
-    /// The answer and its place are those of the one state that the bytes so far lead to (`one_copy`). The contract of
-    /// `recode` has the same faults, and the same output up to them. In a damaged body `recode` may have written less,
-    /// by its buffer: a copier has written each whole character before the damage.
+    /// After `Ended` or `Syntax`, a later call answers the same. `recode` has the same faults, and the same output up
+    /// to them. But in a damaged body `recode` may have written less, by its buffer: a copier has written each whole
+    /// character before the damage.
     pub fn feed(&mut self, bytes: &[u8], out: &mut [u8]) -> Copied
         ensures taken { result.taken ≤ length bytes.now }
         ensures written { result.written ≤ length out.old }
@@ -633,7 +618,7 @@ impl Copier {
         }
     }
 
-    /// Returns the state as plain numbers, from which [`Copier::restore`] makes this copier again. `spare` is 0.
+    /// Returns the state as plain numbers, from which [`Copier::restore`] makes this copier again.
     pub fn save(&self) -> Snapshot
         ensures holds { Holds result (spot_of self.now) }
         ensures spare { result.spare ≡ 0 }
@@ -660,8 +645,6 @@ impl Copier {
     }
 
     /// Returns the copier that [`Copier::save`] made the numbers of, or `None` if they are those of no state.
-    ///
-    /// The call does not find all memory that was overwritten, as `Snapshot` says.
     pub fn restore(snapshot: &Snapshot) -> Option<Copier>
         ensures some { IfSome result (λ copier. Holds snapshot.now (spot_of copier)) }
         ensures same { (spot : Spot) → Holds snapshot.now spot → IsAt result spot }

@@ -1,9 +1,7 @@
 // SPDX-License-Identifier: Apache-2.0
-//! Copies elements of CBOR (RFC 7049, 2.1 and 2.2) to their shortest spelling, from pieces of any length. No call takes
-//! memory, and none waits for a reader or a writer.
+//! Copies elements of CBOR (RFC 7049, 2.1 and 2.2) to their shortest spelling, from pieces of any length.
 //!
-//! The crate uses the table of first bytes, the states of texts and the definitions of elements and of their first
-//! faults of `ciborium_ll`. Each call returns, and a copier takes each byte once.
+//! Each call returns. No call takes memory, waits for a reader or a writer, or takes a byte twice.
 #![tactic(auto)]
 
 mod copier;

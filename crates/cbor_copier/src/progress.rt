@@ -33,9 +33,9 @@ pub struct Copied {
 pub enum End {
     /// That many elements have come, and they are written.
     Ended,
-    /// The bytes so far are a part of that many elements, and no more.
+    /// The elements are cut off: more bytes were due, and all that can be written is written.
     Short,
-    /// There are bytes to write, which a call without a piece writes.
+    /// Bytes are still to be written. A call without a piece writes them.
     Room,
     /// No list of that many elements begins as the bytes so far do, with the offset of [`Progress::Syntax`].
     Syntax(usize),

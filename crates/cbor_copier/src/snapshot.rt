@@ -9,16 +9,15 @@ use ciborium_ll_grammar::limits::LONGEST_TITLE;
 use ciborium_ll_grammar::titles::are_begun;
 use ciborium_ll_text::state::State;
 
-/// The state of a [`Copier`](crate::Copier) as plain numbers, in the caller's own memory: for a program in C, or a
-/// program that keeps many copiers.
+/// The state of a [`Copier`](crate::Copier) as plain numbers in the caller's memory, for a program in C or one that
+/// keeps many copiers.
 ///
-/// [`Copier::save`](crate::Copier::save) makes it, and [`Copier::restore`](crate::Copier::restore) makes a copier from
-/// it. Only these calls say which number means what; numbers that are all 0 are no state. The struct has no bytes
-/// between its fields or after them.
+/// Only [`Copier::save`](crate::Copier::save) and [`Copier::restore`](crate::Copier::restore) say which number means
+/// what; numbers that are all 0 are no state. The struct has no bytes between its fields or after them.
 ///
-/// A restored copier equals the saved copier. `restore` refuses numbers of no state: a kind that doesn't exist, or a
-/// number out of the few bounds that there are. So it does not find all memory that was overwritten: numbers of another
-/// state restore that state, even if no bytes lead to it.
+/// A restored copier equals the saved copier. `restore` refuses a kind that doesn't exist, or a number out of the few
+/// bounds that there are. It does not find all memory that was overwritten: numbers of another state restore that
+/// state, even if no bytes lead to it.
 #[derive(Drop)]
 #[repr(C)]
 pub struct Snapshot {
