@@ -90,7 +90,7 @@ element_as w ms (plain x q is_plain) = (Plain x ∷ [], rw (same_bytes w (title_
 element_as w ms (string {bodies = bs} k is sound) =
     let o = string_as k w bs is sound in (string_marks o.1, string k o.1 o.2)
 
--- so many elements are as many with bytes in their place
+-- Elements stay as many if a byte replaces each number.
 pub run_as : (n : ℕ) (w : List ℕ) (ms : List Mark) → IsRun n w ms → (ns : List Mark) × IsRun n (as_bytes w) ns
 run_as n w ms done = ([], done)
 run_as n w ms (next {count = m} {first = x} {rest = y} {marks = ns} {others = os} element rest) =

@@ -10,19 +10,19 @@ use Rattle.cbor_item_copier.specs.declared.progress.Progress.{Progress}
 use Rattle.cbor_item_copier.specs.Copying.{held, item_spot, pending}
 use Rattle.cbor_item_copier.specs.Telling.{IsRoom, of_checker, progress_of}
 
--- a checker has no output
+-- A checker never answers `Room`.
 no_output : (checked : Checked) → IsRoom (of_checker checked) → ⊥
 no_output (f.More due) room = room
 no_output (f.Ended len) room = room
 no_output (f.Fault fault) room = room
 no_output f.TooLong room = room
 
--- where there is no room something is to be written
+-- If the answer is `Room`, some bytes are pending.
 some_pending : (bytes : List ℕ) (spot : Spot) → IsRoom (progress_of bytes spot) → 0 < length bytes
 some_pending [] spot room = absurd (no_output (checker.progress_of spot) room)
 some_pending (byte ∷ bytes) spot room = omega arith
 
--- where nothing was pending, a room of eight bytes more than there are bytes is enough
+-- If nothing was pending, a room of eight bytes more than the piece is enough.
 pub never_room : (old new : ItemCopier) (progress : Progress) (bytes room at written : ℕ)
     → progress ≡ progress_of (pending new) (item_spot new) → (pending new ≡ []) ⊎ (written ≡ room)
     → written + held new ≤ held old + at → at ≤ bytes

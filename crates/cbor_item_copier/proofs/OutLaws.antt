@@ -16,9 +16,9 @@ use Rattle.cbor_copier.proofs.Reached.{between}
 use Rattle.cbor_copier.proofs.TellLaws.{title_short, in_front}
 use Rattle.cbor_item_copier.proofs.RunLaws.{title_some, run_long, run_front, same_runs}
 
--- ---- with any number of elements, of which more are due
+-- ---- with any number of elements, if more are due
 
--- the whole elements before a point, and what is open behind them
+-- The whole elements before a point, and the part of an element after them.
 record Standing (before : List ℕ) (marks : List Mark) (point : Point) : Type 0 where
   number : ℕ
   elements : List ℕ
@@ -57,7 +57,7 @@ standing (body_inside {title = t} reach q) =
     (λ m fewer. body_inside (o.again m fewer) q)
     (inr (omega (arith, title_some t [] _ q, length-append o.behind t, length-append t [])))
 
--- a fault is one of each larger number of elements
+-- A fault is a fault for each larger number of elements.
 recount : {count : ℕ} {bytes : List ℕ} (f : HasFault false count bytes) (m : ℕ) → (standing f.reach).number < m
     → HasFault false m bytes
 recount f m fewer = search ((standing f.reach).again m fewer)
@@ -87,7 +87,7 @@ cut_in p.Ended count m bytes output says goes fewer =
 cut_in (p.Faulted place) count m bytes output says goes fewer = absurd (goes says.0)
 cut_in phase count m bytes output says goes fewer = cut_again says.0 m fewer
 
--- ---- where the bytes are whole elements, all of them are written
+-- ---- if the bytes are whole elements, all of them are written
 
 short_written : {before ahead written : List ℕ} {marks : List Mark} {at : Point} {answer : Answer} {consumed : ℕ}
     → FirstFault false before marks at ahead answer written consumed → at ≡ Due → answer ≡ Short

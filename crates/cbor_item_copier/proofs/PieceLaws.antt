@@ -17,12 +17,12 @@ module _ (a n k : ℕ) (xs ys : List ℕ) (fits : a ≤ length xs) (rest : k ≡
         append-nil,
       )
 
-  -- behind what is written it stays as it was
+  -- The room after the written bytes stays as it was.
   pub out_kept : (room : List ℕ) → room ≡ drop a xs → drop n ys ≡ drop n room
       → drop (a + n) (put_mid a k xs ys) ≡ drop (a + n) xs
   out_kept room is kept = rw (← drop-drop n a (put_mid a k xs ys), out_rest, kept, is, drop-drop)
 
-  -- in front of it stands what was written before
+  -- The bytes that were written before stay before the new bytes.
   pub given_front : n ≤ k → (given : List ℕ)
       → (given ++ take a xs) ++ take n ys ≡ given ++ take (a + n) (put_mid a k xs ys)
   given_front few given =

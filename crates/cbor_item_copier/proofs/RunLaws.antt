@@ -22,7 +22,7 @@ use Rattle.cbor_item_copier.proofs.ByteLaws.{as_bytes, are_bytes, same_bytes, as
 
 -- ---- an item is a run
 
--- so many elements, joined
+-- The bytes are some number of elements, joined.
 pub record SomeRun (bytes : List ℕ) : Type 0 where
   pub count : ℕ
   pub marks : List Mark
@@ -83,13 +83,13 @@ element_some w ms (plain x q is_plain) = omega (arith, title_some w [] x q, leng
 element_some w ms (string k (definite {title = t} {body = b} q) sound) = title_some t b _ q
 element_some w ms (string k (indefinite {title = t} {strings = u} q are) sound) = title_some t (u ++ 0xff ∷ []) _ q
 
--- each element has a byte
+-- A run has at least as many bytes as elements.
 pub run_long : (n : ℕ) (w : List ℕ) (ms : List Mark) → IsRun n w ms → n ≤ length w
 run_long n w ms done = omega arith
 run_long n w ms (next {count = m} {first = x} {rest = y} {marks = ns} {others = os} element rest) =
     omega (arith, element_some x ns element, run_long m y os rest, length-append x y)
 
--- the same bytes are as many elements, with the same marks
+-- The same bytes are one number of elements, with the same marks.
 pub same_runs : (n : ℕ) (w : List ℕ) (ms : List Mark) → IsRun n w ms → (m : ℕ) (v : List ℕ) (ns : List Mark)
     → IsRun m v ns → w ≡ v → (n ≡ m) × (ms ≡ ns)
 same_runs n w ms done m v ns done e = (refl, refl)
@@ -106,7 +106,7 @@ same_runs n w ms (next {count = i} {first = x} {rest = y} {marks = os} {others =
 in_none : (w : List ℕ) → BeginsWithElements false zero w
 in_none w = whole_in_front zero [] w [] done
 
--- fewer elements are in front
+-- A run begins with each smaller number of elements.
 pub run_front : (m n : ℕ) (w : List ℕ) (ms : List Mark) → IsRun n w ms → m ≤ n → BeginsWithElements false m w
 run_front zero n w ms run fewer = in_none w
 run_front (suc m) n w ms done fewer = absurd (omega (arith, fewer))
@@ -116,7 +116,7 @@ run_front (suc m) n w ms (next {count = j} {first = x} {rest = y} {marks = ns} {
     ap (λ (z : List ℕ). x ++ z) o.is ∙ sym (append_assoc x o.elements o.rest) in
     search (next element o.run, lenient)
 
--- where any number of elements goes on so, each number does: it is filled up, or is in front
+-- If some number of elements begins with the bytes, each number does.
 run_goes_on : (count n : ℕ) (bytes more : List ℕ) (ms : List Mark) → AreBytes more → IsRun n (bytes ++ more) ms
     → NoneGoOn count bytes → ⊥
 run_goes_on count n bytes more ms are run never =
@@ -130,7 +130,7 @@ run_goes_on count n bytes more ms are run never =
       | inr enough ↦ never more are (run_front count n (bytes ++ more) ms run enough)
     ]
 
--- where an item goes on so, any number of elements does
+-- If an item begins with the bytes, each number of elements does.
 pub item_goes_on : (count : ℕ) (s : Bool) (d : ℕ) (bytes more : List ℕ) → AreBytes bytes → IsItem s d (bytes ++ more)
     → NoneGoOn count bytes → ⊥
 item_goes_on count s d bytes more are item never =

@@ -23,13 +23,13 @@ use Rattle.cbor_item_copier.specs.Telling.{IsCutCopy}
 use Rattle.cbor_item_copier.proofs.OutLaws.{cut_in, whole_in}
 use Rattle.cbor_item_copier.proofs.RunLaws.{item_goes_on}
 
--- ---- what is copied
+-- ---- the bytes that are copied
 
 pub due_sound : (phase : Phase) → is_due phase ≡ true → FaultIn phase → ⊥
 due_sound (p.Faulted fault) due has = cc
 due_sound phase due has = has
 
--- where there is no fault, it is all
+-- If there is no fault, all bytes are copied.
 pub all_taken : (phase : Phase) (fed bytes : List ℕ) → (FaultIn phase → ⊥) → AreTaken phase fed bytes → fed ≡ bytes
 all_taken (p.Faulted fault) fed bytes sound taken = absurd (sound tt)
 all_taken phase fed bytes sound taken = taken
@@ -38,7 +38,7 @@ same_taken : (phase : Phase) (fed xs ys : List ℕ) → AreTaken phase fed xs �
 same_taken (p.Faulted fault) fed xs ys a b = (one_copy.same_last xs ys a.0 b.0 (sym a.1 ∙ b.1)).0
 same_taken phase fed xs ys a b = sym a ∙ b
 
--- the same bytes lead to one state
+-- The same bytes lead to one state and one output.
 pub one_fed : (s : Bool) (d : ℕ) (fed output others : List ℕ) (item other : Spot) (a b : Elements)
     → AreFed s d fed item a output → AreFed s d fed other b others → (item ≡ other) × (a ≡ b) × (output ≡ others)
 one_fed s d fed output others item other a b f g =
@@ -48,18 +48,18 @@ one_fed s d fed output others item other a b f g =
     let same = one_copy.one_spot most f.bytes output others a b f.copied (rw bytes at g.copied) in
     (one, same.0, same.1)
 
--- nothing came
+-- At the start, no byte came to the checker or to the copier of elements.
 pub fresh_fed : (s : Bool) (d : ℕ) (new : Spot) (elements : Elements) (output : List ℕ) → IsFed s d [] new
     → AreElementsFed most [] elements output → AreFed s d [] new elements output
 fresh_fed s d new elements output checked copied =
     search (subst (λ (z : Spot). AreTaken z.phase [] []) (one_spot s d [] (start s d) new fresh checked) refl)
 
--- a checker that has taken nothing
+-- A checker that took the same bytes can replace the checker of a state.
 pub same_fed : (s : Bool) (d : ℕ) (fed output : List ℕ) (old new : Spot) (elements : Elements) → IsFed s d fed new
     → AreFed s d fed old elements output → AreFed s d fed new elements output
 same_fed s d fed output old new elements checked was = rw (one_spot s d fed old new was.checked checked) at was
 
--- ---- what is copied goes on as an item
+-- ---- the copied bytes go on as an item
 
 pub fed_bytes : (s : Bool) (d : ℕ) (fed : List ℕ) (spot : Spot) → IsFed s d fed spot → AreBytes fed
 fed_bytes s d fed spot fresh = tt
@@ -76,7 +76,7 @@ sound_goes s d fed spot is sound never =
     sound ((fault_exact s d fed spot is).1 (λ behind i.
     item_goes_on most s d fed behind (fed_bytes s d fed spot is) i never))
 
--- before the last byte there was no fault
+-- Some elements begin with the bytes before the last byte.
 pub before_goes : (s : Bool) (d : ℕ) (fed : List ℕ) (spot : Spot) → IsFed s d fed spot → (before : List ℕ) (last : ℕ)
     → fed ≡ before ++ last ∷ [] → NoneGoOn most before → ⊥
 before_goes s d fed spot fresh before last e never = omega (arith, ap length e, length-append before (last ∷ []))
@@ -91,7 +91,7 @@ goes_in (p.Faulted fault) s d fed bytes spot at is taken never =
 goes_in phase s d fed bytes spot at is taken never =
     sound_goes s d fed spot is (λ has. subst FaultIn (sym at) has) (rw taken never)
 
--- ---- what was put out
+-- ---- the output
 
 module _ (s : Bool) (d : ℕ) (fed output : List ℕ) (item : Spot) (elements : Elements)
     (are : AreFed s d fed item elements output) where
@@ -102,7 +102,7 @@ module _ (s : Bool) (d : ℕ) (fed output : List ℕ) (item : Spot) (elements : 
   pub spelled : (count : ℕ) (marks : List Mark) → IsRun count are.bytes marks → output ≡ spelling marks
   spelled count marks run = whole_in count marks run (cut (suc (length are.bytes)) (omega arith))
 
-  -- where an item goes on so, it is all copied
+  -- If an item begins with the bytes so far, all of them are copied.
   item_taken : (behind : List ℕ) → IsItem s d (fed ++ behind) → fed ≡ are.bytes
   item_taken behind i =
       all_taken item.phase fed are.bytes (λ has. (fault_exact s d fed item are.checked).0 has behind i) are.taken
@@ -111,7 +111,7 @@ module _ (s : Bool) (d : ℕ) (fed output : List ℕ) (item : Spot) (elements : 
       → output ≡ spelling marks
   spelled_exact i count marks run = spelled count marks (rw (item_taken [] (rw append-nil i)) at run)
 
-  -- what was put out begins what is put out of all
+  -- The output so far begins the spelling of all elements.
   pub item_so_far : (behind : List ℕ) (count : ℕ) (marks : List Mark) → AreBytes behind → IsItem s d (fed ++ behind)
       → IsRun count (fed ++ behind) marks → count ≤ most → (rest : List ℕ) × (spelling marks ≡ output ++ rest)
   item_so_far behind count marks bytes i run few =

@@ -41,7 +41,7 @@ due_more p.Ended spot due = absurd cc
 due_more (p.Faulted fault) spot due = absurd cc
 due_more phase spot due = tt
 
--- where it takes none, too many came
+-- If more bytes are due and the answer is not `More`, no more bytes can be counted.
 too_many : (progress : Progress) (s : Bool) (d : ℕ) (fed : List ℕ) (spot : Spot) → is_due spot.phase ≡ true
     → IsAnswer progress spot → (IsMore progress → ⊥) → Tells s d fed progress → 2 ^ 64 ≤ length fed + 1
 too_many r.TooLong s d fed spot on answer never says = says
@@ -59,7 +59,7 @@ none_taken s d fed bytes taken old new progress some none due was is says answer
     let on = ap (λ (z : Spot). is_due z.phase) (one_spot s d fed new old now was) ∙ due in
     (now, too_many progress s d fed new on answer (λ more. omega (arith, none, some, all more)) (rw same at says))
 
--- ---- a copier of elements takes it too
+-- ---- a copier of elements takes the bytes, too
 
 room_some : (progress : Copied) (bytes : List ℕ) (phase : CopyPhase) → told.IsRoom progress
     → told.IsAnswer progress bytes phase → bytes ≡ [] → ⊥
@@ -67,7 +67,7 @@ room_some cr.Room [] cp.Ended room answer none = cc
 room_some cr.Room bytes phase room answer none = cc
 room_some progress bytes phase room answer none = room
 
--- where it takes none of them, none is pending
+-- If nothing was pending and no byte is taken, nothing is pending after the call.
 none_pending : (fed given out : List ℕ) (old new : Copier) → IsCopied most fed given old → pending_of old ≡ []
     → IsCopied most fed (given ++ out) new → pending_of new ≡ []
 none_pending fed given out old new was none is =
@@ -82,7 +82,7 @@ none_pending fed given out old new was none is =
       length-append given out,
     ))
 
--- where some go on and there is room, more are taken
+-- If elements go on and there is room, the copier answers `More`.
 takes_more : (now output : List ℕ) (progress : Copied) → (NoneGoOn most now → ⊥) → length now + 1 ≤ most
     → told.Tells most now output progress → (told.IsRoom progress → ⊥) → (told.IsMore progress → ⊥) → ⊥
 takes_more now output cr.More goes fits says room never = never tt
@@ -91,7 +91,8 @@ takes_more now output cr.Ended goes fits says room never = omega (arith, run_lon
 takes_more now output (cr.Syntax place) goes fits says room never = goes says.0
 takes_more now output cr.TooLong goes fits says room never = omega (arith, says.2, fits)
 
--- a copier takes a piece whole, where so some elements begin: one byte, or where there is room for it
+-- A copier takes a whole piece with which some elements begin. The piece has at most one byte, or there is room for the
+-- piece.
 module _ (fed given bytes out : List ℕ) (taken room : ℕ) (progress : Copied) (old new : Copier)
     (within : taken ≤ length bytes) (are : AreBytes bytes) (goes : NoneGoOn most (fed ++ bytes) → ⊥)
     (counted : length fed + length bytes ≤ most) (fits : (length bytes ≤ 1) ⊎ (length bytes + 8 ≤ room))
@@ -142,7 +143,7 @@ but_none : (phase : Phase) (fed : List ℕ) → (FaultIn phase → ⊥) → AreT
 but_none (p.Faulted fault) fed sound = absurd (sound tt)
 but_none phase fed sound = refl
 
--- so many bytes of those that a checker took are copied: all of them, but the one at fault
+-- The copied bytes of those that a checker took: all of them, except the byte at fault.
 abbrev pub AreKept : Spot → ℕ → ℕ → Type 0
 AreKept new taken kept = (IsAtFault new × (kept + 1 ≡ taken)) ⊎ ((IsAtFault new → ⊥) × (kept ≡ taken))
 
@@ -152,18 +153,18 @@ kept_within new taken kept (inr sound) = omega (arith, sound.1)
 
 module _ (s : Bool) (d : ℕ) (fed bytes : List ℕ) (taken kept : ℕ) (old new : Spot) (due : is_due old.phase ≡ true)
     (within : taken ≤ length bytes) (checked : IsFed s d (fed ++ take taken bytes) new) where
-  -- the bytes taken, less their last one
+  -- If there is a fault, the taken bytes are the copied bytes and one last byte.
   less_last : kept + 1 ≡ taken → fed ++ take taken bytes ≡ (fed ++ take kept bytes) ++ get_or bytes kept 0 ∷ []
   less_last one = rw (← one, take_more bytes kept 0 (omega (arith, one, within)), append_assoc)
 
-  -- some elements go on so
+  -- Some elements begin with the copied bytes.
   step_goes : AreKept new taken kept → NoneGoOn most (fed ++ take kept bytes) → ⊥
   step_goes (inl fault) never =
       before_goes s d (fed ++ take taken bytes) new checked (fed ++ take kept bytes) (get_or bytes kept 0)
       (less_last fault.1) never
   step_goes (inr sound) never = sound_goes s d (fed ++ take taken bytes) new checked sound.0 (rw sound.1 at never)
 
-  -- by what a copier of elements does to them
+  -- If a copier of elements takes the copied bytes, the copier of an item takes the bytes of the checker.
   pub step_fed : AreKept new taken kept → length fed + taken ≤ most → (given out : List ℕ) (copier copier' : Copier)
       → ((NoneGoOn most (fed ++ take kept bytes) → ⊥) → AreBytes (take kept bytes)
       → length fed + length (take kept bytes) ≤ most → IsCopied most fed given copier

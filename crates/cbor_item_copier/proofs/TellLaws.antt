@@ -22,14 +22,14 @@ use Rattle.cbor_item_copier.specs.declared.progress.End.{End}
 use Rattle.cbor_item_copier.proofs.RunLaws.{item_run}
 use Rattle.cbor_item_copier.proofs.StateLaws.{all_taken, due_sound, cut, spelled}
 
--- ---- what an answer is
+-- ---- the answer
 
 more_in : (phase : Phase) (spot : Spot) (due : ℕ) → is_due phase ≡ false
     → of_checker (progress_in phase spot) ≡ r.More due → ⊥
 more_in p.Ended spot due off e = cc
 more_in phase spot due off e = cc
 
--- no spot has more bytes than can be counted
+-- No spot answers `TooLong`.
 long_in : (phase : Phase) (spot : Spot) → of_checker (progress_in phase spot) ≡ r.TooLong → ⊥
 long_in p.Title spot e = cc
 long_in (p.Bytes left) spot e = cc
@@ -41,7 +41,7 @@ pub never_long : (bytes : List ℕ) (spot : Spot) → progress_of bytes spot ≡
 never_long [] spot e = long_in spot.phase spot e
 never_long (b ∷ bytes) spot e = cc
 
--- behind an end or a fault no more bytes are due
+-- After an end or a fault, no more bytes are due.
 pub not_more : (bytes : List ℕ) (spot : Spot) (due : ℕ) → is_due spot.phase ≡ false
     → progress_of bytes spot ≡ r.More due → ⊥
 not_more [] spot due off e = more_in spot.phase spot due off e
@@ -53,13 +53,13 @@ due_in p.Ended spot due e = absurd cc
 due_in (p.Faulted fault) spot due e = absurd cc
 due_in phase spot due e = refl
 
--- where more are due, nothing is pending
+-- If more bytes are due, nothing is pending.
 pub more_due : (bytes : List ℕ) (spot : Spot) (due : ℕ) → r.More due ≡ progress_of bytes spot
     → (bytes ≡ []) × (is_due spot.phase ≡ true)
 more_due [] spot due e = (refl, due_in spot.phase spot due e)
 more_due (b ∷ bytes) spot due e = absurd cc
 
--- ---- what it says
+-- ---- the meaning of the answer
 
 module _ (s : Bool) (d : ℕ) (fed output : List ℕ) (item : Spot) (elements : Elements)
     (are : AreFed s d fed item elements output) where
@@ -83,7 +83,7 @@ no_room : (phase : Phase) (s : Bool) (d : ℕ) (fed output : List ℕ) (item : S
 no_room p.Ended s d fed output item says = says
 no_room phase s d fed output item says = says
 
--- by what is pending
+-- The answer is true of the bytes and the output, with any pending bytes.
 tells : (rest : List ℕ) (s : Bool) (d : ℕ) (fed given : List ℕ) (item : Spot) (elements : Elements)
     → AreFed s d fed item elements (given ++ rest) → has_left item.phase ≡ true
     → length item.front ≤ affix_len (slice_index item.front 0 % 32)
@@ -98,7 +98,7 @@ tells (b ∷ rest) s d fed given item elements are left short = record {
   told = tells_whole s d fed (given ++ b ∷ rest) item elements are left short;
 }
 
--- too many came to be counted
+-- If no more bytes can be counted, `TooLong` is true of the bytes and the output.
 pub tells_long : (rest : List ℕ) (s : Bool) (d : ℕ) (fed given : List ℕ) (item : Spot) (elements : Elements) (due : ℕ)
     → r.More due ≡ progress_of rest item → AreFed s d fed item elements (given ++ rest) → 2 ^ 64 ≤ length fed + 1
     → Tells s d fed given r.TooLong
@@ -147,7 +147,7 @@ tells_end [] s d fed given item elements are says =
     end_by (item.offset == 0) s d fed given item elements refl are says
 tells_end (b ∷ rest) s d fed given item elements are says = says
 
--- ---- of a copier
+-- ---- the answers of a copier
 
 tells_now : (copier : ItemCopier) (s : Bool) (d : ℕ) (fed given : List ℕ) → IsItemCopied s d fed given copier
     → Tells s d fed given (progress_of (pending copier) (item_spot copier))

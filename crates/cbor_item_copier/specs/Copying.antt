@@ -11,18 +11,20 @@ use Rattle.cbor_checker.specs.Spots.{Spot}
 use Rattle.cbor_checker.specs.Steps.{IsFed}
 use Rattle.cbor_item_copier.specs.declared.copier.ItemCopier.{ItemCopier}
 
--- As many elements as bytes can be counted. Each element has a byte, so an item ends with them at the latest.
+-- The most bytes that a `usize` counts. Each element has a byte, so an item whose bytes are counted has at most as many
+-- elements.
 abbrev pub most : ℕ
 most = 18446744073709551615
 
--- The bytes that are copied of all bytes so far, by the phase of the checker: all of them except the byte at fault.
+-- The bytes that are copied of all bytes so far, by the phase of the checker: all of them except the byte at fault. The
+-- copied bytes of `82 ff` are `82`.
 abbrev pub AreTaken : Phase → List ℕ → List ℕ → Type 0
 AreTaken (p.Faulted fault) fed bytes = (byte : ℕ) × (fed ≡ bytes ++ byte ∷ [])
 AreTaken phase fed bytes = fed ≡ bytes
 
 -- `AreFed strict depth fed item elements output`: these bytes came to a copy of one item to the depth. They led a
 -- checker to the spot `item`. The bytes that the checker takes led a copier of elements to the spot `elements`, and put
--- this output out.
+-- this output out. If not `strict`, `18 01` puts out `01`.
 pub record AreFed (strict : Bool) (depth : ℕ) (fed : List ℕ) (item : Spot) (elements : Elements) (output : List ℕ)
     : Type 0 where
   pub checked : IsFed strict depth fed item
@@ -42,7 +44,7 @@ kept_len copier = length (copy.spot_of copier).put + length (copy.spot_of copier
 abbrev pub pending : ItemCopier → List ℕ
 pending c = pending_of c.copier
 
--- How many bytes the copier is to write, or holds back of a title or a character that is not whole.
+-- How many bytes the copier is to write, or holds back of a title or a character that is not whole: one after `18`.
 abbrev pub held : ItemCopier → ℕ
 held c = kept_len c.copier
 

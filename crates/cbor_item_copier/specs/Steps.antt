@@ -3,8 +3,8 @@ use Rattle.std.specs.Prelude.{◌≡◌, ℕ, ◌+◌, ◌<◌, ◌≤◌, ◌^�
 use Rattle.cbor_item_copier.specs.declared.copier.ItemCopier.{ItemCopier}
 use Rattle.cbor_item_copier.specs.Copying.{IsItemCopied, held, pending}
 
--- `taken` bytes were taken, and `written` bytes were written to the beginning of the room. They are all that the copier
--- put out, or the room is full.
+-- `taken` bytes were taken, and `written` bytes were written to the start of the room. They are all that the copier put
+-- out, or the room is full.
 pub record Written (old : ItemCopier) (bytes room : List ℕ) (taken written : ℕ) (out : List ℕ) (new : ItemCopier)
     : Type 0 where
   pub some : 0 < taken

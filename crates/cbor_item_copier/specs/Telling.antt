@@ -1,4 +1,4 @@
--- The answers of a copier of an item, and the meaning of each for the bytes so far and for the bytes that were written.
+-- The answers of a copier of an item, and their meaning for the bytes so far and for the bytes that were written.
 use Rattle.std.specs.Prelude.{◌≡◌, ℕ, ◌<◌, ◌⊎◌, Bool, List, [], ◌∷◌, ◌++◌, length}
 use Rattle.ciborium_ll_grammar.specs.Faults.{Short}
 use Rattle.cbor_copier.specs.Telling.{AreSpelled, ComesTo}
@@ -53,15 +53,16 @@ IsRoom progress = ⊥
 
 -- ---- what is said of all bytes so far
 
--- The bytes are some number of elements, and the output is their shortest spelling.
+-- The bytes are some number of elements, and the output is their shortest spelling, as `18 01` and `01`.
 abbrev pub IsSpelled : List ℕ → List ℕ → Type 0
 IsSpelled bytes output = (count : ℕ) × AreSpelled count bytes output
 
--- A copy of elements has put this output out if the bytes end too early, however many elements are due.
+-- A copy of elements has put out this output if the bytes end too early, however many elements are due: `82 61` for
+-- `82 61`.
 abbrev pub IsCutCopy : List ℕ → List ℕ → Type 0
 IsCutCopy bytes output = (count : ℕ) → length bytes < count → ComesTo count bytes Short output
 
--- A copy of elements has put this output out of all the bytes except the last byte.
+-- A copy of elements has put out this output for all bytes except the last byte: `82` for `82 ff`.
 pub record IsCutBefore (bytes output : List ℕ) : Type 0 where
   pub before : List ℕ
   pub last : ℕ

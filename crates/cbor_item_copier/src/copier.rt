@@ -82,10 +82,8 @@ fn copy(copier: &mut Copier, bytes: &[u8], out: &mut [u8]) -> usize
     copier.feed(bytes, out).written
 }
 
-/// Copies one item of CBOR (RFC 7049, 2.1 to 2.4) whose bytes come in pieces, in its shortest spelling.
-///
-/// The copier takes no memory, and reads and writes nothing by itself. The caller gives the bytes to
-/// [`ItemCopier::feed`], which writes into memory of the caller.
+/// Copies one item of CBOR (RFC 7049, 2.1 to 2.4) in its shortest spelling. A caller gives its bytes in pieces to
+/// [`ItemCopier::feed`], which writes into the caller's memory.
 #[derive(Drop)]
 pub struct ItemCopier {
     checker: Checker,
@@ -103,10 +101,7 @@ impl ItemCopier {
     ghost use Rattle.ciborium_ll_grammar.specs.Spellings.{is_shortest};
     ghost use Rattle.ciborium_ll_grammar.specs.declared.limits.TheConstants.{MOST_LEVELS};
 
-    /// Makes a copier of an item to which nothing came.
-    ///
-    /// Tags, arrays and maps may be nested at most `depth` levels deep. Each takes a level, also an empty one, and a
-    /// string takes none. `depth` is at most 256.
+    /// Makes a copier of one item, before its first byte, with the `depth` of [`Checker::new`].
     pub fn new(depth: usize) -> ItemCopier
         requires { depth ≤ MOST_LEVELS }
         ensures { IsItemCopied false depth [] [] result }
@@ -114,11 +109,8 @@ impl ItemCopier {
         ItemCopier::with_spelling(depth, Spelling::Any)
     }
 
-    /// Makes a copier of an item that takes the item's shortest spelling alone (RFC 7049, 3.9).
-    ///
-    /// Each title is the shortest of its header, no simple value from 24 to 31 stands there, and strings within an open
-    /// string have a definite length. Any other title is the fault that [`Checker::strict`] names, at the same byte.
-    /// `depth` is that of [`ItemCopier::new`], and at most 256.
+    /// Makes a copier of one item that takes only the item's shortest spelling (RFC 7049, 3.9), with the `depth` and
+    /// the faults of [`Checker::strict`].
     pub fn strict(depth: usize) -> ItemCopier
         requires { depth ≤ MOST_LEVELS }
         ensures { IsItemCopied true depth [] [] result }
@@ -126,10 +118,7 @@ impl ItemCopier {
         ItemCopier::with_spelling(depth, Spelling::Shortest)
     }
 
-    /// Makes a copier of an item in this spelling, to which nothing came.
-    ///
-    /// With `Any` it is the copier of [`ItemCopier::new`], and with `Shortest` that of [`ItemCopier::strict`]. `depth`
-    /// is at most 256.
+    /// Makes the copier of [`ItemCopier::new`] for `Any`, and that of [`ItemCopier::strict`] for `Shortest`.
     pub fn with_spelling(depth: usize, spelling: Spelling) -> ItemCopier
         requires { depth ≤ MOST_LEVELS }
         ensures { IsItemCopied (is_shortest spelling) depth [] [] result }
@@ -140,10 +129,8 @@ impl ItemCopier {
         }
     }
 
-    /// Returns how far the copy has come: the last answer of [`ItemCopier::feed`].
-    ///
-    /// Before the first feed the answer is that one byte is due. After a `TooLong` it is `More`, since bytes are due
-    /// that can't be counted.
+    /// Returns the last answer of [`ItemCopier::feed`], or `More(1)` before the first piece. After a `TooLong` it
+    /// returns `More`.
     pub fn progress(&self) -> Progress
         ensures answers { result ≡ progress_of (pending self.now) (item_spot self.now) }
         ensures tells { (strict : Bool) (depth : ℕ) (fed given : List ℕ) → IsItemCopied strict depth fed given self.now
@@ -160,12 +147,7 @@ impl ItemCopier {
         }
     }
 
-    /// Returns the meaning of an end of the bytes. The copier stays as it is.
-    ///
-    /// - `Between`: no byte came, or the bytes so far are an item, and all of it is written.
-    /// - `Short`: the item is cut off. At least this many bytes were due, and all that can be written is.
-    /// - `Fault`: no item begins with the bytes so far.
-    /// - `Room`: none of these yet. Bytes are to be written, and [`ItemCopier::feed`] writes them, also with no piece.
+    /// Returns how the copy stands if no more bytes come.
     pub fn end(&self) -> End
         ensures answers { result ≡ end_of (pending self.now) (item_spot self.now) }
         ensures tells { (strict : Bool) (depth : ℕ) (fed given : List ℕ) → IsItemCopied strict depth fed given self.now
@@ -235,26 +217,14 @@ impl ItemCopier {
         Some((at + taken, written + more))
     }
 
-    /// Takes a piece of the item's bytes, of any length, and writes their shortest spelling to the beginning of `out`.
+    /// Takes a piece of the item's bytes, of any length, and writes their shortest spelling to the start of `out`, as
+    /// [`Copier::feed`] does.
     ///
-    /// The cuts of the input into pieces and the lengths of the outputs change nothing of the bytes that are written in
-    /// all.
-    ///
-    /// Every title becomes the shortest title of its header. The bodies of a string of indefinite length stay the
-    /// segments that they were, in one string: strings within it lose their opens and breaks. Nothing is written of a
-    /// title or a character that isn't whole. If `out` is full within a title or a character, the rest comes with the
-    /// next call.
-    ///
-    /// - `More`: all of the piece was taken, and all that can be written of the bytes so far is. At least this many
-    ///   bytes are due.
-    /// - `Room`: `out` is full, and there is more to write. The caller has to give the rest of the piece again. `Room`
-    ///   never comes if nothing was pending and `out` has eight bytes more than the piece.
-    /// - `Ended`: the item is whole and is written, and this many bytes of it came. The bytes that follow in the piece
-    ///   are not taken.
-    /// - `Fault`: no item begins with the bytes so far. It comes with the first byte that makes this true. That byte
-    ///   counts as taken, and the spelling of the bytes before it is written. A later call takes and writes nothing,
-    ///   and answers the same.
-    /// - `TooLong`: `usize::MAX` bytes came, and the item goes on. No further byte is taken.
+    /// - `More(n)`: all that can be written of the bytes so far is written.
+    /// - `Room`: `out` is full. The caller gives the rest of the piece again.
+    /// - `Ended(n)`: the call takes no byte after the item.
+    /// - `Fault`: the answer comes with the first byte that makes it true. That byte counts as taken, and the spelling
+    ///   of the bytes before it is written.
     pub fn feed(&mut self, bytes: &[u8], out: &mut [u8]) -> Copied
         ensures taken { result.taken ≤ length bytes.now }
         ensures written { result.written ≤ length out.old }
@@ -311,9 +281,7 @@ impl ItemCopier {
         }
     }
 
-    /// Writes the state into `snapshot` as plain numbers. [`ItemCopier::restore`] makes this copier of them again.
-    ///
-    /// `spare` is 0 in the numbers of the copy of elements.
+    /// Writes the state into `snapshot` as plain numbers, for [`ItemCopier::load`] and [`ItemCopier::restore`].
     pub fn save(&self, snapshot: &mut Snapshot)
         ensures holds { Holds snapshot.new (item_spot self.now) (kept_spot self.now) }
         ensures spare { snapshot.new.copier.spare ≡ 0 }
@@ -322,10 +290,7 @@ impl ItemCopier {
         snapshot.copier = self.copier.save();
     }
 
-    /// Becomes the copier that [`ItemCopier::save`] wrote, and returns whether there was one.
-    ///
-    /// If the numbers of the checker or those of the copier are no state, the copier stays as it was. Not all memory
-    /// that was overwritten is found out so, as `Snapshot` says.
+    /// Becomes the copier that [`ItemCopier::save`] wrote, and returns whether there is one.
     #[inline(always)]
     pub fn load(&mut self, snapshot: &Snapshot) -> bool
         ensures some { result ≡ true → Holds snapshot.now (item_spot self.new) (kept_spot self.new) }

@@ -9,8 +9,8 @@ ghost use Rattle.cbor_checker.specs.Spots.{Spot};
 ghost use Rattle.cbor_checker.specs.Telling.{HasEnded, IsAtFault};
 ghost use Rattle.cbor_item_copier.specs.Copying.{AreFed, most};
 
-/// The same bytes lead to one state and put the same bytes out, however they are cut into pieces and whatever room
-/// there is.
+/// The same bytes lead to one state and put out the same bytes, however a caller cuts them into pieces and whatever
+/// room there is.
 pub fn one_item_copy()
     ensures { (strict : Bool) (depth : ℕ) (bytes output others : List ℕ) (item other : Spot) (elements more : Elements)
         → AreFed strict depth bytes item elements output → AreFed strict depth bytes other more others
@@ -25,10 +25,8 @@ pub fn items_are_elements()
         → IsRun other item others → (count ≡ other) × (marks ≡ others) }
 {}
 
-/// A copy has ended exactly if the bytes so far are an item to the depth.
-///
-/// The bytes that were put out are then the item's shortest spelling. There is a fault exactly if no item to the depth
-/// begins with the bytes so far. For a strict copier the item is in its shortest spelling.
+/// A copy has ended exactly if the bytes so far are an item to the depth, for a strict copier in its shortest spelling.
+/// The output is then the item's shortest spelling. There is a fault exactly if no such item begins as they do.
 pub fn exact_item_copies()
     ensures ended { (strict : Bool) (depth : ℕ) (bytes output : List ℕ) (item : Spot) (elements : Elements)
         → AreFed strict depth bytes item elements output → (HasEnded item ↔ IsItem strict depth bytes) }
@@ -40,8 +38,8 @@ pub fn exact_item_copies()
         → (count : ℕ) (marks : List Mark) → IsRun count bytes marks → output ≡ spelling marks }
 {}
 
-/// The bytes that were put out begin the shortest spelling of each item that begins with the bytes so far, if its
-/// elements can be counted.
+/// The output begins the shortest spelling of each item that begins with the bytes so far, if the item's elements can
+/// be counted.
 pub fn item_spelled_so_far()
     ensures { (strict : Bool) (depth : ℕ) (bytes output more : List ℕ) (item : Spot) (elements : Elements) (count : ℕ)
         (marks : List Mark)

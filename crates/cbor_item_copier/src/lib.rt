@@ -1,6 +1,6 @@
 // SPDX-License-Identifier: Apache-2.0
-//! Copies whole items of CBOR (RFC 7049, 2.1 to 2.4) in their shortest spelling (3.9) as their bytes come, in pieces of
-//! any length. No call takes memory, and none waits for a reader or a writer.
+//! Copies whole items of CBOR (RFC 7049, 2.1 to 2.4) in their shortest spelling (3.9), from pieces of any length. No
+//! call takes memory, or waits for a reader or a writer.
 #![tactic(auto)]
 
 mod copier;
