@@ -35,9 +35,9 @@ use Rattle.cbor_dump.proofs.WalkLaws.{due_first}
 use Rattle.cbor_dump.proofs.PullLaws.{passes_alike}
 use Rattle.cbor_skip.proofs.StrictnessLaws.{strict_settled}
 
--- ---- where an item is due
+-- ---- an item is due
 
--- a nest within which an item is due, where an item was due
+-- An item is due, and the title of a nest and some of its items come. If the nest takes more, an item is due within it.
 deepen : {strict outer closable : Bool} {depth levels : ℕ} {bytes : List ℕ}
     → ItemDue strict outer depth bytes levels closable → (deeper count : ℕ) (title items : List ℕ) (header : Header)
     → levels ≡ suc deeper → IsTitle title header → IsTakenTitle strict title header
@@ -60,7 +60,7 @@ deepen {strict = strict} {outer = outer} {depth = depth}
 no_item : (strict : Bool) (depth : ℕ) (items : List ℕ) → AreItems strict depth 0 items → items ≡ []
 no_item strict depth items no_items = refl
 
--- the innermost nest first, and the outermost first
+-- An item that is due within nests, listed from the innermost, is due within them from the outermost too.
 pub stands_due : (strict : Bool) (depth : ℕ) (nests : List Nest) (bytes : List ℕ)
     → StandsBehind strict depth 0 nests bytes → (levels : ℕ) → length nests + levels ≡ depth
     → ItemDue strict false depth bytes levels (closes_one nests 0)
@@ -75,7 +75,7 @@ stands_due strict depth nests bytes
     subst (λ (k : ℕ). ItemDue strict false depth (b ++ (t ++ i)) k (may_close x n)) same
     (deepen (stands_due strict depth outer b w (suc l) e) l n t i x refl p g more are)
 
--- there are no more nests than levels
+-- There are at most as many nests as levels.
 stands_few : (strict : Bool) (depth : ℕ) (nests : List Nest) (bytes : List ℕ)
     → StandsBehind strict depth 0 nests bytes → length nests + (depth - length nests) ≡ depth
 stands_few strict depth nests bytes p = grind (arith, nat_tests)
@@ -90,12 +90,12 @@ ok_both : {E W : Type 0} (checked : Result (Sequence E) (Stopped E)) (result : R
     → AnswersAs checked result → IsOk checked → IsOk result
 ok_both checked result p q = grind (arith, nat_tests)
 
--- bytes were read
+-- If bytes were read, the error is not the end.
 further : {R E : Type 0} (error : SkipError E) (between new : Decoder R) → between.offset < new.offset
     → IsEnd error between.offset new.offset → ⊥
 further error between new p q = grind (arith, nat_tests)
 
--- as strict as the dump
+-- A decoder in the mode of the dump is as strict as the dump.
 strict_alike : {R : Type 0} (strict : Bool) (decoder : Decoder R) → IsInMode strict decoder → strictness decoder ≡ strict
 strict_alike strict decoder alike = grind (arith, nat_tests, strict_settled)
 
@@ -114,7 +114,7 @@ module _ {R E : Type 0} (source : Ghosts R E) where
     alike = alike;
   }
 
-  -- a title and what follows it
+  -- A title and the bytes after it were read, and an item is due after them.
   comes_by : (strict : Bool) (depth used : ℕ) (walk new_walk : Walk) (old now new : Decoder R)
       (come : Comes source strict depth walk old now) → (more : List ℕ) → ReadsPast source now more new
       → new_walk.used ≡ used → IsDueBehind strict depth 0 new_walk (come.bytes ++ more)
@@ -159,11 +159,11 @@ module _ {R E : Type 0} (source : Ghosts R E) where
       → Comes source strict depth walk old now → IsInMode strict now
   comes_alike strict depth walk old now come = grind (arith, nat_tests, passes_alike)
 
-  -- ---- where it stops
+  -- ---- how the dump stops
 
   module _ (strict : Bool) (depth : ℕ) (walk : Walk) (old now : Decoder R)
       (come : Comes source strict depth walk old now) where
-    -- within these nests
+    -- A read that stops within these nests stops the read of the item that contains them.
     stops_in : (room : ℕ) (nests : List Nest) → StandsBehind strict depth 0 nests come.bytes → (levels : ℕ)
         → length nests + levels ≡ depth → (error : SkipError E) (new : Decoder R)
         → StopsDue source levels (closes_one nests 0) room now error new
@@ -180,12 +180,12 @@ module _ {R E : Type 0} (source : Ghosts R E) where
       stops = stops;
     }
 
-    -- where no byte of a further item came, no level was open and none of a title
+    -- If the error does not end the dump, it is not the end of a sequence.
     not_ended : (error : Error E) (len : ℕ) (new : Decoder R) → new.offset ≡ now.offset + len
         → (IsEndOf error walk.used len → ⊥) → IsEnd (s.Read error) come.between.offset new.offset → ⊥
     not_ended error len new p q r = grind (arith, nat_tests, nat_tests, nests_few)
 
-    -- the end of it all, by the error of the title
+    -- If the read of a title fails, the dump reads as a check does.
     pub comes_end : {W : Type 0} (error : Error E) (len : ℕ) (new : Decoder R) (result : Result E (DumpError E W))
         → walk.used ≤ depth → DecoderPullAnswer source now (Err error) new → new.offset ≡ now.offset + len
         → EndsTitles error walk.used len result → AreRowsTaken result
@@ -238,7 +238,7 @@ module _ {R E : Type 0} (source : Ghosts R E) where
         }
     comes_end error len new (Err (d.Rows fault)) few fails moved says taken = absurd taken
 
-    -- a title that was read, or the string behind it, by its error: through a buffer of some room
+    -- A check through a buffer of some room stops with this error, at a title or within a string.
     abbrev Stops : SkipError E → Decoder R → Type 0
     Stops error new = ThroughSomeRoom (λ room. StopsItem source false depth room come.between error new)
 
@@ -318,10 +318,10 @@ module _ {R E : Type 0} (source : Ghosts R E) where
         }
     comes_title (d.Rows fault) header place titled new pulled steady at rises some stops taken = absurd taken
 
-  -- ---- where the bytes are told
+  -- ---- the bytes are told
 
   module _ (depth : ℕ) (old : Decoder R) (due : List ℕ) (ready : IsReadyToSkip source most_bytes old due) where
-    -- less room is needed
+    -- A reader that is ready for a buffer of 16 bytes is ready for a smaller buffer.
     ready_for : (room : ℕ) → room ≤ most_bytes → IsReadyToSkip source room old due
     ready_for room held = grind (arith, nat_tests)
 
@@ -329,7 +329,7 @@ module _ {R E : Type 0} (source : Ghosts R E) where
         → ReadsAsCheck source depth old result new → AnswersTold source depth due old result new
     answers_told result new reads = grind (arith, nat_tests, check_told, ready_for)
 
-    -- the answers are of one kind
+    -- With told bytes a dump answers `Ok` exactly if they are a sequence of items.
     pub answers_exactly : {W : Type 0} (result : Result E (DumpError E W)) (new : Decoder R)
         → ReadsAsCheck source depth old result new → IsOk result ↔ IsSequence old.strict depth due
     answers_exactly result new reads = grind (arith, nat_tests, check_exactly, ready_for, both_ok, ok_both)

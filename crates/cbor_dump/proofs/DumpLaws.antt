@@ -23,7 +23,7 @@ use Rattle.cbor_dump.specs.Dumps.{Draws, IsRefusal, IsErrorOfItem, Lines, SaysFa
 use Rattle.cbor_dump.specs.declared.dump.DumpError.{DumpError}
 use Rattle.cbor_dump.proofs.TakingLaws.{takes_none, takes_then}
 
--- where a row was refused, not each was taken
+-- If a row was refused, not each row was taken.
 pub not_taken : {E W : Type 0} (why : DumpError E W) → IsRefusal why → IsErrorOfItem why → ⊥
 not_taken why p q = grind (arith, nat_tests)
 
@@ -42,7 +42,7 @@ bytes_then (line ∷ first) second =
     ap (λ (z : List ℕ). line.bytes ++ z) (bytes_then first second)
     ∙ sym (append_assoc line.bytes (bytes_of first) (bytes_of second))
 
--- a line that is meant stands however lines end
+-- A line that has its meaning stands under any ending.
 stands_meant : (how : Ending) (depth : ℕ) (before : List ℕ) (meaning : Meaning) (line : Line)
     → Stands Meant depth before meaning line → Stands how depth before meaning line
 stands_meant how depth before meaning line p = grind (arith, nat_tests)
@@ -63,7 +63,7 @@ stand_then how depth start before (line ∷ first) second a b = (
 
 -- ---- how lines end
 
--- lines that are meant, behind others
+-- Lines that have their meaning, after others that do, have their meaning.
 meant_then : (first second : List Line) → AreMeant first → AreMeant second → AreMeant (first ++ second)
 meant_then [] second a b = b
 meant_then (line ∷ first) second a b = (a.0, meant_then first second a.1 b)
@@ -72,7 +72,7 @@ fault_behind : (line : Line) (lines : List Line) → HasMeaning line.meaning →
     → EndAtFault (line ∷ lines)
 fault_behind line lines p q = grind (arith, nat_tests)
 
--- lines that end at fault, behind others
+-- Lines that end at fault still do so after lines that have their meaning.
 fault_then : (first second : List Line) → AreMeant first → EndAtFault second → EndAtFault (first ++ second)
 fault_then [] second a b = b
 fault_then (line ∷ first) second a b = fault_behind line (first ++ second) a.0 (fault_then first second a.1 b)
@@ -81,7 +81,7 @@ ends_then : (how : Ending) (first second : List Line) → AreMeant first → End
     → EndAs how (first ++ second)
 ends_then how first second p q = grind (arith, nat_tests, meant_then, fault_then)
 
--- where bytes are no item, some were read
+-- If the error is `Syntax`, some bytes were read.
 abbrev pub HasBytesAtFault : {E : Type 0} → Error E → List ℕ → Type 0
 HasBytesAtFault (e.Syntax at) bytes = 0 < length bytes
 HasBytesAtFault error bytes = Unit {0}
@@ -94,14 +94,14 @@ pub part_fault : {E : Type 0} (kind : Kind) (left : ℕ) (error : Error E) (byte
     → IsPartRow kind left error bytes → HasBytesAtFault error bytes
 part_fault kind left error bytes p q = grind (arith, nat_tests, IsCharacters-nil)
 
--- what was read before a read stopped
+-- The row of the bytes that were read before an error ends as the error says.
 pub read_ends : {E : Type 0} (strict : Bool) (error : Error E) (level offset : ℕ) (bytes : List ℕ)
     → HasBytesAtFault error bytes → EndAs (ending_of strict error) (fault_lines level offset bytes)
 read_ends strict error level offset bytes p = grind (arith, nat_tests)
 
 -- ---- rows at fault
 
--- what was read of a title
+-- Bytes that were read of a title before an error are a title at fault.
 pub title_row : {E : Type 0} (strict : Bool) (kind : Kind) (opens : ℕ) (error : Error E) (bytes : List ℕ)
     → IsTitleRow strict error bytes → 0 < length bytes → IsTitleFault (ending_of strict error) kind opens bytes
 title_row strict kind opens error bytes p q = grind (arith, nat_tests)
@@ -109,18 +109,18 @@ title_row strict kind opens error bytes p q = grind (arith, nat_tests)
 full_cut : (left : ℕ) (bytes : List ℕ) → IsCutText left bytes → IsFullPart Text left bytes
 full_cut left bytes cut = let many = cut.many in omega (arith, many)
 
--- what was read of a body
+-- Bytes that were read of a body before an error are a full part of a text at fault.
 pub part_row : {E : Type 0} (strict : Bool) (kind : Kind) (left : ℕ) (error : Error E) (bytes : List ℕ)
     → IsPartRow kind left error bytes → 0 < length bytes
     → (kind ≡ Text) × IsTextFault (ending_of strict error) left bytes × IsFullPart Text left bytes
 part_row strict kind left error bytes p q = grind (arith, nat_tests, full_cut)
 
--- what is left behind it
+-- The bytes that are left after an error are as few as the ending says.
 pub leaves_as : {E : Type 0} (strict : Bool) (error : Error E) (bytes : List ℕ) (known : Option (List ℕ))
     → IfSome known (LeavesBehind error bytes) → IfSome known (LeavesAs (ending_of strict error) bytes)
 leaves_as strict error bytes known p = grind (arith, nat_tests, IfSome-all)
 
--- lines that are meant have nothing at fault
+-- A line that has its meaning has no bytes at fault.
 no_fault : (meaning : Meaning) (bytes : List ℕ) → HasMeaning meaning → fault_part meaning bytes ≡ []
 no_fault meaning bytes p = grind (arith, nat_tests)
 
@@ -131,13 +131,13 @@ fault_behind_meant (line ∷ first) second meant =
     ap (λ (z : List ℕ). z ++ bytes_at_fault (first ++ second)) (no_fault line.meaning line.bytes meant.0)
     ∙ fault_behind_meant first second meant.1
 
--- no line
+-- If no line was drawn, the lines have no bytes.
 pub lines_none : (depth start : ℕ) (drawn : Option (List Line)) (before : List ℕ)
     → Lines depth start drawn drawn before [] Meant
 lines_none depth start drawn before =
     record { lines = []; drawn = draws_none drawn; stand = tt; joined = refl; ends = tt }
 
--- lines behind others
+-- Lines of some bytes and then lines of more bytes are the lines of both.
 pub lines_then : {how : Ending} (depth start : ℕ) (old middle new : Option (List Line))
     (before first second : List ℕ) → Lines depth start old middle before first Meant
     → Lines depth start middle new (before ++ first) second how
@@ -152,7 +152,7 @@ lines_then {how} depth start old middle new before first second a b = record {
   ends = ends_then how a.lines b.lines a.ends b.ends;
 }
 
--- one line
+-- A row that fits and stands at its level is a line of its bytes.
 pub lines_one : {how : Ending} (depth start : ℕ) (old new : Option (List Line)) (before : List ℕ) (line : Line)
     → Draws old new (line ∷ []) → line.offset ≡ start + length before → FitsRow line.bytes
     → Stands how depth before line.meaning line → EndAs how (line ∷ [])
@@ -188,7 +188,7 @@ module _ {R E : Type 0} (source : Ghosts R E) where
         (sym (fault_behind_meant a.lines.lines b.lines.lines a.lines.ends)) (b.left (a.takes.consumed idle).1);
   }
 
-  -- bytes that were read, and what was shown of them and behind them
+  -- Bytes were read, and lines of these and further bytes were drawn. The lines show all these bytes.
   pub shows_read : {how : Ending} (depth start : ℕ) (drawn then_drawn : Option (List Line)) (before row bytes : List ℕ)
       (old between new : Decoder R) → TakesBytes source old row between
       → ShowsBehind source depth start drawn then_drawn before row bytes how between new
@@ -199,7 +199,7 @@ module _ {R E : Type 0} (source : Ghosts R E) where
     left = λ idle. behind.left (takes.consumed idle).1;
   }
 
-  -- a title and what is behind it
+  -- The line of a title and the lines of the bytes after it show both.
   pub title_then : {how : Ending} (depth start : ℕ) (drawn middle then_drawn : Option (List Line))
       (before title bytes : List ℕ) (old new : Decoder R) → Lines depth start drawn middle before title Meant
       → Shows source depth start middle then_drawn (before ++ title) bytes how old new
@@ -212,7 +212,7 @@ module _ {R E : Type 0} (source : Ghosts R E) where
         (sym (fault_behind_meant first.lines rest.lines.lines first.ends)) (rest.left idle);
   }
 
-  -- by the error of the dump, which is that of the read
+  -- If the dump answers with the error of the read, the lines end as the dump's error says.
   pub shows_says : {W : Type 0} (strict : Bool) (error : Error E) (why : DumpError E W) (depth start : ℕ)
       (drawn then_drawn : Option (List Line)) (before bytes : List ℕ) (old new : Decoder R) → SaysFault error why
       → IsErrorOfItem why → Shows source depth start drawn then_drawn before bytes (ending_of strict error) old new
@@ -220,7 +220,7 @@ module _ {R E : Type 0} (source : Ghosts R E) where
   shows_says strict error why depth start drawn then_drawn before bytes old new p q r =
       grind (arith, nat_tests, ending_of)
 
-  -- what was read before a read stopped, in a row at fault where there is some
+  -- A row at fault shows the bytes that were read before an error. If no byte was read, there is no row.
   pub shows_fault : (strict : Bool) (error : Error E) (depth start : ℕ) (drawn then_drawn : Option (List Line))
       (before : List ℕ) (level offset : ℕ) (row : List ℕ) (old new : Decoder R) → TakesBytes source old row new
       → Draws drawn then_drawn (fault_lines level offset row) → offset ≡ start + length before
@@ -251,7 +251,7 @@ module _ {R E : Type 0} (source : Ghosts R E) where
             (sym (append-nil (byte ∷ bytes))) (leaves_as strict error (byte ∷ bytes) (view source new) (left idle));
       }
 
-  -- where nothing was read
+  -- If no byte was read, no line is added and none is at fault.
   pub shows_nothing : (depth start : ℕ) (drawn then_drawn : Option (List Line)) (before : List ℕ) (level offset : ℕ)
       (row : List ℕ) (old new : Decoder R) → TakesBytes source old row new
       → Draws drawn then_drawn (fault_lines level offset row) → length row ≡ 0

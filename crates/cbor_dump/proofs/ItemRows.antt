@@ -14,12 +14,12 @@ use Rattle.cbor_skip.proofs.ItemSteps.{item_of}
 
 -- ---- lengths
 
--- an empty list in front of another one is none
+-- A list of length zero is empty.
 pub nothing : (u : List ℕ) → length u ≡ 0 → u ≡ []
 nothing [] e = refl
 nothing (byte ∷ u) e = absurd (omega (arith, e))
 
--- an item takes a byte at least
+-- Items take at least one byte each.
 pub items_counted : (s : Bool) (d n : ℕ) (u : List ℕ) → AreItems s d n u → n ≤ length u
 items_counted s d n u no_items = omega arith
 items_counted s d n u (more_items {count = m} {title = t} {rest = r} {others = a} {header = x} p g c i) =
@@ -27,12 +27,13 @@ items_counted s d n u (more_items {count = m} {title = t} {rest = r} {others = a
 
 -- ---- two rows
 
--- the first item of a row, with what follows it
+-- The bytes of a row split after its first item.
 item_apart : (t r a s : List ℕ) → (t ++ (r ++ a)) ++ s ≡ (t ++ r) ++ (a ++ s)
 item_apart t r a s =
     append_assoc t (r ++ a) s ∙ (ap (λ (z : List ℕ). t ++ z) (append_assoc r a s) ∙ sym (append_assoc t r (a ++ s)))
 
--- behind some items of a whole row one more comes, or those were all
+-- A row of items begins with another row. Then either one more item follows the other row, or the rows have equally
+-- many items and no byte follows.
 pub rows_meet : (b : Bool) (d m : ℕ) (u : List ℕ) → AreItems b d m u → (n : ℕ) (w : List ℕ) → AreItems b d n w
     → (s : List ℕ)
     → w ≡ u ++ s → BeginsWithItem b d s ⊎ ((n ≡ m) × (s ≡ []))
@@ -54,14 +55,14 @@ rows_meet b d m u (more_items {count = j} {title = t} {rest = r} {others = a} {h
 
 -- ---- no byte of an item
 
--- an open takes a byte
+-- An open takes at least one byte.
 inside_some : (k : Kind) (u : List ℕ) (bs : List (List ℕ)) → IsInside k u bs → 0 < length u
 inside_some k u bs (opened {title = t} {strings = x} p s) =
     omega (arith, title_some t (kind_header k _) p, length-append t x)
 inside_some k u bs (deeper {outer = x} {inner = y} {bodies = cs} p q) =
     omega (arith, inside_some k x cs p, length-append x y)
 
--- before a byte was read an item is due
+-- If no byte was read, an item is due.
 pub due_first : (s : Bool) (d : ℕ) (u : List ℕ) (at : Point) → ReachesItem s d u at → u ≡ [] → at ≡ Due
 due_first s d u at (at_item p) e = refl
 due_first s d u at (at_string {bytes = a} {opens = y} {bodies = bs} {kind = k} p q g ok) e =
@@ -73,13 +74,13 @@ due_first s d u at (at_piece {bytes = a} {title = t} {len = l} {kind = k} r p g)
     let counted = ap length e in
     absurd (omega (arith, counted, title_some t (kind_header k (Some l)) p, length-append a t))
 
--- where no byte is consumed of what is short there is none
+-- If a due item is short and no byte of it is consumed, no byte is left.
 pub fault_first : (s : Bool) (before : List ℕ) (at : Point) (ahead : List ℕ) (answer : Answer) (written : List ℕ)
     (consumed : ℕ) → FirstFault s before [] at ahead answer written consumed → at ≡ Due → answer ≡ Short → consumed ≡ 0
     → ahead ≡ []
 fault_first s before at ahead answer written consumed p q r t = grind (arith, nat_tests, nothing)
 
--- where there is none, it is short, and none is consumed
+-- If an item is due and no byte is left, the item is short and no byte is consumed.
 pub first_fault : (s : Bool) (before : List ℕ) (at : Point) (ahead : List ℕ) (answer : Answer) (written : List ℕ)
     (consumed : ℕ) → FirstFault s before [] at ahead answer written consumed → at ≡ Due → ahead ≡ []
     → (answer ≡ Short) × (consumed ≡ 0)

@@ -11,11 +11,11 @@ use Rattle.cbor_dump.specs.Takings.{ReadsBy, ReadsMore, ReadsOn, RefusesLast, St
 use Rattle.cbor_dump.specs.Dumps.{EndsTitles, IsAlone, IsRefusal, LeavesDecoder, LeavesPart, SaysFault, StopsDump}
 
 module _ {R E : Type 0} (source : Ghosts R E) where
-  -- no read
+  -- A decoder that reads nothing moves on to itself.
   pub reads_on : (decoder : Decoder R) → ReadsOn source decoder decoder
   reads_on decoder = grind (arith, MovesOn-none)
 
-  -- reads behind others
+  -- Two reads that do not fail, one after the other, do not fail.
   pub reads_then : (old between new : Decoder R) → ReadsOn source old between → ReadsOn source between new
       → ReadsOn source old new
   reads_then old between new first second = grind (arith, MovesOn-then)
@@ -39,7 +39,7 @@ module _ {R E : Type 0} (source : Ghosts R E) where
       → ReadsBy source result between new → ReadsBy source result old new
   by_then result old between new first second = grind (arith, reads_then, stops_then)
 
-  -- one read
+  -- One read leaves the decoder as its answer says.
   one_read : (result : Result (Unit {0}) (Error E)) (bytes : List ℕ) (old new : Decoder R)
       → Reads source old result bytes new → ReadsBy source result old new
   one_read (Ok done) bytes old new reads = grind arith
@@ -63,12 +63,12 @@ module _ {R E : Type 0} (source : Ghosts R E) where
   row_read count before after result old new reads = one_read result reads.bytes old new reads.reads
 
 module _ {R E W : Type 0} (source : Ghosts R E) where
-  -- a read that ended a dump, by what was answered
+  -- A dump that answers with the error of a read leaves the decoder as that read did.
   pub says_stops : (error : Error E) (why : DumpError E W) (old new : Decoder R) → SaysFault error why
       → StopsBy source error old new → StopsDump source why old new
   says_stops error why old new says stops = grind arith
 
-  -- a row was refused, and no read failed
+  -- A dump that stops at a refused row leaves the decoder as its reads did, if none failed.
   pub refused_stops : (why : DumpError E W) (old new : Decoder R) → IsRefusal why → ReadsOn source old new
       → StopsDump source why old new
   refused_stops why old new refused reads = grind arith
@@ -77,16 +77,16 @@ module _ {R E W : Type 0} (source : Ghosts R E) where
       → StopsDump source why between new → StopsDump source why old new
   dump_then why old between new first second = grind (arith, reads_then, stops_then)
 
-  -- a title of which nothing more is read
+  -- An answer after which nothing more is read leaves the decoder unchanged.
   pub alone_leaves : (result : Result (Unit {0}) (DumpError E W)) (decoder : Decoder R) → IfErr result IsAlone
       → LeavesPart source result decoder decoder
   alone_leaves result decoder alone = grind (arith, reads_on)
 
-  -- no title came
+  -- If the read of a title fails, the dump leaves the decoder as that read did.
   pub ended_leaves : (error : Error E) (level len : ℕ) (result : Result E (DumpError E W)) (old new : Decoder R)
       → EndsTitles error level len result → StopsBy source error old new → LeavesDecoder source result old new
   ended_leaves error level len result old new ends stops = grind (arith, says_stops)
 
--- a refused row is no error of the read
+-- The error of a refused row is no error of a read.
 pub refusal_alone : {E W : Type 0} (why : DumpError E W) → IsRefusal why → IsAlone why
 refusal_alone why refused = grind arith

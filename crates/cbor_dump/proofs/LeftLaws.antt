@@ -16,12 +16,12 @@ use Rattle.cbor_dump.specs.Dumps.{Draws, ShowsLeft, fault_lines}
 use Rattle.cbor_dump.specs.Levels.{Line}
 use Rattle.cbor_dump.specs.Takings.{EndsRow, IsSteadyNoneWaiting, Keeps, ReadsMore, TakesBytes, most_bytes}
 
--- what follows where all went well
+-- A fact about `Ok` gives each fact that follows from it.
 pub on_ok : {A E : Type 0} {P Q : Type 0} (result : Result A E) → (P → Q) → OnOk result P → OnOk result Q
 on_ok result p q = grind (arith, nat_tests)
 
 module _ {R E : Type 0} (source : Ghosts R E) where
-  -- the read of one more byte fails only where there is none, or where the offset has no room for it
+  -- If the offset has room for the bytes that are left, the read of one more byte fails only if none is left.
   next_fails : (error : Error E) (byte : ℕ) (old new : Decoder R) → IsSteadyNoneWaiting source old
       → ReadsBytes source old (Err error) (byte ∷ []) new → (left : List ℕ) → view source new ≡ Some left
       → new.offset + length left < offset_limit → left ≡ []
@@ -32,7 +32,7 @@ module _ {R E : Type 0} (source : Ghosts R E) where
       → left ≡ []
   none_left count old new p q left r s t = grind (arith, nat_tests, nothing, next_fails)
 
-  -- all that was left was taken
+  -- If all bytes fit a row and the offset, the row took all of them.
   taken_all : (old between new : Decoder R) (bytes : List ℕ) → Keeps source [] bytes old new
       → (IsSteadyNoneWaiting source old → IsSteadyNoneWaiting source between) → EndsRow source (length bytes) between new → (due : List ℕ)
       → IsSteadyNoneWaiting source old → view source old ≡ Some due
@@ -48,14 +48,14 @@ module _ {R E : Type 0} (source : Ghosts R E) where
       (omega (arith, counted, long, fits, keeps.takes.offset, length-append keeps.bytes gone.0)) in
       same ∙ sym (gone.2 ∙ (ap (λ (z : List ℕ). keeps.bytes ++ z) none ∙ append-nil keeps.bytes))
 
-  -- one byte more came
+  -- If one more byte came, it follows the bytes of the row.
   pub one_passed : (old between new : Decoder R) (before after : List ℕ) → ReadsPast source old before between
       → ReadsMore source 1 before after between (Ok tt) new → ReadsPast source old after new
   one_passed old between new before after passed reads =
       subst (λ (z : List ℕ). ReadsPast source old z new) (sym reads.behind)
       (ReadsPast-read source old between new before reads.bytes passed reads.reads.read reads.reads.steady)
 
-  -- where it came, one more byte was read
+  -- If a byte came, the read of it succeeded.
   pub one_came : (before after : List ℕ) (old new : Decoder R) (result : Result (Unit {0}) (Error E)) (came : Bool)
       → came ≡ is_ok result → ReadsMore source 1 before after old result new → IsTrue came
       → ReadsMore source 1 before after old (Ok tt) new

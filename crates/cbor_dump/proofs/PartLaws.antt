@@ -36,11 +36,11 @@ damaged_of state p q = grind (arith, nat_tests)
 inside_not : (state : State) → is_inside state ≡ true → (0 < tail_due state) × (state ≡ t.Damaged → ⊥)
 inside_not state is = grind arith
 
--- no more than three are due
+-- At most three more bytes of a character are due.
 pub due_few : (state : State) → tail_due state ≤ 3
 due_few state = grind arith
 
--- inside a character one byte less is due behind a further one
+-- Inside a character each further byte leaves fewer bytes due.
 due_step : (state : State) (byte : ℕ) → 0 < tail_due state → tail_due (after_byte state byte) < tail_due state
 unfolding is_from after_first after_next
 due_step state byte some = grind (arith, nat_tests)
@@ -54,7 +54,7 @@ state_due bytes (byte ∷ (other ∷ more)) is one = absurd (omega (arith, one))
 pub inside_some : (bytes : List ℕ) → is_inside (after t.Between bytes) ≡ true → 0 < tail_due (after t.Between bytes)
 inside_some bytes is = (inside_not (after t.Between bytes) is).0
 
--- the state behind bytes is that behind what follows their longest front
+-- The state after all bytes is the state after the rest that follows their longest front of characters.
 pub front_state : (bytes front rest : List ℕ) (state : State) → IsFront bytes front rest
     → state ≡ after t.Between rest → state ≡ after t.Between bytes
 front_state bytes front rest state is same =
@@ -66,11 +66,11 @@ front_state bytes front rest state is same =
 pub between_text : (bytes : List ℕ) → is_between (after t.Between bytes) ≡ true → IsCharacters bytes
 between_text bytes is = text_from bytes (between_of (after t.Between bytes) is)
 
--- bytes that end inside a character, and damaged ones, are no whole characters
+-- Bytes that end inside a character are not whole characters.
 pub inside_broken : (bytes : List ℕ) → is_inside (after t.Between bytes) ≡ true → IsCharacters bytes → ⊥
 inside_broken bytes is text = let ended = ap is_inside (text_ends bytes text) in absurd cc
 
--- the bytes are characters and a beginning of one more
+-- The bytes are characters and at most three bytes of one more character.
 record IsCut (bytes : List ℕ) : Type 0 where
   front : List ℕ
   left : List ℕ
@@ -99,7 +99,7 @@ pub cut_text : (left : ℕ) (bytes : List ℕ) → is_inside (after t.Between by
     → length bytes < left → IsCutText left bytes
 cut_text left bytes is many less = grind (arith, nat_tests, some_goes_on, inside_not, inside_broken)
 
--- where no more is read the bytes are all that was left, or they are cut nowhere
+-- The bytes do not end inside a character, or are all that was left. Then they are characters, or they begin no text.
 pub sound_of : (left : ℕ) (bytes : List ℕ) (whole : Bool) → whole ≡ is_between (after t.Between bytes)
     → length bytes ≤ left → (length bytes < left → is_inside (after t.Between bytes) ≡ false) → IsSound left bytes whole
 sound_of left bytes true is most ends = between_text bytes (sym is)
@@ -131,7 +131,7 @@ no_text_then len left front read text counted (inr never) =
     (subst IsCharacters (append_assoc front read more) both)))
 
 module _ {R E : Type 0} (source : Ghosts R E) where
-  -- of so much that is left these bytes were read, and of a text they are characters but for up to three
+  -- At most `left` bytes were read. They are a valid front and at most as many bytes as a skip keeps.
   abbrev begun : (kind : Kind) (left : ℕ) (old new : Decoder R) (read front behind : List ℕ) → read ≡ front ++ behind
       → length behind ≤ most_kept kind → IsStuck behind → IsWritable kind front → length read ≤ left
       → ReadsPast source old read new
@@ -148,7 +148,8 @@ module _ {R E : Type 0} (source : Ghosts R E) where
     passed = passed;
   }
 
-  -- and then a read of more failed: as through a buffer that it fills, with what is kept
+  -- If a read of more bytes fails then, the read of the body fails as a skip does. The skip has a buffer that these
+  -- bytes fill.
   part_fails : (kind : Kind) (left place : ℕ) (old between new : Decoder R) (bytes : List ℕ) (error : Error E)
       → (part : BeginsRest source kind [] left old between) → between.waiting ≡ None → 0 < length bytes
       → length part.left + length bytes ≤ 16 → length part.read + length bytes ≤ left
@@ -178,7 +179,7 @@ module _ {R E : Type 0} (source : Ghosts R E) where
   }
   part_fails kind left place old between new bytes e.Waiting part none some few more fails = grind (arith, nat_tests)
 
-  -- the first read of a part
+  -- If the first read of a part fails, the read of the body fails as a skip does.
   pub first_part : (kind : Kind) (left place count : ℕ) (before row : List ℕ) (old new : Decoder R) (error : Error E)
       → before ≡ [] → old.waiting ≡ None → 0 < left → 0 < count → count ≤ left
       → ReadsMore source count before row old (Err error) new → FailsInBody source kind left place old error new
@@ -190,7 +191,7 @@ module _ {R E : Type 0} (source : Ghosts R E) where
       (ReadsPast-none source old))
       none (omega (arith, counted, zero, any)) (omega (arith, counted)) (omega (arith, counted, most)) reads.reads.read
 
-  -- a further one, behind bytes of a text that are cut
+  -- If a further read fails after bytes that end inside a character, the read of the body fails as a skip does.
   pub next_part : (left place : ℕ) (row next : List ℕ) (old between new : Decoder R) (error : Error E)
       → ReadsPast source old row between → old.waiting ≡ None → length row < left → length row < 16
       → is_inside (after t.Between row) ≡ true → ReadsMore source 1 row next between (Err error) new
@@ -204,7 +205,7 @@ module _ {R E : Type 0} (source : Ghosts R E) where
       (omega (arith, counted, room, ap length cut.parts, length-append cut.front cut.left)) (omega (arith, counted, more))
       reads.reads.read
 
-  -- the bytes of a part of a text are none: as one read of them finds
+  -- If the bytes of a part are no text, a skip of the body finds the same fault.
   pub fault_part : (left place : ℕ) (row : List ℕ) (old new : Decoder R) → length row ≤ left → length row ≤ 16
       → ReadsTextPart source left row old (Ok false) new → FailsInBody source Text left place old (e.Syntax place) new
   fault_part left place row old new most few reads = record {
@@ -256,7 +257,7 @@ module _ {R E : Type 0} (source : Ghosts R E) where
   stops_behind kind len left place count front read between new e.TooLong written counted stops = stops
   stops_behind kind len left place count front read between new e.Waiting written counted stops = absurd stops
 
-  -- a part behind a front
+  -- If the read of the rest of a body fails after a front, the read of the whole body fails with the same error.
   ends_behind : (kind : Kind) (len left room place : ℕ) (front : List ℕ) (old between new : Decoder R)
       (error : Error E) → ReadsPast source old front between → IsWritable kind front → length front + left ≡ len
       → EndsBody source kind [] left room place between (Err error) new
@@ -279,7 +280,7 @@ module _ {R E : Type 0} (source : Ghosts R E) where
     holds = ends_behind kind len left fails.room place front old between new error passed written counted fails.holds;
   }
 
-  -- a part of the body of a byte string
+  -- The read of a part of a byte string reads these bytes, or fails as a skip of the body does.
   pub bytes_part : (left place count : ℕ) (before row : List ℕ) (old new : Decoder R)
       (result : Result (Unit {0}) (Error E)) → before ≡ [] → old.waiting ≡ None → 0 < left → 0 < count → count ≤ left
       → ReadsMore source count before row old result new → ReadsPart source Bytes left place row old result new

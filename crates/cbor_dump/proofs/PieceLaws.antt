@@ -39,7 +39,7 @@ use Rattle.cbor_dump.proofs.StringLaws.{next_offset, add_string, add_open, close
 use Rattle.cbor_dump.proofs.StringLaws.{not_open, taken_any, taken_none, taken_then}
 use Rattle.cbor_dump.proofs.PullLaws.{passes_idle, passes_alike}
 
--- opens of which none is closed
+-- Bytes with at least one open that is not closed stand inside a string.
 open_inside : (kind : Kind) (opens : ℕ) (parts : List ℕ) (bodies : List (List ℕ))
     → AreOpen kind (suc opens) parts bodies
     → IsInside kind parts bodies
@@ -51,12 +51,12 @@ open_inside kind (suc opens) parts bodies
     (more {outer = x} {title = t} {strings = z} {bodies = b} {others = c} o p are) =
     deeper (open_inside kind opens x b o) (opened p are)
 
--- what is no piece, no open and not refused, is a break
+-- A header that is no piece, no open and not refused is a break.
 pub only_break : (strict : Bool) (kind : Kind) (header : Header) (part : Part) → IsPart strict kind header part
     → ((len : ℕ) → part ≡ p.Piece len → ⊥) → (part ≡ p.Open → ⊥) → (part ≡ p.Other → ⊥) → header ≡ h.Break
 only_break strict kind header part is piece opens other = grind arith
 
--- a break stands a level less deep than the titles that it ends
+-- A break stands one level less deep than the titles that it ends.
 pub break_level : (header : Header) (inner level : ℕ) → header ≡ h.Break → 0 < inner
     → ((nests : List Nest) (opens : ℕ) → inner ≡ length nests + suc opens
     → level ≡ title_level header nests (suc opens))
@@ -66,7 +66,7 @@ break_level header inner level is some same =
     subst (λ (x : Header). level ≡ title_level x [] (suc (inner - 1))) is (same [] (inner - 1) (omega (arith, some))) in
     omega (arith, at, some)
 
--- behind a title no level is too great for a number, and fewer offsets are left
+-- After a title the next level fits a 64-bit number.
 pub level_fits : (inner place len behind waits : ℕ) → inner ≤ place → behind ≡ place + len → 0 < len
     → behind + waits < 2 ^ 64 → Fits w64 (inner + 1)
 level_fits inner place len behind waits below moved some fits = omega (arith, below, moved, some, fits)
@@ -79,7 +79,7 @@ pub level_some : (level inner : ℕ) → level < inner → 0 < inner
 level_some level inner above = omega (arith, above)
 
 module _ {R E : Type 0} (source : Ghosts R E) where
-  -- within a string, of which so many opens aren't closed, all up to here was shown
+  -- All bytes up to here were shown. They end within a string, and the titles in it stand at the level `inner`.
   pub record Within (strict : Bool) (depth start : ℕ) (drawn then_drawn : Option (List Line)) (nests : List Nest)
       (items title : List ℕ) (kind : Kind) (inner : ℕ) (old new : Decoder R) : Type 0 where
     pub opens : ℕ
@@ -119,7 +119,7 @@ module _ {R E : Type 0} (source : Ghosts R E) where
       {items title : List ℕ} {kind : Kind} {inner : ℕ} {old between : Decoder R} (stands : StandsWithin depth nests items)
       (so_far : Within strict depth start drawn middle nests items title kind inner old between)
       (begun : old.offset ≡ start + length (items ++ title)) where
-    -- what is before, as it is cut
+    -- The open and the bytes after it are the parts of the string.
     before_is : (items ++ title) ++ so_far.bytes ≡ items ++ so_far.parts
     before_is = append_assoc items title so_far.bytes ∙ ap (λ (z : List ℕ). items ++ z) so_far.is
 
@@ -147,7 +147,7 @@ module _ {R E : Type 0} (source : Ghosts R E) where
     alike_here alike =
         passes_alike source strict old between so_far.bytes (so_far.passed alike.none_waits) alike
 
-    -- what was read before a fault
+    -- A row at fault shows the bytes that were read before an error within a string.
     pub within_fault : (error : Error E) (then_drawn : Option (List Line)) (row : List ℕ) (offset : ℕ)
         (new : Decoder R) → TakesBytes source between row new → offset ≡ between.offset
         → Draws middle then_drawn (fault_lines inner offset row)
@@ -170,7 +170,7 @@ module _ {R E : Type 0} (source : Ghosts R E) where
           level = so_far.level;
         })) few some left)
 
-    -- by what was answered
+    -- If the dump answers with the error of the read, the lines end as the dump's error says.
     pub within_fails : {W : Type 0} (error : Error E) (why : DumpError E W) (then_drawn : Option (List Line))
         (row : List ℕ) (offset : ℕ) (new : Decoder R) → SaysFault error why → IsErrorOfItem why
         → TakesBytes source between row new → offset ≡ between.offset
@@ -184,7 +184,7 @@ module _ {R E : Type 0} (source : Ghosts R E) where
         shows_says source strict error why depth start drawn then_drawn (items ++ title) (so_far.bytes ++ row) old new
         says taken (within_fault error then_drawn row offset new takes at drawn_fault fault few some left)
 
-    -- a title
+    -- A row shows a title within the string.
     pub within_title : (then_drawn : Option (List Line)) (row : List ℕ) (x : Header) (offset level : ℕ)
         (new : Decoder R) → TakesBytes source between row new → offset ≡ between.offset → IsTitle row x
         → level ≡ title_level x nests (suc so_far.opens)
@@ -202,7 +202,7 @@ module _ {R E : Type 0} (source : Ghosts R E) where
     parts_then : (row : List ℕ) → title ++ (so_far.bytes ++ row) ≡ so_far.parts ++ row
     parts_then row = sym (append_assoc title so_far.bytes row) ∙ ap (λ (z : List ℕ). z ++ row) so_far.is
 
-    -- a further open
+    -- After a further open, one more open is not closed.
     pub within_open : (then_drawn : Option (List Line)) (row : List ℕ) (new : Decoder R)
         → strict ≡ false → (between.waiting ≡ None → ReadsPast source between row new)
         → IsTitle row (kind_header kind None)
@@ -225,11 +225,11 @@ module _ {R E : Type 0} (source : Ghosts R E) where
           shows = shows;
         }
 
-    -- where there are several opens, any spelling is taken
+    -- If several opens are not closed, the dump is not strict.
     several : (opens : ℕ) → so_far.opens ≡ suc opens → strict ≡ false
     several opens e = false_from_ne_true strict (λ on. let none = so_far.one on in omega (arith, none, e))
 
-    -- a break that closes one of several
+    -- A break that closes one of several opens leaves the others open.
     inner_break : (opens : ℕ) → so_far.opens ≡ suc opens → strict ≡ false → (then_drawn : Option (List Line))
         (row : List ℕ) (level : ℕ) (new : Decoder R)
         → (between.waiting ≡ None → ReadsPast source between row new) → IsTitle row h.Break
@@ -263,7 +263,7 @@ module _ {R E : Type 0} (source : Ghosts R E) where
         inner_break (so_far.opens - 1) less (several (so_far.opens - 1) less) then_drawn row level new went p
         (omega (arith, same, less)) shows
 
-    -- the break that ends the string
+    -- The break that closes the last open ends the string.
     pub within_ends : (row : List ℕ) (level : ℕ) → IsTitle title (kind_header kind None) → IsTitle row h.Break
         → level ≡ title_level h.Break nests (suc so_far.opens) → level ≡ length nests
         → EndsString strict kind (so_far.bytes ++ row)
@@ -274,7 +274,7 @@ module _ {R E : Type 0} (source : Ghosts R E) where
         (subst (λ (n : ℕ). AreOpen kind (suc n) so_far.parts so_far.bodies) one so_far.are_open) q so_far.is
         so_far.sound so_far.taken)
 
-    -- a piece: its title, and then its body
+    -- The rows of a piece show its title and its body.
     pub within_piece : {how : Ending} (titled_drawn then_drawn : Option (List Line)) (row body : List ℕ)
         (titled new : Decoder R)
         → Shows source depth start drawn titled_drawn (items ++ title) (so_far.bytes ++ row) Meant old titled
@@ -315,7 +315,7 @@ module _ {R E : Type 0} (source : Ghosts R E) where
           passed = passed_row (row ++ body) new went;
         }
 
-    -- a piece's body stands a level deeper
+    -- After the bytes so far a title is due within the opens.
     pub piece_due : TitleDue depth nests (suc so_far.opens) (items ++ so_far.parts)
     piece_due = record {
       items = items;
@@ -351,7 +351,7 @@ module _ {R E : Type 0} (source : Ghosts R E) where
       passed = so_far.passed alike.none_waits;
     }
 
-    -- of any room, as no byte of a body was read
+    -- If no title came within a string, a skip with a buffer of any room stops the same way.
     no_title_stops : (room : ℕ) (error : Error E) (new : Decoder R) → MeetsNoTitle source kind old error new
         → StopsInside source kind room old error new
     no_title_stops room error new meets = grind arith
@@ -360,7 +360,7 @@ module _ {R E : Type 0} (source : Ghosts R E) where
         → StopsInside source kind room old error new
     body_stops room error new meets = grind arith
 
-    -- no title came
+    -- If no title came, the read of the string stops as a skip does.
     pub within_no_title : {W : Type 0} → IsTitle title (kind_header kind None) → (error : Error E)
         (new : Decoder R) → DecoderPullAnswer source between (Err error) new → (why : DumpError E W) → SaysFault error why
         → IsInMode strict old → StopsBehindTitle source kind None 0 old (Err why) new
@@ -380,7 +380,7 @@ module _ {R E : Type 0} (source : Ghosts R E) where
     within_no_title p error new fails (d.Item (s.Deep at)) says alike = absurd cc
     within_no_title p error new fails (d.Rows fault) says alike = tt
 
-    -- one came that may not stand there
+    -- If a title came that may not stand in the string, the read of the string stops as a skip does.
     pub within_other : {W : Type 0} → IsTitle title (kind_header kind None) → (header : Header)
         (place : ℕ) (new : Decoder R) → PullsTitle source between header new → IsRefusedIn strict kind header
         → place ≡ between.offset → (why : DumpError E W) → SaysFault (e.Syntax place) why
@@ -407,7 +407,7 @@ module _ {R E : Type 0} (source : Ghosts R E) where
     within_other p header place new pulled refused at (d.Item (s.Deep other)) says alike = absurd cc
     within_other p header place new pulled refused at (d.Rows fault) says alike = tt
 
-    -- the body of a piece failed
+    -- If the body of a piece failed, the read of the string stops as a skip does.
     pub within_body : {W : Type 0} → IsTitle title (kind_header kind None) → (len place : ℕ)
         (titled new : Decoder R) → PullsTitle source between (kind_header kind (Some len)) titled
         → (IsSteady source between → IsSteady source titled) → (why : DumpError E W)

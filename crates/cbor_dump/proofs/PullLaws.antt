@@ -57,14 +57,14 @@ each_less : (known : Option (List ℕ)) (count : ℕ) (row : List ℕ)
     → IfSome known (Leaves row)
 each_less known count row p q = grind (arith, nat_tests)
 
--- a row of several bytes leaves none
+-- After a row of several bytes at fault, no byte is left.
 pub several_leave : (row left : List ℕ) → 1 < length row → left ≡ [] → Leaves row left
 several_leave row left p q = grind (arith, nat_tests)
 
 module _ {R E : Type 0} (source : Ghosts R E) where
-  -- ---- behind what passed
+  -- ---- bytes that passed
 
-  -- no header waits
+  -- If no header waits, none waits after the read.
   pub passes_idle : (old new : Decoder R) (bytes : List ℕ) → ReadsPast source old bytes new → old.waiting ≡ None
       → new.waiting ≡ None
   passes_idle old new bytes passed none = grind (arith, nat_tests)
@@ -73,12 +73,12 @@ module _ {R E : Type 0} (source : Ghosts R E) where
       → IsInMode strict old → IsInMode strict new
   passes_alike strict old new bytes passed alike = grind (arith, nat_tests, passes_idle)
 
-  -- one read
+  -- One read of all its bytes passes them.
   pub passes_one : (old new : Decoder R) (bytes : List ℕ) → ReadsAll source old bytes new
       → (IsSteady source old → IsSteady source new) → ReadsPast source old bytes new
   passes_one old new bytes all steady = grind (arith, nat_tests, ReadsPast-read, ReadsPast-none)
 
-  -- bytes behind others
+  -- If bytes were read, and more bytes then came into the row, all bytes of the row were read.
   pub more_passed : (count : ℕ) (before row : List ℕ) (old between new : Decoder R) → ReadsPast source old before between
       → between.waiting ≡ None → ReadsMore source count before row between (Ok tt) new
       → ReadsPast source old row new
@@ -86,14 +86,14 @@ module _ {R E : Type 0} (source : Ghosts R E) where
       subst (λ (z : List ℕ). ReadsPast source old z new) (sym reads.behind)
       (ReadsPast-read source old between new before reads.bytes passed reads.reads.read reads.reads.steady)
 
-  -- the first bytes of a row
+  -- The first bytes that came into a row are the bytes that were read.
   pub first_passed : (count : ℕ) (before row : List ℕ) (old new : Decoder R) → before ≡ [] → old.waiting ≡ None
       → ReadsMore source count before row old (Ok tt) new → ReadsPast source old row new
   first_passed count before row old new empty none reads = grind (arith, nat_tests, more_passed, ReadsPast-none)
 
-  -- ---- where a header waits
+  -- ---- a header waits
 
-  -- no read is all right
+  -- If a header waits, no read answers `Ok`.
   pub waits_no_read : (count : ℕ) (before after : List ℕ) (old new : Decoder R) → IsWaiting old
       → ReadsMore source count before after old (Ok tt) new → ⊥
   waits_no_read count before after old new waits reads = let never = rw reads.reads.read.none_waited at waits in cc
@@ -102,17 +102,17 @@ module _ {R E : Type 0} (source : Ghosts R E) where
       → ReadsMore source count before after old (Err error) new → (error ≡ e.Waiting) × RefusesRead old new
   waits_refused count before after error old new p q = grind (arith, nat_tests, nat_tests)
 
-  -- a row that one byte was read for
+  -- A row for which one byte was read has exactly this byte.
   pub first_byte : (before one : List ℕ) (old new : Decoder R) → before ≡ []
       → ReadsMore source 1 before one old (Ok tt) new → one ≡ get_or one 0 0 ∷ []
   first_byte before one old new none reads = grind (arith, nat_tests, one_of, length-append)
 
-  -- where nothing is read
+  -- A read of no bytes leaves the row and the decoder unchanged.
   pub reads_none : (before : List ℕ) (decoder : Decoder R) → decoder.waiting ≡ None
       → ReadsMore source 0 before before decoder (Ok tt) decoder
   reads_none before decoder none = grind (arith, nat_tests, Consumes-nil, append-nil)
 
-  -- what a decoder says of a first byte and its affix, which were read one behind the other
+  -- A first byte and its affix were read into a row. The answer about these bytes is the answer about the row.
   pub row_means : (strict : Bool) (count : ℕ) (before one row shown : List ℕ) (old between new : Decoder R)
       (result : Option Header) → before ≡ [] → ReadsMore source 1 before one old (Ok tt) between
       → count ≡ affix_len (get_or one 0 0 % 32) → count ≤ 8 → ReadsMore source count one row between (Ok tt) new
@@ -128,9 +128,9 @@ module _ {R E : Type 0} (source : Ghosts R E) where
       (same ∙ (second.behind ∙ ap (λ (z : List ℕ). z ++ second.bytes) is))
       (omega (arith, counted, long, announced, few)))
 
-  -- ---- what a row has where a read fails
+  -- ---- rows of a read that fails
 
-  -- of a title nothing, or its first byte
+  -- After a failed read an empty row is the row of a title.
   pub row_nothing : (strict : Bool) (count : ℕ) (before after : List ℕ) (error : Error E) (old new : Decoder R)
       → ReadsMore source count before after old (Err error) new → (row : List ℕ) → row ≡ []
       → IsTitleRow strict error row
@@ -141,7 +141,7 @@ module _ {R E : Type 0} (source : Ghosts R E) where
       → 0 < affix_len (byte % 32) → IsTitleRow strict error row
   row_first strict count before after error old new p byte row q r = grind (arith, nat_tests)
 
-  -- of a body nothing, or the front of a text
+  -- After a failed read an empty row is the row of a body's part.
   pub part_nothing : (kind : Kind) (left count : ℕ) (before after : List ℕ) (error : Error E) (old new : Decoder R)
       → ReadsMore source count before after old (Err error) new → (row : List ℕ) → row ≡ []
       → IsPartRow kind left error row
@@ -152,7 +152,7 @@ module _ {R E : Type 0} (source : Ghosts R E) where
       → IsPartRow Text left error row
   part_cut left count before after error old new p row q = grind (arith, nat_tests)
 
-  -- and behind it a steady reader leaves less than was asked for
+  -- After a failed read a steady reader leaves fewer bytes than the read asked for.
   pub less_left : (count : ℕ) (before after : List ℕ) (error : Error E) (old new : Decoder R)
       → (reads : ReadsMore source count before after old (Err error) new) → IsSteady source old → (row : List ℕ)
       → ((left : List ℕ) → length left < length reads.bytes → Leaves row left)
@@ -162,11 +162,11 @@ module _ {R E : Type 0} (source : Ghosts R E) where
 
   -- ---- a read that fails
 
-  -- nothing was consumed
+  -- If the decoder is untouched, its bytes are the same.
   pub untouched_view : (old new : Decoder R) → IsUntouched old new → view source new ≡ view source old
   untouched_view old new same = rw (same.waiting, same.reader) refl
 
-  -- that of the first byte
+  -- If the read of the first byte fails, `pull` fails with the same error.
   pub first_fails : (error : Error E) (old new : Decoder R) (bytes : List ℕ) → old.waiting ≡ None
       → length bytes ≡ 1 → ReadsBytes source old (Err error) bytes new → DecoderPullAnswer source old (Err error) new
   first_fails (e.Io fault) old new bytes none one fails =
@@ -192,7 +192,7 @@ module _ {R E : Type 0} (source : Ghosts R E) where
   first_fails e.TooLong old new bytes none one fails = grind (arith, nat_tests, untouched_view, Consumes-nil)
   first_fails e.Waiting old new bytes none one fails = absurd (let waits = rw none at fails.0 in cc)
 
-  -- that of the affix
+  -- If the read of the affix fails, `pull` fails with the same error.
   pub affix_fails : (error : Error E) (old between new : Decoder R) (byte : ℕ) (bytes : List ℕ)
       → ReadsAll source old (byte ∷ []) between → (IsSteady source old → IsSteady source between)
       → length bytes ≡ affix_len (byte % 32) → ReadsBytes source between (Err error) bytes new
@@ -241,7 +241,7 @@ module _ {R E : Type 0} (source : Ghosts R E) where
       }
   affix_fails e.Waiting old between new byte bytes first steady long fails = grind (arith, nat_tests)
 
-  -- and so behind a first byte that was read for a row
+  -- If the read of the affix fails after a first byte in a row, `pull` fails with the same error.
   pub second_fails : (error : Error E) (count : ℕ) (before one after : List ℕ) (old between new : Decoder R)
       → before ≡ [] → ReadsMore source 1 before one old (Ok tt) between → count ≡ affix_len (get_or one 0 0 % 32)
       → count ≤ 8 → ReadsMore source count one after between (Err error) new → DecoderPullAnswer source old (Err error) new

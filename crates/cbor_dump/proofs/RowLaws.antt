@@ -11,20 +11,20 @@ use Rattle.cbor_dump.specs.declared.taken.Taken.{Taken}
 use Rattle.cbor_dump.specs.Levels.{FitsRow}
 use Rattle.cbor_dump.specs.Takings.{most_bytes, taken_bytes}
 
--- what was read for a row fits it
+-- A row has at most 16 bytes.
 pub row_few : (taken : Taken) → length (taken_bytes taken) ≤ most_bytes
 row_few taken = omega (arith, length-take taken.len taken.bytes, taken.within)
 
 either_few : (b : Bool) (x y : ℕ) → x ≤ 8 → y ≤ 8 → (if b then x else y) ≤ 8
 either_few b x y p q = grind (arith, nat_tests)
 
--- no first byte announces more than eight
+-- A first byte announces at most eight bytes.
 affix_few : (minor : ℕ) → affix_len minor ≤ 8
 affix_few minor =
     either_few (minor == 24) 1 _ (omega arith) (either_few (minor == 25) 2 _ (omega arith)
     (either_few (minor == 26) 4 _ (omega arith) (either_few (minor == 27) 8 0 (omega arith) (omega arith))))
 
--- a title has as many behind its first byte as that announces
+-- A title has at most 16 bytes.
 title_few : (title : List ℕ) (x : Header) → IsTitle title x → length title ≤ most_bytes
 title_few title x p =
     let front = announced title x p in

@@ -46,7 +46,7 @@ module _ {R E : Type 0} (source : Ghosts R E) where
     passed = ReadsPast-then source old now new so_far.bytes item.item so_far.passed item.passed;
   }
 
-  -- what the end of the read says
+  -- The end of a read answers as a check does.
   pub ends : (depth room items start place stop : ℕ) (old between new : Decoder R) (error : SkipError E)
       (result : Result (Sequence E) (Stopped E))
       → ReadsItems source depth items old between
@@ -78,7 +78,7 @@ module _ {R E : Type 0} (source : Ghosts R E) where
             (subst (λ (n : ℕ). IsEnd stopped.error n new.offset) (sym here) is_end)));
       }
 
-  -- how often the reader failed
+  -- The reader fails as often as the answer of a check says.
   pub check_failures : (depth room : ℕ) (old new : Decoder R) (result : Result (Sequence E) (Stopped E))
       → ChecksItems source depth room old result new
       → CountsCheck result (failures_of source old) (failures_of source new)
@@ -89,10 +89,10 @@ module _ {R E : Type 0} (source : Ghosts R E) where
       let last = stop_fails source false depth room stopped.error finds.between new finds.fails in
       subst (λ (n : ℕ). CountsItemFailure stopped.error n (failures_of source new)) finds.reads.passed.failures last
 
-  -- ---- where the bytes are told
+  -- ---- the bytes are told
 
   module _ (depth room : ℕ) (old : Decoder R) (due : List ℕ) (ready : IsReadyToSkip source room old due) where
-    -- behind some items the reader is as ready as it was
+    -- After some items the reader is ready for the bytes that follow them.
     record Behind (count : ℕ) (between : Decoder R) (reads : ReadsItems source depth count old between) : Type 0 where
       ahead : List ℕ
       parts : due ≡ reads.bytes ++ ahead
@@ -117,12 +117,12 @@ module _ {R E : Type 0} (source : Ghosts R E) where
           };
         }
 
-    -- a fault of which nothing is consumed: no byte was left
+    -- If a fault consumes nothing, no byte was left.
     no_byte : (ahead : List ℕ) (between new : Decoder R) → MeetsItemFault source old.strict depth ahead Short between new
         → new.offset ≡ between.offset → (ahead ≡ []) × (view source new ≡ Some [])
     no_byte ahead between new meets still = grind (arith, nat_tests, nothing, due_first, fault_first, ahead, drop-nil)
 
-    -- where no byte is left, an item is short, and nothing is consumed
+    -- If no byte is left, the item is short, and nothing is consumed.
     no_bytes : (ahead : List ℕ) (answer : Answer) (between new : Decoder R)
         → MeetsItemFault source old.strict depth ahead answer between new
         → ahead ≡ [] → (answer ≡ Short) × (new.offset ≡ between.offset)
@@ -139,7 +139,7 @@ module _ {R E : Type 0} (source : Ghosts R E) where
         let begins = ap length first in
         (sym meets.answered ∙ short.0, omega (arith, meets.offset, short.1, begins))
 
-    -- so the read of an item fails there by the end
+    -- If no byte is left, the read of an item fails at the end.
     ends_there : (ahead : List ℕ) (between new : Decoder R) (error : SkipError E)
         → SkipsTold source old.strict depth ahead between (Err error) new
         → ahead ≡ [] → IsEnd error between.offset new.offset
@@ -162,12 +162,12 @@ module _ {R E : Type 0} (source : Ghosts R E) where
     ends_there ahead between new (s.Read e.TooLong) met none = absurd met
     ends_there ahead between new (s.Read e.Waiting) met none = absurd met
 
-    -- the items that were read, by the mode
+    -- The items that were read are in the spelling of the decoder's mode.
     items_ready : (count : ℕ) (between : Decoder R) (reads : ReadsItems source depth count old between)
         → AreItems old.strict depth count reads.bytes
     items_ready count between reads = grind (arith, nat_tests, ready_mode)
 
-    -- what the read of an item behind them met
+    -- The read of an item after some items meets the bytes that follow them.
     met_behind : (count : ℕ) (between : Decoder R) (reads : ReadsItems source depth count old between)
         (result : Result (Unit {0}) (SkipError E)) (new : Decoder R) → SkipsItem source depth room between result new
         → SkipsTold source old.strict depth (behind count between reads).ahead between result new

@@ -24,7 +24,7 @@ use Rattle.cbor_dump.specs.Singles.{EndsOne, ChecksOne, ChecksOneTold, CountsOne
 use Rattle.cbor_dump.proofs.ItemRows.{nothing}
 
 module _ {R E : Type 0} (source : Ghosts R E) where
-  -- what the pull behind an item says
+  -- The pull after an item answers as `check_one` does.
   pub ends_one : (depth room start place stop : ℕ) (old between new : Decoder R) (pulled : Result Header (Error E))
       (result : Result (Sequence E) (NotOne E)) → ReadsItem source depth old between
       → DecoderPullAnswer source between pulled new → EndsOne pulled start place stop result
@@ -49,7 +49,7 @@ module _ {R E : Type 0} (source : Ghosts R E) where
         no_end = λ fault fails still. is.2 fault (sym is.1 ∙ fails) (there ∙ (still ∙ sym here));
       }
 
-  -- how often the reader failed
+  -- The reader fails as often as the answer of `check_one` says.
   more_failures : (old between new : Decoder R) (at : ℕ) (next : Result Header (Error E))
       → failures_of source between ≡ failures_of source old → DecoderPullAnswer source between next new
       → CountsOne {E = E} (Err (n.More at next)) (failures_of source old) (failures_of source new)
@@ -65,14 +65,14 @@ module _ {R E : Type 0} (source : Ghosts R E) where
       more_failures old finds.between new at next finds.reads.passed.failures finds.pulls
 
   module _ (depth room : ℕ) (old : Decoder R) (due : List ℕ) (ready : IsReadyToSkip source room old due) where
-    -- where no byte is left, the pull finds the end
+    -- If no byte is left, the pull finds the end.
     end_found : (between new : Decoder R) (pulled : Result Header (Error E)) → DecoderPullAnswer source between pulled new
         → view source between ≡ Some [] → between.strict ≡ old.strict → between.offset ≡ old.offset + length due
         → (fault : E) × (pulled ≡ Err (e.Io fault)) × (new.offset ≡ between.offset)
     end_found between new pulled p q r s =
         grind (arith, nat_tests, consumes_told, title_some, length-append, next_read_small)
 
-    -- the item that was read, by the mode
+    -- The item that was read is in the spelling of the decoder's mode.
     item_ready : (item : List ℕ) → IsItem (strictness old) depth item → IsItem old.strict depth item
     item_ready item i =
         subst (λ (b : Bool). IsItem b depth item) (ready_mode source depth room old due ready) i

@@ -11,7 +11,7 @@ use Rattle.cbor_dump.specs.StringRows.{StopsBehindTitle}
 use Rattle.cbor_dump.specs.TitleRows.{IsStringDue, EndsAtTitle}
 
 module _ {R E W : Type 0} (source : Ghosts R E) where
-  -- the rest of a string stopped as a skip of it does
+  -- If the rest of a string stops, it stops as a skip of the string does.
   pub rest_stops : (strict : Bool) (depth whole : ℕ) (kind : Kind) (len : Option ℕ) (place : ℕ) (before : List ℕ)
       (old new : Decoder R) (why : DumpError E W) → IsStringDue strict depth whole before (kind_header kind len)
       kind len

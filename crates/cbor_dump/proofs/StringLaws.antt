@@ -44,7 +44,7 @@ writable_then kind front behind p q = grind (arith, nat_tests, IsCharacters-appe
 pub writable_none : (kind : Kind) → IsWritable kind []
 writable_none kind = grind (arith, nat_tests)
 
--- the title of a string stands behind some bytes, and parts of its body stand at this level
+-- A title of a string of this length stands after some bytes. Parts of its body stand at this level.
 pub record AtBody (depth opens : ℕ) (nests : List Nest) (outer title : List ℕ) (kind : Kind) (len level : ℕ)
     : Type 0 where
   pub due : TitleDue depth nests opens outer
@@ -87,12 +87,12 @@ part_stands k.Bytes depth before line body written = body
 part_stands k.Text depth before line body written = (body, written)
 
 module _ {R E : Type 0} (source : Ghosts R E) where
-  -- all that was taken for a row was read for it
+  -- The bytes of a row that was empty are those that were read.
   pub taken_all : (nothing row : List ℕ) (old new : Decoder R) → nothing ≡ [] → Keeps source nothing row old new
       → TakesBytes source old row new
   taken_all nothing row old new empty keeps = grind (arith, nat_tests)
 
-  -- a front of a body was shown, and so much is left
+  -- A front of a body was shown, and this many bytes are left.
   pub record SoFar (depth start : ℕ) (drawn then_drawn : Option (List Line)) (before : List ℕ) (kind : Kind)
       (len left : ℕ) (old new : Decoder R) : Type 0 where
     pub front : List ℕ
@@ -101,14 +101,14 @@ module _ {R E : Type 0} (source : Ghosts R E) where
     pub written : IsWritable kind front
     pub passed : old.waiting ≡ None → ReadsPast source old front new
 
-  -- where the next line begins
+  -- The next line begins at the offset after the bytes that were shown.
   pub next_offset : (depth start : ℕ) (drawn then_drawn : Option (List Line)) (before bytes : List ℕ)
       (old new : Decoder R) → Shows source depth start drawn then_drawn before bytes Meant old new
       → old.offset ≡ start + length before → new.offset ≡ start + length (before ++ bytes)
   next_offset depth start drawn then_drawn before bytes old new shows at =
       grind (arith, nat_tests, shows, length-append)
 
-  -- what was read of a body, behind what was shown of it
+  -- A row at fault shows the bytes that were read of a body, after the front that was shown.
   pub part_fails : (strict : Bool) (error : Error E) (depth start opens : ℕ) (nests : List Nest) (outer title : List ℕ)
       (kind : Kind) (len left level offset : ℕ) (drawn middle then_drawn : Option (List Line)) (bytes : List ℕ)
       (old between new : Decoder R) → AtBody depth opens nests outer title kind len level
@@ -175,7 +175,7 @@ module _ {R E : Type 0} (source : Ghosts R E) where
 
 -- ---- opens
 
--- a string within an open
+-- A string within an open joins the strings of that open.
 pub add_string : (kind : Kind) (opens : ℕ) (parts string : List ℕ) (bodies others : List (List ℕ))
     → AreOpen kind (suc opens) parts bodies → IsString kind string others
     → AreOpen kind (suc opens) (parts ++ string) (bodies ++ others)
@@ -187,7 +187,7 @@ add_string kind opens parts string bodies others
     rw (append-nil string, append-nil others) at strings' in
     rw (append_assoc x (t ++ s) string, append_assoc t s string, append_assoc b c others) (more o p strings)
 
--- a string of a definite length behind others
+-- A string of definite length after others is one more of them.
 flat_then : (kind : Kind) (strings title body : List ℕ) (bodies : List (List ℕ)) → AreFlat kind strings bodies
     → IsTitle title (kind_header kind (Some (length body)))
     → IsStrictTitle title (kind_header kind (Some (length body)))
@@ -204,7 +204,7 @@ pub taken_then : (strict : Bool) (kind : Kind) (strings title body : List ℕ) (
     → AreTakenStrings strict kind (strings ++ (title ++ body)) (bodies ++ (body ∷ []))
 taken_then strict kind strings title body bodies p q r = grind (arith, nat_tests, flat_then)
 
--- in any spelling
+-- If any spelling is taken, all strings are taken.
 pub taken_any : (strict : Bool) (kind : Kind) (strings : List ℕ) (bodies : List (List ℕ)) → strict ≡ false
     → AreTakenStrings strict kind strings bodies
 taken_any strict kind strings bodies p = grind (arith, nat_tests)
@@ -212,7 +212,7 @@ taken_any strict kind strings bodies p = grind (arith, nat_tests)
 pub taken_none : (strict : Bool) (kind : Kind) → AreTakenStrings strict kind [] []
 taken_none strict kind = grind (arith, nat_tests, no_flat)
 
--- an open within others
+-- A further open after others leaves one more open.
 pub add_open : (kind : Kind) (opens : ℕ) (parts title : List ℕ) (bodies : List (List ℕ))
     → AreOpen kind opens parts bodies → IsTitle title (kind_header kind None)
     → AreOpen kind (suc opens) (parts ++ title) bodies
@@ -220,14 +220,14 @@ add_open kind opens parts title bodies o p =
     let added : AreOpen kind (suc opens) (parts ++ (title ++ [])) (bodies ++ []) = more o p no_strings in
     rw (append-nil title, append-nil bodies) at added
 
--- a break within further opens
+-- A break after several opens closes the last of them.
 pub close_inner : (kind : Kind) (opens : ℕ) (parts : List ℕ) (bodies : List (List ℕ))
     → AreOpen kind (suc (suc opens)) parts bodies → AreOpen kind (suc opens) (parts ++ 0xff ∷ []) bodies
 close_inner kind opens parts bodies (more {outer = x} {title = t} {strings = s} {bodies = b} {others = c} o p are) =
     rw (append_assoc x (t ++ s) (0xff ∷ []), append_assoc t s (0xff ∷ []))
     (add_string kind opens x (t ++ (s ++ 0xff ∷ [])) b c o (indefinite p are))
 
--- the last one
+-- If no open is left, there are no bytes and no bodies.
 pub not_open : (kind : Kind) (opens : ℕ) (parts : List ℕ) (bodies : List (List ℕ)) → AreOpen kind opens parts bodies
     → opens ≡ 0 → (parts ≡ []) × (bodies ≡ [])
 not_open kind opens parts bodies p q = grind (arith, nat_tests)
@@ -255,13 +255,13 @@ close_last strict kind title bytes parts bodies
 -- ---- how the read of a body stops
 
 module _ {R E W : Type 0} (source : Ghosts R E) where
-  -- the body failed
+  -- If the body failed, the rest of the string stops with the same error.
   pub body_stops : (kind : Kind) (len place : ℕ) (old new : Decoder R) (error : Error E) (why : DumpError E W)
       → SaysFault error why → FailsInBody source kind len place old error new
       → StopsBehindTitle source kind (Some len) place old (Err why) new
   body_stops kind len place old new error why p q = grind (arith, nat_tests, nat_tests)
 
-  -- the place is that of a body alone
+  -- The place does not matter for a string of indefinite length.
   pub any_place : (kind : Kind) (place other : ℕ) (old new : Decoder R) (result : Result (Unit {0}) (DumpError E W))
       → StopsBehindTitle source kind None place old result new → StopsBehindTitle source kind None other old result new
   any_place kind place other old new result p = grind (arith, nat_tests)

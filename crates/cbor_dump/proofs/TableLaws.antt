@@ -33,7 +33,7 @@ three_at xs at less =
 digit_parts : (a b c x y z : ℕ) → (eqb a x && (eqb b y && eqb c z)) ≡ true → (a ≡ x) × (b ≡ y) × (c ≡ z)
 digit_parts a b c x y z e = grind (arith, nat_tests)
 
--- behind a space stand the digits of each byte
+-- After each space the table has the digits of a byte.
 pub digits_behind : (b : ℕ) → b < 256 → take 3 (drop (3 * b) DIGITS.now) ≡ 32 ∷ hex_text b
 unfolding digit_test
 digits_behind b l =
@@ -52,7 +52,7 @@ digits_alone b l =
     sym (ap (λ (z : List ℕ). drop 1 z) (drop_more DIGITS.now (3 * b) 0 (omega (arith, l)))) in
     ap (λ (z : List ℕ). take 2 z) moved ∙ (two_behind (drop (3 * b) DIGITS.now) ∙ ap (λ (z : List ℕ). drop 1 z) (digits_behind b l))
 
--- ---- where texts of ASCII may be cut
+-- ---- cuts in texts of ASCII
 
 all_ascii : List ℕ → Bool
 all_ascii [] = true

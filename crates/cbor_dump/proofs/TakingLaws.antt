@@ -22,26 +22,26 @@ use Rattle.ciborium_ll.proofs.CopyingTold.{consumes_told, next_read_small}
 use Rattle.cbor_dump.proofs.ItemRows.{nothing}
 use Rattle.cbor_dump.specs.Takings.{TakesBytes, Keeps, AnswersTitle}
 
--- what stands behind a front leaves it
+-- Bytes that follow a front leave the front unchanged.
 pub same_front : (n : ℕ) (xs ys : List ℕ) → n ≤ length xs → take n (take n xs ++ ys) ≡ take n xs
 same_front n xs ys h =
     let long = length-take n xs in
     let fits : n ≤ length (take n xs) = omega (arith, long) in
     take-append-le n (take n xs) ys fits ∙ take_all n (take n xs) (omega (arith, long))
 
--- one more is one less that there is room for
+-- One more byte leaves room for one byte less.
 pub less_room : (before after : ℕ) → after ≡ suc before → after ≤ 16 → 16 - after < 16 - before
 less_room before after one most = omega (arith, one, most)
 
 module _ {R E : Type 0} (source : Ghosts R E) where
-  -- nothing was read
+  -- A decoder that reads nothing has taken no bytes.
   pub takes_none : (decoder : Decoder R) → TakesBytes source decoder [] decoder
   takes_none decoder = record {
     offset = omega arith;
     consumed = λ idle. (Consumes-nil (view source decoder), idle);
   }
 
-  -- one read behind another
+  -- Two reads, one after the other, take the bytes of both.
   pub takes_then : (old middle new : Decoder R) (first second : List ℕ) → TakesBytes source old first middle
       → TakesBytes source middle second new → TakesBytes source old (first ++ second) new
   takes_then old middle new first second a b = record {
@@ -69,7 +69,7 @@ module _ {R E : Type 0} (source : Ghosts R E) where
     takes = takes_then old middle new first.bytes second.bytes first.takes second.takes;
   }
 
-  -- all bytes of a read
+  -- A read that succeeds adds all its bytes.
   pub keeps_read : (before read : List ℕ) (old new : Decoder R) → ReadsAll source old read new
       → (IsSteady source old → IsSteady source new) → Keeps source before (before ++ read) old new
   keeps_read before read old new all steady = record {
@@ -84,7 +84,7 @@ module _ {R E : Type 0} (source : Ghosts R E) where
     };
   }
 
-  -- a read that failed consumes nothing
+  -- A read that failed consumes nothing.
   failed_takes : (old new : Decoder R) (count : ℕ) → ReadFails source old count new
       → (IsSteady source old → IsSteady source new) → TakesBytes source old [] new
   failed_takes old new count fails steady = record {
@@ -110,7 +110,7 @@ module _ {R E : Type 0} (source : Ghosts R E) where
       → (IsSteady source old → IsSteady source new) → Keeps source before before old new
   keeps_failed before bytes error old new p q = grind (arith, nat_tests, append-nil, failed_takes, untouched_takes)
 
--- a title in front of a first byte and as many as that announces is the whole
+-- A title that begins a first byte and its affix is all of these bytes.
 whole_front : (header : Header) (first : ℕ) (affix title rest : List ℕ) → IsTitle title header
     → first ∷ affix ≡ title ++ rest → length affix ≡ affix_len (first % 32) → title ≡ first ∷ affix
 whole_front header first affix title rest is_title e long =
@@ -128,7 +128,7 @@ whole_front header first affix title rest is_title e long =
     let last = nothing rest none in
     sym (e ∙ (ap (λ (z : List ℕ). title ++ z) last ∙ append-nil title))
 
--- a list of one
+-- A list of length one has its one element.
 pub one_of : (one : List ℕ) → length one ≡ 1 → one ≡ get_or one 0 0 ∷ []
 one_of [] e = absurd (omega (arith, e))
 one_of (byte ∷ more) e = ap (λ (z : List ℕ). byte ∷ z) (nothing more (omega (arith, e)))
@@ -136,7 +136,7 @@ one_of (byte ∷ more) e = ap (λ (z : List ℕ). byte ∷ z) (nothing more (ome
 module _ {R E : Type 0} (source : Ghosts R E) (old : Decoder R) (first : ℕ) (affix bytes : List ℕ)
     (told : view source old ≡ Some bytes) (parts : bytes ≡ first ∷ affix)
     (long : length affix ≡ affix_len (first % 32)) where
-  -- a title that was pulled is all of them
+  -- A title that was pulled is all of the bytes.
   pulled_all : (header : Header) (title : List ℕ) → IsTitle title header → (new : Decoder R)
       → Consumes (view source old) (view source new) title → title ≡ bytes
   pulled_all header title is_title new consumed =
@@ -193,7 +193,7 @@ module _ {R E : Type 0} (source : Ghosts R E) (old : Decoder R) (first : ℕ) (a
       ))
   fault_means steady start e.Waiting new never = absurd never
 
-  -- what a pull says of them
+  -- The pull of all bytes says whether they are a title.
   pub whole_means : IsSteady source old → old.offset ≡ 0 → old.waiting ≡ None → (result : Result Header (Error E))
       → (new : Decoder R) → DecoderPullAnswer source old result new → AnswersTitle old.strict bytes (result_ok result)
   whole_means p q r result new s = grind (arith, nat_tests, pull_means, fault_means)

@@ -55,7 +55,7 @@ string_level k len nests opens = grind (arith, nat_tests)
 
 -- ---- lines
 
--- outside of strings
+-- Outside of strings a title is due within no open.
 pub due_here : (depth : ℕ) (nests : List Nest) (before : List ℕ) → StandsWithin depth nests before
     → TitleDue depth nests 0 before
 due_here depth nests before within = record {
@@ -78,7 +78,7 @@ title_line depth start old new before title x level place nests opens due p same
     lines_one depth start old new before _ drawn at (title_filled title x p)
     (record { nests = nests; opens = opens; due = due; is_title = p; level = same }) (tt, tt)
 
--- outside of strings, where the level is that of the walk
+-- The row of a title outside of strings stands at the level of the walk.
 pub walk_line : (strict : Bool) (depth whole start : ℕ) (old new : Option (List Line)) (before title : List ℕ)
     (x : Header)
     (level place : ℕ) (walk : Walk) (due : IsDue strict depth whole walk before) → IsTitle title x
@@ -106,7 +106,7 @@ break_line strict depth whole start old new before title level place closed walk
 
 -- ---- items
 
--- an item where one was due
+-- An item follows if one was due.
 pub behind_item : (strict : Bool) (depth whole : ℕ) (walk : Walk) (before item : List ℕ)
     → IsDue strict depth whole walk before → walk.used ≤ walk.depth
     → ((levels : ℕ) → IsItem strict levels item) → IsBehindItem strict depth whole walk (before ++ item)
@@ -141,11 +141,11 @@ pub string_item : (strict : Bool) (k : Kind) (len : Option ℕ) (title bytes : L
     → (levels : ℕ) → IsItem strict levels (title ++ bytes)
 string_item strict k len title bytes p g rest levels = grind (arith, nat_tests, item_of, bytes, rest_completes)
 
--- a break has one title
+-- The one title of a break is the byte `ff`.
 pub break_bytes : (title : List ℕ) → IsTitle title h.Break → title ≡ 0xff ∷ []
 break_bytes title p = alone_bytes title h.Break p refl
 
--- outside of all nests the bytes are items
+-- Outside of all nests the bytes are items.
 outside_items : (strict : Bool) (depth whole : ℕ) (nests : List Nest) (before : List ℕ)
     → StandsBehind strict depth whole nests before → length nests ≡ 0 → AreItems strict depth whole before
 outside_items strict depth whole nests before p q = grind (arith, nat_tests)
@@ -154,7 +154,7 @@ pub walk_ended : (strict : Bool) (depth whole : ℕ) (walk : Walk) (before : Lis
     → IsDue strict depth whole walk before → walk.used ≡ 0 → AreItems strict depth whole before
 walk_ended strict depth whole walk before due empty = grind (arith, nat_tests, outside_items, whole, due)
 
--- each nest has a title
+-- Each nest has a title, so there are at most as many nests as bytes.
 pub nests_few : (strict : Bool) (depth whole : ℕ) (nests : List Nest) (before : List ℕ)
     → StandsBehind strict depth whole nests before → length nests ≤ length before
 nests_few strict depth whole nests before (outside i) = omega arith
@@ -165,7 +165,7 @@ nests_few strict depth whole nests before
     omega (arith, few, some, length-append b (t ++ i), length-append t i)
 
 module _ {R E : Type 0} (source : Ghosts R E) where
-  -- so many items were read, and behind them a beginning of one, behind which an item is due
+  -- Items were read, and after them the beginning of one more. An item is due after the beginning.
   pub record Comes (strict : Bool) (depth : ℕ) (walk : Walk) (old new : Decoder R) : Type 0 where
     pub count : ℕ
     pub between : Decoder R
@@ -175,7 +175,7 @@ module _ {R E : Type 0} (source : Ghosts R E) where
     pub due : IsDue strict depth 0 walk bytes
     pub alike : IsInMode strict between
 
-  -- all up to here was shown, and an item is due
+  -- All bytes up to here were shown, and an item is due.
   pub record UpTo (strict : Bool) (depth : ℕ) (drawn then_drawn : Option (List Line)) (walk : Walk) (old new : Decoder
       R)
       : Type 0 where
@@ -192,7 +192,7 @@ module _ {R E : Type 0} (source : Ghosts R E) where
   title_only {how} depth start drawn then_drawn before title decoder lines left =
       grind (arith, nat_tests, append-nil, takes_none, IfSome-all)
 
-  -- of a title of which nothing more is read no reader fails
+  -- If nothing is read after a title, the ending makes no claim about the bytes that are left.
   alone_leaves : {W : Type 0} (strict : Bool) (depth whole : ℕ) (header : Header) (place : ℕ) (before : List ℕ)
       (result : Result (Unit {0}) (DumpError E W)) → StopsAlone strict depth whole header place before result
       → (bytes left : List ℕ) → LeavesAs (ending strict result) bytes left
@@ -223,7 +223,7 @@ module _ {R E : Type 0} (source : Ghosts R E) where
     stops = λ alike. alone_stops strict depth whole header place before decoder result draws.stops;
   }
 
-  -- what was read of a title before a fault
+  -- A row at fault shows the bytes that were read of a title before an error.
   pub up_fails : (strict : Bool) (error : Error E) (depth : ℕ) (drawn middle then_drawn : Option (List Line))
       (walk : Walk) (row : List ℕ) (place level : ℕ) (old between new : Decoder R)
       → (up : UpTo strict depth drawn middle walk old between)
@@ -249,7 +249,7 @@ module _ {R E : Type 0} (source : Ghosts R E) where
         level = omega (arith, same, used);
       })) few (title_fault strict error row fault) left)
 
-  -- a title that was read, and what is shown of it and behind it
+  -- The rows show the title that was read, and the rest of the string that it begins.
   pub up_title : {W : Type 0} (strict : Bool) (depth whole place : ℕ) (header : Header) (drawn middle then_drawn :
       Option (List Line)) (before : List ℕ)
       (walk : Walk) (row : List ℕ) (result : Result (Unit {0}) (DumpError E W)) (old between titled new : Decoder R)
@@ -264,7 +264,7 @@ module _ {R E : Type 0} (source : Ghosts R E) where
       (shows_read source depth old.offset middle then_drawn before row title.bytes between titled new takes
       title.shows)
 
-  -- where no title came: the end of the sequence, or a fault
+  -- If no title came, the dump ends as its answer says.
   pub up_ended : {W : Type 0} (strict : Bool) (depth : ℕ) (drawn middle then_drawn : Option (List Line)) (walk : Walk)
       (row : List ℕ) (place level : ℕ) (old between new : Decoder R) (error : Error E)
       (result : Result E (DumpError E W)) → (up : UpTo strict depth drawn middle walk old between)

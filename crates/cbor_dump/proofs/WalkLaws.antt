@@ -22,13 +22,13 @@ use Rattle.cbor_dump.specs.Walks.{IsDeepest}
 
 -- ---- all items of a nest
 
--- all items were read, by what remains
+-- If no more items remain, the items complete the nest.
 all_read : (strict : Bool) (x : Header) (d count : ℕ) (items : List ℕ) (remaining : Remaining)
     → IsRemaining x count remaining
     → is_done remaining ≡ true → AreItems strict d count items → Completes strict (suc d) x items
 all_read strict x d count items remaining is done i = grind (arith, tag, array, pairs)
 
--- a break ended them, by what remains
+-- If a break may close the nest, the items and a break complete it.
 all_closed : (strict : Bool) (x : Header) (d count : ℕ) (items : List ℕ) (remaining : Remaining)
     → IsRemaining x count remaining
     → closes remaining ≡ true → AreItems strict d count items → Completes strict (suc d) x (items ++ 0xff ∷ [])
@@ -36,7 +36,7 @@ all_closed strict x d count items remaining is may i = grind (arith, open_array,
 
 -- ---- what is kept
 
--- a write above the nests leaves them
+-- A write above the nests leaves the nests as kept.
 kept_below : (levels : List Remaining) (nests : List Nest) (at : ℕ) (x : Remaining) → length nests ≤ at
     → AreKept levels nests → AreKept (set levels at x) nests
 kept_below levels [] at x few kept = tt
@@ -44,7 +44,7 @@ kept_below levels (nest ∷ nests) at x few kept =
     let inner = kept_below levels nests at x (omega (arith, few)) kept.2 in
     grind (arith, get_or-set_other, inner)
 
--- a write at their end keeps one more
+-- A write at the end of the nests keeps one more nest.
 kept_more : (levels : List Remaining) (nests : List Nest) (nest : Nest) (at : ℕ) (x : Remaining) → at ≡ length nests
     → at < length levels → IsRemaining nest.header nest.count x → is_done x ≡ false → AreKept levels nests
     → AreKept (set levels at x) (nest ∷ nests)
@@ -53,7 +53,7 @@ kept_more levels nests nest at x end room is some kept =
 
 -- ---- the innermost nest
 
--- its title and its items behind what is before it
+-- A nest has its title and its items, after the bytes before it.
 record Inner (strict : Bool) (depth whole : ℕ) (nest : Nest) (outer : List Nest) (bytes : List ℕ) : Type 0 where
   before : List ℕ
   title : List ℕ
@@ -85,7 +85,7 @@ inner_of strict depth whole nest outer bytes
       is = refl;
     }
 
--- no item ends a nest of which more is due: it is the same with one more
+-- If a nest is due more items, an item in it leaves it open with one item more.
 goes_on : (strict : Bool) (depth whole levels : ℕ) (nest : Nest) (outer : List Nest) (bytes item : List ℕ)
     → Inner strict depth whole nest outer bytes → suc (length outer) + levels ≡ depth → IsItem strict levels item
     → TakesMore nest.header (suc nest.count)
@@ -102,7 +102,7 @@ goes_on strict depth whole levels nest outer bytes item inner level is_item more
     (inside inner.within inner.level inner.is_title inner.taken more
     (items_item strict inner.levels nest.count inner.items item inner.are_items item'))
 
--- what completes the nest ends an item a level further out
+-- If its items complete a nest, an item ends one level further out.
 ends_nest : (strict : Bool) (depth whole : ℕ) (nest : Nest) (outer : List Nest) (bytes more rest : List ℕ) (walk : Walk)
     (inner : Inner strict depth whole nest outer bytes) → rest ≡ inner.items ++ more
     → Completes strict (suc inner.levels) nest.header rest → KeepsNests depth walk outer
@@ -122,7 +122,7 @@ ends_nest strict depth whole nest outer bytes more rest walk inner e completes k
 
 -- ---- the walk
 
--- what is in its shortest spelling is in any
+-- Bytes in the shortest spelling are bytes in any spelling.
 pub stands_any : (strict : Bool) (depth whole : ℕ) (nests : List Nest) (bytes : List ℕ)
     → StandsBehind strict depth whole nests bytes → StandsBehind false depth whole nests bytes
 stands_any strict depth whole nests bytes (outside are) =
@@ -132,13 +132,13 @@ stands_any strict depth whole nests bytes
     inside (stands_any strict depth whole outer b w) e p tt more
     (items_looser false strict (λ no. absurd cc) l n i are)
 
--- within a nest no more items are whole
+-- Within a nest no further item is whole.
 within_nest : (strict : Bool) (depth whole used : ℕ) (walk : Walk) (bytes : List ℕ) → walk.used ≡ used → 0 < used
     → IsDue strict depth whole walk bytes → IsDueBehind strict depth whole walk bytes
 within_nest strict depth whole zero walk bytes same some due = absurd (omega (arith, some))
 within_nest strict depth whole (suc used) walk bytes same some due = grind (arith, nat_tests)
 
--- outside of all nests one more is
+-- Outside of all nests one more item is whole.
 due_outside : (strict : Bool) (depth whole : ℕ) (walk : Walk) (bytes : List ℕ) → walk.used ≡ 0
     → IsDue strict depth (suc whole) walk bytes → IsDueBehind strict depth whole walk bytes
 due_outside strict depth whole walk bytes none due = grind (arith, nat_tests)
@@ -148,12 +148,12 @@ pub due_first : (strict : Bool) (depth : ℕ) (walk : Walk) → walk.used ≡ 0 
     → IsDue strict depth 0 walk []
 due_first strict depth walk used same room = grind (arith, outside, no_items)
 
--- no level is left
+-- If all levels are used, an item is due at the deepest level.
 pub deepest : (strict : Bool) (depth whole : ℕ) (walk : Walk) (before : List ℕ) → IsDue strict depth whole walk before
     → walk.used ≡ walk.depth → IsDeepest strict depth whole before
 deepest strict depth whole walk before due full = grind arith
 
--- a nest with nothing in it is an item
+-- The title of an empty nest is an item.
 pub enters_empty : (strict : Bool) (depth whole : ℕ) (walk : Walk) (before title : List ℕ) (header : Header)
     (x : Remaining)
     → IsDue strict depth whole walk before → IsTitle title header → IsTakenTitle strict title header
@@ -174,7 +174,7 @@ enters_empty strict depth whole walk before title header x due p g within room i
       is = refl;
     }
 
--- a nest in which something is due is one more
+-- The title of a nest with items due opens one more level.
 pub enters_within : (strict : Bool) (depth whole : ℕ) (walk new : Walk) (before title : List ℕ) (header : Header)
     (x : Remaining)
     → IsDue strict depth whole walk before → IsTitle title header → IsTakenTitle strict title header
@@ -224,7 +224,7 @@ breaks_not strict depth whole walk before due none = record {
   behind = λ e. absurd cc;
 }
 
--- no break may stand where no nest is open
+-- Outside of all nests no break may stand.
 outside_no_break : (nests : List Nest) → length nests ≡ 0 → closes_one nests 0 ≡ false
 outside_no_break nests e = grind arith
 
@@ -233,7 +233,7 @@ pub break_outside : (strict : Bool) (depth whole : ℕ) (walk : Walk) (before : 
     → Breaks strict depth whole false walk before
 break_outside strict depth whole walk before due none = grind (arith, nat_tests, breaks_not, before, outside_no_break)
 
--- whether one may is whether the innermost nest takes it
+-- A break may stand exactly if the innermost nest may be closed.
 closes_as_kept : (depth : ℕ) (walk : Walk) (nests : List Nest) → KeepsNests depth walk nests → (walk.used ≡ 0 → ⊥)
     → closes_one nests 0 ≡ closes (remaining_at walk.levels (walk.used - 1))
 closes_as_kept depth walk nests keeps some = grind (arith, takes_more)
@@ -288,7 +288,7 @@ break_closes strict depth whole walk new before due some may same less deep =
 
 -- ---- the end of an item
 
--- outside of all nests
+-- An item outside of all nests is one more whole item.
 outside_more : (strict : Bool) (depth whole levels : ℕ) (nests : List Nest) (before item : List ℕ)
     → StandsBehind strict depth whole nests before
     → length nests ≡ 0 → levels ≡ depth → IsItem strict levels item → StandsBehind strict depth (suc whole) []
@@ -317,7 +317,7 @@ end_outside strict depth whole walk bytes behind none =
       };
     })
 
--- what the end of an item changes: what remains of the innermost nest
+-- The end of an item changes how many items remain in the innermost nest.
 pub record Steps (walk new : Walk) (after : Remaining) : Type 0 where
   pub counts : (x : Header) (count : ℕ) → IsRemaining x count (remaining_at walk.levels (walk.used - 1))
       → IsRemaining x (suc count) after

@@ -1,4 +1,4 @@
--- A dump as a check: what `dump` consumes, and where and why it stops.
+-- A dump as a check: the bytes that `dump` consumes, and the place and cause of its stop.
 use Rattle.std.specs.Prelude.{◌≡◌, ℕ, List, Result, Ok, Err}
 use Rattle.ciborium_ll.specs.Types.Read.{Ghosts}
 use Rattle.ciborium_ll.specs.Types.Decoder.{Decoder}

@@ -1,5 +1,5 @@
--- What `dump` and its parts do with the lines. The bytes of the lines, joined, are the consumed bytes, and each line
--- stands at its level.
+-- The lines of `dump` and of its parts. The bytes of the lines, joined, are the consumed bytes, and each line stands at
+-- its level.
 use Rattle.std.specs.Prelude.{◌≡◌, ◌⊎◌, ℕ, ◌+◌, ◌<◌, ◌≤◌, List, [], ◌∷◌, ◌++◌, length, Option, Some, None, IfSome}
 use Rattle.std.specs.Prelude.{Result, Ok, Err}
 use Rattle.ciborium_ll.specs.Types.Read.{Ghosts}
@@ -56,7 +56,7 @@ abbrev pub EndsTitles : {E W : Type 0} → Error E → ℕ → ℕ → Result E 
 EndsTitles error level len (Ok fault) = (error ≡ e.Io fault) × (level ≡ 0) × (len ≡ 0)
 EndsTitles error level len (Err why) = SaysFault error why × (IsEndOf error level len → ⊥)
 
--- What a dump does if a header waits: it draws no row, reads nothing, and answers that a header waits.
+-- If a header waits, a dump draws no row, reads nothing, and answers that a header waits.
 pub record AnswersWaiting {R E S W : Type 0} (rows : S) (old : Decoder R) (result : Result E (DumpError E W))
     (then_rows : S) (new : Decoder R) : Type 0 where
   pub answer : result ≡ Err (d.Item (s.Read e.Waiting))
@@ -79,7 +79,7 @@ pub record DrawsRefused (old new : Option (List Line)) (lines : List Line) : Typ
   pub row : Line
   pub draws : Draws old (with_line new row) lines
 
--- The line of the bytes that were read before a fault, if there are any.
+-- The line of the bytes that were read before a fault, if there are any. `19` gives one line, and no bytes give none.
 abbrev pub fault_lines : ℕ → ℕ → List ℕ → List Line
 fault_lines level offset [] = []
 fault_lines level offset (byte ∷ bytes) =
@@ -101,8 +101,8 @@ pub record LinesRefused (depth start : ℕ) (old new : Option (List Line)) (befo
   pub lines : Lines depth start old (with_line new row) before bytes Meant
 
 module _ {R E W : Type 0} (source : Ghosts R E) where
-  -- How a dump or a part of it leaves its decoder, by the error: as the read that ended it leaves the decoder. If a row
-  -- was refused, either no read failed, or the row has the bytes that were read before one failed.
+  -- A dump or a part of it leaves its decoder as the read that ended it does. If a row was refused, either no read
+  -- failed, or the row has the bytes that were read before one failed.
   abbrev pub StopsDump : DumpError E W → Decoder R → Decoder R → Type 0
   StopsDump (d.Item (s.Read error)) old new = StopsBy source error old new
   StopsDump (d.Item (s.Break at)) old new = ReadsOn source old new
@@ -152,9 +152,9 @@ module _ {R E : Type 0} (source : Ghosts R E) where
     pub bytes : List ℕ
     pub shows : ShowsBehind depth start drawn (with_line then_drawn row) before title bytes how old new
 
-  -- What a dump left is shown at the level. A line, if there is any, has exactly the consumed bytes, and no more than a
-  -- line holds. The bytes came one by one until the line was full or a read failed, and no read followed. If the reader
-  -- is steady, no header waits, at most 16 bytes are told and the offset fits them, the line has all of them.
+  -- The bytes that a dump left are shown at the level, in at most one line. The bytes came one by one until the line
+  -- was full or a read failed, and no read followed. If the reader is steady, no header waits, at most 16 bytes are
+  -- told and the offset fits them, the line has all of them.
   pub record ShowsLeft (level : ℕ) (drawn then_drawn : Option (List Line)) (old new : Decoder R) : Type 0 where
     pub bytes : List ℕ
     pub draws : Draws drawn then_drawn (fault_lines level old.offset bytes)

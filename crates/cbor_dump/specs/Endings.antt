@@ -1,4 +1,4 @@
--- Which lines of a dump say that they are at fault: at most the last line.
+-- The lines of a dump that are at fault: at most the last line.
 use Rattle.std.specs.Prelude.{◌≡◌, ◌⊎◌, ℕ, Bool, List, [], ◌∷◌, ◌++◌, Result, Ok, Err}
 use Rattle.ciborium_ll.specs.Types.Error.{Error}
 use Rattle.ciborium_ll.specs.Types.Error.TheVariants as e

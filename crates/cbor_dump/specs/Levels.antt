@@ -1,4 +1,4 @@
--- At which level each line of a dump stands: within how many tags, arrays, maps and opens.
+-- The level of each line of a dump: how many tags, arrays, maps and opens are around it.
 use Rattle.std.specs.Prelude.{◌≡◌, ℕ, zero, suc, ◌+◌, ◌-◌, ◌<◌, ◌≤◌, ◌⊎◌, Bool, true, false, List, [], ◌∷◌, ◌++◌}
 use Rattle.std.specs.Prelude.{length, Some, None, if◌then◌else◌}
 use Rattle.ciborium_ll.specs.Types.Header.{Header}
@@ -15,9 +15,9 @@ use Rattle.cbor_dump.specs.declared.rows.Meaning.TheVariants as m
 use Rattle.cbor_dump.specs.Takings.{IsFirstByte, AnswersTitle, most_bytes}
 use Rattle.cbor_dump.specs.Parts.{IsFullPart, IsCutText}
 
--- ---- within what a title stands
+-- ---- around a title
 
--- A tag, an array or a map, by its header, and how many of its items stand before.
+-- A tag, an array or a map, by its header, and how many of its items stand before. After `82 01` the count is 1.
 pub record Nest : Type 0 where
   pub header : Header
   pub count : ℕ
@@ -35,19 +35,20 @@ pub data StandsBehind (strict : Bool) (depth whole : ℕ) : List Nest → List �
       (before ++ (title ++ items))
 
 -- `StandsBehind` in any spelling, after any number of whole items. A level does not depend on the spelling (RFC 7049,
--- 2.1, 2.2.1 and 2.4; RFC 8742).
+-- 2.1, 2.2.1 and 2.4; RFC 8742). After `01 98 02` an item is due within one array.
 abbrev pub StandsWithin : ℕ → List Nest → List ℕ → Type 0
 StandsWithin depth nests bytes = (whole : ℕ) × StandsBehind false depth whole nests bytes
 
 -- `AreOpen kind opens bytes bodies`: the bytes are `opens` opens of the kind, each with strings after it, and none
--- closed. The bodies are those of the strings so far (RFC 7049, 2.2.2).
+-- closed. The bodies are those of the strings so far (RFC 7049, 2.2.2). `5f 41 61` is one open with the body `61`.
 pub data AreOpen (kind : Kind) : ℕ → List ℕ → List (List ℕ) → Type 0 where
   none : AreOpen kind zero [] []
   more : {opens : ℕ} {outer title strings : List ℕ} {bodies others : List (List ℕ)} → AreOpen kind opens outer bodies
       → IsTitle title (kind_header kind None) → AreStrings kind strings others
       → AreOpen kind (suc opens) (outer ++ (title ++ strings)) (bodies ++ others)
 
--- After the bytes a title is due: within these nests, and in a string within this many opens.
+-- After the bytes a title is due: within these nests, and in a string within this many opens. After `81 5f` it is due
+-- within one nest and one open.
 pub record TitleDue (depth : ℕ) (nests : List Nest) (opens : ℕ) (bytes : List ℕ) : Type 0 where
   pub items : List ℕ
   pub kind : Kind
@@ -58,14 +59,15 @@ pub record TitleDue (depth : ℕ) (nests : List Nest) (opens : ℕ) (bytes : Lis
   pub sound : AreWritable kind bodies
   pub is : bytes ≡ items ++ parts
 
--- A break may stand here. It closes the last open, or the innermost nest if no open is left (RFC 7049, 2.2).
+-- A break may stand here. It closes the last open, or the innermost nest if no open is left (RFC 7049, 2.2). After `9f
+-- 01` and after `bf` a break may stand, and after `bf 01` it may not.
 abbrev pub closes_one : List Nest → ℕ → Bool
 closes_one nests (suc opens) = true
 closes_one [] zero = false
 closes_one (nest ∷ nests) zero = may_close nest.header nest.count
 
 -- The level of a title: how many nests and opens it stands within. A break that closes a nest or an open has the level
--- of its title.
+-- of its title. In `81 9f ff` the titles `9f` and `ff` have the level 1.
 abbrev pub title_level : Header → List Nest → ℕ → ℕ
 title_level h.Break nests opens =
     if closes_one nests opens then (length nests + opens) - 1 else length nests + opens
@@ -80,12 +82,12 @@ pub record Line : Type 0 where
   pub bytes : List ℕ
   pub meaning : Meaning
 
--- The bytes of the lines, joined.
+-- The bytes of the lines, joined. The lines of `82`, `01` and `02` give `82 01 02`.
 abbrev pub bytes_of : List Line → List ℕ
 bytes_of [] = []
 bytes_of (line ∷ lines) = line.bytes ++ bytes_of lines
 
--- After these bytes the line has a title of the header, at its level.
+-- After these bytes the line has a title of the header, at its level. After `81` the line of `01` has the level 1.
 pub record HasTitle (depth : ℕ) (before : List ℕ) (header : Header) (line : Line) : Type 0 where
   pub nests : List Nest
   pub opens : ℕ
@@ -94,7 +96,7 @@ pub record HasTitle (depth : ℕ) (before : List ℕ) (header : Header) (line : 
   pub level : line.level ≡ title_level header nests opens
 
 -- After these bytes the line has a part of a string's body, one level deeper than the string's title. The part has as
--- many bytes as a row has, or all that is left.
+-- many bytes as a row has, or all that is left. After `81 41` the line of `61` has the level 2.
 pub record HasBody (depth : ℕ) (before : List ℕ) (kind : Kind) (line : Line) : Type 0 where
   pub nests : List Nest
   pub opens : ℕ
@@ -118,29 +120,30 @@ pub data Ending : Type 0 where
   Failed : Ending
   Stopped : Ending
 
--- All bytes of a refused title, within this many opens of the kind. Its first byte is refused, or only strict titles
--- are taken and it is not strict, or the string may not contain it (RFC 7049, 2.1, 2.2.2 and 3.9).
+-- All bytes of a refused title, within this many opens of the kind. Its first byte is refused, as `1c`, or only strict
+-- titles are taken and it is not strict, as `18 17`. Or the string may not contain it, as `01` after `5f` (RFC 7049,
+-- 2.1, 2.2.2 and 3.9).
 abbrev pub IsNoTitle : Bool → Kind → ℕ → List ℕ → Type 0
 IsNoTitle strict kind opens bytes = AnswersTitle strict bytes None
     ⊎ ((0 < opens) × ((header : Header) × IsTitle bytes header × IsRefusedIn strict kind header))
 
--- What a line at fault has of a title, by how the lines end: all of a refused title, or the first byte of a title that
--- was cut.
+-- The bytes of a title that a line at fault has, by how the lines end: all of a refused title, or the first byte of a
+-- title that was cut.
 abbrev pub IsTitleFault : Ending → Kind → ℕ → List ℕ → Type 0
 IsTitleFault Meant kind opens bytes = ⊥
 IsTitleFault (Refused strict) kind opens bytes = IsNoTitle strict kind opens bytes
 IsTitleFault Failed kind opens bytes = IsFirstByte bytes
 IsTitleFault Stopped kind opens bytes = IsFirstByte bytes
 
--- What a line at fault has of a text's body that has `left` bytes left: bytes that are no text, or the first bytes of a
--- text that was cut.
+-- The bytes of a text's body that a line at fault has, if `left` bytes of the body are left: bytes that are no text, or
+-- the first bytes of a text that was cut.
 abbrev pub IsTextFault : Ending → ℕ → List ℕ → Type 0
 IsTextFault Meant left bytes = ⊥
 IsTextFault (Refused strict) left bytes = IsNoText [] left bytes
 IsTextFault Failed left bytes = IsCutText left bytes
 IsTextFault Stopped left bytes = IsCutText left bytes
 
--- After these bytes the line has what was read of a title at fault, at the level of a title that is due.
+-- After these bytes the line has the bytes that were read of a title at fault, at the level of a title that is due.
 pub record HasNoTitle (how : Ending) (depth : ℕ) (before : List ℕ) (line : Line) : Type 0 where
   pub nests : List Nest
   pub opens : ℕ
@@ -148,12 +151,12 @@ pub record HasNoTitle (how : Ending) (depth : ℕ) (before : List ℕ) (line : L
   pub fault : IsTitleFault how due.kind opens line.bytes
   pub level : line.level ≡ length nests + opens
 
--- After these bytes the line has what was read of a text's body at fault.
+-- After these bytes the line has the bytes that were read of a text's body at fault.
 pub record HasNoText (how : Ending) (depth : ℕ) (before : List ℕ) (line : Line) : Type 0 where
   pub body : HasBody depth before Text line
   pub fault : IsTextFault how (body.len - length body.front) line.bytes
 
--- After these bytes the line has what its meaning says, at its level.
+-- After these bytes the line has the bytes that its meaning says, at its level.
 abbrev pub Stands : Ending → ℕ → List ℕ → Meaning → Line → Type 0
 Stands how depth before (m.Header header) line = HasTitle depth before header line
 Stands how depth before m.Bytes line = HasBody depth before Bytes line
@@ -164,8 +167,8 @@ Stands how depth before m.Fault line = HasNoTitle how depth before line ⊎ HasN
 abbrev pub FitsRow : List ℕ → Type 0
 FitsRow bytes = (0 < length bytes) × (length bytes ≤ most_bytes)
 
--- Each line has what its meaning says, fits a row, and has the offset of its first byte. The bytes before begin at the
--- start.
+-- Each line has the bytes that its meaning says, fits a row, and has the offset of its first byte. The bytes before
+-- begin at the start.
 abbrev pub AllStand : Ending → ℕ → ℕ → List ℕ → List Line → Type 0
 AllStand how depth start before [] = Unit {0}
 AllStand how depth start before (line ∷ lines) = (line.offset ≡ start + length before) × FitsRow line.bytes

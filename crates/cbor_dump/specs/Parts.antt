@@ -1,4 +1,4 @@
--- What the read of a part of a body does, as a skip of the string does it.
+-- The read of a part of a body, compared with a skip of the string.
 use Rattle.std.specs.Prelude.{◌≡◌, ℕ, ◌<◌, ◌≤◌, ◌⊎◌, min, Bool, true, false, List, [], ◌++◌, length, Result, Ok, Err}
 use Rattle.ciborium_ll.specs.Types.Read.{Ghosts}
 use Rattle.ciborium_ll.specs.Types.Decoder.{Decoder}
@@ -12,18 +12,19 @@ use Rattle.ciborium_ll_text.specs.declared.state.State.{State}
 use Rattle.ciborium_ll_text.specs.declared.state.State.TheVariants as t
 use Rattle.cbor_dump.specs.Takings.{ThroughSomeRoom, most_bytes, most_text}
 
--- The bytes so far end between two characters (Unicode, Table 3-7).
+-- The bytes so far end between two characters (Unicode, Table 3-7), as `c3 a9` does.
 abbrev pub is_between : State → Bool
 is_between t.Between = true
 is_between state = false
 
--- The bytes so far end inside a character (Unicode, Table 3-7).
+-- The bytes so far end inside a character (Unicode, Table 3-7), as `c3` does.
 abbrev pub is_inside : State → Bool
 is_inside t.Between = false
 is_inside t.Damaged = false
 is_inside state = true
 
--- The bytes are characters; or they begin no text of a body that has `left` bytes left.
+-- The bytes are characters, or they begin no text of a body that has `left` bytes left. If one byte is left, `c3`
+-- begins no text.
 abbrev pub IsSound : ℕ → List ℕ → Bool → Type 0
 IsSound left bytes true = IsCharacters bytes
 IsSound left bytes false = IsNoText [] left bytes
@@ -38,14 +39,14 @@ pub record IsCutText (left : ℕ) (bytes : List ℕ) : Type 0 where
   pub goes_on : IsCharacters (bytes ++ more)
 
 -- The bytes are as many as a row has, of a body that has `left` bytes left: 16, or at least 13 of a text, or all that
--- is left.
+-- is left. A byte string of 20 bytes has parts of 16 and 4 bytes.
 abbrev pub IsFullPart : Kind → ℕ → List ℕ → Type 0
 IsFullPart Bytes left bytes = min left most_bytes ≤ length bytes
 IsFullPart Text left bytes = min left most_text ≤ length bytes
 
--- What was read of a body that has `left` bytes left, if the read stopped with this error. For `Syntax` it is a full
--- part of a text's body that is no text, or begins none. Otherwise it is nothing, or the first bytes of a text that was
--- cut.
+-- The bytes that were read of a body that has `left` bytes left, if the read stopped with this error. For `Syntax` they
+-- are a full part of a text's body that is no text, or begins none. Otherwise there are none, or they are the first
+-- bytes of a text that was cut.
 abbrev pub IsPartRow : {E : Type 0} → Kind → ℕ → Error E → List ℕ → Type 0
 IsPartRow kind left (e.Syntax at) bytes = (kind ≡ Text) × IsNoText [] left bytes × IsFullPart Text left bytes
 IsPartRow kind left error bytes = (bytes ≡ []) ⊎ ((kind ≡ Text) × IsCutText left bytes)

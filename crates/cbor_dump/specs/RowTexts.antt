@@ -45,7 +45,8 @@ abbrev pub counted_text : List ℕ → Option ℕ → List ℕ
 counted_text name (Some len) = name ++ 32 ∷ decimal len
 counted_text name None = name ++ 32 ∷ 42 ∷ []
 
--- A simple value. The four values that have names are shown by name (RFC 7049, 2.3).
+-- A simple value. The four values that have names are shown by name (RFC 7049, 2.3): `f4` gives `false`, and `e0` gives
+-- `simple 0`.
 abbrev pub simple_text : ℕ → List ℕ
 simple_text number =
     if number == 20 then codes "false"
@@ -60,7 +61,8 @@ float_text (f.Half bits) = codes "half " ++ joined_text (to_be_bytes w16 bits)
 float_text (f.Single bits) = codes "single " ++ joined_text (to_be_bytes w32 bits)
 float_text (f.Double bits) = codes "double " ++ joined_text (to_be_bytes w64 bits)
 
--- The text of a header (RFC 7049, 2.1 to 2.4).
+-- The text of a header (RFC 7049, 2.1 to 2.4): `20` gives `-1`, `c1` gives `tag 1`, `82` gives `array 2`, and `ff`
+-- gives `break`.
 abbrev pub header_text : Header → List ℕ
 header_text (h.Positive number) = decimal number
 header_text (h.Negative number) = signed_decimal (negsuc number)
@@ -76,7 +78,8 @@ header_text (h.Map len) = counted_text (codes "map") len
 -- ---- characters
 
 -- A character between quotes, with the escapes of JSON (RFC 8259, 7), also of U+007F to U+009F. A backslash, which is
--- 92, precedes a quote, a backslash, the letter of a control character, or u and four digits.
+-- 92, precedes a quote, a backslash, the letter of a control character, or u and four digits. A line feed gives `\n`,
+-- and U+0001 gives `\u0001`.
 abbrev pub character_text : ℕ → List ℕ
 character_text character =
     if character == 34 then 92 ∷ 34 ∷ []
@@ -99,11 +102,11 @@ abbrev pub characters_text : List ℕ → List ℕ
 characters_text [] = []
 characters_text (character ∷ characters) = character_text character ++ characters_text characters
 
--- The bytes if they are UTF-8, and otherwise nothing.
+-- The bytes if they are UTF-8, and otherwise nothing: `c3` alone gives nothing.
 abbrev pub shown_text : List ℕ → List ℕ
 shown_text bytes = if is_utf8 bytes then bytes else []
 
--- A text between quotes.
+-- A text between quotes: `61 62` gives `"ab"`.
 abbrev pub quoted_text : List ℕ → List ℕ
 quoted_text bytes = 34 ∷ (characters_text (chars (shown_text bytes)) ++ 34 ∷ [])
 
@@ -113,20 +116,20 @@ quoted_text bytes = 34 ∷ (characters_text (chars (shown_text bytes)) ++ 34 ∷
 abbrev pub shown_level : ℕ → ℕ
 shown_level level = min level 256
 
--- What stands between the bytes of a row and their meaning. The meaning begins in one column, or further right after
--- longer bytes, and is indented too.
+-- The text between the bytes of a row and their meaning. The meaning begins in one column, or further right after
+-- longer bytes, and is indented too. After one byte at the level 0 it is 33 spaces and ` # `.
 abbrev pub margin_text : ℕ → ℕ → List ℕ
 margin_text level count =
     blank (36 - (3 * shown_level level + 3 * count)) ++ (codes " # " ++ blank (2 * shown_level level))
 
--- What follows the bytes of a row.
+-- The text that follows the bytes of a row. At the level 0 the text row of `61` gives 33 spaces and ` # "a"`.
 abbrev pub meaning_text : Meaning → ℕ → List ℕ → List ℕ
 meaning_text (m.Header header) level bytes = margin_text level (length bytes) ++ header_text header
 meaning_text m.Text level bytes = margin_text level (length bytes) ++ quoted_text bytes
 meaning_text m.Bytes level bytes = []
 meaning_text m.Fault level bytes = []
 
--- The text of a row.
+-- The text of a row. At the level 1 the row of the title `01` is 3 spaces, `01`, 30 spaces and ` #   1`.
 abbrev pub row_text : Row → List ℕ
 row_text row =
     blank (3 * shown_level row.level)

@@ -1,4 +1,4 @@
--- Sequences of items (RFC 8742), and what `check` does with them.
+-- Sequences of items (RFC 8742), and the answers of `check` about them.
 use Rattle.std.specs.Prelude.{◌≡◌, ℕ, ◌+◌, ◌-◌, Bool, List, [], ◌++◌, length, Some, Result, Ok, Err}
 use Rattle.ciborium_ll.specs.Types.Read.{Ghosts}
 use Rattle.ciborium_ll.specs.Types.Decoder.{Decoder}
@@ -24,8 +24,8 @@ abbrev pub IsEnd : {E : Type 0} → SkipError E → ℕ → ℕ → Type 0
 IsEnd (s.Read (e.Io fault)) place stop = stop ≡ place
 IsEnd error place stop = ⊥
 
--- What the end of the read says. The first item begins at the start, the last item at the place, and the read stopped
--- at `stop`.
+-- The answer at the end of the read. The first item begins at the start, the last item at the place, and the read
+-- stopped at `stop`.
 abbrev pub EndsSequence : {E : Type 0} → SkipError E → ℕ → ℕ → ℕ → ℕ → Result (Sequence E) (Stopped E) → Type 0
 EndsSequence error items start place stop (Ok sequence) = (error ≡ s.Read (e.Io sequence.«end»)) × (stop ≡ place)
     × (sequence.items ≡ items) × (sequence.bytes ≡ place - start)
@@ -60,7 +60,7 @@ module _ {R E : Type 0} (source : Ghosts R E) where
     pub fails : SkipsItem source depth room between (Err stopped.error) new
     pub no_end : IsEnd stopped.error between.offset new.offset → ⊥
 
-  -- What `check` does through a buffer of this room, by its answer, after the items that the answer counts.
+  -- The reads of `check` through a buffer of this room, by its answer, after the items that the answer counts.
   abbrev pub ChecksItems : ℕ → ℕ → Decoder R → Result (Sequence E) (Stopped E) → Decoder R → Type 0
   ChecksItems depth room old (Ok sequence) new = FindsEnd depth room old sequence new
   ChecksItems depth room old (Err stopped) new = FindsNoItem depth room old stopped new
@@ -74,8 +74,8 @@ module _ {R E : Type 0} (source : Ghosts R E) where
     pub left : view source new ≡ Some []
     pub offset : new.offset ≡ old.offset + length due
 
-  -- After the counted items, bytes follow that begin with no item, and the decoder meets what stops the read of an
-  -- item.
+  -- After the counted items, bytes follow that begin with no item, and the decoder meets the fault that stops the read
+  -- of an item. In `01 ff` one item precedes `ff`, which begins none.
   pub record FindsFault (depth : ℕ) (due : List ℕ) (old : Decoder R) (stopped : Stopped E) (new : Decoder R)
       : Type 0 where
     pub before : List ℕ
@@ -89,8 +89,8 @@ module _ {R E : Type 0} (source : Ghosts R E) where
     pub at : between.offset ≡ stopped.place
     pub met : SkipsTold source old.strict depth ahead between (Err stopped.error) new
 
-  -- What `check` does with told bytes, by its answer: it reads a sequence, or the items before the fault and what
-  -- `SkipsTold` says of the next item.
+  -- The reads of `check` with told bytes, by its answer: it reads a sequence, or the items before the fault, and
+  -- `SkipsTold` holds of the next item.
   abbrev pub ChecksTold : ℕ → List ℕ → Decoder R → Result (Sequence E) (Stopped E) → Decoder R → Type 0
   ChecksTold depth due old (Ok sequence) new = FindsSequence depth due old sequence new
   ChecksTold depth due old (Err stopped) new = FindsFault depth due old stopped new

@@ -1,4 +1,4 @@
--- One item that nothing follows, and what `check_one` does.
+-- One item that nothing follows, and the answers of `check_one`.
 use Rattle.std.specs.Prelude.{◌≡◌, ℕ, ◌+◌, ◌-◌, List, [], length, Result, Ok, Err}
 use Rattle.ciborium_ll.specs.Types.Read.{Ghosts}
 use Rattle.ciborium_ll.specs.Types.Header.{Header}
@@ -15,7 +15,7 @@ use Rattle.cbor_dump.specs.declared.single.NotOne.{NotOne}
 use Rattle.cbor_dump.specs.declared.single.NotOne.TheVariants as n
 use Rattle.cbor_dump.specs.Sequences.{FindsSequence}
 
--- What the pull after an item says. The item stands from the start to the place, and the pull stopped at `stop`.
+-- The answer of the pull after an item. The item stands from the start to the place, and the pull stopped at `stop`.
 abbrev pub EndsOne : {E : Type 0} → Result Header (Error E) → ℕ → ℕ → ℕ → Result (Sequence E) (NotOne E) → Type 0
 EndsOne pulled start place stop (Ok sequence) = (pulled ≡ Err (e.Io sequence.«end»)) × (stop ≡ place)
     × (sequence.items ≡ 1) × (sequence.bytes ≡ place - start)
@@ -49,20 +49,21 @@ module _ {R E : Type 0} (source : Ghosts R E) where
     pub pulls : DecoderPullAnswer source between next new
     pub no_end : (fault : E) → next ≡ Err (e.Io fault) → new.offset ≡ between.offset → ⊥
 
-  -- What `check_one` does through a buffer of this room, by its answer: one item alone, no item, or more bytes after
+  -- The reads of `check_one` through a buffer of this room, by its answer: one item alone, no item, or more bytes after
   -- it.
   abbrev pub ChecksOne : ℕ → ℕ → Decoder R → Result (Sequence E) (NotOne E) → Decoder R → Type 0
   ChecksOne depth room old (Ok sequence) new = FindsAlone depth old sequence new
   ChecksOne depth room old (Err (n.Item error)) new = SkipsItem source depth room old (Err error) new
   ChecksOne depth room old (Err (n.More at next)) new = FindsMore depth old at next new
 
-  -- The bytes begin with an item, and more bytes follow it from this offset on.
+  -- The bytes begin with an item, and more bytes follow it from this offset on. In `01 80`, read from the offset 0,
+  -- more follows at the offset 1.
   pub record HasMore (depth : ℕ) (due : List ℕ) (old : Decoder R) (at : ℕ) : Type 0 where
     pub front : BeginsWithItem old.strict depth due
     pub some : front.rest ≡ [] → ⊥
     pub place : at ≡ old.offset + length front.item
 
-  -- What `check_one` does with told bytes, by its answer.
+  -- The reads of `check_one` with told bytes, by its answer.
   abbrev pub ChecksOneTold : ℕ → List ℕ → Decoder R → Result (Sequence E) (NotOne E) → Decoder R → Type 0
   ChecksOneTold depth due old (Ok sequence) new = (sequence.items ≡ 1) × FindsSequence source depth due old sequence new
   ChecksOneTold depth due old (Err (n.Item error)) new = SkipsTold source old.strict depth due old (Err error) new

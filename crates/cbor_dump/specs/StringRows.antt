@@ -1,4 +1,4 @@
--- What the rows of a string show of it.
+-- The rows of a string.
 use Rattle.std.specs.Prelude.{◌≡◌, ℕ, Bool, false, List, [], ◌∷◌, ◌++◌, length, Option, Some, None, Result, Ok}
 use Rattle.std.specs.Prelude.{Err}
 use Rattle.std.specs.Prelude.{OnOk}
@@ -38,7 +38,8 @@ abbrev pub meaning_of : CodeKind → Meaning
 meaning_of k.Bytes = m.Bytes
 meaning_of k.Text = m.Text
 
--- What a header is within an open of the kind. A strict read refuses a further open (RFC 7049, 2.2.2).
+-- The role of a header within an open of the kind. A strict read refuses a further open (RFC 7049, 2.2.2). After `5f`
+-- the title `41` begins a piece of one byte, `5f` is a further open, and `01` may not stand.
 abbrev pub IsPart : Bool → Kind → Header → Part → Type 0
 IsPart strict kind header p.Break = header ≡ h.Break
 IsPart strict kind header (p.Piece len) = header ≡ kind_header kind (Some len)
@@ -46,7 +47,8 @@ IsPart strict kind header p.Open = (header ≡ kind_header kind None) × (strict
 IsPart strict kind header p.Other = IsRefusedIn strict kind header
 
 -- The bytes are strings of the kind and then a break, and each body of a text is UTF-8 (RFC 7049, 2.2.2). If only the
--- shortest spelling is taken, each string has a definite length and a strict title (3.9).
+-- shortest spelling is taken, each string has a definite length and a strict title (3.9). `41 61 ff` ends a byte
+-- string.
 pub record EndsString (strict : Bool) (kind : Kind) (bytes : List ℕ) : Type 0 where
   pub strings : List ℕ
   pub bodies : List (List ℕ)
@@ -55,7 +57,8 @@ pub record EndsString (strict : Bool) (kind : Kind) (bytes : List ℕ) : Type 0 
   pub sound : AreWritable kind bodies
   pub is : bytes ≡ strings ++ 0xff ∷ []
 
--- What follows the title of a string of this length (RFC 7049, 2.2.2).
+-- The bytes that follow the title of a string of this length (RFC 7049, 2.2.2): two bytes after `42`, and strings and a
+-- break after `5f`, as `41 61 ff`.
 abbrev pub IsRest : Bool → Kind → Option ℕ → List ℕ → Type 0
 IsRest strict kind (Some len) bytes = (length bytes ≡ len) × IsWritable kind bytes
 IsRest strict kind None bytes = EndsString strict kind bytes
@@ -67,8 +70,8 @@ module _ {R E : Type 0} (source : Ghosts R E) where
   FailsInside kind old error new = ThroughSomeRoom (λ room. StopsInside source kind room old error new)
 
 module _ {R E W : Type 0} (source : Ghosts R E) where
-  -- How the read of what follows a string's title stops: as a skip of the string does. The place is that of the title
-  -- of a body (RFC 7049, 2.2).
+  -- The read of the bytes that follow a string's title stops as a skip of the string does. The place is that of the
+  -- title of a body (RFC 7049, 2.2).
   abbrev pub StopsBehindTitle : Kind → Option ℕ → ℕ → Decoder R → Result (Unit {0}) (DumpError E W) → Decoder R → Type 0
   StopsBehindTitle kind len place old (Ok done) new = Unit {0}
   StopsBehindTitle kind (Some len) place old (Err (d.Item (s.Read error))) new =
@@ -78,8 +81,8 @@ module _ {R E W : Type 0} (source : Ghosts R E) where
   StopsBehindTitle kind len place old (Err (d.Item (s.Deep at))) new = ⊥
   StopsBehindTitle kind len place old (Err (d.Rows fault)) new = Unit {0}
 
-  -- What follows a string's title was shown, or a beginning of it. For a definite length it is the body, and the body
-  -- of a text is UTF-8. Otherwise it is strings and a break.
+  -- The bytes that follow a string's title were shown, or a beginning of them. For a definite length they are the body,
+  -- and the body of a text is UTF-8. Otherwise they are strings and a break.
   pub record ShowsBehindTitle (depth start : ℕ) (drawn then_drawn : Option (List Line)) (before : List ℕ) (kind : Kind)
       (len : Option ℕ) (strict : Bool) (place : ℕ) (result : Result (Unit {0}) (DumpError E W)) (old new : Decoder R)
       : Type 0 where

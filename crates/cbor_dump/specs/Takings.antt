@@ -31,9 +31,9 @@ pub record ThroughSomeRoom (Holds : ℕ → Type 0) : Type 0 where
 abbrev pub most_text : ℕ
 most_text = 13
 
--- What a decoder, strict or not, says of a first byte and as many bytes as that announces. They are a title of the
--- header, which is strict if the decoder is. Or they are none: the first byte is refused, or the decoder is strict and
--- the title is not (RFC 7049, 2.1 to 2.3 and 3.9).
+-- The answer of a decoder, strict or not, about a first byte and as many bytes as that announces (RFC 7049, 2.1 to 2.3
+-- and 3.9). They are a title of the header, which is strict if the decoder is. Or they are none, as `1c`, or as `18 17`
+-- for a strict decoder.
 abbrev pub AnswersTitle : Bool → List ℕ → Option Header → Type 0
 AnswersTitle strict bytes (Some header) = IsTitle bytes header × (IsTrue strict → IsStrictTitle bytes header)
 AnswersTitle strict bytes None = ((byte : ℕ) × IsRefused byte × (bytes ≡ byte ∷ []))
@@ -43,14 +43,15 @@ AnswersTitle strict bytes None = ((byte : ℕ) × IsRefused byte × (bytes ≡ b
 abbrev pub IsFirstByte : List ℕ → Type 0
 IsFirstByte bytes = (byte : ℕ) × (bytes ≡ byte ∷ []) × (0 < affix_len (byte % 32))
 
--- What was read of a title if the read stopped with this error: all of a refused title, or nothing, or its first byte.
+-- The bytes that were read of a title if the read stopped with this error: all of a refused title, or nothing, or its
+-- first byte. For `Syntax` they can be `1c`, and for another error `19`.
 abbrev pub IsTitleRow : {E : Type 0} → Bool → Error E → List ℕ → Type 0
 IsTitleRow strict (e.Syntax at) bytes = AnswersTitle strict bytes None
 IsTitleRow strict error bytes = (bytes ≡ []) ⊎ IsFirstByte bytes
 
 -- How many bytes are left after those of a row at fault, if the bytes end too early. After no byte they are fewer than
--- a row has. After a first byte they are fewer than it announces (RFC 7049, 2.1). After the first bytes of a text none
--- is left.
+-- a row has. After a first byte they are fewer than it announces (RFC 7049, 2.1): after `19` at most one. After the
+-- first bytes of a text none is left.
 abbrev pub Leaves : List ℕ → List ℕ → Type 0
 Leaves [] left = length left < most_bytes
 Leaves (byte ∷ []) left = length left < affix_len (byte % 32)
@@ -96,12 +97,13 @@ module _ {R E : Type 0} (source : Ghosts R E) where
   StopsBy e.TooLong old new = RefusesLast old new
   StopsBy e.Waiting old new = RefusesLast old new
 
-  -- What the reads did, by their answer.
+  -- The reads, by their answer.
   abbrev pub ReadsBy : {T : Type 0} → Result T (Error E) → Decoder R → Decoder R → Type 0
   ReadsBy (Ok done) old new = ReadsOn old new
   ReadsBy (Err error) old new = StopsBy error old new
 
-  -- `count` bytes were read after those before, or as many as there was room for.
+  -- `count` bytes were read after those before, or as many as there was room for. After 14 bytes a read of 4 bytes
+  -- reads 2.
   pub record ReadsMore (count : ℕ) (before after : List ℕ) (old : Decoder R) (result : Result (Unit {0}) (Error E))
       (new : Decoder R) : Type 0 where
     pub bytes : List ℕ

@@ -1,4 +1,4 @@
--- What the rows of a title show, and the rows of the string that it begins.
+-- The rows of a title, and the rows of the string that it begins.
 use Rattle.std.specs.Prelude.{◌≡◌, ℕ, Bool, false, List, [], ◌++◌, Option, Result, Ok, Err, OnOk}
 use Rattle.ciborium_ll.specs.Types.Read.{Ghosts}
 use Rattle.ciborium_ll.specs.Types.Decoder.{Decoder}
@@ -20,13 +20,14 @@ use Rattle.cbor_dump.specs.Walks.{IsDueBehind, IsDeepest}
 use Rattle.cbor_dump.specs.Takings.{ThroughSomeRoom, IsInMode}
 use Rattle.cbor_dump.specs.Sequences.{IsSequence}
 
--- After the bytes an item is due, and a break may not stand in its place.
+-- After the bytes an item is due, and a break may not stand in its place. That is so after `82 01`.
 pub record IsUnclosed (strict : Bool) (depth whole : ℕ) (before : List ℕ) : Type 0 where
   pub nests : List Nest
   pub within : StandsBehind strict depth whole nests before
   pub not_closable : closes_one nests 0 ≡ false
 
--- After the bytes an item is due, and the header that came is that of a string.
+-- After the bytes an item is due, and the header that came is that of a string. After `81` the header of `42` is that
+-- of a byte string of 2 bytes.
 pub record IsStringDue (strict : Bool) (depth whole : ℕ) (before : List ℕ) (header : Header) (kind : Kind)
     (len : Option ℕ) : Type 0 where
   pub nests : List Nest
@@ -34,8 +35,8 @@ pub record IsStringDue (strict : Bool) (depth whole : ℕ) (before : List ℕ) (
   pub is : header ≡ kind_header kind len
 
 module _ {E W : Type 0} where
-  -- How a title that begins no string ends a dump, at the title's place: a break that may not stand there, or a nest
-  -- too deep (RFC 7049, 2.2).
+  -- A title that begins no string ends a dump at the title's place: a break that may not stand there, or a nest too
+  -- deep (RFC 7049, 2.2). After `81` a break may not stand, and to the depth 1 a second `81` is too deep.
   abbrev pub StopsAlone : Bool → ℕ → ℕ → Header → ℕ → List ℕ → Result (Unit {0}) (DumpError E W) → Type 0
   StopsAlone strict depth whole header place before (Ok done) = Unit {0}
   StopsAlone strict depth whole header place before (Err (d.Item (s.Read error))) = ⊥
@@ -59,8 +60,7 @@ module _ {R E : Type 0} (source : Ghosts R E) where
   FailsInString kind len old error new = ThroughSomeRoom (λ room. SkipsString source kind len room old (Err error) new)
 
 module _ {R E W : Type 0} (source : Ghosts R E) where
-  -- How a title ends a dump, or how the string that it begins ends it. The string stops as a skip of it does (RFC 7049,
-  -- 2.2).
+  -- A title ends a dump, or the string that it begins does. The string stops as a skip of it does (RFC 7049, 2.2).
   abbrev pub EndsAtTitle : Bool → ℕ → ℕ → Header → ℕ → List ℕ → Decoder R → Result (Unit {0}) (DumpError E W)
       → Decoder R → Type 0
   EndsAtTitle strict depth whole header place before old (Ok done) new = Unit {0}

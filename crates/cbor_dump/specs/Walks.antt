@@ -1,4 +1,4 @@
--- How a walk keeps which tags, arrays and maps are not closed, and what is due within each.
+-- The tags, arrays and maps that a walk keeps, which are not closed, and the items that are due within each.
 use Rattle.std.specs.Prelude.{◌≡◌, ℕ, zero, suc, ◌+◌, Bool, true, false, List, [], ◌∷◌, ◌++◌, length, slice_index_or}
 use Rattle.ciborium_ll.specs.Types.Header.{Header}
 use Rattle.ciborium_ll.specs.Types.Header.TheVariants as h
@@ -11,7 +11,7 @@ use Rattle.cbor_dump.specs.declared.walk.Entered.{Entered}
 use Rattle.cbor_dump.specs.declared.walk.Entered.TheVariants as w
 use Rattle.cbor_dump.specs.Levels.{Nest, StandsBehind, closes_one, title_level}
 
--- A header that is an item by itself (RFC 7049, 2.1 and 2.3).
+-- A header that is an item by itself (RFC 7049, 2.1 and 2.3), as those of `01`, `20`, `f4` and `f9 3c 00` are.
 abbrev pub IsItemAlone : Header → Type 0
 IsItemAlone (h.Positive number) = Unit {0}
 IsItemAlone (h.Negative number) = Unit {0}
@@ -19,7 +19,7 @@ IsItemAlone (h.Float value) = Unit {0}
 IsItemAlone (h.Simple number) = Unit {0}
 IsItemAlone header = ⊥
 
--- What remains of the level of this number.
+-- The items that remain at the level of this number.
 abbrev pub remaining_at : List Remaining → ℕ → Remaining
 remaining_at levels at = slice_index_or levels at (r.Items 0)
 
@@ -37,13 +37,13 @@ pub record KeepsNests (depth : ℕ) (walk : Walk) (nests : List Nest) : Type 0 w
   pub room : length walk.levels ≡ 256
 
 -- After the bytes, which have `whole` whole items, an item is due within the nests that the walk keeps. All stand in
--- any spelling, or all in the shortest one.
+-- any spelling, or all in the shortest one. After `01 82` one item is whole, and the walk keeps one nest.
 pub record IsDue (strict : Bool) (depth whole : ℕ) (walk : Walk) (bytes : List ℕ) : Type 0 where
   pub nests : List Nest
   pub within : StandsBehind strict depth whole nests bytes
   pub keeps : KeepsNests depth walk nests
 
--- The bytes end with an item that was due within the nests that the walk keeps.
+-- The bytes end with an item that was due within the nests that the walk keeps. In `82 01` it is `01`, within one nest.
 pub record IsBehindItem (strict : Bool) (depth whole : ℕ) (walk : Walk) (bytes : List ℕ) : Type 0 where
   pub before : List ℕ
   pub item : List ℕ
@@ -53,7 +53,8 @@ pub record IsBehindItem (strict : Bool) (depth whole : ℕ) (walk : Walk) (bytes
   pub is_item : IsItem strict levels item
   pub is : bytes ≡ before ++ item
 
--- How many items are whole after the end of an item, if this many levels are open: outside of all levels one more.
+-- How many items are whole after the end of an item, if this many levels are open: outside of all levels one more. With
+-- no level open 2 becomes 3, and with one level open it stays 2.
 abbrev pub whole_behind : ℕ → ℕ → ℕ
 whole_behind whole zero = suc whole
 whole_behind whole (suc used) = whole
@@ -62,19 +63,19 @@ whole_behind whole (suc used) = whole
 abbrev pub IsDueBehind : Bool → ℕ → ℕ → Walk → List ℕ → Type 0
 IsDueBehind strict depth whole walk bytes = IsDue strict depth (whole_behind whole walk.used) walk bytes
 
--- After the bytes an item is due within as many nests as there may be.
+-- After the bytes an item is due within as many nests as there may be. After `81` that is so to the depth 1.
 pub record IsDeepest (strict : Bool) (depth whole : ℕ) (bytes : List ℕ) : Type 0 where
   pub nests : List Nest
   pub within : StandsBehind strict depth whole nests bytes
   pub full : length nests ≡ depth
 
--- What the title of a nest does after the bytes.
+-- The effect of a nest's title after the bytes: `80` is an item, and `81` opens a level.
 abbrev pub Enters : Bool → ℕ → ℕ → Entered → Walk → List ℕ → List ℕ → Type 0
 Enters strict depth whole w.Deep walk before title = IsDeepest strict depth whole before
 Enters strict depth whole w.Empty walk before title = IsBehindItem strict depth whole walk (before ++ title)
 Enters strict depth whole w.Within walk before title = IsDueBehind strict depth whole walk (before ++ title)
 
--- What a break does after the bytes, and at which level it stands.
+-- The effect of a break after the bytes, and its level. After `9f 01` it closes the array.
 pub record Breaks (strict : Bool) (depth whole : ℕ) (closed : Bool) (walk : Walk) (before : List ℕ) : Type 0 where
   pub nests : List Nest
   pub within : StandsBehind strict depth whole nests before
@@ -82,7 +83,8 @@ pub record Breaks (strict : Bool) (depth whole : ℕ) (closed : Bool) (walk : Wa
   pub may : closes_one nests 0 ≡ closed
   pub behind : closed ≡ true → IsBehindItem strict depth whole walk (before ++ 0xff ∷ [])
 
--- What the end of an item does: its level goes on, or ends too.
+-- The effect of an item's end: its level goes on, or ends too. In `82 01 02` the array goes on after `01`, and ends
+-- after `02`.
 abbrev pub Ends : Bool → ℕ → ℕ → Bool → Walk → List ℕ → Type 0
 Ends strict depth whole true walk bytes = IsBehindItem strict depth whole walk bytes
 Ends strict depth whole false walk bytes = IsDueBehind strict depth whole walk bytes

@@ -86,7 +86,7 @@ returns-in-Err g c =
           (rw (c.offset-place.ensures.same, c.in-Err.is) at c.read_title.ensures.moves));
     }
 
--- each nest has a title, and the one that was read has a byte
+-- Each nest has a title, and the title that was read has at least one byte.
 pub title-requires : goal.title-requires
 title-requires g c =
     let row = taken_bytes c.read_title.new.self in

@@ -10,6 +10,6 @@ invariant-titles g l =
     × (IsWaiting l.fn.decoder → (l.decoder ≡ l.fn.decoder) × (l.rows ≡ l.fn.rows))
     × ReadsOn g.R.Read l.fn.decoder l.decoder
 
--- each title takes a byte
+-- Each title takes at least one byte.
 abbrev pub decreases-titles : goal.decreases-titles
 decreases-titles g l = 2 ^ 64 - l.decoder.offset

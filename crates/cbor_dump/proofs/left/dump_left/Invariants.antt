@@ -7,6 +7,6 @@ abbrev pub invariant-bytes : goal.invariant-bytes
 invariant-bytes g l = Keeps g.R.Read [] (taken_bytes l.taken) l.fn.decoder l.decoder
     × ReadsPast g.R.Read l.fn.decoder (taken_bytes l.taken) l.decoder
 
--- each byte is one less that there is room for
+-- Each byte leaves room for one byte less.
 abbrev pub decreases-bytes : goal.decreases-bytes
 decreases-bytes g l = 16 - length (taken_bytes l.taken)

@@ -13,7 +13,7 @@ items-init g c = record {
   moves_on = rw c.offset-start.ensures.same (MovesOn-none g.R.Read c.args.decoder.now);
 }
 
--- each item takes a byte, so that there are no more than the offset counts
+-- Each item takes at least one byte, so there are at most as many items as the offset counts bytes.
 pub overflow_add-items : goal.overflow_add-items
 overflow_add-items g c =
     let item : ReadsItem g.R.Read c.args.depth c.items.decoder c.skip_item.new.decoder =

@@ -18,6 +18,6 @@ invariant-rows g l = record {
   moves : ReadsOn g.R.Read l.fn.decoder l.decoder;
 }
 
--- each row has a byte
+-- Each row takes at least one byte of the body.
 abbrev pub decreases-rows : goal.decreases-rows
 decreases-rows g l = l.left

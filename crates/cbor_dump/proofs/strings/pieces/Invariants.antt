@@ -19,6 +19,6 @@ invariant-parts g l = record {
   below : l.inner ≤ l.decoder.offset;
 }
 
--- each title takes a byte
+-- Each title takes at least one byte.
 abbrev pub decreases-parts : goal.decreases-parts
 decreases-parts g l = 2 ^ 64 - l.decoder.offset

@@ -16,6 +16,6 @@ invariant-more g l = record {
   moves : ReadsOn g.R.Read l.fn.decoder l.decoder;
 }
 
--- each byte is one less that there is room for
+-- Each byte leaves room for one byte less.
 abbrev pub decreases-more : goal.decreases-more
 decreases-more g l = 16 - length (taken_bytes l.self)

@@ -6,6 +6,6 @@ abbrev pub invariant-levels : goal.invariant-levels
 invariant-levels l = (strict : Bool) (depth whole : ℕ) (bytes : List ℕ)
     → IsBehindItem strict depth whole l.fn.self bytes → IsBehindItem strict depth whole l.self bytes
 
--- each level that ends is one less
+-- Each level that ends leaves one level less.
 abbrev pub decreases-levels : goal.decreases-levels
 decreases-levels l = l.self.used
