@@ -1,4 +1,4 @@
-//! A dump: each title of a sequence of items in a row, and the body of a string in rows below its title.
+//! Shows each title of a sequence of items in a row, and the body of a string in rows below its title.
 
 ghost use Rattle.std.specs.Prelude.{◌≡◌, ℕ, ◌+◌, ◌-◌, ◌<◌, ◌≤◌, ◌↔◌, List, [], ◌∷◌, ◌++◌, length, Bool, Err, IfErr};
 ghost use Rattle.std.specs.Prelude.{IsOk};
@@ -37,25 +37,22 @@ use ciborium_ll::{Decoder, Error, Header};
 pub enum DumpError<E, W> {
     /// The bytes at this point are no item, for this reason.
     Item(SkipError<E>),
-    /// The call refused a row, with this error.
+    /// A row was refused, with this error.
     Rows(W),
 }
 
 /// Shows a sequence of items (RFC 8742) in rows up to its end, and returns the reader's error there.
 ///
-/// Tags, arrays and maps nest at most `depth` levels deep. The depth is at most 256. A strict dump takes only the
-/// shortest spelling. The dump reads nothing ahead of the rows and takes no memory. Before an error it shows all bytes
-/// that it read. The `Display` of [`Row`] says how a row is printed.
+/// Tags, arrays and maps nest at most `depth` levels deep, and `depth` is at most 256. A strict dump takes only the
+/// shortest spelling. The dump reads nothing ahead of the rows, takes no memory, and before an error shows all bytes
+/// that it read.
 ///
 /// # Rows
 ///
-/// - A row has 1 to 16 bytes and the offset of its first byte, and stands at its level.
-/// - The level of a title is the number of tags, arrays, maps and opens around it in the grammar. A break that closes
-///   one has the level of its title.
-/// - A part of a body stands one level deeper than its string's title. It has 16 bytes, at least 13 bytes of a text, or
-///   all that is left of the body.
-/// - If the reader is steady and no header waits, the bytes of the rows, joined, are exactly the consumed bytes. On
-///   `Ok` they are a sequence of items to the depth, after a strict dump in the shortest spelling.
+/// - A row has 1 to 16 bytes, at the level that [`Row`] says.
+/// - A part of a body has 16 bytes, at least 13 bytes of a text, or all that is left.
+/// - If the reader is steady and no header waits, the rows have exactly the consumed bytes. On `Ok` these are a
+///   sequence of items to the depth, in the dump's spelling.
 ///
 /// These facts hold after a fault too, unless a row was refused.
 ///
@@ -63,41 +60,36 @@ pub enum DumpError<E, W> {
 ///
 /// Only the last row before an error can have the meaning [`Meaning::Fault`].
 ///
-/// - `Item` with `Error::Syntax`: the last row is at fault. It has all bytes of a refused title: its first byte is
-///   refused, or the dump is strict and the title is not, or its string may not contain it. Or it has bytes of a body
-///   that are no text, as the rest of the body or however the body goes on.
-/// - `Item` with another error of a read: the last row can be at fault. It then has the first byte of a title, which
-///   announces more. Or it has at least 13 bytes of a text, which end inside a character, and more bytes are due.
-/// - `Item` with `SkipError::Break`: a break stands at a place that allows none. Its row shows a break.
-/// - `Item` with `SkipError::Deep`: a tag, an array or a map stands too deep. Its row shows the title.
-/// - `Item` with `Error::Waiting`: a header waits. The dump draws no row and reads nothing, and only the decoder's
-///   count of refusals changes, by one.
-/// - `Rows`: a row was refused. The earlier rows and this row have exactly the consumed bytes: all bytes of a title,
-///   and no byte of a body after the refused row. Each stands as it would if the refused row had been taken.
+/// - `Item` with `Error::Syntax`: the last row is at fault. It has all bytes of a title that is refused for its first
+///   byte, its spelling or its string, or bytes with which a body is no text.
+/// - `Item` with another error of a read: the last row can be at fault, with the first byte of a longer title, or at
+///   least 13 bytes of a text that end inside a character.
+/// - `Item` with `SkipError::Break`: the last row shows a break that may not stand there.
+/// - `Item` with `SkipError::Deep`: the last row shows the title of a tag, an array or a map that is too deep.
+/// - `Item` with `Error::Waiting`: a header waits. The dump draws no row and reads nothing.
+/// - `Rows`: a row was refused. The rows up to it have exactly the consumed bytes, as if it had been taken.
 ///
-/// If a steady reader that tells its bytes fails within an item, and no header waited, few bytes are left. They are
-/// fewer than a first byte at fault announces, none after a text at fault, and at most 15 if no row is at fault.
+/// If a steady reader that tells its bytes fails within an item, at most 15 bytes are left: fewer than a first byte at
+/// fault announces, and none after a text at fault.
 ///
 /// # A dump as a check
 ///
-/// If no header waits, and the decoder is as strict as the dump, the dump does what `check` would do through a buffer
-/// of some room. It answers the same, unless a row was refused. The room is at most 16 bytes, and can be less than
-/// `check` requires.
+/// If no header waits and the decoder is as strict as the dump, the dump reads and answers as [`check`] does, unless a
+/// row was refused. The buffer of this check has at most 16 bytes, and can be smaller than `check` requires.
 ///
-/// If also a steady reader tells its bytes, the offset fits and no row was refused, `Ok` comes exactly if the bytes are
-/// a sequence of items to the depth. Otherwise the error is the fault after the items before it.
+/// If a steady reader also tells its bytes and the offset fits, `Ok` comes exactly if they are a sequence of items to
+/// the depth.
 ///
-/// If the decoder is not as strict, no clause says at which fault the dump stops. The dump's strictness then decides
-/// whether it takes a title.
+/// If the decoder is not as strict, the dump's strictness decides whether it takes a title. No clause then says at
+/// which fault it stops.
 ///
 /// # The decoder after a dump
 ///
-/// A steady reader stays steady, the decoder is as strict as before, and its offset does not fall. The reader fails
-/// once if the answer is `Ok` or carries `Error::Io`. Before a refused row it failed at most once, and that row then
-/// has the bytes before the fault. Otherwise it does not fail.
+/// The decoder moves on as [`Decoder`] says. The reader fails only for `Ok`, for `Error::Io`, or before a refused row
+/// that has the bytes before the fault, and then once.
 ///
-/// The decoder counts a refusal exactly if it refused the last read: for `Error::TooLong`, for `Error::Waiting`, or for
-/// the fault of which a refused row has the bytes.
+/// The decoder counts a refusal for `Error::TooLong` and `Error::Waiting`. It can count one for a fault whose bytes a
+/// refused row has.
 pub fn dump<R: Read, S: Rows>(
     decoder: &mut Decoder<R>,
     depth: usize,
@@ -137,7 +129,7 @@ where
 }
 
 /// Answers a failed read of a title. If the reader failed outside of all nests before a byte came, the sequence has
-/// ended. Otherwise the call shows the bytes that were read, and returns the error of the dump.
+/// ended. Otherwise the call shows the bytes that were read.
 fn ended<E: Drop, S: Rows>(
     taken: &Taken,
     error: Error<E>,
@@ -332,7 +324,7 @@ fn nest<E, S: Rows>(
     }
 }
 
-/// Shows the title of a string, which was read, and the rest of the string.
+/// Shows the title of a string, and the rest of the string.
 fn string<R: Read, S: Rows>(
     decoder: &mut Decoder<R>,
     walk: &mut Walk,

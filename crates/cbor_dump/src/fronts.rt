@@ -12,7 +12,7 @@ use ciborium_ll::io::{Read, SliceReader};
 use ciborium_ll::{Decoder, Header, Spelling};
 use ciborium_ll_text::state::{State, text_front};
 
-/// Returns the header of a title. `title` has all its bytes: the first byte and as many as that announces.
+/// Returns the header of a title, which has the first byte and as many bytes as that announces.
 pub(crate) fn header_of(title: &[u8], strict: bool) -> Option<Header>
     ensures { (first : ℕ) (affix : List ℕ) → title.now ≡ first ∷ affix → length affix ≡ affix_len (first % 32)
         → AnswersTitle strict title.now result }
@@ -21,7 +21,7 @@ pub(crate) fn header_of(title: &[u8], strict: bool) -> Option<Header>
     whole_header(&mut Decoder::with_spelling(SliceReader::new(title), spelling, 0))
 }
 
-/// Returns the header of the title that is all that a decoder reads, from its start on.
+/// Returns the header of the title that is all that the decoder reads.
 fn whole_header<R: Read>(decoder: &mut Decoder<R>) -> Option<Header>
 where
     R::Error: Drop,
@@ -46,7 +46,7 @@ pub(crate) fn is_text(bytes: &[u8]) -> bool
     matches!(state_of(bytes), State::Between)
 }
 
-/// Returns whether the bytes are whole characters and the beginning of another character.
+/// Returns whether the bytes are whole characters and then the beginning of another one.
 pub(crate) fn is_cut(bytes: &[u8]) -> bool
     ensures { result ≡ is_inside (after Between bytes.now) }
 {

@@ -9,19 +9,17 @@ use crate::taken::Taken;
 use ciborium_ll::Decoder;
 use ciborium_ll::io::Read;
 
-/// Shows the bytes that a dump left after its reader failed: the beginning of an affix, or of a part of a body. They
-/// stand in one row of this level, as bytes at fault. If nothing is left, there is no row.
+/// Shows the bytes that a dump left after its reader failed, in one row at fault of this level. If nothing is left,
+/// there is no row.
 ///
-/// If no row is refused, the call read bytes one by one, until it had 16 or a read failed, and read nothing after that.
-/// The row shows exactly the consumed bytes, with the offset of the first byte. If a steady reader tells its bytes, no
-/// header waits, at most 16 bytes are left, and the offset fits them, the row shows all of them.
+/// The call reads bytes one by one, until it has 16 or a read fails. On `Ok` the row shows exactly the consumed bytes.
+/// It shows all that are left if a steady reader tells at most 16, no header waits and the offset fits.
 ///
-/// A dump that stopped because its bytes ended leaves at most 15 bytes, as its contract says. No clause says that these
-/// bytes begin an affix or a part of a body: after another error, or over another reader, they are what comes next.
+/// No clause says that they begin an affix or a part of a body, as they do if the reader ended the [`dump`].
 ///
 /// # Errors
 ///
-/// The error of the row, if the row was refused.
+/// The error of the refused row.
 pub fn dump_left<R: Read, S: Rows>(
     decoder: &mut Decoder<R>,
     level: usize,

@@ -1,7 +1,7 @@
 // SPDX-License-Identifier: Apache-2.0
-//! Checks and shows items of CBOR (RFC 7049, 2.1 to 2.4) and sequences of items (RFC 8742). No call takes memory.
+//! Checks and shows items of CBOR (RFC 7049, 2.1 to 2.4) and sequences of items (RFC 8742).
 //!
-//! The calls rest on the contract of `skip_item` of `cbor_skip` and its lemmas, and return over any reader.
+//! No call takes memory, and each returns over any reader.
 #![tactic(auto)]
 
 pub mod dump;

@@ -58,12 +58,12 @@ pub enum Meaning {
 /// One row of a dump.
 #[derive(Debug, Clone, Copy)]
 pub struct Row<'a> {
-    /// How many tags, arrays, maps and opens a title stands within. A break that closes one of these has the level of
-    /// its title, and a part of a body one level more than its string's title.
+    /// How many tags, arrays, maps and opens a title stands within. A break that closes one has the level of its title,
+    /// and a part of a body stands one level deeper than its string's title.
     pub level: usize,
     /// The offset of the first byte.
     pub offset: usize,
-    /// The bytes of the row: in a dump from 1 to 16.
+    /// The bytes of the row, in a dump 1 to 16.
     pub bytes: &'a [u8],
     /// What the bytes mean.
     pub meaning: Meaning,
@@ -77,7 +77,7 @@ pub trait Rows {
     /// All rows so far, if the value exposes them.
     ghost drawn: { Self → Option (List Line) };
 
-    /// Takes the next row. A refused row is not one of the rows so far.
+    /// Takes the next row.
     ///
     /// # Errors
     ///
@@ -221,7 +221,7 @@ fn character<W: fmt::Write>(f: &mut fmt::Formatter<W>, c: char) -> fmt::Result
     }
 }
 
-/// Writes a text between quotes. If the bytes are no UTF-8, nothing stands between the quotes.
+/// Writes a text between quotes. If the bytes are no UTF-8, the quotes are empty.
 fn quoted<W: fmt::Write>(f: &mut fmt::Formatter<W>, bytes: &[u8]) -> fmt::Result
     ensures { WritesOnOk W.Write.write_str_gives f.old result (quoted_text bytes.now) f.new }
 {
@@ -230,7 +230,7 @@ fn quoted<W: fmt::Write>(f: &mut fmt::Formatter<W>, bytes: &[u8]) -> fmt::Result
     f.write_str("\"")
 }
 
-/// Returns whether each of these bytes is a character that stands for itself between quotes.
+/// Returns whether each byte is a character that stands for itself between quotes.
 fn is_plain(bytes: &[u8]) -> bool
     ensures { result ≡ true → ArePlain bytes.now }
 {
@@ -257,7 +257,7 @@ fn characters<W: fmt::Write>(f: &mut fmt::Formatter<W>, text: &str) -> fmt::Resu
     Ok(())
 }
 
-/// Writes the space, the `#` and the indent between the bytes of a row, `count` in number, and their meaning.
+/// Writes the space, the `#` and the indent between the `count` bytes of a row and their meaning.
 fn margin<W: fmt::Write>(f: &mut fmt::Formatter<W>, level: usize, count: usize) -> fmt::Result
     ensures { WritesOnOk W.Write.write_str_gives f.old result (margin_text level count) f.new }
 {

@@ -18,7 +18,7 @@ pub struct Sequence<E> {
     pub items: usize,
     /// How many bytes the items take.
     pub bytes: usize,
-    /// The reader's error at the offset of a further item. It says whether the bytes end there or cannot be read.
+    /// The reader's error at the offset of a further item: the bytes end there, or cannot be read.
     pub end: E,
 }
 
@@ -35,25 +35,21 @@ pub struct Stopped<E> {
 
 /// Reads items up to the end, and returns how many items and bytes there are, and the reader's error there.
 ///
-/// Tags, arrays and maps nest at most `depth` levels deep. The depth is at most 256. Strings go through the buffer, of
-/// at least four bytes. The call takes no memory except the stack, with a frame for each level.
+/// Tags, arrays and maps nest at most `depth` levels deep, and `depth` is at most 256. Strings go through the buffer,
+/// of at least four bytes. The call takes no memory except a stack frame for each level.
 ///
-/// `Ok` says that whole items were there, and that the reader failed at the offset of a further item, before a byte of
-/// it came. If the reader fails only if bytes are missing, this is the end of a sequence (RFC 8742). A strict decoder
-/// takes each item only in its shortest spelling (RFC 7049, 3.9).
+/// `Ok` says that the reader failed at the offset of a further item, before a byte of it came. If the reader fails only
+/// if bytes are missing, this is the end. A strict decoder takes only the shortest spelling (RFC 7049, 3.9).
 ///
-/// Assume that a steady reader tells its bytes, that the offset fits, and that no header waits on a strict decoder.
-/// Then `Ok` comes exactly if the bytes are a sequence of items to the depth, for a strict decoder in their shortest
-/// spelling. It has the number of items and of bytes. Otherwise the error has the items before the fault, and the
-/// fault.
+/// If a steady reader tells its bytes, the offset fits and no header waits on a strict decoder, `Ok` comes exactly if
+/// they are a sequence of items (RFC 8742).
 ///
-/// In each case the decoder moves on as [`Decoder`] says. The reader fails once if the answer is `Ok` or carries
-/// `Error::Io`, and otherwise it does not fail.
+/// The decoder moves on as [`Decoder`] says. The reader fails only for `Ok` and `Error::Io`, and then once.
 ///
 /// # Errors
 ///
-/// [`Stopped`] has the error of `skip_item` on the item after the whole items, and is never the end. The decoder has
-/// consumed what `skip_item` consumes with that error.
+/// [`Stopped`] has the error of `skip_item` on the item after the whole items. The decoder has consumed what
+/// `skip_item` consumes with that error.
 pub fn check<R: Read>(
     decoder: &mut Decoder<R>,
     depth: usize,
@@ -83,7 +79,7 @@ pub fn check<R: Read>(
     }
 }
 
-/// Answers the error that ended the read. The first item begins at `start`, the last item at `place`, and the read
+/// Answers the error that ended the read. The first item begins at `start`, and the last one at `place`. The read
 /// failed at the offset `stop`.
 fn ended<E>(
     error: SkipError<E>,

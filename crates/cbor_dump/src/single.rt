@@ -17,26 +17,15 @@ use ciborium_ll::{Decoder, Error, Header};
 pub enum NotOne<E> {
     /// The input does not begin with an item, for this reason.
     Item(SkipError<E>),
-    /// The input begins with an item, and more follows at this offset. The pull at this offset returned this header, or
-    /// this error of the decoder.
+    /// The input begins with an item, and more follows at this offset. The pull there returned this header or error.
     More(usize, Result<Header, Error<E>>),
 }
 
 /// Reads one item and the end after it, and returns how many bytes the item takes, and the reader's error there.
 ///
-/// Tags, arrays and maps nest at most `depth` levels deep. The depth is at most 256, and the buffer has at least four
-/// bytes.
-///
-/// `Ok` says that one whole item was there, and that the reader failed before a further byte came. If the reader fails
-/// only if bytes are missing, this is the end. The call reads at most one title after the item. A strict decoder takes
-/// the item only in its shortest spelling (RFC 7049, 3.9).
-///
-/// Assume that a steady reader tells its bytes, that the offset fits, and that no header waits on a strict decoder.
-/// Then `Ok` comes exactly if the bytes are one item to the depth, for a strict decoder in its shortest spelling.
-/// Otherwise the bytes begin with no item, or bytes follow it.
-///
-/// In each case the decoder moves on as [`Decoder`] says. The reader fails once if the answer is `Ok` or carries
-/// `Error::Io`, and otherwise it does not fail.
+/// The depth, the buffer, strictness, the end and the decoder's moves are as in [`check`]. The call reads at most one
+/// title after the item. If the reader and the decoder are as that call assumes, `Ok` comes exactly if the bytes are
+/// one item.
 ///
 /// # Errors
 ///
@@ -66,7 +55,7 @@ pub fn check_one<R: Read>(
     alone(pulled, start, place, decoder.offset())
 }
 
-/// Answers the pull after an item. The item stands from `start` to `place`, and the pull stopped at the offset `stop`.
+/// Answers the pull after an item. The item stands from `start` to `place`, and the pull stopped at `stop`.
 fn alone<E>(
     pulled: Result<Header, Error<E>>,
     start: usize,

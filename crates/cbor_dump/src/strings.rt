@@ -88,8 +88,7 @@ where
     Ok(())
 }
 
-/// Reads the next bytes of a body that has `left` bytes left. If the call returns `Ok`, the bytes of a text are whole
-/// characters.
+/// Reads the next bytes of a body that has `left` bytes left. On `Ok` the bytes of a text are whole characters.
 fn read_part<R: Read>(
     taken: &mut Taken,
     decoder: &mut Decoder<R>,
@@ -122,7 +121,7 @@ fn read_part<R: Read>(
     }
 }
 
-/// What a title within a string of indefinite length is.
+/// The role of a title within a string of indefinite length.
 #[derive(Clone, Copy)]
 enum Part {
     /// A break.
@@ -135,7 +134,7 @@ enum Part {
     Other,
 }
 
-/// Returns what a header is within a string of indefinite length of this kind.
+/// Returns the role of a header within a string of indefinite length of this kind.
 fn part_of(header: Header, kind: Kind, strict: bool) -> Part
     ensures { IsPart strict (kind_of kind) header result }
 {
@@ -152,8 +151,8 @@ fn part_of(header: Header, kind: Kind, strict: bool) -> Part
     }
 }
 
-/// Returns the level of a title within an open. `inner` is the level of the titles in the open. A break closes the
-/// open, and has the open's level.
+/// Returns the level of a title within an open. `inner` is the level of the titles in the open. A break has the level
+/// of the open that it closes.
 fn title_level(header: Header, inner: usize) -> usize
     requires some { 0 < inner }
     ensures { (nests : List Nest) (opens : ℕ) → inner ≡ length nests + suc opens

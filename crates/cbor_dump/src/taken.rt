@@ -91,7 +91,7 @@ impl Taken {
         self.read(decoder, 1).is_ok()
     }
 
-    /// Reads the affix of a title, of `count` bytes. If the title has no affix, the call reads nothing.
+    /// Reads the `count` bytes of a title's affix. If there are none, the call reads nothing.
     fn read_affix<R: Read>(
         &mut self,
         decoder: &mut Decoder<R>,
@@ -140,8 +140,8 @@ impl Taken {
         }
     }
 
-    /// Reads bytes of a text that has `left` bytes left, up to the end of a character, and returns whether the bytes
-    /// are whole characters.
+    /// Reads bytes of a text that has `left` bytes left, up to the end of a character. Returns whether the bytes are
+    /// whole characters.
     pub(crate) fn read_text<R: Read>(
         &mut self,
         decoder: &mut Decoder<R>,

@@ -7,7 +7,7 @@ use cbor_skip::Remaining;
 use ciborium_ll::Header;
 use ciborium_ll::limits::MOST_LEVELS;
 
-/// What a title that begins a level does.
+/// The effect of a title that begins a level.
 pub(crate) enum Entered {
     /// No level is left for it.
     Deep,
@@ -17,7 +17,7 @@ pub(crate) enum Entered {
     Within,
 }
 
-/// The tags, arrays and maps that are not closed, and what is due within each.
+/// The tags, arrays and maps that are not closed, and the items due within each.
 #[derive(Drop)]
 pub(crate) struct Walk {
     levels: [Remaining; MOST_LEVELS],
@@ -73,7 +73,7 @@ impl Walk {
         Entered::Within
     }
 
-    /// Takes a break, and returns whether it may stand there. If it may, the last level is closed.
+    /// Takes a break, and returns whether it may stand there. If it may, the call closes the last level.
     pub(crate) fn close(&mut self) -> bool
         ensures { (strict : Bool) (depth whole : ℕ) (before : List ℕ) → IsDue strict depth whole self.old before
             → Breaks strict depth whole result self.new before }
@@ -96,7 +96,7 @@ impl Walk {
         'levels: while self.ends_level() {}
     }
 
-    /// Takes the end of an item, and returns whether the last level ends with it. That level is then closed.
+    /// Takes the end of an item, and returns whether the last level ends with it. The call then closes that level.
     fn ends_level(&mut self) -> bool
         ensures ends { (strict : Bool) (depth whole : ℕ) (bytes : List ℕ)
             → IsBehindItem strict depth whole self.old bytes → Ends strict depth whole result self.new bytes }
