@@ -1,4 +1,4 @@
--- A body that is copied to a writer of what stands between quotes, and shown in them.
+-- A body that is copied to a quoting writer, and shown in quotes.
 use Rattle.std.proofs.Common.{◌≡◌, ◌∙◌, ℕ, ◌+◌, List, [], ◌++◌, drop, Option, Some, None, Result, Ok, Err, ap, arith}
 use Rattle.std.proofs.Common.{append_assoc, append-nil, length-append}
 use Rattle.std.proofs.lemmas.List.{take-append-drop}
@@ -24,13 +24,13 @@ use Rattle.cbor_diag.specs.Showing.{ShowsText}
 use Rattle.cbor_diag.specs.StringShows.{BodyUnshown, CopiesQuoted, ShowsBody, closing, opening}
 use Rattle.cbor_diag.proofs.QuotedLaws.{body_text-append, front_longer}
 
--- a target that is told has just that one
+-- Two targets that are told to be the same are equal.
 pub same_target : {one other : Target} → Some one ≡ Some other → one ≡ other
 same_target same = cc
 
 module _ {R E W F V : Type 0} (source : Reader R E) (sink : Writer W F) (given : V → List ℕ) (count : V → ℕ)
     (flushed : V → V → Type 0) (target : V → Option Target) where
-  -- a writer that tells what it was given
+  -- A writer that tells the bytes that it got.
   abbrev pub quoting : Writer V F
   quoting = record {
     written = λ v. Some (given v);
@@ -63,7 +63,7 @@ module _ {R E W F V : Type 0} (source : Reader R E) (sink : Writer W F) (given :
               (front (stops.stopped.failures ∙ ap (λ (m : ℕ). m + 1) stops.written.failures)));
         }
 
-    -- what was copied to it was copied in quotes
+    -- A body that was copied to a quoting writer was copied in quotes.
     pub through_quotes : (result : Result (Unit {0}) (RecodeError E F))
         → CopiesBody source quoting kind len room place (sides old v) result (sides new v')
         → CopiesQuoted source sink kind len room place quotes (sides old w) result (sides new w')
@@ -74,7 +74,7 @@ module _ {R E W F V : Type 0} (source : Reader R E) (sink : Writer W F) (given :
 
 module _ {R E W F : Type 0} (source : Reader R E) (sink : Writer W F) (kind : Kind) (quotes : Quotes)
     (len room place : ℕ) (old : Decoder R) (w : W) where
-  -- the writer failed at the opening quote
+  -- If the writer fails at the opening quote, the show of the body ends with that failure.
   pub body_unopened : (error : DiagError E F) (w' : W) → ShowsText sink (Some (opening quotes)) w (Err error) w'
       → ShowsBody source sink kind len room place quotes (sides old w) (Err error) (sides old w')
   body_unopened (d.Read error) w' said = absurd said
@@ -88,14 +88,14 @@ module _ {R E W F : Type 0} (source : Reader R E) (sink : Writer W F) (kind : Ki
   }
 
   module _ {opened : W} (begun : WritesAll sink w (opening quotes) opened) (new : Decoder R) (behind : W) where
-    -- the read of the body stopped
+    -- If the read of the body stops, its show stops with the same error.
     pub body_stops : (error : Error E)
         → CopiesQuoted source sink kind len room place quotes (sides old opened) (Err (r.Read error)) (sides new behind)
         → ShowsBody source sink kind len room place quotes (sides old w) (Err (d.Read (s.Read error)))
         (sides new behind)
     body_stops error copied = record { ends = copied.ends; written = wrote_both begun copied.written }
 
-    -- the writer failed within the body
+    -- If the writer fails within the body, the show ends with that failure.
     pub body_unshown : (fault : F)
         → CopiesQuoted source sink kind len room place quotes (sides old opened) (Err (r.Write fault))
         (sides new behind)
@@ -109,7 +109,7 @@ module _ {R E W F : Type 0} (source : Reader R E) (sink : Writer W F) (kind : Ki
       stopped = front_longer sink w behind _ (closing quotes) (wrote_first begun fault stops.stopped);
     }
 
-    -- the body was written, and the closing quote, or the writer failed at that
+    -- If the body was written, the write of the closing quote decides the answer of the show.
     pub body_closed : (result : Result (Unit {0}) (DiagError E F)) (last : W)
         → CopiesQuoted source sink kind len room place quotes (sides old opened) (Ok (tt {0})) (sides new behind)
         → ShowsText sink (Some (closing quotes)) behind result last

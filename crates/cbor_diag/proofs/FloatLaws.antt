@@ -40,7 +40,7 @@ pub plus_text : (value : Float) → is_nan value ≡ false → float_is_finite v
 unfolding f.Ieee.is_nan float_is_finite is_sign_negative
 plus_text value some is sign = grind arith
 
--- a value and the mark of a float are its text
+-- The text of a float is the text of its value and the mark of its width.
 pub float_shown : {W F : Type 0} (sink : Ghosts W F) (float : Raw) (value : Float) (mark : List ℕ) (old new : W)
     (result : Result (Unit {0}) F) → float_value float ≡ value → float_mark float ≡ mark
     → ShowsMarked sink (IsNumberText value) mark old result new → ShowsOne sink (IsFloatText float) old result new
@@ -50,16 +50,16 @@ float_shown sink float value mark old new result values marks shown = record {
   written = shown.written;
 }
 
--- ---- the point in front of an exponent
+-- ---- the point before an exponent
 
 module _ {rest behind : List ℕ} {byte : ℕ} (split : rest ≡ byte ∷ behind) where
   pub point_later : (byte ≡ 46 → ⊥) → (byte ≡ 101 → ⊥) → with_point rest ≡ (byte ∷ []) ++ with_point behind
   point_later no_point no_exponent = rw split (search rules)
 
-  -- the rest has the point in front
+  -- If the rest begins with a point, it keeps its text.
   pub point_here : byte ≡ 46 → with_point rest ≡ rest
   point_here is = rw (split, is)
 
-  -- the rest has the exponent in front, and no point stood there
+  -- If the rest begins with an exponent, and no point came before, a point and a zero precede it.
   pub exponent_here : byte ≡ 101 → with_point rest ≡ codes ".0" ++ rest
   exponent_here is = rw (split, is)

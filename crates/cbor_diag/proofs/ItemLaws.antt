@@ -1,4 +1,4 @@
--- The show of an item after its header, which was pulled, as a read of the item.
+-- The show of an item after its header, compared with a read of the item.
 use Rattle.std.proofs.Common.{◌≡◌, ◌⊎◌, ℕ, suc, Bool, [], Option, Result, Err, IfErr, inr, arith}
 use Rattle.ciborium_ll.specs.Types.Read.{Ghosts}
 use Rattle.ciborium_ll.specs.Types.Header.{Header}
@@ -18,18 +18,18 @@ use Rattle.cbor_diag.specs.Showing.{IsWriting, OnReading, OnString, ReadsFrom}
 use Rattle.cbor_diag.proofs.ShowLaws.{reading_whole, reading_stops, reading_string}
 
 module _ {R E : Type 0} (source : Ghosts R E) (outer : Bool) (depth : ℕ) (before : Decoder R) where
-  -- what is said of the read, with the decoder as it is left
+  -- The read of an item from the decoder before its title, by the answer.
   abbrev pub ItemRead : Decoder R → Result (Unit {0}) (SkipError E) → Type 0
   ItemRead new answer = ReadsFrom source outer depth 64 before answer new
 
-  -- a tag, an array or a map for which no level is left
+  -- A tag, an array or a map stops the read if no level is left.
   pub nest_deep : (titled : Decoder R) (header : Header) (place : ℕ) → depth ≡ 0 → place ≡ before.offset → IsNest header
       → PullsTitle source before header titled → StopsItem source outer depth 64 before (s.Deep place) titled
   nest_deep titled header place none at nest pulled = grind (arith, stops_here)
 
 module _ {R E F : Type 0} (source : Ghosts R E) (outer : Bool) (depth : ℕ) (before titled : Decoder R)
     (steady : IsSteady source before → IsSteady source titled) where
-  -- an item that is a header alone
+  -- An item that is its header alone was read whole.
   pub scalar_read : (header : Header) (result : Result (Unit {0}) (DiagError E F))
       → Completes (strictness before) depth header [] → PullsTitle source before header titled → IfErr result IsWriting
       → OnReading (ItemRead source outer depth before titled) result
@@ -37,7 +37,7 @@ module _ {R E F : Type 0} (source : Ghosts R E) (outer : Bool) (depth : ℕ) (be
       reading_whole (ItemRead source outer depth before titled) result (reads_plain source pulled steady completes)
       writing
 
-  -- a string
+  -- The show of a string reads the item as a skip does.
   pub string_read : (kind : Kind) (len : Option ℕ) (new : Decoder R) (result : Result (Unit {0}) (DiagError E F))
       → PullsTitle source before (kind_header kind len) titled
       → OnString (λ answer. SkipsString source kind len 64 titled answer new) result
@@ -54,7 +54,7 @@ module _ {R E F : Type 0} (source : Ghosts R E) (outer : Bool) (depth : ℕ) (be
         fails = fails;
       }))) reads
 
-  -- one of which all that it contains was read
+  -- If all items of a nest were read, the nest was read.
   pub nest_read : (levels : ℕ) (header : Header) (new : Decoder R) (result : Result (Unit {0}) (DiagError E F))
       → suc levels ≡ depth → PullsTitle source before header titled → ReadsWithin source header levels titled new
       → IfErr result IsWriting → OnReading (ItemRead source outer depth before new) result
@@ -62,7 +62,7 @@ module _ {R E F : Type 0} (source : Ghosts R E) (outer : Bool) (depth : ℕ) (be
       reading_whole (ItemRead source outer depth before new) result (reads_nest source level pulled steady inner)
       writing
 
-  -- one of which the read stopped
+  -- If the read of a nest's items stops, the read of the nest stops.
   pub nest_stops : (levels : ℕ) (header : Header) (new : Decoder R) (error : DiagError E F) → suc levels ≡ depth
       → PullsTitle source before header titled
       → OnReading {T = Bool} (λ answer. SkipsWithin source header levels 64 titled answer new) (Err error)
@@ -71,7 +71,7 @@ module _ {R E F : Type 0} (source : Ghosts R E) (outer : Bool) (depth : ℕ) (be
       reading_stops Bool (Unit {0}) (λ answer. SkipsWithin source header levels 64 titled answer new)
       (ItemRead source outer depth before new) error (λ stop stops. stops_nest source level pulled steady stops) reads
 
--- what contains others is a nest
+-- Tags, arrays and maps are nests.
 pub nest_of : (header : Header) → ((number : ℕ) × (header ≡ h.Tag number))
     ⊎ (((len : Option ℕ) × (header ≡ h.Array len)) ⊎ ((len : Option ℕ) × (header ≡ h.Map len))) → IsNest header
 nest_of header is = grind arith

@@ -36,18 +36,18 @@ use Rattle.cbor_diag.specs.ItemStops.{item, ComesNoItem, ItemStops, no_item, beh
 
 -- ---- lines
 
--- the spaces of levels, and of deeper ones behind them
+-- The indents of two levels, one after the other, are the indent of their sum.
 indent_parts : (far deeper : ℕ) → indent far ++ indent deeper ≡ indent (far + deeper)
 indent_parts zero deeper = rw zero-add
 indent_parts (suc far) deeper = simp (suc-add, indent_parts far deeper)
 
 module _ {W F : Type 0} {sink : Writer W F} {old now : W} (far : ℕ)
     (begun : WritesAll sink old (new_line far) now) where
-  -- of a new line two spaces more were written
+  -- Two more spaces give the new line of the next level.
   pub line_more : {new : W} → WritesAll sink now (codes "  ") new → WritesAll sink old (new_line (far + 1)) new
   line_more all = rw (indent_parts far 1) at (wrote_both begun all)
 
-  -- the writer failed within it
+  -- If the writer fails at two spaces of a new line, it wrote a beginning of the line.
   pub line_stops : {T : Type 0} (level : ℕ) (new : W) (result : Result T F) → far < level → IsErr result
       → WritesFront sink now (codes "  ") new → WritesBytes sink old result (new_line level) new
   line_stops level new result less fails stopped =
@@ -57,16 +57,16 @@ module _ {W F : Type 0} {sink : Writer W F} {old now : W} (far : ℕ)
       rw text at (WritesBytes-then sink old now new result (new_line far) (indent (suc deeper)) begun
       (WritesBytes-stopped sink now new result (codes "  ") (indent deeper) fails stopped))
 
--- ---- what was said of a write
+-- ---- the answer of a write
 
 module _ {E W F : Type 0} (sink : Writer W F) {old new : W} {text : List ℕ}
     {said : Result (Unit {0}) (DiagError E F)} where
-  -- a write that went through, by what was said of it
+  -- A write that succeeded wrote its whole text.
   pub said_wrote : (answer : Result (Unit {0}) F) {done : Unit {0}} → said ≡ said_of answer → said ≡ Ok done
       → WritesBytes sink old answer text new → WritesAll sink old text new
   said_wrote answer same is wrote = grind arith
 
-  -- and one that failed
+  -- A write that failed wrote a beginning of its text.
   pub said_failed : (answer : Result (Unit {0}) F) {error : DiagError E F} → said ≡ said_of answer → said ≡ Err error
       → WritesBytes sink old answer text new → (fault : F) × (error ≡ d.Write fault) × WritesFront sink old text new
   said_failed answer same is wrote = grind arith
@@ -74,14 +74,14 @@ module _ {E W F : Type 0} (sink : Writer W F) {old new : W} {text : List ℕ}
 -- ---- items that contain no others
 
 module _ {R E W F : Type 0} (source : Reader R E) (sink : Writer W F) (layout : Layout) (level : ℕ) where
-  -- a header whose text was written
+  -- If the text of a header was written, the item was shown.
   pub plain_said : (header : Header) (text : List ℕ) (decoder : Decoder R) (old new : W) (answer : Result (Unit {0}) F)
       (result : Result (Unit {0}) (DiagError E F)) → IsShown layout level header [] text → result ≡ said_of answer
       → WritesBytes sink old answer text new
       → OnOk result (RestShown source sink layout level header (sides decoder old) (sides decoder new))
   plain_said header text decoder old new answer result shown same wrote = grind (arith, ReadsPast-none)
 
-  -- a string
+  -- If the show of a string succeeds, the item was shown.
   pub string_shown : (kind : Kind) (len : Option ℕ) (room : ℕ) (old new : Sides R W)
       (result : Result (Unit {0}) (DiagError E F))
       → ShowsString source sink kind (kind_quotes kind) len room old result new
@@ -90,24 +90,24 @@ module _ {R E W F : Type 0} (source : Reader R E) (sink : Writer W F) (layout : 
 
 -- ---- the items of a tag, an array or a map
 
--- what remains says whether the next item is a value: pairs are an even number of items, and with a key an odd one
+-- The items that remain say whether the next item is a value. After whole pairs it is a key, and otherwise a value.
 value_next : (header : Header) (count : ℕ) (remaining : Remaining) → IsRemaining header count remaining
     → is_value remaining ≡ is_value_at header count
 value_next header count remaining is = grind (arith, nat_tests, mul-mod_right, mul-add-mod_self_left)
 
--- where nothing remains the items are all, and nothing ends them
+-- If no item remains, the items are all, and no break follows them.
 all_done : (header : Header) (count : ℕ) (remaining : Remaining) → IsRemaining header count remaining
     → is_done remaining ≡ true → IsAll header count × (nest_end header ≡ [])
 all_done header count remaining is done = grind arith
 
--- where a break may stand, it ends them
+-- If a break may stand, the items are all, and the break ends them.
 all_closed : (header : Header) (count : ℕ) (remaining : Remaining) → IsRemaining header count remaining
     → closes remaining ≡ true → IsAll header count × (nest_end header ≡ 0xff ∷ [])
 all_closed header count remaining is may = grind arith
 
 module _ {R E W F : Type 0} (source : Reader R E) (sink : Writer W F) (layout : Layout) (level : ℕ)
     (header : Header) where
-  -- what was read and written of the items, and what remains of them
+  -- The items so far were read and shown, and these items remain.
   pub record ItemsFar (old : Sides R W) (remaining : Remaining) (first : Bool) (now : Sides R W) : Type 0 where
     pub count : ℕ
     pub is_remaining : IsRemaining header count remaining
@@ -132,33 +132,33 @@ module _ {R E W F : Type 0} (source : Reader R E) (sink : Writer W F) (layout : 
 module _ {R E W F : Type 0} {source : Reader R E} {sink : Writer W F} {layout : Layout} {level : ℕ} {header : Header}
     {old now : Sides R W} {remaining : Remaining} {first : Bool}
     (far : ItemsFar source sink layout level header old remaining first now) where
-  -- what stands in front of the next item, by how many are in front of it
+  -- The text before the next item follows from the number of items before it.
   lead_is : {value : Bool} → value ≡ is_value remaining
       → item_lead header layout level value first
       ≡ item_lead header layout level (is_value_at header far.count) (is_first_at far.count)
   lead_is is_value = rw (is_value ∙ value_next header far.count remaining far.is_remaining, far.counted)
 
-  -- no title came, or a break that may not stand there
+  -- If no item came, the show of the items ends there.
   pub title_stops : (error : SkipError E) (new : Decoder R) → ComesNoItem source now.decoder error new
       → WithinStops source sink layout level header old (d.Read error) (sides new now.writer)
   title_stops error new came = title far.begun came
 
   module _ {value : Bool} {next : Header} {titled : Decoder R} (is_value : value ≡ is_value remaining)
       (pulled : PullsTitle source now.decoder next titled) where
-    -- the writer failed in front of the next item
+    -- If the writer fails before the next item, the show of the items ends there.
     pub lead_stops : {error : DiagError E F} (new : W) → ((fault : F) × (error ≡ d.Write fault)
         × WritesFront sink now.writer (item_lead header layout level value first) new)
         → WithinStops source sink layout level header old error (sides titled new)
     lead_stops new (fault, is, stopped) = rw is (lead far.begun pulled (rw (lead_is is_value) at stopped))
 
     module _ {led : W} (leads : WritesAll sink now.writer (item_lead header layout level value first) led) where
-      -- the show of the next item ended
+      -- If the show of the next item ends with an error, the show of the items does.
       pub item_stops : {new : Sides R W} {error : DiagError E F}
           → RestStops source sink layout level next (sides titled led) error new
           → WithinStops source sink layout level header old error new
       item_stops stops = item far.begun pulled (rw (lead_is is_value) at leads) stops
 
-      -- one item more
+      -- One more item was shown.
       pub items_more : {after : Remaining} {new : Sides R W}
           → ((count : ℕ) → IsRemaining header count remaining → IsRemaining header (suc count) after)
           → (IsSteady source now.decoder → IsSteady source titled)
@@ -182,7 +182,7 @@ module _ {R E W F : Type 0} {source : Reader R E} {sink : Writer W F} {layout : 
             counted = refl;
           }
 
-  -- the items are all
+  -- If the items are all, the content of the header was shown.
   all_shown : (new : Decoder R) → IsAll header far.count
       → ReadsPast source old.decoder (far.begun.items ++ nest_end header) new
       → WithinShown source sink layout level header old first (sides new now.writer)
@@ -197,11 +197,11 @@ module _ {R E W F : Type 0} {source : Reader R E} {sink : Writer W F} {layout : 
     counted = far.counted;
   }
 
-  -- so it is where nothing remains
+  -- If no item remains, the content of the header was shown.
   pub items_done : is_done remaining ≡ true → WithinShown source sink layout level header old first now
   items_done done = grind (arith, all_done, all_shown, append-nil)
 
-  -- or a break ended them
+  -- If a break ended the items, the content of the header was shown.
   pub items_closed : (titled : Decoder R) → closes remaining ≡ true → PullsTitle source now.decoder h.Break titled
       → (IsSteady source now.decoder → IsSteady source titled)
       → WithinShown source sink layout level header old first (sides titled now.writer)
@@ -211,7 +211,7 @@ module _ {R E W F : Type 0} {source : Reader R E} {sink : Writer W F} {layout : 
       old.decoder now.decoder titled far.begun.items h.Break pulled far.begun.passed
       (λ first. steady (far.begun.passed.steady first))))
 
-  -- what is said of a break that stands in place of an item, which may close or may not
+  -- A break in place of an item ends the items if it may stand there. Otherwise it is an error.
   pub break_shown : (may : Bool) (new : Decoder R) (result : Result Bool (DiagError E F)) (place : ℕ)
       → PullsTitle source now.decoder h.Break new
       → result ≡ (if may then Ok first else Err (d.Read (s.Break place)))
@@ -224,7 +224,7 @@ module _ {R E W F : Type 0} {source : Reader R E} {sink : Writer W F} {layout : 
 module _ {R E W F : Type 0} {source : Reader R E} {sink : Writer W F} {header : Header} {layout inner : Layout}
     (level : ℕ) {deeper : ℕ} {decoder : Decoder R} {old opened : W} (same_layout : inner ≡ layout)
     (is_deeper : deeper ≡ level_within header level) (opens : WritesAll sink old (nest_opening header) opened) where
-  -- its items, with what stands around them
+  -- The items and the text after them show the nest, or the writer fails at that text.
   pub nest_shown : {empty : Bool} {between : Sides R W} (new : W) (answer : Result (Unit {0}) F)
       (result : Result (Unit {0}) (DiagError E F))
       → WithinShown source sink inner deeper header (sides decoder opened) empty between → result ≡ said_of answer
@@ -242,28 +242,28 @@ module _ {R E W F : Type 0} {source : Reader R E} {sink : Writer W F} {header : 
         written = wrote_both opens (wrote_both items.written (rw items.counted at ends));
       })
 
-  -- the show of its items ended
+  -- If the show of the items ends with an error, the show of the nest does.
   pub within_stops : {new : Sides R W} {error : DiagError E F}
       → WithinStops source sink inner deeper header (sides decoder opened) error new
       → RestStops source sink layout level header (sides decoder old) error new
   within_stops stops = within opens (rw (same_layout, is_deeper) at stops)
 
 module _ {R E W F : Type 0} (source : Reader R E) (sink : Writer W F) where
-  -- the writer failed in front of its items
+  -- If the writer fails before the items, the show of the nest ends with that failure.
   pub opening_stops : {header : Header} {layout : Layout} {level : ℕ} {decoder : Decoder R} {old new : W}
       {error : DiagError E F}
       → ((fault : F) × (error ≡ d.Write fault) × WritesFront sink old (nest_opening header) new)
       → RestStops source sink layout level header (sides decoder old) error (sides decoder new)
   opening_stops (fault, is, stopped) = rw is (opening stopped)
 
-  -- an item that contains no others, by its answer
+  -- The show of an item that contains no others is the show of its rest.
   pub plain_shown : (layout : Layout) (level : ℕ) (header : Header) (old new : Sides R W)
       (result : Result (Unit {0}) (DiagError E F)) → ShowsHeader source sink header old result new
       → OnOk result (RestShown source sink layout level header old new)
       → ShowsRest source sink layout level header old result new
   plain_shown layout level header old new result shows shown = grind (arith, plain)
 
-  -- a title, and the rest of its item
+  -- A title and the rest of its item show the item.
   pub item_shown : (layout : Layout) {header : Header} {before titled : Decoder R} (writer : W) (new : Sides R W)
       (result : Result (Unit {0}) (DiagError E F)) → PullsTitle source before header titled
       → (IsSteady source before → IsSteady source titled)
@@ -283,7 +283,7 @@ module _ {R E W F : Type 0} (source : Reader R E) (sink : Writer W F) where
         written = shown.written;
       }
 
-  -- where no title was pulled, nothing was written
+  -- If no title was pulled, nothing was written.
   pub none_came : {layout : Layout} {before old new : Decoder R} {error : Error E} {writer : W} → before ≡ old
       → DecoderPullAnswer source before (Err error) new
       → ItemStops source sink layout (sides old writer) (d.Read (s.Read error)) (sides new writer)

@@ -20,7 +20,7 @@ use Rattle.cbor_diag.specs.Showing.{CountsShown, IsWriting, OnReading, ShowsHead
 use Rattle.cbor_diag.specs.StringShows.{BodyStopped, ShowsString, StringStops, StringUnshown}
 
 module _ {R E : Type 0} (source : Ghosts R E) where
-  -- a decoder that took its header back, and read on behind it
+  -- A decoder that took its header back and then read on has moved on.
   pub moved_back : (header : Header) (opened pushed new : Decoder R) → TakesBack source opened header pushed
       → MovesOn source pushed new → opened.offset ≤ new.offset → MovesOn source opened new
   moved_back header opened pushed new back moves rises = grind arith
@@ -38,12 +38,12 @@ module _ {R E W F : Type 0} (source : Ghosts R E) (sink : Sink W F) where
         → StringStops source sink kind quotes len room old error new → old.decoder.offset ≤ new.decoder.offset
     stop_rises room old new error stops = grind (arith, pull_fails, body_rises)
 
-    -- the offset does not fall
+    -- The show of a string does not lower the offset.
     pub string_rises : (room : ℕ) (old new : Sides R W) (result : Result (Unit {0}) (DiagError E F))
         → ShowsString source sink kind quotes len room old result new → old.decoder.offset ≤ new.decoder.offset
     string_rises room old new result shows = grind (arith, stop_rises)
 
-    -- where the writer failed, the reader did not
+    -- If the writer failed within a string, the reader did not fail.
     string_unfailed : (old new : Sides R W) → StringUnshown source sink kind quotes len old new
         → failures_of source new.decoder ≡ failures_of source old.decoder
     string_unfailed old new shows = grind arith
@@ -84,7 +84,7 @@ module _ {R E W F : Type 0} (source : Ghosts R E) (sink : Sink W F) where
     item_unfailed old new error writing (behind pulled stops) =
         rest_unfailed 0 _ _ new error writing stops ∙ pulled.failures
 
-    -- how often the reader failed
+    -- The reader fails as often as the answer of a show says.
     pub item_failures : (depth : ℕ) (old new : Sides R W) (result : Result (Unit {0}) (DiagError E F))
         → OnReading (λ answer. SkipsItem source depth 64 old.decoder answer new.decoder) result
         → ShowsItem source sink layout old result new

@@ -1,4 +1,4 @@
--- What a writer of quoted bytes has written to the writer within, step by step.
+-- The bytes that a quoting writer has written to the writer within, step by step.
 use Rattle.std.proofs.Common.{◌+◌, ◌≡◌, ℕ, ◌-◌, ◌<◌, Bool, true, false, List, [], ◌∷◌, ◌++◌, length, take, Option, Some}
 use Rattle.std.proofs.Common.{None, IfSome, refl, sym, subst, arith, append_assoc, length-append}
 use Rattle.std.proofs.Math.Logic.{∥∥₁_elim, ∥∥₁_map}
@@ -22,11 +22,11 @@ pub body_text-append : (quotes : Quotes) (xs ys : List ℕ)
 body_text-append quotes [] ys = refl
 body_text-append quotes (x ∷ xs) ys = rw (body_text-append quotes xs ys, append_assoc)
 
--- quotes that have one number are the same
+-- Quotes with the same number are the same.
 pub same_quotes : (quotes quotes' : Quotes) → quotes_code quotes ≡ quotes_code quotes' → quotes ≡ quotes'
 same_quotes quotes quotes' p = grind arith
 
--- no failure, and one
+-- If the count of failures is zero, no write failed.
 none_failed : (failed : Bool) → failure_count failed ≡ 0 → failed ≡ false
 none_failed failed none = grind arith
 
@@ -49,12 +49,12 @@ full-prop : (room : Option ℕ) (n : ℕ) → IsProp (IfSome room (λ m. m < n))
 full-prop None n = search props
 full-prop (Some m) n = search props
 
--- a room too small for xs is too small for xs and ys
+-- A room that is too small for `xs` is too small for `xs` and `ys`.
 full_longer : (room : Option ℕ) (xs ys : List ℕ) → IfSome room (λ n. n < length xs)
     → IfSome room (λ n. n < length (xs ++ ys))
 full_longer room xs ys full = grind (arith, length-append)
 
--- how many bytes of a beginning were appended, by what the writer tells
+-- How many bytes of a beginning were appended, from the facts that the writer tells.
 front_count : Option (List ℕ) → Option (List ℕ) → Option ℕ → Option ℕ → ℕ
 front_count (Some x) (Some y) r r' = length y - length x
 front_count (Some x) None r r' = 0
@@ -62,14 +62,14 @@ front_count None w' (Some x) (Some y) = x - y
 front_count None w' (Some x) None = 0
 front_count None w' None r' = 0
 
--- as many were
+-- The first bytes were appended, as many as the count says.
 front_told : (w w' : Option (List ℕ)) (r r' : Option ℕ) (bytes : List ℕ) → AppendsFront w w' r r' bytes
     → AppendsFirst w w' r r' bytes (front_count w w' r r')
 unfolding front_count
 front_told w w' r r' bytes f = grind (arith, length-append, length-take-le)
 
 module _ {W F : Type 0} (sink : Ghosts W F) where
-  -- a write that failed was seen to fail, so it did
+  -- A failed write follows from its truncated statement.
   merely_front : (old : W) (text : List ℕ) (new : W) → ∥ WritesFront sink old text new ∥₁
       → WritesFront sink old text new
   merely_front old text new merely =
@@ -96,7 +96,7 @@ module _ {W F : Type 0} (sink : Ghosts W F) where
     failures = ∥∥₁_elim merely (search props) (λ f. f.failures);
   }
 
-  -- a beginning of xs is one of xs and ys
+  -- A beginning of `xs` is a beginning of `xs` and `ys`.
   pub front_longer : (old new : W) (xs ys : List ℕ) → WritesFront sink old xs new → WritesFront sink old (xs ++ ys) new
   front_longer old new xs ys f = grind (arith, AppendsFront-longer, full_longer)
 
@@ -104,7 +104,7 @@ module _ {W F : Type 0} (sink : Ghosts W F) where
 
   module _ (began : List ℕ) (quotes : Quotes) (failed : Bool) (given more all : List ℕ) (now : W)
       (joined : all ≡ given ++ more) (so_far : ∥ IsQuoted sink began quotes failed given now ∥₁) where
-    -- what more leads to
+    -- A further write keeps the relation between the given and the written bytes.
     quoted_step : (before after : Bool) (new : W) → failed ≡ before
         → ((old : W) → WritesUntil sink before old (body_text quotes given) now
         → WritesUntil sink after old (body_text quotes given ++ body_text quotes more) new)
@@ -113,24 +113,24 @@ module _ {W F : Type 0} (sink : Ghosts W F) where
         (subst (λ (b : Bool). ∥ IsQuoted sink began quotes b given now ∥₁) same so_far)
         (λ quoted old is. rw (joined, body_text-append quotes given more) (step old (quoted old is)))
 
-    -- more was given, and written
+    -- More bytes were given, and all of them were written.
     pub quoted_more : (new : W) → failed ≡ false → WritesAll sink now (body_text quotes more) new
         → ∥ IsQuoted sink began quotes failed all new ∥₁
     quoted_more new sound wrote = rw sound (quoted_step false false new sound (λ old told. wrote_both told wrote))
 
-    -- more was given, and the writer failed at it
+    -- More bytes were given, and the writer failed at them.
     pub quoted_fails : (new : W) (fault : F) → failed ≡ false → WritesFront sink now (body_text quotes more) new
         → ∥ IsQuoted sink began quotes true all new ∥₁
     quoted_fails new fault sound stopped =
         quoted_step false true new sound (λ old told. wrote_first told fault stopped)
 
-    -- more was given behind a failure, and nothing written
+    -- More bytes were given after a failure, and none was written.
     pub quoted_behind : failed ≡ true → ∥ IsQuoted sink began quotes failed all now ∥₁
     quoted_behind broken = rw broken (quoted_step true true now broken (λ old told. front_longer old now _ _ told))
 
   -- ---- in the end
 
-  -- where no failure was counted all was written, and else the writer failed
+  -- If no failure was counted, all bytes were written. Otherwise the writer failed.
   pub quoted_ends : (began : List ℕ) (quotes quotes' : Quotes) (failed : Bool) (given : List ℕ) (old now : W)
       (count count' : ℕ) → began ≡ writer_code sink old → quotes' ≡ quotes
       → ∥ IsQuoted sink began quotes' failed given now ∥₁ → count ≡ 0 → count' ≡ failure_count failed

@@ -18,7 +18,7 @@ use Rattle.cbor_diag.specs.Showing.{IsWriting, OnReading, OnString, ShowsHeader,
 use Rattle.cbor_diag.specs.Writing.{ShowsOne}
 
 module _ {E F : Type 0} where
-  -- where the writer failed, anything holds of the read
+  -- If the writer failed, each relation holds of the read.
   pub reading_unread : (T : Type 0) (Holds : Result (Unit {0}) (SkipError E) → Type 0) (error : DiagError E F)
       → IsWriting error → OnReading {T = T} Holds (Err error)
   reading_unread T Holds error writing = grind arith
@@ -27,7 +27,7 @@ module _ {E F : Type 0} where
       → OnString Holds (Err error)
   string_unread Holds error writing = grind arith
 
-  -- where it is the writer alone that may fail, what holds of a whole read holds
+  -- If only the writer can fail, a relation that holds of a whole read holds.
   pub reading_whole : (Holds : Result (Unit {0}) (SkipError E) → Type 0) (result : Result (Unit {0}) (DiagError E F))
       → Holds (Ok (tt {0})) → IfErr result IsWriting → OnReading Holds result
   reading_whole Holds result holds writing = grind arith
@@ -36,7 +36,7 @@ module _ {E F : Type 0} where
       → Holds (Ok (tt {0})) → IfErr result IsWriting → OnString Holds result
   string_whole Holds result holds writing = grind arith
 
-  -- what an error of one read says of another one
+  -- If the errors of one read are errors of another read, the answer of the show carries over.
   pub reading_stops : (T U : Type 0) (One Other : Result (Unit {0}) (SkipError E) → Type 0) (error : DiagError E F)
       → ((stop : SkipError E) → One (Err stop) → Other (Err stop)) → OnReading {T = T} One (Err error)
       → OnReading {T = U} Other (Err error)
@@ -47,7 +47,7 @@ module _ {E F : Type 0} where
       → OnString Other (Err error)
   string_stops One Other error goes holds = grind arith
 
-  -- what is said of a read where a break stands in place of an item, which may close or may not
+  -- A break in place of an item gives a whole read if it may stand there. Otherwise it gives its error.
   pub break_said : (may : Bool) (Holds : Result (Unit {0}) (SkipError E) → Type 0)
       (result : Result Bool (DiagError E F)) (is_first : Bool) (place : ℕ)
       → result ≡ (if may then Ok is_first else Err (d.Read (s.Break place)))
@@ -55,21 +55,21 @@ module _ {E F : Type 0} where
       → OnReading {T = Bool} Holds result
   break_said may Holds result is_first place same closed stops = grind arith
 
-  -- what the read of a string says of that of an item
+  -- A relation of a string's read gives a relation of an item's read.
   pub reading_string : (One : Result (Unit {0}) (Error E) → Type 0) (Other : Result (Unit {0}) (SkipError E) → Type 0)
       (result : Result (Unit {0}) (DiagError E F)) → (One (Ok (tt {0})) → Other (Ok (tt {0})))
       → ((fault : Error E) → One (Err fault) → Other (Err (s.Read fault))) → OnString One result
       → OnReading Other result
   reading_string One Other result whole stops holds = grind arith
 
--- what a write of a text answered, as the answer of a show
+-- The answer of a text's write, as the answer of a show.
 pub said_text : {E W F : Type 0} (sink : Sink W F) (old new : W) (answer : Result (Unit {0}) F)
     (result : Result (Unit {0}) (DiagError E F)) (text : List ℕ) → result ≡ said_of answer
     → WritesBytes sink old answer text new → ShowsText sink (Some text) old result new
 said_text sink old new answer result text same wrote = grind arith
 
 module _ {R E W F : Type 0} (source : Ghosts R E) (sink : Sink W F) where
-  -- what a write of a float's text answered, as the answer of a show
+  -- The answer of a write of a float's text, as the answer of a show.
   pub float_said : (header : Header) (float : Raw) (old new : Sides R W) (answer : Result (Unit {0}) F)
       (result : Result (Unit {0}) (DiagError E F)) → header ≡ h.Float float → new.decoder ≡ old.decoder
       → result ≡ said_of answer → ShowsOne sink (IsFloatText float) old.writer answer new.writer

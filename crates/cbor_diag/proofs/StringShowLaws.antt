@@ -55,7 +55,7 @@ push_some (b ∷ bs) body = refl
 
 -- ---- one step of the read
 
--- a header that a string refuses is that of no body
+-- A header that a string refuses begins no body.
 no_body : (k : Kind) (strict : Bool) (opens : ℕ) (header : Header) → IsRefusedAt strict k opens header → (count : ℕ)
     → header ≡ kind_header k (Some count) → ⊥
 no_body k strict opens header refused count is = grind (arith, not_break, kind_not_misplaced)
@@ -67,7 +67,7 @@ module _ {R E : Type 0} {source : Reader R E} (k : Kind) (strict : Bool) where
 
   module _ {opened now new : Decoder R} {bodies : List (List ℕ)} {progress : Progress} (progress' : Progress)
       (steady : IsSteady source now → IsSteady source new) where
-    -- the title of a body came: what was read by then
+    -- If the title of a body came, the bytes so far end with it.
     titled : (len : Option ℕ) (body : Body)
         → ReadSoFar source k len (shortest_title (kind_header k len)) opened bodies progress now
         → AdvancesTo source k strict progress now (Ok (Some body)) progress' new
@@ -84,7 +84,7 @@ module _ {R E : Type 0} {source : Reader R E} (k : Kind) (strict : Bool) where
         let lone = lone_titled source k strict len body so_far advances in
         ([], (refl, lone.0, lone.1), lone.3)
 
-    -- none came
+    -- If no title came, the bytes so far begin the string, and the decoder meets no body.
     untitled : (len : Option ℕ) (error : Error E)
         → ReadSoFar source k len (shortest_title (kind_header k len)) opened bodies progress now
         → AdvancesTo source k strict progress now (Err error) progress' new
@@ -105,7 +105,7 @@ module _ {R E : Type 0} {source : Reader R E} (k : Kind) (strict : Bool) where
 
 module _ {R E W F : Type 0} (source : Reader R E) (sink : Writer W F) (k : Kind) (quotes : Quotes) (len : Option ℕ)
     (opened : Decoder R) (w : W) where
-  -- what the loop keeps: these bodies were read and shown
+  -- The loop has read and shown these bodies.
   pub record TextSoFar (first : Bool) (progress : Progress) (now : Decoder R) (w' : W) : Type 0 where
     pub bodies : List (List ℕ)
     pub is_first : first ≡ is_none bodies
@@ -136,7 +136,7 @@ module _ {R E W F : Type 0} {source : Reader R E} {sink : Writer W F} {k : Kind}
     (so_far : TextSoFar source sink k quotes len opened w first progress now w') (new : Decoder R)
     (steady : IsSteady source now → IsSteady source new) (progress' : Progress) (is_open : Bool)
     (form : is_open ≡ is_indefinite len) where
-  -- the string has ended
+  -- If the string has ended, the write of its end decides the answer.
   pub text_closed : (room : ℕ) (result : Result (Unit {0}) (DiagError E F)) (last : W)
       → AdvancesTo source k strict progress now (Ok None) progress' new
       → ShowsText sink (Some (end_text is_open quotes first)) w' result last
@@ -151,7 +151,7 @@ module _ {R E W F : Type 0} {source : Reader R E} {sink : Writer W F} {k : Kind}
         passed = whole.passed;
       }) (said_then so_far.written _ last result (rw (form, so_far.is_first) at said))
 
-  -- no title came
+  -- If no title came, the show of the string stops there.
   pub text_fails : (room : ℕ) (error : Error E) → AdvancesTo source k strict progress now (Err error) progress' new
       → StringStops source sink k quotes len room (sides opened w) error (sides new w')
   text_fails room error advances =
@@ -165,7 +165,7 @@ module _ {R E W F : Type 0} {source : Reader R E} {sink : Writer W F} {k : Kind}
       }) none.4
 
   module _ (body : Body) (advances : AdvancesTo source k strict progress now (Ok (Some body)) progress' new) where
-    -- the writer failed in front of the body
+    -- If the writer fails before a body, the show of the string ends there.
     pub text_unled : (room : ℕ) (error : DiagError E F) (lead : W)
         → ShowsText sink (Some (lead_text is_open first)) w' (Err error) lead
         → ShowsString source sink k quotes len room (sides opened w) (Err error) (sides new lead)
@@ -187,7 +187,7 @@ module _ {R E W F : Type 0} {source : Reader R E} {sink : Writer W F} {k : Kind}
             written = wrote_both so_far.written (rw (form, so_far.is_first) at led);
           }
 
-      -- the body was not shown whole
+      -- If the body was not shown whole, the show of the string ends there.
       pub text_stops : (room : ℕ) (error : DiagError E F) (ended : Sides R W)
           → ShowsBody source sink k body.length room body.place quotes (sides new lead) (Err error) ended
           → ShowsString source sink k quotes len room (sides opened w) (Err error) ended
@@ -195,7 +195,7 @@ module _ {R E W F : Type 0} {source : Reader R E} {sink : Writer W F} {k : Kind}
       text_stops room (d.Write fault) ended shown = at_body body.length (sides new lead) due shown
       text_stops room error ended shown = absurd shown
 
-      -- it was
+      -- If the body was shown whole, the loop goes on with one more body.
       pub text_more : (room : ℕ) (ended : Decoder R) (last : W)
           → ShowsBody source sink k body.length room body.place quotes (sides new lead) (Ok (tt {0}))
           (sides ended last) → TextSoFar source sink k quotes len opened w false progress' ended last

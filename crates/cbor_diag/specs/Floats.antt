@@ -67,7 +67,7 @@ is_held width exponent fraction =
     else (not (nat_lt width.most exponent) && (not (nat_lt (exponent + width.digits) width.least)
     && (fraction % 2 ^ ((52 - width.digits) + (width.least - exponent)) == 0))))
 
--- Whether a float of the width has the value of this double.
+-- Whether a float of the width has the value of this double. A single has the value 1.0.
 abbrev pub holds : Width → ℕ → Bool
 holds width double = is_held width (double / 2 ^ 52 % 2048) (double % 2 ^ 52)
 
@@ -80,13 +80,14 @@ abbrev pub single_width : Width
 single_width = record { digits = 23; least = 897; most = 1150 }
 
 -- The mark of a width if a shorter width has the same value (RFC 8949, 8.1). It is `_2` for a single whose value a half
--- has, and `_3` for a double whose value a single has. A half has no mark.
+-- has, and `_3` for a double whose value a single has. A half has no mark. `fa 3f 80 00 00`, which is 1.0, has `_2`.
 abbrev pub float_mark : Raw → List ℕ
 float_mark (raw.Half bits) = []
 float_mark (raw.Single bits) = if holds half_width (to_bits binary64 (from_bits binary32 bits)) then codes "_2" else []
 float_mark (raw.Double bits) = if holds single_width bits then codes "_3" else []
 
--- The text of a float: the text of its value, and the mark (RFC 8949, 8). `1.0_3` is a double.
+-- The text of a float: the text of its value, and the mark (RFC 8949, 8). `1.0_3` is a double, and `f9 7c 00` gives
+-- `Infinity`.
 abbrev pub IsFloatText : Raw → List ℕ → Type 0
 IsFloatText float text =
     (number : List ℕ) × IsNumberText (float_value float) number × (text ≡ number ++ float_mark float)

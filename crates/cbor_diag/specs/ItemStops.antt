@@ -1,4 +1,4 @@
--- What was written of an item before its show ended with an error.
+-- The text that was written of an item before its show ended with an error.
 use Rattle.std.specs.Prelude.{ℕ, ◌++◌, Bool, List, Result, Ok, Err}
 use Rattle.ciborium_ll.specs.Types.Read.{Ghosts as Reader}
 use Rattle.ciborium_ll.specs.Types.Write.{Ghosts as Writer}
@@ -92,7 +92,7 @@ module _ {R E W F : Type 0} (source : Reader R E) (sink : Writer W F) (layout : 
   ShowsRest level header old (Ok done) new = RestShown source sink layout level header old new
   ShowsRest level header old (Err error) new = RestStops level header old error new
 
-  -- The show of what the header contains, by its answer, which says whether the header contains nothing.
+  -- The show of the content of a header, by its answer, which says whether the header contains nothing.
   abbrev pub ShowsWithin : ℕ → Header → Sides R W → Result Bool (DiagError E F) → Sides R W → Type 0
   ShowsWithin level header old (Ok empty) new = WithinShown source sink layout level header old empty new
   ShowsWithin level header old (Err error) new = WithinStops level header old error new

@@ -19,10 +19,10 @@ use Rattle.cbor_diag.specs.Floats.{IsFloatText}
 use Rattle.cbor_diag.specs.Notation.{header_notation}
 use Rattle.cbor_diag.specs.StringShows.{string_text, is_indefinite}
 
--- ---- what stands around the items of a tag, an array or a map
+-- ---- the text around the items of a tag, an array or a map
 
 -- The text before the items: a tag's number and a parenthesis, or a bracket, with an underscore in the indefinite forms
--- (RFC 8949, 8 and 8.1).
+-- (RFC 8949, 8 and 8.1). `82` gives `[`, `bf` gives `{_`, and `c1` gives `1(`.
 abbrev pub nest_opening : Header → List ℕ
 nest_opening (h.Tag number) = decimal number ++ codes "("
 nest_opening (h.Array (Some count)) = codes "["
@@ -31,7 +31,7 @@ nest_opening (h.Map (Some count)) = codes "{"
 nest_opening (h.Map None) = codes "{_"
 nest_opening header = []
 
--- The text after the items (RFC 8949, 8).
+-- The text after the items (RFC 8949, 8): `82` gives `]`, and `c1` gives `)`.
 abbrev pub nest_closing : Header → List ℕ
 nest_closing (h.Tag number) = codes ")"
 nest_closing (h.Array len) = codes "]"
@@ -47,7 +47,7 @@ indent (suc level) = codes "  " ++ indent level
 abbrev pub new_line : ℕ → List ℕ
 new_line level = 10 ∷ indent level
 
--- The level of what the header contains: one deeper in an array or a map, and the same in a tag.
+-- The level of the content of a header: one deeper in an array or a map, and the same in a tag.
 abbrev pub level_within : Header → ℕ → ℕ
 level_within (h.Array len) level = suc level
 level_within (h.Map len) level = suc level
@@ -72,13 +72,14 @@ abbrev pub comma : Bool → List ℕ
 comma true = []
 comma false = codes ","
 
--- What precedes an item within this header, by whether it is the value of a pair, and whether it is the first item.
+-- The text before an item within this header, by whether it is the value of a pair, and whether it is the first item.
+-- On one line it is `, ` before the second item of `82`.
 abbrev pub item_lead : Header → Layout → ℕ → Bool → Bool → List ℕ
 item_lead header layout level true first = codes ": "
 item_lead header layout level false first = comma first ++ nest_space header layout level first
 
 -- The space after the last item, by whether the form is indefinite, and whether there is no item. With lines it is a
--- new line. An indefinite form without items has a space.
+-- new line. An indefinite form without items has a space, as `[_ ]` for `9f ff`.
 abbrev pub last_space : Layout → ℕ → Bool → Bool → List ℕ
 last_space layout level true true = codes " "
 last_space layout level false true = []
@@ -94,7 +95,7 @@ nest_last header layout level empty = []
 -- ---- an item
 
 -- After `count` items within the header the next item is the value of a pair: in a map, each second item (RFC 7049,
--- 2.1).
+-- 2.1). After `a1 01` it is a value.
 abbrev pub is_value_at : Header → ℕ → Bool
 is_value_at (h.Map len) count = count % 2 == 1
 is_value_at header count = false
@@ -105,7 +106,8 @@ is_first_at zero = true
 is_first_at (suc count) = false
 
 -- `count` items are all that the header contains: one in a tag, as many as an array counts, and two for each pair of a
--- map. An indefinite form has any number, and an indefinite map an even number (RFC 7049, 2.1, 2.2.1 and 2.4).
+-- map. An indefinite form has any number, and an indefinite map an even number (RFC 7049, 2.1, 2.2.1 and 2.4). For `a2`
+-- they are 4.
 abbrev pub IsAll : Header → ℕ → Type 0
 IsAll (h.Tag number) count = count ≡ 1
 IsAll (h.Array (Some len)) count = count ≡ len
@@ -114,7 +116,7 @@ IsAll (h.Array None) count = Unit {0}
 IsAll (h.Map None) count = (pairs : ℕ) × (count ≡ 2 * pairs)
 IsAll header count = ⊥
 
--- The end of the items: a break in the indefinite forms (RFC 7049, 2.2.1).
+-- The end of the items: a break, which is `ff`, in the indefinite forms (RFC 7049, 2.2.1).
 abbrev pub nest_end : Header → List ℕ
 nest_end (h.Array None) = 0xff ∷ []
 nest_end (h.Map None) = 0xff ∷ []
@@ -141,8 +143,8 @@ mutual
         → IsShown layout level header (items ++ nest_end header)
         (nest_opening header ++ (text ++ (nest_last header layout level (is_first_at count) ++ nest_closing header)))
 
-  -- `AreShown layout level header count items text`: the text shows `count` items of this level within the header, one
-  -- after the other, each with what precedes it.
+  -- `AreShown layout level header count items text`: the text shows `count` items of this level within the header, each
+  -- with the text before it. After `82` the items `01 02` are shown on one line as `1, 2`.
   pub data AreShown (layout : Layout) : ℕ → Header → ℕ → List ℕ → List ℕ → Type 0 where
     none : {level : ℕ} {header : Header} → AreShown layout level header zero [] []
     more : {level count : ℕ} {header first : Header} {items text title rest item : List ℕ}
@@ -160,8 +162,7 @@ module _ {R E W F : Type 0} (source : Reader R E) (sink : Writer W F) (layout : 
     pub passed : ReadsPast source old.decoder rest new.decoder
     pub written : WritesAll sink old.writer text new.writer
 
-  -- After the header all that it contains was read, and its text was written. The answer says whether it contains
-  -- nothing.
+  -- After the header all its content was read, and its text was written. The answer says whether it contains nothing.
   pub record WithinShown (level : ℕ) (header : Header) (old : Sides R W) (empty : Bool) (new : Sides R W) : Type 0 where
     pub count : ℕ
     pub items : List ℕ

@@ -8,7 +8,8 @@ use Rattle.ciborium_ll.specs.Types.Header.TheVariants as h
 use Rattle.cbor_diag.specs.declared.strings.quotes.Quotes.{Quotes}
 use Rattle.cbor_diag.specs.declared.strings.quotes.Quotes.TheVariants as q
 
--- A simple value: the four values that have names by these, and others as `simple(N)` (RFC 8949, 8).
+-- A simple value: the four values that have names by these, and others as `simple(N)` (RFC 8949, 8). `f4` gives
+-- `false`, and `e0` gives `simple(0)`.
 abbrev pub simple_notation : ℕ → List ℕ
 simple_notation number =
     if number == 20 then codes "false"
@@ -18,7 +19,7 @@ simple_notation number =
     else (codes "simple(" ++ decimal number) ++ codes ")")))
 
 -- The text of a header that is an integer or a simple value, which is the whole item. An integer has its digits in base
--- 10, and a negative integer is -1 - n (RFC 7049, 2.1).
+-- 10, and a negative integer is -1 - n (RFC 7049, 2.1): `20` gives `-1`.
 abbrev pub header_notation : Header → Option (List ℕ)
 header_notation (h.Positive number) = Some (decimal number)
 header_notation (h.Negative number) = Some (signed_decimal (negsuc number))
@@ -26,7 +27,8 @@ header_notation (h.Simple number) = Some (simple_notation number)
 header_notation header = None
 
 -- A byte of a text between its quotes, with the escapes of JSON (RFC 8259, 7). A backslash, which is 92, precedes a
--- quote, a backslash, the letter of a control character, or u and four digits. Each other byte stands for itself.
+-- quote, a backslash, the letter of a control character, or u and four digits. Each other byte stands for itself. `0a`
+-- gives `\n`, and `01` gives `\u0001`.
 abbrev pub escaped_text : ℕ → List ℕ
 escaped_text byte =
     if byte == 34 then 92 ∷ 34 ∷ []
@@ -39,12 +41,14 @@ escaped_text byte =
     else (if nat_lt byte 32 then (92 ∷ 117 ∷ 48 ∷ 48 ∷ []) ++ hex_text byte
     else byte ∷ [])))))))
 
--- A byte between quotes of the kind. A byte string has two digits for each byte, in h'' (RFC 8949, 8).
+-- A byte between quotes of the kind. A byte string has two digits for each byte, in h'' (RFC 8949, 8). `61` gives `61`
+-- in a byte string, and `a` in a text.
 abbrev pub byte_text : Quotes → ℕ → List ℕ
 byte_text q.Hex byte = hex_text byte
 byte_text q.Text byte = escaped_text byte
 
--- Bytes between quotes of the kind, one after the other (RFC 8949, 8).
+-- Bytes between quotes of the kind, one after the other (RFC 8949, 8). `61 0a` gives `610a` in a byte string, and `a\n`
+-- in a text.
 abbrev pub body_text : Quotes → List ℕ → List ℕ
 body_text quotes [] = []
 body_text quotes (byte ∷ bytes) = byte_text quotes byte ++ body_text quotes bytes

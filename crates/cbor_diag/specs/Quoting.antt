@@ -1,4 +1,4 @@
--- What a writer of quoted bytes has written to the writer within, since it began.
+-- The bytes that a quoting writer has written to the writer within, since it began.
 use Rattle.std.specs.Prelude.{◌≡◌, ℕ, suc, Bool, true, false, List, [], ◌∷◌, Option, Some, None}
 use Rattle.ciborium_ll.specs.Types.Write.{Ghosts}
 use Rattle.ciborium_ll.specs.Encoding.{WritesAll, WritesFront}
@@ -6,7 +6,7 @@ use Rattle.cbor_diag.specs.declared.strings.quotes.Quotes.{Quotes}
 use Rattle.cbor_diag.specs.declared.strings.quotes.Quotes.TheVariants as q
 use Rattle.cbor_diag.specs.Notation.{body_text}
 
--- ---- numbers that stand for what can be told of a writer, and of quotes
+-- ---- numbers for the facts that a writer tells, and for quotes
 
 -- A number for a room: 0 if none is told.
 abbrev pub room_code : Option ℕ → ℕ
@@ -27,7 +27,7 @@ abbrev pub quotes_code : Quotes → ℕ
 quotes_code q.Hex = 0
 quotes_code q.Text = 1
 
--- ---- what was written
+-- ---- the written bytes
 
 -- How many failures there were. At most one is passed on.
 abbrev pub failure_count : Bool → ℕ

@@ -1,4 +1,4 @@
--- What a show of an item does to its decoder if the writer does not fail, and what it writes of a header.
+-- The effect of a show on its decoder if the writer does not fail, and the text that it writes of a header.
 use Rattle.std.specs.Prelude.{◌≡◌, ℕ, Bool, List, Option, Some, None, Result, Ok, Err}
 use Rattle.ciborium_ll.specs.Types.Read.{Ghosts}
 use Rattle.ciborium_ll.specs.Types.Write.{Ghosts as Sink}
@@ -60,7 +60,7 @@ module _ {R E : Type 0} (source : Ghosts R E) where
   ReadsFrom outer depth room old (Ok done) new = ReadsItem source depth old new
   ReadsFrom outer depth room old (Err error) new = StopsItem source outer depth room old error new
 
-  -- What `diagnose` reads if the writer does not fail, and what it keeps whatever it answers.
+  -- The reads of `diagnose` if the writer does not fail, and the facts that it keeps for each answer.
   pub record ReadsShown {F : Type 0} (depth : ℕ) (old : Decoder R) (result : Result (Unit {0}) (DiagError E F))
       (new : Decoder R) : Type 0 where
     pub reads : OnReading (λ answer. SkipsItem source depth BUFFER_SIZE old answer new) result

@@ -24,7 +24,7 @@ use Rattle.cbor_diag.specs.Notation.{body_text}
 
 -- ---- the text
 
--- The text before a body. 34 is a quote.
+-- The text before a body: `h'` or a quote, which is 34.
 abbrev pub opening : Quotes → List ℕ
 opening q.Hex = codes "h'"
 opening q.Text = 34 ∷ []
@@ -38,7 +38,7 @@ closing q.Text = 34 ∷ []
 abbrev pub quoted_body : Quotes → List ℕ → List ℕ
 quoted_body quotes body = (opening quotes ++ body_text quotes body) ++ closing quotes
 
--- A body in quotes whose end is missing.
+-- A body in quotes whose end is missing: `h'01` for the byte `01`.
 abbrev pub begun_text : Quotes → List ℕ → List ℕ
 begun_text quotes front = opening quotes ++ body_text quotes front
 
@@ -66,7 +66,7 @@ module _ {R E W F : Type 0} (source : Reader R E) (sink : Writer W F) (kind : Ki
     pub ends : StopsRest source kind [] len room place old.decoder error new.decoder
     pub written : WritesAll sink old.writer (text ends.part.front) new.writer
 
-  -- A body was copied to a writer of what stands between quotes.
+  -- A body was copied to a quoting writer.
   abbrev pub CopiesQuoted : Quotes → Sides R W → Result (Unit {0}) (RecodeError E F) → Sides R W → Type 0
   CopiesQuoted quotes old (Ok done) new = BodyShown (body_text quotes) old new
   CopiesQuoted quotes old (Err (r.Read error)) new = BodyStopped (body_text quotes) old error new
@@ -99,7 +99,7 @@ more_bodies opens quotes [] = []
 more_bodies opens quotes (body ∷ bodies) =
     (lead_text opens false ++ quoted_body quotes body) ++ more_bodies opens quotes bodies
 
--- All bodies of a string.
+-- All bodies of a string: `(_ h'01', h'02'` in the indefinite form.
 abbrev pub bodies_text : Bool → Quotes → List (List ℕ) → List ℕ
 bodies_text opens quotes [] = []
 bodies_text opens quotes (body ∷ bodies) =
@@ -124,13 +124,14 @@ is_indefinite (Some len) = false
 
 -- ---- one string
 
--- These bytes follow the header of a string and begin it, with these bodies.
+-- These bytes follow the header of a string and begin it, with these bodies. After `5f` the bytes `41 01` begin it with
+-- the body `01`.
 abbrev pub BeginsBodies : Kind → Option ℕ → List ℕ → List (List ℕ) → Type 0
 BeginsBodies kind (Some len) behind bodies = (behind ≡ []) × (bodies ≡ [])
 BeginsBodies kind None behind bodies = IsInside kind (shortest_title (kind_header kind None) ++ behind) bodies
 
 -- The bytes end with the title of one more body, of this many bytes. In a string of the definite form that title is its
--- header.
+-- header. After `5f` the bytes `41 01 42` end with the title of a body of 2 bytes.
 abbrev pub IsTitled : Kind → Option ℕ → List ℕ → List (List ℕ) → ℕ → Type 0
 IsTitled kind (Some len) behind bodies count = (behind ≡ []) × (bodies ≡ []) × (count ≡ len)
 IsTitled kind None behind bodies count =
@@ -168,7 +169,7 @@ module _ {R E W F : Type 0} (source : Reader R E) (sink : Writer W F) (kind : Ki
     pub written : WritesAll sink old.writer (bodies_text (is_indefinite len) quotes bodies) now.writer
 
   -- A beginning of a string was read, up to the title of one more body of this many bytes. The earlier bodies were
-  -- shown, and what precedes the new body was written.
+  -- shown, and the text before the new body was written.
   pub record BodyAnnounced (count : ℕ) (old now : Sides R W) : Type 0 where
     pub behind : List ℕ
     pub bodies : List (List ℕ)

@@ -1,4 +1,4 @@
--- What is written of a text, if contracts tell only some facts of it.
+-- The writes of a text of which contracts tell only some facts.
 use Rattle.std.specs.Prelude.{List, ℕ, ◌++◌, Result}
 use Rattle.ciborium_ll.specs.Types.Write.{Ghosts}
 use Rattle.ciborium_ll.specs.Encoding.{WritesBytes}

@@ -26,7 +26,7 @@ pub(crate) struct Line {
 }
 
 impl Line {
-    /// Returns the line of what the header contains.
+    /// Returns the line of the content of a header.
     pub(crate) fn within(self, header: Header) -> Line
         requires { self.level < MOST_LEVELS }
         ensures layout { result.layout ≡ self.layout }
@@ -41,7 +41,7 @@ impl Line {
         }
     }
 
-    /// Writes what precedes an item: the comma after another item, and the space.
+    /// Writes the text before an item: the comma after another item, and the space.
     pub(crate) fn before<W: Write>(
         self,
         writer: &mut W,
@@ -71,7 +71,7 @@ impl Line {
         }
     }
 
-    /// Writes the space before an item of an array or a map. `is_open` says that this has the indefinite form.
+    /// Writes the space before an item of an array or a map. `is_open` says that the form is indefinite.
     fn item_space<W: Write>(
         self,
         writer: &mut W,
@@ -88,7 +88,7 @@ impl Line {
         }
     }
 
-    /// Writes what follows the last item, before the closing bracket of the header that contains it.
+    /// Writes the text after the last item, before the closing bracket of its header.
     pub(crate) fn behind<W: Write>(
         self,
         writer: &mut W,
@@ -106,8 +106,7 @@ impl Line {
         }
     }
 
-    /// Writes the space before the closing bracket of an array or a map. `is_open` says that this has the indefinite
-    /// form.
+    /// Writes the space before the closing bracket of an array or a map. `is_open` says that the form is indefinite.
     fn last_space<W: Write>(
         self,
         writer: &mut W,

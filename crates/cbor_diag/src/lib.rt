@@ -46,43 +46,35 @@ impl<E, F> From<Error<E>> for DiagError<E, F> {
 /// Shows the next item in diagnostic notation (RFC 8949, section 8), as UTF-8.
 ///
 /// Tags, arrays and maps nest at most `depth` levels deep, and the depth is at most 256. If the writer does not fail,
-/// the call reads the item as `cbor_skip::skip_item` does. `Ok` says that one whole item was there, that each body of a
-/// text was UTF-8, and that the decoder is after the item. The whole text of the item was written, and nothing more.
+/// the call reads the item as `cbor_skip::skip_item` does. `Ok` says that one whole item was there, each text UTF-8,
+/// and that exactly the item's text was written.
 ///
-/// In each case the decoder moves on as [`Decoder`] says. The reader fails once if the answer carries `Error::Io`, and
-/// otherwise it does not fail.
+/// The decoder moves on as [`Decoder`] says. The reader fails only for `Error::Io`, and then once.
 ///
 /// # The text
 ///
 /// - An integer is its digits in base 10. A simple value is its name or `simple(N)`.
-/// - A float is digits that are read as its value, or `NaN`, `Infinity` or `-Infinity`. The kit's `parse_float`, which
-///   rounds to the nearest double, reads the digits. They are laid out as the kit's `ryu` promises, with a point, and
-///   with a sign at an exponent.
-/// - `_2` or `_3` follows a float exactly if a shorter width holds the same value. Apart from this mark only indefinite
-///   forms have one: the text does not show how long the titles of integers, lengths and tags are.
-/// - A byte string has two digits for each byte in `h''`. A text string has the escapes of JSON in `""`. The bodies of
-///   a string of the indefinite form stand in `(_ )`, with commas. If it has no body, it is `''_` or `""_`.
-/// - A tag is its number and its item in parentheses. The items of an array stand in brackets with commas between them.
-///   The items of a map stand in braces, with a colon after each key. The bracket of an indefinite form has an
-///   underscore.
-/// - All items stand on one line, or each item of an array and of a map stands on a line of its own, with two spaces
-///   for each level.
-///
-/// Tests alone say that a float's digits are the shortest.
+/// - A float is `NaN`, `Infinity` or `-Infinity`, or digits that the kit's `parse_float` reads as its value. They have
+///   a point, and a sign at an exponent, as the kit's `ryu` lays them out. Tests alone say that they are the shortest.
+/// - `_2` or `_3` follows a float exactly if a shorter width holds the same value. The text shows the length of no
+///   other title.
+/// - A byte string is `h'0102'`. A text string has the escapes of JSON in `""`. The bodies of the indefinite form stand
+///   in `(_ )`, with commas, and no body gives `''_` or `""_`.
+/// - A tag is `1(2)`, an array `[1, 2]` and a map `{1: 2}`. An indefinite form has an underscore, as `[_ 1]`.
 ///
 /// # Errors
 ///
 /// - `Read`: the read of the item stopped, with the error of `skip_item` and the decoder as that call leaves it.
-/// - `Write`: the writer failed. The contract says up to which header the item was read, and how far a string was read.
-///   No byte is read after the header of an integer, a float or a simple value.
+/// - `Write`: the writer failed. The contract says up to which header the item was read, and how far a string. No byte
+///   is read after the header of an integer, a float or a simple value.
 ///
-/// The contract also says what was written before the error:
+/// Before an error the call wrote this text:
 ///
-/// - Nothing, if no header was pulled, or a break was pulled.
-/// - If the read of a string stops, the text of all bytes that were handed out.
-/// - Within a tag, an array or a map, the text of the earlier items. If the next item has a title, what precedes the
-///   item and what was shown of it follow.
-/// - If the writer failed, all of this up to the write that failed, and a beginning of what that write had to write.
+/// - If no header, or a break, was pulled: nothing.
+/// - If the read of a string stopped: the text of all bytes that were handed out.
+/// - Within a tag, an array or a map: the earlier items. If the next item has a title, the text before it and its text
+///   so far follow.
+/// - If the writer failed: all of this up to a beginning of the write that failed.
 pub fn diagnose<R: Read, W: Write>(
     decoder: &mut Decoder<R>,
     writer: &mut W,

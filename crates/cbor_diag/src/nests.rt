@@ -1,4 +1,4 @@
-//! Shows items, and what tags, arrays and maps contain.
+//! Shows items, and the content of tags, arrays and maps.
 
 ghost use Rattle.std.specs.Prelude.{◌≡◌, ◌≤◌, ◌+◌, ◌++◌, Bool, Err, None, Ok, if◌then◌else◌};
 ghost use Rattle.ciborium_ll.specs.Types.Decoder.{Decoder as AnyDecoder};
@@ -24,7 +24,7 @@ use ciborium_ll::io::{Read, Write};
 use ciborium_ll::{Decoder, Header};
 use itoa::Buffer;
 
-/// Shows what a tag, an array or a map contains after its header, and returns whether it is empty.
+/// Shows the content of a tag, an array or a map after its header, and returns whether it is empty.
 #[cycle(items)]
 pub(crate) fn show_within<R: Read, W: Write>(
     decoder: &mut Decoder<R>,
@@ -56,7 +56,7 @@ pub(crate) fn show_within<R: Read, W: Write>(
     Ok(is_first)
 }
 
-/// Answers a break at this place in place of a due item. `is_first` says that no item stood before it.
+/// Answers a break at this place, in place of a due item. `is_first` says that no item precedes it.
 fn at_break<E, F>(
     remaining: Remaining,
     place: usize,
@@ -105,7 +105,7 @@ pub(crate) fn show_item<R: Read, W: Write>(
     }
 }
 
-/// Writes what precedes an item.
+/// Writes the text before an item.
 fn before<W: Write>(
     writer: &mut W,
     line: Line,
@@ -123,7 +123,7 @@ fn before<W: Write>(
     }
 }
 
-/// Writes what precedes the items of a tag, an array or a map.
+/// Writes the text before the items of a tag, an array or a map.
 fn open<W: Write>(writer: &mut W, header: Header) -> Result<(), W::Error>
     ensures { WritesBytes W.Write writer.old result (nest_opening header) writer.new }
 {
@@ -137,7 +137,7 @@ fn open<W: Write>(writer: &mut W, header: Header) -> Result<(), W::Error>
     }
 }
 
-/// Writes what follows the items of a tag, an array or a map.
+/// Writes the text after the items of a tag, an array or a map.
 fn close<W: Write>(
     writer: &mut W,
     line: Line,

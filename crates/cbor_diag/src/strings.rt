@@ -27,7 +27,7 @@ use cbor_skip::SkipError;
 use ciborium_ll::io::{Read, Write};
 use ciborium_ll::{Body, Chunked, Decoder, RecodeError, Segments};
 
-/// The length of the buffer through which the body of a string is read, in bytes.
+/// The length in bytes of the buffer through which a string's body is read.
 pub const BUFFER_SIZE: usize = 64;
 
 /// Shows a byte string after its header, which has this length.
@@ -64,7 +64,7 @@ pub(crate) fn show_text<R: Read, W: Write>(
     show_segments(&mut segments, writer, Quotes::Text, len.is_none())
 }
 
-/// Shows the segments of a string from its beginning. If it has the indefinite form, they stand in brackets.
+/// Shows the segments of a string from its beginning. Those of the indefinite form stand in brackets.
 #[tactic(auto, using(crate::proofs::StringShowLaws::text_start))]
 fn show_segments<R: Read, W: Write, P: Chunked>(
     segments: &mut Segments<'_, R, P>,
@@ -95,7 +95,7 @@ fn show_segments<R: Read, W: Write, P: Chunked>(
     }
 }
 
-/// Writes what precedes a segment.
+/// Writes the text before a segment.
 fn open<E, W: Write>(
     writer: &mut W,
     is_open: bool,
@@ -111,7 +111,7 @@ fn open<E, W: Write>(
     }
 }
 
-/// Writes what follows the last segment. If a string of the indefinite form has no segment, its quotes and an
+/// Writes the text after the last segment. If a string of the indefinite form has no segment, its quotes and an
 /// underscore show its kind.
 fn close<E, W: Write>(
     writer: &mut W,

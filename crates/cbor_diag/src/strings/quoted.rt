@@ -7,7 +7,7 @@ use super::noted::{Noted, Tells};
 use super::quotes::{Quotes, show_quoted};
 use ciborium_ll::io::{Failures, Write};
 
-/// Reads off a writer what it tells.
+/// Reads the facts that a writer tells.
 struct Told;
 
 impl<W: Write> Tells<W> for Told {
@@ -16,8 +16,8 @@ impl<W: Write> Tells<W> for Told {
 
 /// Writes bytes to another writer as they stand between quotes. After a failure it writes nothing more.
 ///
-/// It tells the bytes that it got, and notes what the other writer told at the start of the loan (`began`). Its ghost
-/// field says what was written to the other writer since.
+/// It tells the bytes that it got. It notes in `began` the facts that the other writer told at the start of the loan.
+/// Its ghost field relates these to the bytes that were written to the other writer since.
 #[derive(Drop)]
 pub(super) struct Quoted<'w, W: Write> {
     writer: &'w mut W,
@@ -31,7 +31,7 @@ pub(super) struct Quoted<'w, W: Write> {
 }
 
 impl<'w, W: Write> Quoted<'w, W> {
-    /// Makes a writer that got nothing yet.
+    /// Makes a writer that has no bytes yet.
     pub(super) fn new(writer: &'w mut W, quotes: Quotes) -> Quoted<'w, W>
         ensures began { result.began.bytes ≡ writer_code W.Write writer.old }
         ensures given { result.given.bytes ≡ [] }
@@ -69,8 +69,8 @@ impl<'w, W: Write> Write for Quoted<'w, W> {
 
     ghost flushed = { λ _ _. Unit {0} };
 
-    // A call that gets the writer says that its target stays the same. The target therefore has what no call changes:
-    // the loan, and as the earlier bytes the kind of quotes and what the other writer told.
+    // A call that gets the writer says that its target stays the same. So the target has only facts that no call
+    // changes: the loan, the kind of quotes, and the facts that the other writer told at the start.
     ghost target = { λ w. Some (record { loan = w.writer.ghost_name; before = quotes_code w.quotes ∷ w.began.bytes }) };
 
     fn write_all(&mut self, data: &[u8]) -> Result<(), W::Error> {

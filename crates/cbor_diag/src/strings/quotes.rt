@@ -20,7 +20,7 @@ pub(crate) enum Quotes {
 impl Quotes {
     ghost use Rattle.cbor_diag.specs.StringShows.{closing, end_text, opening};
 
-    /// Returns what precedes a body.
+    /// Returns the text before a body.
     pub(crate) fn opening(self) -> &'static [u8]
         ensures { result.now ≡ opening self }
     {
@@ -30,7 +30,7 @@ impl Quotes {
         }
     }
 
-    /// Returns what follows a body.
+    /// Returns the text after a body.
     pub(crate) fn closing(self) -> &'static [u8]
         ensures { result.now ≡ closing self }
     {

@@ -139,7 +139,7 @@ show_item-returns-in_default-clause-reads g t c = λ before outer at pulled stea
 pub show_item-returns-in_default-clause-moves_on : goal.show_item-returns-in_default-clause-moves_on
 show_item-returns-in_default-clause-moves_on g t c = c.show_plain.ensures.moves_on
 
--- ---- what was written
+-- ---- the written texts
 
 pub show_item-returns-then-depth-eq0-clause-shown : goal.show_item-returns-then-depth-eq0-clause-shown
 show_item-returns-then-depth-eq0-clause-shown g t c = deep
@@ -202,7 +202,7 @@ show_within-items-smaller g t c =
     nearer c.items.decoder c.pull.new.self c.show_item.new.decoder (omega (arith, pulled.offset, some))
     c.show_item.ensures.moves_on.rises
 
--- ---- what the calls require
+-- ---- the requirements of the calls
 
 pub show_item-within-inner-requires : goal.show_item-within-inner-requires
 show_item-within-inner-requires g t c = omega (arith, c.requires.shallow, c.if-depth-eq0.false)

@@ -15,7 +15,7 @@ returns-clause-copied g c =
     let old = c.args.segments.now.decoder.now in
     let new = c.copy.new.self.decoder.now in
     let writer = c.args.writer.now in
-    -- it is the same loan, of the same kind, and began at the same writer
+    -- The loan and the kind of quotes are the same, and both began at the same writer.
     let target = same_target c.copy.ensures.target in
     let loan = ap (λ (t : Target). t.loan) target in
     let before : quotes_code behind.quotes ∷ behind.began.bytes ≡ quotes_code begun.quotes ∷ begun.began.bytes =

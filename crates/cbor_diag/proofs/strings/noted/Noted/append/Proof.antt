@@ -1,5 +1,5 @@
--- `append` touches no byte: the list behind the reference is exchanged for the longer one, and the lent slice is given
--- up. By hand, since the struct has `also_owns`.
+-- `append` touches no byte. It exchanges the list of the reference for the longer list, and gives up the lent slice.
+-- The proof is by hand, since the struct has `also_owns`.
 use Rattle.std.proofs.Common.{◌++◌, [], ◌∷◌, refl}
 use Rattle.std.proofs.raw_atomic.Walks.{proved}
 use mir.Syntax.{named}
@@ -43,8 +43,8 @@ append_spec 𝓤 𝓛 𝓜 𝓡 wired =
     split ! $ split ! $ move ! (2 ∷ []) $ fsplit ! $ keep ! (0 ∷ 2 ∷ 1 ∷ 3 ∷ []) $
     enter ! _ _ _ _ _ $
     alloc_all ! (λ l. pass_all ! refl ((tt, tt), ((tt, (tt, (record { fits = are.1.0.0.1.0 }, tt))), tt)) $
-    -- [the reference; the token of its lifetime; the slice; its token], and then what the struct owns, its cell and the
-    -- open borrow
+    -- [the reference; the token of its lifetime; the slice; its token], and then the contents of the struct, its cell
+    -- and the open borrow.
     fsplit3 ! $ move ! (1 ∷ 2 ∷ 3 ∷ []) $ opens ! tt R b o (λ us.
     sets ! (of_opd ! (unit_lit !)) refl (tt, tt) $
     move ! (1 ∷ []) $ use1 𝓛 (‵ (R.own_val longer us)) (id⊢ 𝓤 _) $ move ! (1 ∷ 0 ∷ []) $

@@ -1,5 +1,5 @@
--- `of` makes a struct of no bytes that owns nothing, whose list is read off the argument. By hand, since a struct with
--- `also_owns` is made.
+-- `of` makes a struct of no bytes that owns nothing. The argument gives the list of the struct. The proof is by hand,
+-- since the call makes a struct with `also_owns`.
 use Rattle.std.proofs.Common.{◌≡◌, ℕ, List, [], ◌∷◌, refl}
 use Rattle.std.proofs.raw_atomic.Walks.{proved, leaves}
 use mir.Syntax.{a_type, dcons, dnil, named}
@@ -29,7 +29,7 @@ use Rattle.cbor_diag.specs.contracts.strings.noted.Noted.of.Key.{name as #self}
 use Rattle.cbor_diag.proofs.strings.noted.Noted.of.Statement.{statement}
 use Rattle.cbor_diag.proofs.strings.noted.Noted.of.Code as code
 
--- the value as the machine stores it
+-- The value as the machine stores it.
 abbrev stored : Val
 stored = vstruct (vcons (vstruct vnil) vnil)
 
@@ -51,7 +51,7 @@ of_spec 𝓤 𝓛 𝓜 𝓡 wired T Y L LY g d _ =
     qed 𝓛 ((raw (alive 𝓛 En.signature κs qs) ⊛ ‵ (owns (types_at En.signature.params κs) a y.0.4))
     ∷ raw ((c κs a).requires gh) ∷ []) ∵ split ! $ keep ! (0 ∷ []) $
     enter ! 𝓣.C 𝓣.Λ fn (p ∷ []) Post $ alloc_all ! (λ l. pass_all ! refl ((tt, tt), tt) $
-    -- the marker, and then the struct around it
+    -- First the marker, and then the struct around it.
     sets ! (agg ! (no_more !)) refl (tt, tt) $ sets ! (agg ! (and_then ! (get ! refl) (no_more !))) refl
     (tt, (tt, tt)) $
     use0 𝓛 (raw (fact 𝓤 (ns ≡ ns))) (fact_i 𝓤 (ns ≡ ns) (emp 𝓤) refl) $
