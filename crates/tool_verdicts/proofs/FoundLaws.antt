@@ -21,7 +21,7 @@ use Rattle.cbor_dump.specs.Singles.{ChecksOneTold}
 use Rattle.tool_verdicts.specs.Checking.{fault_said, sequence_said, single_said, FoundWell, StopsAsNamed, StopsBehind}
 use Rattle.tool_verdicts.specs.Checking.{FindsAll, FindsBehindRows, FindsOne, dump_said}
 
--- a fault that is named is found of a sequence, and of one item
+-- A named fault after some items is found in a sequence.
 fault_found_all : {E : Type 0} (strict : Bool) (depth count : ℕ) (due : List ℕ) (start offset : ℕ) (error : SkipError E)
     → StopsBehind strict depth count due start (fault_said error offset) → FindsAll strict depth due start (fault_said error offset)
 fault_found_all strict depth count due start offset (s.Break at) stops = (count, stops)
@@ -31,7 +31,7 @@ fault_found_all strict depth count due start offset (s.Read (e.Syntax at)) stops
 fault_found_all strict depth count due start offset (s.Read e.TooLong) stops = (count, stops)
 fault_found_all strict depth count due start offset (s.Read e.Waiting) stops = (count, stops)
 
--- no fault that is named is well
+-- A named fault is not a good verdict.
 fault_not_well : {E : Type 0} (error : SkipError E) (offset : ℕ) → FoundWell (fault_said error offset) → ⊥
 fault_not_well (s.Break at) offset well = well
 fault_not_well (s.Deep at) offset well = well
@@ -49,7 +49,7 @@ fault_found_one strict depth due start offset (s.Read (e.Syntax at)) stops = sto
 fault_found_one strict depth due start offset (s.Read e.TooLong) stops = stops
 fault_found_one strict depth due start offset (s.Read e.Waiting) stops = stops
 
--- all is well with a sequence where the answer of its check is `Ok`
+-- A sequence has a good verdict exactly if its check answers `Ok`.
 pub sequence_well : {E : Type 0} (answer : Result (Sequence E) (Stopped E)) (offset : ℕ) (P : Type 0)
     → (IsOk answer ↔ P) → (FoundWell (sequence_said answer offset) ↔ P)
 sequence_well (Ok sequence) offset P same = (λ well. same.0 refl, λ holds. tt)
@@ -59,7 +59,7 @@ sequence_well (Err stopped) offset P same = (
 )
 
 module _ {R E : Type 0} (source : Ghosts R E) where
-  -- what the skip of an item met is what stops its read
+  -- The error of an item's skip names the fault that stops its read.
   fault_met : (strict : Bool) (depth : ℕ) (due : List ℕ) (old new : Decoder R) (start : ℕ) (error : SkipError E)
       → SkipsTold source strict depth due old (Err error) new → old.offset ≡ start
       → StopsAsNamed strict depth due start (fault_said error new.offset)
@@ -93,7 +93,7 @@ module _ {R E : Type 0} (source : Ghosts R E) where
       fault_found_all old.strict depth stopped.items due old.offset new.offset stopped.error
       (sequence_stops depth due old new stopped told)
 
-  -- the answer of a dump, as a check that answers so has it
+  -- The verdict of a dump is that of a check with the same answer.
   ends_found : (depth : ℕ) (due : List ℕ) (old new : Decoder R)
       (checked : Result (Sequence E) (Stopped E)) (result : Result E (DumpError E Error)) → AnswersAs checked result
       → ChecksTold source depth due old checked new

@@ -1,4 +1,4 @@
--- What the loop over the items of a show read and wrote.
+-- The reads and writes of the loop over the items of a show.
 use Rattle.std.proofs.Common.{◌≡◌, ℕ, ◌+◌, Result, Ok, Err, ◌∙◌, ap, sym, subst}
 use Rattle.ciborium_ll.specs.Types.Read.{Ghosts}
 use Rattle.ciborium_ll.specs.Types.Write.{Ghosts as Sink}
@@ -15,7 +15,7 @@ use Rattle.tool_verdicts.specs.Showing.{CountsItems}
 use Rattle.tool_verdicts.specs.Showing.{EndsShow, IsEndOfItems, ShowsItems, ShowsLines, WritesItems, at_item}
 
 module _ {R E F : Type 0} (source : Ghosts R E) where
-  -- the error of the show behind whole items, as it ends
+  -- After whole items the show of one more item ends as its error says.
   pub show_ends : (depth count place stop : ℕ) (old between new : Decoder R) (error : DiagError E F)
       (result : Result E (DiagError E F)) → ReadsItems source depth count old between
       → OnReading {T = Unit {0}} (λ answer. SkipsItem source depth 64 between answer new) (Err error)
@@ -43,7 +43,7 @@ module _ {R E F : Type 0} (source : Ghosts R E) where
   }
   show_ends depth count place stop old between new error (Err (d.Write fault)) reads fails is here there = tt
 
--- how often the reader failed in the show, as it ends
+-- The reader fails as often as the answer of the show says.
 pub show_failures : {E F : Type 0} (error : DiagError E F) (place stop old between new : ℕ)
     (result : Result E (DiagError E F)) → EndsShow error place stop result → between ≡ old
     → CountsShown {T = Unit {0}} (Err error) between new → CountsItems result old new
@@ -56,7 +56,7 @@ show_failures error place stop old between new (Err other) is same counts =
     (subst (λ (x : DiagError _ _). CountsShown {T = Unit {0}} (Err x) between new) (sym is.0) counts)
 
 module _ {R E W F : Type 0} (source : Ghosts R E) (sink : Sink W F) (layout : Layout) where
-  -- behind whole lines the show of one more item ended, by what its error says
+  -- After whole lines the show of one more item ends as its error says.
   pub lines_end : (count place stop : ℕ) (old between new : Sides R W) (error : DiagError E F)
       (result : Result E (DiagError E F)) → ShowsLines source sink layout count old between
       → ItemStops source sink layout between error new → EndsShow error place stop result

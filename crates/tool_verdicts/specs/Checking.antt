@@ -1,4 +1,4 @@
--- What `check` finds in bytes, and the word for each answer of the libraries.
+-- The verdicts of `check` on bytes, and the verdict for each answer of the libraries.
 use Rattle.std.specs.Prelude.{◌≡◌, ℕ, ◌+◌, Bool, true, false, List, [], ◌++◌, length, Option, Some, None}
 use Rattle.std.specs.Prelude.{Result, Ok, Err}
 use Rattle.std.specs.declared.io.Error.{Error}
@@ -25,9 +25,9 @@ use Rattle.cbor_dump.specs.Singles.{ChecksOne}
 use Rattle.tool_verdicts.specs.declared.verdict.Verdict.{Verdict}
 use Rattle.tool_verdicts.specs.declared.verdict.Verdict.TheVariants as v
 
--- ---- what the libraries answer, as the program says it
+-- ---- the answers of the libraries, as the program says them
 
--- What stopped the read of an item. A read that failed stopped at this offset.
+-- The verdict for an error that stopped the read of an item. A read that failed stopped at this offset.
 abbrev pub fault_said : {E : Type 0} → SkipError E → ℕ → Verdict
 fault_said (s.Break place) offset = v.Break place
 fault_said (s.Deep place) offset = v.Deep place
@@ -71,7 +71,7 @@ unless_failed None verdict = verdict
 unless_failed (Some r.End) verdict = verdict
 unless_failed (Some (r.Failed error)) verdict = v.Failed error
 
--- What `dump` and `diag` find after whole items: the end, or a read that failed for another reason.
+-- The answer of `dump` and `diag` after whole items: the end, or a read that failed for another reason.
 abbrev pub end_said : Option ReadFault → Result (Unit {0}) Verdict
 end_said None = Ok tt
 end_said (Some r.End) = Ok tt
@@ -82,29 +82,29 @@ abbrev pub IsCutShort : {E F : Type 0} → Result E (DumpError E F) → Type 0
 IsCutShort (Err (u.Item (s.Read (e.Io error)))) = Unit {0}
 IsCutShort outcome = ⊥
 
--- What is said for the answer of `dump`.
+-- The verdict for the answer of `dump`.
 abbrev pub dump_said : {E : Type 0} → Result E (DumpError E Error) → Option ReadFault → ℕ
     → Result (Unit {0}) Verdict
 dump_said (Ok ended) fault offset = end_said fault
 dump_said (Err (u.Item error)) fault offset = Err (unless_failed fault (fault_said error offset))
 dump_said (Err (u.Rows error)) fault offset = Err (v.Output error)
 
--- What is said for the answer of `diag`, or the error of its writer.
+-- The verdict for the answer of `diag`, or the error of its writer.
 abbrev pub diag_said : {E F : Type 0} → Result E (DiagError E F) → Option ReadFault → ℕ
     → Result (Result (Unit {0}) Verdict) F
 diag_said (Ok ended) fault offset = Ok (end_said fault)
 diag_said (Err (d.Read error)) fault offset = Ok (Err (unless_failed fault (fault_said error offset)))
 diag_said (Err (d.Write error)) fault offset = Err error
 
--- ---- what is found of bytes that are told
+-- ---- verdicts on bytes that are told
 
 -- All is well.
 abbrev pub FoundWell : Verdict → Type 0
 FoundWell (v.Well items bytes) = Unit {0}
 FoundWell verdict = ⊥
 
--- The bytes are what is wanted: with `--one` one item, otherwise a sequence of items (RFC 8742, 2), and with `--strict`
--- in their shortest spelling (RFC 7049, 3.9).
+-- The bytes are as wanted: with `--one` one item, otherwise a sequence of items (RFC 8742, 2), and with `--strict` in
+-- their shortest spelling (RFC 7049, 3.9). `01 80` is as wanted without `--one` only.
 abbrev pub IsWanted : Bool → Bool → ℕ → List ℕ → Type 0
 IsWanted true strict depth due = IsItem strict depth due
 IsWanted false strict depth due = IsSequence strict depth due
@@ -120,7 +120,8 @@ StopsAsNamed strict depth due start (v.Break place) = (fault : HasEarlyBreak str
 StopsAsNamed strict depth due start (v.Deep place) = (fault : HasDeepNest strict depth due) × (place ≡ start + length fault.before)
 StopsAsNamed strict depth due start verdict = ⊥
 
--- `count` items, and bytes after them in which the read of a further item stops. The verdict names the fault.
+-- `count` items, and bytes after them in which the read of a further item stops. The verdict names the fault. `01 1c`
+-- from the offset 0 is one item, and `syntax 1`.
 pub record StopsBehind (strict : Bool) (depth count : ℕ) (due : List ℕ) (start : ℕ) (verdict : Verdict) : Type 0 where
   pub before : List ℕ
   pub ahead : List ℕ
@@ -128,29 +129,30 @@ pub record StopsBehind (strict : Bool) (depth count : ℕ) (due : List ℕ) (sta
   pub is : due ≡ before ++ ahead
   pub stops : StopsAsNamed strict depth ahead (start + length before) verdict
 
--- One item, and more bytes after it from this offset on.
+-- One item, and more bytes after it from this offset on. In `01 80`, which begins at the offset 0, they follow at 1.
 pub record IsFollowed (strict : Bool) (depth : ℕ) (due : List ℕ) (start place : ℕ) : Type 0 where
   pub front : BeginsWithItem strict depth due
   pub some : front.rest ≡ [] → ⊥
   pub at : place ≡ start + length front.item
 
--- What is found in a sequence from this offset on: all its items and bytes, or the first fault.
+-- The verdict on a sequence from this offset on: all its items and bytes, or the first fault. `01 80` has 2 items in 2
+-- bytes.
 abbrev pub FindsAll : Bool → ℕ → List ℕ → ℕ → Verdict → Type 0
 FindsAll strict depth due start (v.Well items bytes) = AreItems strict depth items due × (bytes ≡ length due)
 FindsAll strict depth due start verdict = (count : ℕ) × StopsBehind strict depth count due start verdict
 
--- What is found after the rows of a dump: the end of a sequence, or its first fault.
+-- The verdict after the rows of a dump: the end of a sequence, or its first fault.
 abbrev pub FindsBehindRows : Bool → ℕ → List ℕ → ℕ → Result (Unit {0}) Verdict → Type 0
 FindsBehindRows strict depth due start (Ok done) = IsSequence strict depth due
 FindsBehindRows strict depth due start (Err verdict) = (count : ℕ) × StopsBehind strict depth count due start verdict
 
--- What is found if one item is wanted.
+-- The verdict if one item is wanted.
 abbrev pub FindsOne : Bool → ℕ → List ℕ → ℕ → Verdict → Type 0
 FindsOne strict depth due start (v.Well items bytes) = (items ≡ 1) × IsItem strict depth due × (bytes ≡ length due)
 FindsOne strict depth due start (v.More place) = IsFollowed strict depth due start place
 FindsOne strict depth due start verdict = StopsBehind strict depth 0 due start verdict
 
--- What is found in one item or in a sequence, as is wanted.
+-- The verdict on one item or on a sequence, as is wanted.
 abbrev pub Finds : Bool → Bool → ℕ → List ℕ → ℕ → Verdict → Type 0
 Finds true strict depth due start verdict = FindsOne strict depth due start verdict
 Finds false strict depth due start verdict = FindsAll strict depth due start verdict

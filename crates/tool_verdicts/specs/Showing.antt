@@ -1,4 +1,4 @@
--- What `diag` reads and writes of a sequence of items (RFC 8742), and how a line ends.
+-- The reads and the writes of `diag` for a sequence of items (RFC 8742), and the end of a line.
 use Rattle.std.specs.Prelude.{◌≡◌, ℕ, zero, suc, ◌+◌, ◌⊎◌, [], ◌∷◌, Result, Ok, Err, IsSome}
 use Rattle.ciborium_ll.specs.Types.Read.{Ghosts}
 use Rattle.ciborium_ll.specs.Types.Write.{Ghosts as Sink}
@@ -24,7 +24,7 @@ module _ {E F : Type 0} where
   IsEndOfItems (d.Read error) place stop = IsEnd error place stop
   IsEndOfItems (d.Write fault) place stop = ⊥
 
-  -- What an error after whole items says, of a show that began at the place and stopped at `stop`.
+  -- The answer to an error after whole items, of a show that began at the place and stopped at `stop`.
   abbrev pub EndsShow : DiagError E F → ℕ → ℕ → Result E (DiagError E F) → Type 0
   EndsShow error place stop (Ok fault) = (error ≡ d.Read (s.Read (e.Io fault))) × (stop ≡ place)
   EndsShow error place stop (Err other) = (other ≡ error) × (IsEndOfItems error place stop → ⊥)

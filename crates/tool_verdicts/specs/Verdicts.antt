@@ -1,4 +1,4 @@
--- What the program says of an input, and how it ends.
+-- The texts of the program about an input, and how it ends.
 use Rattle.std.specs.Prelude.{ℕ, List, ◌++◌, Option, Some, None, codes, decimal}
 use Rattle.std.specs.IoError.{error_kind}
 use Rattle.std.specs.declared.io.ErrorKind.{ErrorKind}
@@ -37,7 +37,7 @@ verdict_status (v.Failed error) = s.Failed
 verdict_status (v.Text fault) = s.Malformed
 verdict_status (v.Output error) = output_status (error_kind error)
 
--- What is said of a text that spells no bytes.
+-- The text of a reason why a text spells no bytes.
 abbrev pub reason_text : TextReason → List ℕ
 reason_text t.NoDigit = codes "no hexadecimal digit"
 reason_text t.HalfByte = codes "half a byte"
@@ -49,7 +49,8 @@ abbrev pub text_fault_text : TextFault → List ℕ
 text_fault_text fault = codes "line " ++ (decimal fault.line ++ (codes ", column " ++ (decimal fault.column
     ++ (codes ": " ++ reason_text fault.reason))))
 
--- The line of what is found: `ok 2 3` for two items in three bytes. The text of std's own error is open.
+-- The line of a verdict: `ok 2 3` for two items in three bytes, and `syntax 1` for a fault at the offset 1. The text of
+-- std's own error is open.
 abbrev pub verdict_text : Verdict → Option (List ℕ)
 verdict_text (v.Well items bytes) = Some (codes "ok " ++ (decimal items ++ (codes " " ++ decimal bytes)))
 verdict_text (v.Syntax place) = Some (codes "syntax " ++ decimal place)

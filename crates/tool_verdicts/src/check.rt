@@ -1,4 +1,4 @@
-//! What a check finds in an input, and the word for each answer of the library.
+//! The verdict of a check on an input.
 
 ghost use Rattle.std.specs.Prelude.{◌≡◌, ◌≤◌, ◌↔◌, ℕ, List};
 ghost use Rattle.ciborium_ll.specs.Decoding.{IsFreshAs, offset_of, strict_of};
@@ -27,8 +27,7 @@ pub fn decoder_of<R: Read>(reader: R, strict: bool) -> Decoder<R>
     Decoder::with_spelling(reader, Spelling::shortest_if(strict), 0)
 }
 
-/// Returns what was found, or the error of a read that failed for another reason than the end. A read that fails meets
-/// no fault of the bytes.
+/// Returns the verdict, or the error of a read that failed for another reason than the end.
 pub fn failed_or(fault: Option<ReadFault>, verdict: Verdict) -> Verdict
     ensures { result ≡ unless_failed fault verdict }
 {
@@ -38,8 +37,7 @@ pub fn failed_or(fault: Option<ReadFault>, verdict: Verdict) -> Verdict
     }
 }
 
-/// Returns what is found at the end of whole items: nothing, or the error of a read that failed for another reason than
-/// the end.
+/// Returns nothing at the end of whole items, or the error of a read that failed for another reason than the end.
 pub fn end_verdict(fault: Option<ReadFault>) -> Result<(), Verdict>
     ensures { result ≡ end_said fault }
 {
@@ -49,15 +47,13 @@ pub fn end_verdict(fault: Option<ReadFault>) -> Result<(), Verdict>
     }
 }
 
-/// Checks one item or a sequence of items, as `one` says, and returns what it finds.
+/// Checks one item or a sequence of items, as `one` says, and returns the verdict.
 ///
-/// Tags, arrays and maps nest at most `depth` levels deep, and the depth is at most 256. The verdict says the library's
-/// answer as it is: the numbers of items and bytes, or the fault with its offset.
+/// Tags, arrays and maps nest at most `depth` levels deep, and `depth` is at most 256.
 ///
-/// Assume that a steady reader tells its bytes, that the offset fits, and that no header waits on a strict decoder.
-/// Then all is well exactly if the bytes are what is wanted, to the depth, for a strict decoder in their shortest
-/// spelling. The verdict has their numbers. Otherwise it names the first fault after the whole items, with its offset.
-/// If one item is wanted and bytes follow it, the verdict names the offset from which they follow.
+/// If a steady reader tells its bytes, the offset fits and no header waits on a strict decoder, the verdict is `Well`
+/// exactly if the bytes are as wanted. Otherwise it names the first fault after the whole items. If bytes follow the
+/// one item that is wanted, it names the offset from which they follow.
 pub fn wanted<R: Read>(decoder: &mut Decoder<R>, one: bool, depth: usize) -> Verdict
 where
     R::Error: Drop,
@@ -91,7 +87,7 @@ where
     sequence_verdict(answer, decoder.offset())
 }
 
-/// Returns what is found in a sequence. A read that failed stopped at this offset.
+/// Returns the verdict on a sequence. A read that failed stopped at this offset.
 fn sequence_verdict<E: Drop>(answer: Result<Sequence<E>, Stopped<E>>, offset: usize) -> Verdict
     ensures { result ≡ sequence_said answer offset }
 {
@@ -120,7 +116,7 @@ where
     single_verdict(answer, decoder.offset())
 }
 
-/// Returns what is found in one item. A read that failed stopped at this offset.
+/// Returns the verdict on one item. A read that failed stopped at this offset.
 fn single_verdict<E: Drop>(answer: Result<Sequence<E>, NotOne<E>>, offset: usize) -> Verdict
     ensures { result ≡ single_said answer offset }
 {
@@ -134,7 +130,7 @@ fn single_verdict<E: Drop>(answer: Result<Sequence<E>, NotOne<E>>, offset: usize
     }
 }
 
-/// Returns what stopped the read of an item, at this offset.
+/// Returns the verdict for an error that stopped the read of an item at this offset.
 pub fn fault_of<E: Drop>(error: SkipError<E>, offset: usize) -> Verdict
     ensures { result ≡ fault_said error offset }
 {

@@ -1,4 +1,4 @@
-//! Items in diagnostic notation, one after the other, and what is found after them.
+//! Items in diagnostic notation, one after the other, and the verdict after them.
 
 ghost use Rattle.std.specs.Prelude.{◌≡◌, ◌≤◌};
 ghost use Rattle.ciborium_ll.specs.Decoding.{MovesOn, failures_of};
@@ -14,9 +14,8 @@ use cbor_skip::SkipError;
 use ciborium_ll::io::{Read, ReadFault, Write};
 use ciborium_ll::{Decoder, Error};
 
-/// Returns what a show found. A read that failed stopped at this offset, with this fault.
-///
-/// The verdict says the library's answer as it is. A read that failed for another reason than the end takes precedence.
+/// Returns the verdict after a show. A read that failed stopped at this offset, with this fault. If it failed for
+/// another reason than the end, it takes precedence.
 ///
 /// # Errors
 ///
@@ -37,15 +36,14 @@ pub fn diag_verdict<E: Drop, F>(
 
 /// Writes items in diagnostic notation, each with a line end, and returns the reader's error at the end.
 ///
-/// Tags, arrays and maps nest at most `depth` levels deep. The depth is at most 256. If the writer does not fail, the
-/// call reads whole items, each as `skip_item` reads it. It stops if the reader fails at a further item before a byte
-/// came, or if that item stops as `skip_item` says.
+/// Tags, arrays and maps nest at most `depth` levels deep, and `depth` is at most 256. If the writer does not fail, the
+/// call reads each item as `skip_item` does. It stops if the reader fails before a byte of a further item, or if that
+/// item stops.
 ///
-/// The text of each whole item is written as `diagnose` says, and then a line feed, which is passed on at once. After
-/// the last whole line stands what `diagnose` says of the item at which it stopped, or a line that could not be ended.
+/// The call writes each whole item as `diagnose` does, and then a line feed, which it passes on at once. After the last
+/// whole line stands the text of the item at which it stopped, or a line that could not be ended.
 ///
-/// In each case the decoder moves on as [`Decoder`] says. The reader fails once if the answer is `Ok` or carries
-/// `Error::Io`, and otherwise it does not fail.
+/// The decoder moves on as [`Decoder`] says. The reader fails only for `Ok` and `Error::Io`, and then once.
 ///
 /// # Errors
 ///

@@ -1,4 +1,4 @@
-//! What is found after the rows of a dump.
+//! The verdict after the rows of a dump.
 
 ghost use Rattle.std.specs.Prelude.{◌≡◌};
 ghost use Rattle.cbor_dump.specs.Dumps.{AreRowsTaken, ShowsLeft};
@@ -14,9 +14,9 @@ use ciborium_ll::io::{Read, ReadFault};
 use ciborium_ll::{Decoder, Error};
 use std::io;
 
-/// Shows what is left of a title or of a body after the rows, at this level, if the reader failed within it.
+/// Shows the bytes that are left of a title or of a body after the rows, at this level, if the reader failed within it.
 ///
-/// Otherwise the call does nothing. The dump's answer stays, unless that row is refused: then it is `Rows`.
+/// The dump's answer stays, unless that row is refused: then it is `Rows`.
 pub fn left_shown<R: Read, S: Rows>(
     decoder: &mut Decoder<R>,
     outcome: Result<R::Error, DumpError<R::Error, S::Error>>,
@@ -39,10 +39,8 @@ where
     outcome
 }
 
-/// Returns what a dump found. A read that failed stopped at this offset, with this fault.
-///
-/// The verdict says the library's answer as it is, but a read that failed for another reason than the end takes
-/// precedence.
+/// Returns the verdict after a dump. A read that failed stopped at this offset, with this fault. If it failed for
+/// another reason than the end, it takes precedence.
 ///
 /// # Errors
 ///

@@ -1,7 +1,7 @@
 // SPDX-License-Identifier: Apache-2.0
-//! What the program that looks at files finds in an input, and how it says so.
+//! The verdicts of the program that looks at files, and their texts.
 //!
-//! It works over any decoder, and any rows or writer of the library. `tool_files` prints the answers.
+//! The calls work over any decoder, and any rows or writer of the library. `tool_files` prints the answers.
 #![tactic(auto)]
 
 pub mod check;

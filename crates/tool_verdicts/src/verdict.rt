@@ -1,4 +1,4 @@
-//! What is found in an input, as the program says it.
+//! The verdict on an input, as the program says it.
 
 ghost use Rattle.std.specs.Prelude.{◌≡◌, ◌≤◌, ◌⊎◌, Some};
 ghost use Rattle.tool_verdicts.specs.Verdicts.{output_status, status_code, text_fault_text, verdict_status, verdict_text};
@@ -44,7 +44,7 @@ impl Status {
         }
     }
 
-    /// Returns the worse of two statuses: the one with the greater number.
+    /// Returns the status with the greater number.
     pub fn worse(self, other: Status) -> Status
         ensures one { (result ≡ self) ⊎ (result ≡ other) }
         ensures worst { (status_code self ≤ status_code result) × (status_code other ≤ status_code result) }
@@ -73,7 +73,7 @@ pub enum TextReason {
 impl TextReason {
     ghost use Rattle.tool_verdicts.specs.Verdicts.{reason_text};
 
-    /// Returns what is said of it.
+    /// Returns the text of the reason.
     pub fn text(self) -> &'static str
         ensures { result.now ≡ reason_text self }
     {
@@ -106,7 +106,7 @@ impl fmt::Display for TextFault {
     }
 }
 
-/// What is found in an input. Offsets are in bytes from its start.
+/// The verdict on an input. Offsets are in bytes from its start.
 #[derive(Drop)]
 pub enum Verdict {
     /// It is well-formed.
@@ -116,16 +116,16 @@ pub enum Verdict {
         /// How many bytes the items take.
         bytes: usize,
     },
-    /// The bytes at this offset are no CBOR that could stand there, or a body is no text. The offset is the place that
-    /// the library's `Error::Syntax` names.
+    /// The bytes at this offset are no CBOR that could stand there, or a body is no text. It is the place of the
+    /// library's `Error::Syntax`.
     Syntax(usize),
-    /// The input ends within an item. Up to this offset whole titles and pieces of bodies were read.
+    /// The input ends within an item. This offset follows the whole titles and pieces of bodies.
     Short(usize),
     /// At this offset a break ends nothing.
     Break(usize),
     /// At this offset a tag, an array or a map stands too deep.
     Deep(usize),
-    /// More than one item was found, and the second item would begin at this offset.
+    /// More than one item was found. The second item would begin at this offset.
     More(usize),
     /// The text that spells the input has a fault.
     Text(TextFault),

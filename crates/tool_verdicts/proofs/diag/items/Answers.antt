@@ -31,7 +31,7 @@ returns-in-Err-clause-reads g c =
     c.items.decoder new c.in-Err.error c.ended.result c.items.invariant.reads fails c.ended.ensures
     c.offset-place.ensures.value (rw c.offset.ensures.same c.offset.ensures.value)
 
--- each item takes a byte
+-- Each item takes at least one byte.
 pub items-smaller : goal.items-smaller
 items-smaller g c =
     let item : ReadsItem g.R.Read c.args.depth c.items.decoder c.diagnose.new.decoder =

@@ -13,6 +13,6 @@ invariant-items g l = record {
   moves_on : MovesOn g.R.Read l.fn.decoder l.decoder;
 }
 
--- each item takes a byte
+-- Each item takes at least one byte.
 abbrev pub decreases-items : goal.decreases-items
 decreases-items g l = 2 ^ 64 - l.decoder.offset
