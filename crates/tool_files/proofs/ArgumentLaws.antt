@@ -1,4 +1,4 @@
--- What the words of a command line ask for, word by word.
+-- The requests of a command line, word by word.
 use Rattle.std.proofs.Common.{◌≡◌, ℕ, false, List, [], ◌∷◌, ◌++◌, inl, inr}
 use Rattle.std.proofs.Common.{codes, refl, ap, sym, ◌∙◌, arith, append_assoc}
 use Rattle.std.proofs.Common.{◌≤◌, length, Bor, Result, Ok, Err, IfOk, IfErr}
@@ -18,36 +18,36 @@ use Rattle.tool_files.specs.declared.options.Word.{Word}
 use Rattle.tool_files.specs.declared.options.Word.TheVariants as w
 use Rattle.tool_files.specs.declared.request.Topic.{Topic}
 
--- what is asked for with more files, which precede the others
+-- The request with more files, which precede its own.
 abbrev pub with_files : List (List ℕ) → Wish → Wish
 with_files front (look choices files) = look choices (front ++ files)
 with_files front help = help
 
--- two options of one name and one value are the same
+-- Two options of one name and one value are the same.
 pub same_valued : (a b : Setting) (value : List ℕ) → setting_name a ≡ setting_name b → SpellsValue a value
     → SpellsValue b value → a ≡ b
 same_valued a b value same spelled-a spelled-b = grind arith
 
--- two options of one name without values are the same
+-- Two options of one name without values are the same.
 pub same_plain : (a b : Setting) → setting_name a ≡ setting_name b → has_value a ≡ false → has_value b ≡ false → a ≡ b
 same_plain a b same plain-a plain-b = grind arith
 
--- an option that takes a value has another name than an option without one
+-- An option that takes a value has another name than an option without a value.
 pub other_name : (a b : Setting) (value : List ℕ) → has_value a ≡ false → SpellsValue b value
     → setting_name a ≡ setting_name b → ⊥
 other_name a b value plain spelled same = grind arith
 
--- the same where the value follows the name
+-- An option without a value has another name than an option with a joined value.
 pub other_joined : (a b : Setting) (value : List ℕ) → SpellsValue b value
     → setting_name a ≡ setting_name b ++ (61 ∷ value) → ⊥
 other_joined a b value spelled same = grind arith
 
--- a joined value is one alone
+-- A word joins the value of one option only.
 pub same_joined : (a b : Setting) (name : List ℕ) → JoinsValue a name → JoinsValue b name → a ≡ b
 same_joined a b name (left, is-a, spelled-a) (right, is-b, spelled-b) =
     grind (arith, is-a, is-b, spelled-a, spelled-b)
 
--- an option is spelled in one way alone, and so are the words behind it
+-- A name and the words after it spell one option, and leave the same words after it.
 pub same_setting : (a b : Setting) (name : List ℕ) (words behind-a behind-b : List (String Global))
     → SpellsSetting a name words behind-a → SpellsSetting b name words behind-b → (a ≡ b) × (behind-a ≡ behind-b)
 same_setting a b name words behind-a behind-b (alone plain-a is-a at-a) (alone plain-b is-b at-b) =
@@ -71,14 +71,14 @@ same_setting a b name words behind-a behind-b (apart next-a is-a at-a spelled-a)
     let same : next-a ≡ next-b = grind (arith, whole) in
     (same_valued a b (string_bytes next-b) (sym is-a ∙ is-b) (rw same at spelled-a) spelled-b, grind (arith, whole))
 
--- no option has the name of two hyphens, or one that asks for help
+-- No option has the name of two hyphens.
 pub no_hyphens : (a : Setting) (name : List ℕ) (words behind : List (String Global))
     → SpellsSetting a name words behind → name ≡ codes "--" → ⊥
 no_hyphens a name words behind (alone plain is at) same = grind (arith, is, same)
 no_hyphens a name words behind (joined (value, is, spelled) at) same = grind (arith, is, same, spelled)
 no_hyphens a name words behind (apart value is at spelled) same = grind (arith, is, same)
 
--- an option with a value is as shallow as the greatest depth
+-- An option with a value is at most as deep as the greatest depth.
 pub shallow_valued : (a : Setting) (value : List ℕ) → SpellsValue a value → IsShallow a
 shallow_valued (s.Depth depth) value spelled = spelled.1
 shallow_valued (s.Colors colors) value spelled = tt
@@ -99,7 +99,7 @@ takes s.Hex name value is spelled = absurd spelled
 takes s.Offsets name value is spelled = absurd spelled
 takes s.Pretty name value is spelled = absurd spelled
 
--- no option is spelled by a name that none has
+-- If a name is that of no option, it spells no option.
 pub spells_none : (name : List ℕ) (words : List (String Global)) → (TakesValue name → ⊥)
     → ((a : Setting) → has_value a ≡ false → name ≡ setting_name a → ⊥) → ((a : Setting) → JoinsValue a name → ⊥)
     → (a : Setting) (behind : List (String Global)) → SpellsSetting a name words behind → ⊥
@@ -108,12 +108,12 @@ spells_none name words no_value no_plain no_joined a behind (joined value at) = 
 spells_none name words no_value no_plain no_joined a behind (apart value is at spelled) =
     no_value (takes a name (string_bytes value) is spelled)
 
--- two hyphens ask for no help
+-- Two hyphens ask for no help.
 pub hyphens_no_help : (name : List ℕ) → name ≡ codes "--" → IsHelp name → ⊥
 hyphens_no_help name same (inl is) = grind (arith, same, is)
 hyphens_no_help name same (inr is) = grind (arith, same, is)
 
--- no option has a name that asks for help
+-- No option has a name that asks for help.
 pub no_help : (a : Setting) (name : List ℕ) (words behind : List (String Global))
     → SpellsSetting a name words behind → IsHelp name → ⊥
 no_help a name words behind (alone plain is at) (inl same) = grind (arith, is, same)
@@ -123,7 +123,7 @@ no_help a name words behind (joined (value, is, spelled) at) (inr same) = grind 
 no_help a name words behind (apart value is at spelled) (inl same) = grind (arith, is, same)
 no_help a name words behind (apart value is at spelled) (inr same) = grind (arith, is, same)
 
--- two hyphens are an option, and so is a name that asks for help
+-- Two hyphens are an option.
 pub hyphens_option : (name : List ℕ) → name ≡ codes "--" → IsOption name
 hyphens_option name same = (45 ∷ [], same, λ none. grind (arith, none))
 
@@ -134,19 +134,19 @@ help_option name (inr same) = (codes "h", same, λ none. grind (arith, none))
 same_first : (a b : String Global) (left right : List (String Global)) → a ∷ left ≡ b ∷ right → (b ≡ a) × (right ≡ left)
 same_first a b left right same = (grind (arith, same), grind (arith, same))
 
--- what is asked for with files first
+-- One more file, before the others, is the last of the files in front.
 pub with_files_more : (front : List (List ℕ)) (name : List ℕ) (wish : Wish)
     → with_files front (with_file name wish) ≡ with_files (front ++ (name ∷ [])) wish
 with_files_more front name (look choices files) = ap (look choices) (sym (append_assoc front (name ∷ []) files))
 with_files_more front name help = refl
 
--- the texts of files with one more behind them
+-- One more file adds its text to the texts of the files.
 pub texts_pushed : (items new : List (Bor (List ℕ))) (value : Bor (List ℕ)) (text : List ℕ)
     → new ≡ items ++ (value ∷ []) → value.now ≡ text → texts new ≡ texts items ++ (text ∷ [])
 texts_pushed items new value text is same =
     ap texts is ∙ (map-append (λ x. x.now) items (value ∷ []) ∙ ap (λ x. texts items ++ (x ∷ [])) same)
 
--- the words behind an option are no more than the words after its name
+-- At most as many words follow an option as follow its name.
 pub no_longer : (a : Setting) (name : List ℕ) (words behind : List (String Global))
     → SpellsSetting a name words behind → length behind ≤ length words
 no_longer a name words behind (alone plain is at) = grind (arith, at)
@@ -155,7 +155,7 @@ no_longer a name words behind (apart value is at spelled) = grind (arith, at)
 
 module _ (word : Word) (old : Choices) (name : String Global) (words rest : List (String Global))
     (is : words ≡ name ∷ rest) where
-  -- what is left to ask for behind an option that stands in front
+  -- If an option precedes the words, the words after it ask for the same over the changed choices.
   pub asks_behind : (wish : Wish) (setting : Setting) (behind : List (String Global)) → IsOption (string_bytes name)
       → SpellsSetting setting (string_bytes name) rest behind → AsksWith word old words wish
       → AsksWith word (with_setting setting old) behind wish
@@ -175,7 +175,7 @@ module _ (word : Word) (old : Choices) (name : String Global) (words rest : List
       let firsts = same_first name first rest after (sym is ∙ at) in
       absurd (no_help setting (string_bytes name) rest behind spelled (rw firsts.0 at is-help))
 
-  -- what is left to ask for behind a file that stands in front
+  -- If a file precedes the words, the words after it ask for the rest.
   pub asks_after : (wish : Wish) → (IsOption (string_bytes name) → ⊥) → AsksWith word old words wish
       → (left : Wish) × AsksWith word old rest left
   asks_after wish no_option (ended none same) = absurd (grind (arith, is, none))
@@ -192,7 +192,7 @@ module _ (word : Word) (old : Choices) (name : String Global) (words rest : List
       let firsts = same_first name first rest after (sym is ∙ at) in
       absurd (no_option (help_option (string_bytes name) (rw firsts.0 at is-help)))
 
-  -- an option that is none of the word's stands in front: nothing is asked for
+  -- If an option that the word doesn't know precedes the words, they ask for nothing.
   pub asks_nothing : (wish : Wish) → IsOption (string_bytes name) → (string_bytes name ≡ codes "--" → ⊥)
       → (IsHelp (string_bytes name) → ⊥)
       → ((setting : Setting) (behind : List (String Global)) → IsKnown word setting
@@ -216,18 +216,18 @@ pub empty_of : (words : List (String Global)) → length words ≡ 0 → words �
 empty_of [] none = refl
 empty_of (word ∷ words) none = absurd (grind (arith, none))
 
--- words that name no topic ask for no help
+-- Words that name no topic ask for no help.
 pub no_topic : (first : List ℕ) (words : List (String Global)) (wanted : Wanted)
     → (first ≡ codes "--version" → ⊥) → ((about : Topic) → NamesTopic words about → ⊥)
     → AsksAbout first words wanted → ⊥
 no_topic first words wanted no_version none (version is empty same) = no_version is
 no_topic first words wanted no_version none (topic which is names same) = none which names
 
--- two words of one name are the same
+-- Two words of one name are the same.
 same_word : (a b : Word) → word_name a ≡ word_name b → a ≡ b
 same_word a b same = grind arith
 
--- a word for a look at files asks for no version and for no help
+-- The name of a word for a look at files asks for no version and for no help.
 about_no_word : (word : Word) (first : List ℕ) (words : List (String Global)) (wanted : Wanted)
     → first ≡ word_name word → AsksAbout first words wanted → ⊥
 about_no_word w.Check first words wanted named (version is none same) = grind (arith, named, is)
@@ -238,7 +238,7 @@ about_no_word (w.Show v.Titles) first words wanted named (topic which is names s
 about_no_word (w.Show v.Notation) first words wanted named (topic which is names same) = grind (arith, named, is)
 
 module _ (name : String Global) (words rest : List (String Global)) (is : words ≡ name ∷ rest) where
-  -- what is asked for behind a word for a look at files
+  -- If the first word is a word for a look at files, the words ask for a look or its help.
   pub asks_of : (word : Word) (wanted : Wanted) → string_bytes name ≡ word_name word → AsksFor words wanted
       → AsksOf word rest wanted
   asks_of word wanted named (of first after other at called asks) =
@@ -249,7 +249,7 @@ module _ (name : String Global) (words rest : List (String Global)) (is : words 
       let firsts = same_first name first rest after (sym is ∙ at) in
       absurd (about_no_word word (string_bytes name) after wanted named (rw firsts.0 at asks))
 
-  -- what is asked for behind another word
+  -- If the first word is another word, the words ask for the version or for help.
   pub asks_about : (wanted : Wanted) → ((word : Word) → string_bytes name ≡ word_name word → ⊥) → AsksFor words wanted
       → AsksAbout (string_bytes name) rest wanted
   asks_about wanted no_word (of first after other at called asks) =

@@ -21,13 +21,13 @@ use Rattle.tool_verdicts.specs.Checking.{unless_failed}
 use Rattle.tool_verdicts.specs.declared.verdict.Verdict.{Verdict}
 use Rattle.tool_files.specs.Inputs.{CountsItems, IsFront}
 
--- told bytes begin with those that were consumed
+-- Told bytes begin with the consumed bytes.
 consumes_front : (bytes front : List ℕ) (after : Option (List ℕ)) → Consumes (Some bytes) after front
     → IsFront front bytes
 consumes_front bytes front None consumed = absurd consumed
 consumes_front bytes front (Some rest) consumed = (rest, consumed)
 
--- a fault has no numbers of items
+-- A fault has no numbers of items.
 fault_counted : {E : Type 0} (one strict : Bool) (depth : ℕ) (bytes : List ℕ) (error : SkipError E) (offset : ℕ)
     → CountsItems one strict depth bytes (fault_said error offset)
 fault_counted one strict depth bytes error offset = grind arith
@@ -72,7 +72,7 @@ module _ {T E : Type 0} (reads : Ghosts (BufferedReader T) E) (strict : Bool) (d
   found_counted true found says = rw says.said (one_counted says.answer says.checks)
   found_counted false found says = rw says.said (items_counted says.answer says.checks)
 
--- a failure has no numbers either
+-- A failed read leaves the numbers of the verdict, or has none.
 unless_counted : (one strict : Bool) (depth : ℕ) (bytes : List ℕ) (fault : Option ReadFault) (found : Verdict)
     → CountsItems one strict depth bytes found → CountsItems one strict depth bytes (unless_failed fault found)
 unless_counted one strict depth bytes None found counted = counted
@@ -80,7 +80,7 @@ unless_counted one strict depth bytes (Some r.End) found counted = counted
 unless_counted true strict depth bytes (Some (r.Failed error)) found counted = tt
 unless_counted false strict depth bytes (Some (r.Failed error)) found counted = tt
 
--- the verdict of a check from the start, of bytes that are told or not
+-- The verdict of a check from the start counts items of the told bytes.
 pub verdict_counted : {T E : Type 0} (reads : Ghosts (BufferedReader T) E) (strict one : Bool) (depth : ℕ)
     (known : Option (List ℕ)) (start : BufferedReader T) (old new : Decoder (BufferedReader T))
     (found verdict : Verdict) (fault : Option ReadFault) → IsFreshAs strict start 0 old → reads.ahead start ≡ known

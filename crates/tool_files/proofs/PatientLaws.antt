@@ -6,7 +6,7 @@ use Rattle.std.proofs.lemmas.Slice.{take-put_mid_below}
 use Rattle.ciborium_ll_streams.proofs.BufferLaws.{filled_more}
 use borrow.Rule.Slice.PartMut.{put_mid}
 
--- bytes that are put behind a part leave it as it was
+-- Bytes that are put after a part leave the part unchanged.
 pub part_kept : (xs ys : List ℕ) (start end k : ℕ) → start ≤ end → end ≤ length xs
     → slice_range (put_mid end k xs ys) start end ≡ slice_range xs start end
 part_kept xs ys start end k ordered within =
@@ -15,7 +15,7 @@ part_kept xs ys start end k ordered within =
     let front : take end changed ≡ take end xs = take-put_mid_below end k xs ys end (omega arith) within in
     cc (drop-take start (end - start) changed, drop-take start (end - start) xs)
 
--- some bytes that are put behind a part make it longer
+-- Bytes that are put after a part make the part longer.
 pub part_more : (xs ys : List ℕ) (start end k count : ℕ) → start ≤ end → end ≤ length xs → count ≤ length ys
     → slice_range (put_mid end k xs ys) start (end + count) ≡ slice_range xs start end ++ take count ys
 part_more xs ys start end k count ordered within fits =

@@ -1,4 +1,4 @@
--- What the program's arguments ask for.
+-- The requests that the program's arguments spell.
 use Rattle.std.specs.Prelude.{◌≡◌, ℕ, ◌≤◌, Bool, true, false, List, [], ◌∷◌, ◌++◌, ◌⊎◌, codes, map, String}
 use Rattle.std.specs.Prelude.{string_bytes}
 use Rattle.std.specs.Borrow.{Bor}
@@ -19,7 +19,7 @@ use Rattle.tool_files.specs.declared.request.Topic.TheVariants as t
 use Rattle.tool_files.specs.declared.options.Word.{Word}
 use Rattle.tool_files.specs.declared.options.Word.TheVariants as w
 
--- The first word, by what it asks for.
+-- The name of a first word.
 abbrev pub word_name : Word → List ℕ
 word_name w.Check = codes "check"
 word_name (w.Show v.Titles) = codes "dump"
@@ -70,7 +70,7 @@ IsKnown w.Check s.Pretty = ⊥
 IsKnown (w.Show v.Titles) s.Pretty = ⊥
 IsKnown (w.Show v.Notation) s.Pretty = Unit {0}
 
--- A depth is at most the greatest that the program takes.
+-- A depth is at most the greatest depth that the program takes.
 abbrev pub IsShallow : Setting → Type 0
 IsShallow (s.Depth depth) = depth ≤ most_depth
 IsShallow setting = Unit {0}
@@ -87,7 +87,7 @@ SpellsValue (s.Depth depth) value = IsNumberUpTo most_depth value depth
 SpellsValue (s.Colors colors) value = value ≡ colors_name colors
 SpellsValue setting value = ⊥
 
--- The word has the name of the option, and its value after a `=`.
+-- The word has the name of the option, and its value after a `=`, as `--depth=3`.
 abbrev pub JoinsValue : Setting → List ℕ → Type 0
 JoinsValue setting word = (value : List ℕ) × (word ≡ setting_name setting ++ (61 ∷ value)) × SpellsValue setting value
 
@@ -100,7 +100,7 @@ pub data SpellsSetting (setting : Setting) (name : List ℕ) (words behind : Lis
   apart : (value : String Global) → name ≡ setting_name setting → words ≡ value ∷ behind
       → SpellsValue setting (string_bytes value) → SpellsSetting setting name words behind
 
--- A hyphen and more: the word is an option. A hyphen alone is a file.
+-- A hyphen and more: the word is an option, as `--strict`. A hyphen alone is a file.
 abbrev pub IsOption : List ℕ → Type 0
 IsOption word = (behind : List ℕ) × (word ≡ 45 ∷ behind) × (behind ≡ [] → ⊥)
 
@@ -108,7 +108,7 @@ IsOption word = (behind : List ℕ) × (word ≡ 45 ∷ behind) × (behind ≡ [
 abbrev pub IsHelp : List ℕ → Type 0
 IsHelp word = (word ≡ codes "--help") ⊎ (word ≡ codes "-h")
 
--- What options choose.
+-- The choices that options set.
 pub record Choices : Type 0 where
   pub strict : Bool
   pub one : Bool
@@ -119,7 +119,7 @@ pub record Choices : Type 0 where
   pub layout : Layout
   pub depth : ℕ
 
--- What holds without options.
+-- The choices without options.
 abbrev pub default_choices : Choices
 default_choices = record {
   strict = false;
@@ -160,24 +160,24 @@ choices_of options = record {
 abbrev pub texts : List (Bor (List ℕ)) → List (List ℕ)
 texts files = map (λ file. file.now) files
 
--- What the words after the first word ask for: a look at these files with these choices, or help.
+-- The wish of the words after the first word: a look at these files with these choices, or help.
 pub data Wish : Type 0 where
   look : Choices → List (List ℕ) → Wish
   help : Wish
 
--- The same, by whether it is help.
+-- The same wish, by whether it is help.
 abbrev pub wish_of : Bool → Choices → List (List ℕ) → Wish
 wish_of true choices files = help
 wish_of false choices files = look choices files
 
--- What is asked for with one file more, which precedes the others.
+-- The wish with one more file, which precedes the others.
 abbrev pub with_file : List ℕ → Wish → Wish
 with_file file (look choices files) = look choices (file ∷ files)
 with_file file help = help
 
 -- The words after the first word ask for this, from these choices on. They are options and files in any order. If two
 -- options say different things, the last option holds. After `--` each word is a file. The words after an option that
--- asks for help are free.
+-- asks for help are free. `--depth 3 f --depth 4` asks for the depth 4 and the file `f`.
 pub data AsksWith (word : Word) : Choices → List (String Global) → Wish → Type 0 where
   ended : {choices : Choices} {words : List (String Global)} {wish : Wish} → words ≡ [] → wish ≡ look choices []
       → AsksWith word choices words wish
@@ -196,24 +196,24 @@ pub data AsksWith (word : Word) : Choices → List (String Global) → Wish → 
       (rest : List (String Global)) → words ≡ name ∷ rest → IsHelp (string_bytes name) → wish ≡ help
       → AsksWith word choices words wish
 
--- What the words of a command line ask for.
+-- The request of a command line.
 pub data Wanted : Type 0 where
   looks : Word → Choices → List (List ℕ) → Wanted
   helps_with : Topic → Wanted
   says_version : Wanted
 
--- What a request says, with these files.
+-- The request in the code, with these files.
 abbrev pub wanted_by : Request → List (List ℕ) → Wanted
 wanted_by (r.Look word options) files = looks word (choices_of options) files
 wanted_by (r.Help topic) files = helps_with topic
 wanted_by r.Version files = says_version
 
--- What is asked for after this first word.
+-- The request of a wish after this first word.
 abbrev pub wanted_with : Word → Wish → Wanted
 wanted_with word (look choices files) = looks word choices files
 wanted_with word help = helps_with (t.Word word)
 
--- The words after the first word ask for this, beginning with what holds without options.
+-- The words after the first word ask for this, from the choices without options on.
 abbrev pub AsksOf : Word → List (String Global) → Wanted → Type 0
 AsksOf word words wanted = (wish : Wish) × AsksWith word default_choices words wish × (wanted ≡ wanted_with word wish)
 

@@ -1,4 +1,4 @@
--- How an input is read, and what is found in it.
+-- The read of an input, and the verdict on it.
 use Rattle.std.specs.Prelude.{◌≡◌, ℕ, Bool, true, false, List, [], ◌++◌, length, Option, None, Some}
 use Rattle.ciborium_ll.specs.Types.BufferedReader.{BufferedReader}
 use Rattle.ciborium_ll.specs.Types.Decoder.{Decoder}
@@ -44,8 +44,8 @@ module _ {T : Type 0} where
     pub fresh : IsFreshAs strict start 0 decoder
 
   module _ {E : Type 0} (reads : Ghosts (BufferedReader T) E) where
-    -- What is wanted was checked from the start of the input, and the verdict says what was found. A read that failed
-    -- for another reason than the end takes precedence.
+    -- A check from the start of the input, of one item or of a sequence as is wanted, gave the verdict. A read that
+    -- failed for another reason than the end takes precedence.
     pub record ChecksInput (strict one : Bool) (depth : ℕ) (reader : T) (verdict : Verdict) : Type 0 where
       pub old : Decoder (BufferedReader T)
       pub new : Decoder (BufferedReader T)
@@ -54,12 +54,12 @@ module _ {T : Type 0} where
       pub says : SaysVerdict reads one depth BUFFER_SIZE old found new
       pub said : verdict ≡ unless_failed (buffered_read_fault new.reader) found
 
--- A fault of the text takes precedence over what is found in the bytes that it spells.
+-- A fault of the text takes precedence over the verdict on the bytes that it spells.
 abbrev pub text_said : Option TextFault → Verdict → Verdict
 text_said None verdict = verdict
 text_said (Some fault) verdict = v.Text fault
 
--- The bytes begin with these bytes.
+-- The bytes begin with these bytes, as `01 80` begins with `01`.
 abbrev pub IsFront : List ℕ → List ℕ → Type 0
 IsFront front bytes = (rest : List ℕ) × (bytes ≡ front ++ rest)
 

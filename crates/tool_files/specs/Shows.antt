@@ -21,8 +21,8 @@ use Rattle.tool_files.specs.Patience.{patient_fault, patient_held, patient_sourc
 use Rattle.tool_files.specs.declared.patient.Patient.{Patient}
 
 module _ {T E W F : Type 0} (reads : Ghosts (BufferedReader T) E) (sink : Sink W F) where
-  -- Items were shown from the start of the input, each in a line or in lines of its own, and the result says what was
-  -- found after them.
+  -- Items were shown from the start of the input, each in a line or in lines of its own. The result has the verdict
+  -- after them.
   pub record ShowsInput (strict : Bool) (depth : ℕ) (layout : Layout) (reader : T) (writer : W)
       (result : Result (Result (Unit {0}) Verdict) F) (then_writer : W) : Type 0 where
     pub old : Decoder (BufferedReader T)
@@ -34,8 +34,8 @@ module _ {T E W F : Type 0} (reads : Ghosts (BufferedReader T) E) (sink : Sink W
     pub said : result ≡ diag_said outcome (buffered_read_fault new.reader) new.offset
 
 module _ {T E : Type 0} (reads : Ghosts (Patient T) E) where
-  -- The input was dumped from its start, and the result says what was found after the rows. If a row could not be
-  -- printed, it says the row's error.
+  -- The input was dumped from its start, and the result has the verdict after the rows. If a row could not be printed,
+  -- it has the row's error.
   pub record DumpsInput (strict : Bool) (depth : ℕ) (reader : T) (result : Result (Unit {0}) Verdict) : Type 0 where
     pub start : Patient T
     pub source : patient_source start ≡ reader

@@ -1,4 +1,4 @@
-//! What the arguments ask for.
+//! The requests of the program's arguments.
 
 ghost use Rattle.std.specs.Prelude.{◌≡◌, ◌≤◌, ◌+◌, ◌++◌, ◌↔◌, ℕ, List, String, [], false, length, map, string_bytes};
 ghost use Rattle.std.specs.Prelude.{IfErr, IfNone, IfOk, IfSome, IsTrue, vec_capacity, vec_len};
@@ -134,7 +134,7 @@ impl Setting {
     /// next word.
     ///
     /// Returns the option and the words after it. `None` means that the first word has no option of this name, or that
-    /// the value is missing or is none that the option takes.
+    /// the option takes no such value.
     fn parse<'w>(word: Word, name: &str, words: &'w [String]) -> Option<(Setting, &'w [String])>
         ensures some { IfSome result (λ parsed. IsKnown word parsed.0 × IsShallow parsed.0
             × SpellsSetting parsed.0 name.now words.now parsed.1.now) }
@@ -178,7 +178,7 @@ fn takes_value(name: &str) -> bool
 impl Options {
     ghost use Rattle.tool_files.specs.Arguments.{AsksWith, IsShallow, default_choices, wish_of, with_setting};
 
-    /// Returns what holds without options: bytes in any spelling, as many items as there are, to a depth of 256.
+    /// Returns the options by default: bytes in any spelling, as many items as there are, to a depth of 256.
     pub fn new() -> Options
         ensures { choices_of result ≡ default_choices }
     {
@@ -213,7 +213,7 @@ impl Options {
 
     /// Takes the options among the words, and puts the other words, which name files, into `files`.
     ///
-    /// Returns whether help is asked for. The files have room for as many names as there are words.
+    /// Returns whether the words ask for help. The files have room for as many names as there are words.
     ///
     /// # Errors
     ///
@@ -314,10 +314,10 @@ fn is_help(word: &str) -> bool
     word == "--help" || word == "-h"
 }
 
-/// Returns what the words after the program's name ask for, and puts the names of files into `files`.
+/// Returns the request of the words after the program's name, and puts the names of files into `files`.
 ///
-/// The first word says what is done. Options and files follow in any order. After `--` each word is a file, and `-` is
-/// a file. The files have room for as many names as there are words.
+/// Options and files follow the first word in any order. After `--` each word is a file, and `-` is a file. The files
+/// have room for as many names as there are words.
 ///
 /// # Errors
 ///
@@ -337,7 +337,7 @@ pub fn asked_by<'w>(words: &'w [String], files: &mut Vec<&'w str>) -> Result<Req
     }
 }
 
-/// Returns what the words after a word for a look at files ask for.
+/// Returns the request of the words after a word for a look at files.
 fn asked_of<'w>(
     word: Word,
     words: &'w [String],
@@ -356,7 +356,7 @@ fn asked_of<'w>(
     }
 }
 
-/// Returns what a first word asks for that is no word for a look at files.
+/// Returns the request of a first word that is no word for a look at files.
 fn asked_about<'w>(first: &'w str, words: &'w [String]) -> Result<Request, Refusal<'w>>
     ensures ok { IfOk result (λ request. (files : List (List ℕ)) → AsksAbout first.now words.now
         (wanted_by request files)) }

@@ -12,13 +12,12 @@ use tool_verdicts::verdict::Verdict;
 /// How many bytes are read ahead at most.
 pub const ROOM: usize = 8192;
 
-/// Checks a reader's bytes from their start to their end, as `wanted` does, and returns what it finds.
+/// Checks a reader's bytes from their start to their end, as `wanted` does with these options, and returns the verdict.
 ///
-/// With `--strict` they have to stand in their shortest spelling, and with `--one` to be one item, to the depth of the
-/// options. If a read failed for another reason than the end, the verdict says so.
+/// If a read failed for another reason than the end, the verdict says so.
 ///
-/// If the reader tells its bytes, the numbers of the verdict are those of items that these bytes begin with. A reader
-/// of std can fail at any time, so no clause says that it reaches the end of its bytes. Tests try that.
+/// If the reader tells its bytes, the numbers of the verdict are those of items that these bytes begin with. No clause
+/// says that a reader of std reaches the end of its bytes, since it can fail at any time. Tests try that.
 pub fn check_input<R: io::Read + Drop>(reader: R, options: Options) -> Verdict
     ensures counts { IfSome (R.remaining reader) (λ bytes. CountsItems options.one options.strict options.depth bytes
         result) }

@@ -12,8 +12,8 @@ use tool_verdicts::check::decoder_of;
 use tool_verdicts::diag::{diag_verdict, items};
 use tool_verdicts::verdict::Verdict;
 
-/// Writes to a writer, and knows whether the last line is open. It flushes only at its end: the reader flushes before
-/// it reads on.
+/// Writes to a writer, and knows whether the last line is open. It flushes only at its end, since the reader flushes
+/// before it reads on.
 #[derive(Drop)]
 struct Page<W> {
     writer: W,
@@ -46,8 +46,8 @@ impl<W: io::Write> io::Write for Page<W> {
 
 /// Writes a reader's bytes in diagnostic notation, up to their end, each item in a line or in lines of its own.
 ///
-/// Each whole item is flushed before the reader is asked for more. The text of an item at fault is written up to the
-/// fault.
+/// The call flushes each whole item before it asks the reader for more. It writes the text of an item at fault up to
+/// the fault.
 ///
 /// # Errors
 ///

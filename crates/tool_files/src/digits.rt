@@ -9,7 +9,7 @@ use tool_verdicts::verdict::TextFault;
 /// How many bytes of the text are read at once.
 const WINDOW: usize = 4096;
 
-/// How many bytes a window spells at most. The digits before it that were held spell some of these.
+/// How many bytes a window spells at most. Digits that were held before the window spell some of these.
 const SPELLED: usize = WINDOW / 2 + 16;
 
 /// Reads a text of hexadecimal digits, two for each byte, as those bytes.

@@ -34,14 +34,14 @@ struct Printer<W> {
     writer: W,
     offsets: bool,
     colors: bool,
-    /// The level of a part of what the last row has.
+    /// The level of a part of the last row's title or body.
     below: usize,
 }
 
 /// The escape sequence before the meaning of a title or of a part of a text.
 const MEANING: &[u8] = b"\x1b[36m";
 
-/// The escape sequence before bytes at fault, and before what is said of them.
+/// The escape sequence before bytes at fault, and before the verdict on them.
 const FAULT: &[u8] = b"\x1b[31m";
 
 /// The escape sequence after a color.
@@ -77,7 +77,7 @@ impl<W: io::Write> Printer<W> {
         self.writer.write_all(b"\n")
     }
 
-    /// Prints what is found at the end, after the rows.
+    /// Prints the verdict after the rows.
     fn end(&mut self, verdict: &Verdict) -> io::Result<()> {
         self.line.clear();
         write!(self.line, "# {verdict}")?;
@@ -104,7 +104,7 @@ impl<W: io::Write> Rows for Printer<W> {
     }
 }
 
-/// Returns the level of a part of what a row has: one deeper than a title, and otherwise the level of the row.
+/// Returns the level of a part of a row: one deeper than a title, and otherwise the level of the row.
 fn level_below(row: &Row<'_>) -> usize {
     match row.meaning {
         Meaning::Header(_) => row.level.saturating_add(1),
@@ -119,10 +119,10 @@ fn first_hash(line: &str) -> usize
     line.find('#').unwrap_or(line.len())
 }
 
-/// Dumps a reader's bytes, up to their end. After a fault of the bytes a line says what it is.
+/// Dumps a reader's bytes, up to their end. After a fault of the bytes a line names it.
 ///
-/// Each whole line is flushed before the reader is asked for more. Colors are escape sequences between the bytes of the
-/// lines, and change none of them.
+/// The call flushes each whole line before it asks the reader for more. Colors are escape sequences between the bytes
+/// of the lines, and change none of them.
 ///
 /// # Errors
 ///
@@ -154,7 +154,8 @@ pub fn dump_input<R: io::Read + Drop, W: io::Write + Drop>(
     }
 }
 
-/// Prints the rows of a reader's bytes, from their start, and what is left of a title or of a body after them.
+/// Prints the rows of a reader's bytes, from their start, and the bytes that are left of a title or of a body after
+/// them.
 fn dump_rows<R: io::Read + Drop, W: io::Write>(
     reader: R,
     printer: &mut Printer<W>,
@@ -170,11 +171,10 @@ fn dump_rows<R: io::Read + Drop, W: io::Write>(
     dump_verdict(outcome, fault, offset)
 }
 
-/// Prints the rows of what a decoder reads. The decoder is as strict as the dump.
+/// Prints the rows of the bytes that a decoder reads. The decoder is as strict as the dump.
 ///
-/// Assume that every row was printed, that a steady reader tells its bytes, and that the offset fits. Then all is well
-/// exactly if the bytes are a sequence of items to the depth, for a strict dump in their shortest spelling. Otherwise
-/// the first fault after the whole items is named, with its offset.
+/// If every row was printed, a steady reader tells its bytes and the offset fits, `Ok` comes exactly if the bytes are a
+/// sequence of items. Otherwise the verdict names the first fault after the whole items, with its offset.
 fn print_rows<R: Read, W: io::Write>(
     decoder: &mut Decoder<R>,
     depth: usize,

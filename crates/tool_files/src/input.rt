@@ -30,7 +30,7 @@ impl<R: io::Read> Input<R> {
         }
     }
 
-    /// Returns what is found in an input that was read to its end: the fault of its text, if it has one.
+    /// Returns the fault of the input's text, if it has one, and otherwise the verdict. The input was read to its end.
     pub fn judge(&self, verdict: Verdict) -> Verdict
         ensures { result ≡ text_said (input_fault self.now) verdict }
     {

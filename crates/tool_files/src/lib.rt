@@ -1,9 +1,9 @@
 // SPDX-License-Identifier: Apache-2.0
-//! What the program that looks at files does, over any reader and writer of std.
+//! Looks at files of CBOR, over any reader and writer of std.
 //!
 //! `check` says whether bytes are well-formed, `dump` shows them title by title, and `diag` writes them in diagnostic
-//! notation. Each function is safe and returns. Contracts say what the words of the command line ask for, and that each
-//! input is read from its start with the options that they set. Tests try what is printed.
+//! notation. Each function is safe and returns. Contracts say which request the words of the command line spell, and
+//! that each input is read from its start with the options that they set. Tests try the printed texts.
 #![tactic(auto)]
 
 pub mod arguments;

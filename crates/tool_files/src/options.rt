@@ -1,11 +1,11 @@
-//! What the program does, and how.
+//! The words for a look at files, and their options.
 
 ghost use Rattle.std.specs.Prelude.{◌≤◌};
 ghost use Rattle.ciborium_ll.specs.Limits.{MOST_LEVELS};
 
 use cbor_diag::Layout;
 
-/// What the program does.
+/// A word for a look at files.
 #[derive(Clone, Copy)]
 pub enum Word {
     /// It checks the input.
@@ -14,7 +14,7 @@ pub enum Word {
     Show(View),
 }
 
-/// What the program shows of an input.
+/// The view of an input.
 #[derive(Clone, Copy)]
 pub enum View {
     /// Its titles.
@@ -34,14 +34,14 @@ pub enum Colors {
     Never,
 }
 
-/// How the program does it.
+/// The options of a look at files.
 #[derive(Clone, Copy)]
 pub struct Options {
     /// Whether only the shortest spelling is taken.
     pub strict: bool,
     /// Whether exactly one item is wanted.
     pub one: bool,
-    /// Whether each answer has the file's name, even if there is one file alone.
+    /// Whether each answer has the file's name, even for a single file.
     pub names: bool,
     /// Whether the input is hexadecimal digits.
     pub hex: bool,

@@ -127,7 +127,7 @@ impl<T: io::Read> Patient<T> {
     }
 
     /// Reads more ahead, by at most one call of the reader within, and returns whether bytes came. If none came, the
-    /// fault is kept.
+    /// call keeps the fault.
     fn more(&mut self) -> bool
         ensures grows { IsTrue result → length (patient_held self.old) < length (patient_held self.new) }
         ensures holds { HoldsMore T.remaining self.old self.new }
@@ -168,13 +168,13 @@ impl<T: io::Read> Read for Patient<T> {
 
     /// Fills the whole of `data`, or fails and keeps the bytes that came.
     ///
-    /// The call hands out held bytes before it asks the reader within for more. After the first failure of the reader
-    /// within it asks for nothing more.
+    /// The call hands out held bytes before it asks the reader within for more. After the first failure of that reader
+    /// it asks for nothing more.
     ///
     /// # Errors
     ///
-    /// After an error the fault is kept: `End` if a call moved no byte, and `Failed` if a call failed. All bytes that
-    /// came are held then, in their order: those that were held before, and those that came with this read.
+    /// After an error the fault is kept: `End` if a call moved no byte, and `Failed` if a call failed. The reader then
+    /// holds all bytes that came, in their order.
     fn read_exact(&mut self, data: &mut [u8]) -> Result<(), Ended>
         // Clauses of the trait.
         ensures bytes { OnOk result

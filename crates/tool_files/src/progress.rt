@@ -1,4 +1,4 @@
-//! Says on a terminal how far a long input was read.
+//! Says on a terminal how far the program has read a long input.
 
 ghost use Rattle.std.specs.Prelude.{◌≡◌};
 

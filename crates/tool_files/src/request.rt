@@ -1,10 +1,10 @@
-//! What is asked for, or why nothing is.
+//! A request, or why words make none.
 
 ghost use Rattle.std.specs.Prelude.{◌≡◌, IfNone, IfSome};
 
 use crate::options::{Options, Word};
 
-/// What a help text is about.
+/// The topic of a help text.
 #[derive(Clone, Copy)]
 pub enum Topic {
     /// The program.
@@ -35,14 +35,14 @@ impl Topic {
     }
 }
 
-/// What words ask for.
+/// The request of the program's words.
 #[derive(Clone, Copy)]
 pub enum Request {
     /// A look at files.
     Look {
-        /// What the program does.
+        /// The word for the look.
         word: Word,
-        /// How the program does it.
+        /// The options of the look.
         options: Options,
     },
     /// A help text.
@@ -62,7 +62,7 @@ pub enum Refusal<'w> {
     UnknownOption {
         /// The word.
         word: Word,
-        /// What stands as the option.
+        /// The word in place of the option.
         option: &'w str,
     },
     /// The option wants a value, and no word follows it.
@@ -76,6 +76,6 @@ pub enum Refusal<'w> {
         /// The text.
         value: &'w str,
     },
-    /// Nothing may follow, and this word does.
+    /// This word follows, and none may.
     Needless(&'w str),
 }

@@ -1,4 +1,4 @@
-//! What the program says of words that ask for nothing.
+//! The message about words that ask for nothing.
 
 use crate::help::WORDS;
 use crate::options::{View, Word};
@@ -8,7 +8,7 @@ use std::alloc::Global;
 use std::fmt;
 use strsim::osa_distance;
 
-/// Says why words ask for nothing, and what would ask for something.
+/// Says why words ask for nothing, and which words would ask for something.
 #[derive(Clone, Copy, Drop)]
 pub struct Said<'w> {
     refusal: Refusal<'w>,
@@ -16,7 +16,7 @@ pub struct Said<'w> {
 }
 
 impl<'w> Said<'w> {
-    /// Makes the text of a refusal. Memory is taken to find the nearest name, and without it no name is said.
+    /// Makes the text of a refusal. The call takes memory to find the nearest name, and without memory it says none.
     pub fn new(alloc: Global, refusal: Refusal<'w>) -> Said<'w> {
         let nearest = match refusal {
             Refusal::UnknownWord(name) => nearest_to(alloc, name, &WORDS),
@@ -98,7 +98,7 @@ fn values_of(option: &str) -> &'static str {
     }
 }
 
-/// Returns what is said of a value that an option does not take. A number passes the limit.
+/// Returns the text about a value that an option does not take. A number passes the limit.
 fn values_for(option: &str, value: &str) -> &'static str {
     let bytes = value.as_bytes();
     let is_number = bytes.first().is_some_and(|byte| *byte != b'0')

@@ -3,10 +3,10 @@
 use std::fmt;
 use std::fmt::Write;
 
-/// Prints a name without what a terminal acts on.
+/// Prints a name without the characters that a terminal acts on.
 ///
-/// Control characters, line ends among them, and the characters that change the direction of a text are printed as
-/// `\u` and their number in four hexadecimal digits.
+/// Control characters, line ends among them, and the characters that change the direction of a text are printed as `\u`
+/// and their number in four hexadecimal digits.
 #[derive(Clone, Copy, Drop)]
 pub struct Shown<'n>(pub &'n str);
 

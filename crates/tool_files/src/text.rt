@@ -25,10 +25,10 @@ impl Spot {
     }
 }
 
-/// What the text is in.
+/// The part that the next byte of a text is in.
 #[derive(Clone, Copy, PartialEq)]
 enum Within {
-    /// Digits, and what may stand between them.
+    /// Digits, and the characters that may stand between them.
     Digits,
     /// A comment up to the end of the line.
     Line,
@@ -44,7 +44,7 @@ enum Within {
     MarkEnd,
 }
 
-/// What the line has.
+/// The content of the line so far.
 #[derive(Clone, Copy, PartialEq)]
 enum Line {
     /// White space alone.

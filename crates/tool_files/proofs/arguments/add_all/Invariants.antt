@@ -3,7 +3,7 @@ use Rattle.std.specs.Prelude.{string_bytes, vec_capacity, vec_len}
 use Rattle.tool_files.specs.Arguments.{texts}
 use Rattle.tool_files.proofs.arguments.add_all.Given as goal
 
--- the files and the words behind are all that was there
+-- The files and the remaining words are all that was there.
 abbrev pub invariant-words : goal.invariant-words
 invariant-words l = record {
   room : vec_len l.files + length l.behind ≤ vec_capacity l.files;

@@ -4,7 +4,8 @@ use Rattle.tool_files.specs.Arguments.{AsksWith, Wish, choices_of, texts}
 use Rattle.tool_files.proofs.ArgumentLaws.{with_files}
 use Rattle.tool_files.proofs.options.Options.take.Given as goal
 
--- what the words behind ask for over the options so far, all of them ask for over the first ones
+-- The remaining words ask for a wish over the options so far. All the words then ask for this wish over the first
+-- options.
 abbrev pub invariant-words : goal.invariant-words
 invariant-words l = record {
   room : vec_len l.files + length l.behind ≤ vec_capacity l.files;

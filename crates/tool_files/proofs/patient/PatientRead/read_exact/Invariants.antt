@@ -11,6 +11,6 @@ invariant-more g l = record {
   within : length l.«data» ≤ length (patient_held l.fn.self) → l.self ≡ l.fn.self;
 }
 
--- each call adds bytes to those that are at hand
+-- Each call adds bytes to the bytes that are at hand.
 abbrev pub decreases-more : goal.decreases-more
 decreases-more g l = length l.«data» - length (patient_held l.self)
