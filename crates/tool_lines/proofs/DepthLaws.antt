@@ -5,7 +5,7 @@ use Rattle.tool_requests.specs.declared.request.Request.TheVariants.{Bytes, Chun
 use Rattle.tool_requests.specs.declared.request.Request.TheVariants.{Strict, Text}
 use Rattle.tool_lines.specs.Depth.{IsWithinDepth}
 
--- the number of a skip is at most as much as a line may ask for
+-- The number of a skip is at most the greatest depth that a line may ask for.
 pub within_depth : (line : List ℕ) (request : Request) → Asks line request → IsWithinDepth request
 within_depth line (Heads bytes) asks = tt
 within_depth line (Chunks asked) asks = tt

@@ -22,13 +22,13 @@ use Rattle.tool_lines.specs.Restoring.{Restores, RestoresCopy, RestoresFlush}
 use Rattle.tool_lines.specs.Raw.{CopiesFlushed, CopiesRaw, ReadsShort, Tells, TellsBehind, TellsFlushed}
 use Rattle.tool_lines.specs.Raw.{flushed_outcome}
 
--- known bytes that are kept are known still
+-- Known bytes that are kept are still known.
 pub kept_known : (old new : Option (List ℕ)) (bytes : List ℕ) → Keeps old new → old ≡ Some bytes → new ≡ Some bytes
 kept_known None new bytes keeps known = absurd cc
 kept_known (Some xs) None bytes keeps known = absurd keeps
 kept_known (Some xs) (Some ys) bytes keeps known = ap Some keeps ∙ known
 
--- known bytes, some of which are held back
+-- If some of the known bytes are held back, the others are known.
 pub front_known : (known : Option (List ℕ)) (held bytes : List ℕ) → append_known known held ≡ Some bytes
     → (front : List ℕ) × (lost : List ℕ) × (known ≡ Some front) × (bytes ≡ front ++ lost)
 front_known None held bytes told = absurd cc
@@ -40,7 +40,7 @@ whole_known None held bytes none told = absurd cc
 whole_known (Some xs) held bytes none told = ap Some (sym (append-nil xs) ∙ ap (λ (z : List ℕ). xs ++ z) (sym none))
     ∙ told
 
--- what holds of a copy holds with the faults of std in their places
+-- A fact about a copy holds with the faults of std in their places.
 pub restored_copies : {R W : Type 0} (left : R → List ℕ → Type 0) (got : W → List ℕ → Type 0) (count : ℕ)
     (due written : List ℕ) (reader : R) (writer : W)
     (read : Option ReadFault) (write : Option WriteFault) (error : RecodeError FaultKept FaultKept)
@@ -55,7 +55,7 @@ restored_copies left got count due written reader writer read write (r.Read e.To
 restored_copies left got count due written reader writer read write (r.Read e.Waiting) error' is copies = absurd copies
 restored_copies left got count due written reader writer read write (r.Write failed) error' is copies = rw is.1 copies
 
--- the same of the outcome of a copy
+-- A fact about the outcome of a copy holds with the faults of std in their places.
 pub restored_outcome : {R W : Type 0} (left : R → List ℕ → Type 0) (got : W → List ℕ → Type 0) (count : ℕ)
     (due written : List ℕ) (reader : R) (writer : W)
     (read : Option ReadFault) (write : Option WriteFault)
@@ -67,7 +67,7 @@ restored_outcome left got count due written reader writer read write (Ok done) o
 restored_outcome left got count due written reader writer read write (Err error) outcome' is copies =
     rw is.1 (restored_copies left got count due written reader writer read write error is.0 is.2 copies)
 
--- what a writer within has after a flush, which holds back the bytes that it could not pass on
+-- A flush tells the bytes of the writer within, without those that it holds back after a failure.
 pub flushed_known : {W : Type 0} (contents : W → Option (List ℕ)) (write : Option WriteFault)
     (outcome : Result (Unit {0}) FaultKept) (outcome' : Result (Unit {0}) WriteFault) (writer : W)
     (held bytes : List ℕ) → RestoresFlush write outcome outcome' → OnOk outcome (held ≡ [])
@@ -77,20 +77,20 @@ flushed_known contents write (Ok done) outcome' writer held bytes is sent told =
 flushed_known contents write (Err failed) outcome' writer held bytes is sent told =
     rw is.1 (front_known (contents writer) held bytes told)
 
--- known bytes, before which these were read
+-- If some of the known bytes were read ahead, the others are known.
 known_behind : (known : Option (List ℕ)) (held bytes : List ℕ) → prepend_known held known ≡ Some bytes
     → (rest : List ℕ) × (known ≡ Some rest) × (bytes ≡ held ++ rest)
 known_behind None held bytes told = absurd cc
 known_behind (Some xs) held bytes told = (xs, refl, cc)
 
--- what a reader within has, before which these bytes were read ahead
+-- The reader within tells the bytes without those that were read ahead.
 pub behind_known : {R : Type 0} (remaining : R → Option (List ℕ)) (most : ℕ) (reader : R) (held bytes : List ℕ)
     → length held ≤ most → prepend_known held (remaining reader) ≡ Some bytes → TellsBehind remaining most reader bytes
 behind_known remaining most reader held bytes within told =
     let split = known_behind (remaining reader) held bytes told in
     (held, split.0, split.1, split.2, within)
 
--- a copy's reader and writer are handed on, with what they tell
+-- A copy hands on its reader and its writer, with the facts that they tell.
 module _ {R R' W W' E F : Type 0} (left : R → List ℕ → Type 0) (left' : R' → List ℕ → Type 0)
     (got : W → List ℕ → Type 0) (got' : W' → List ℕ → Type 0) (reader : R) (reader' : R') (writer : W) (writer' : W')
     (leaves : (bytes : List ℕ) → left reader bytes → left' reader' bytes)
@@ -114,7 +114,7 @@ module _ {R R' W W' E F : Type 0} (left : R → List ℕ → Type 0) (left' : R'
   handed_on (Err (r.Write fault)) copies =
       record { stop = copies.stop; output = gets _ copies.output; rest = leaves _ copies.rest }
 
-  -- and the writer was flushed in between
+  -- A flush between the two hands them on with its answer.
   pub flushed_on : (outcome : Result (Unit {0}) (RecodeError E F)) (flushed : Result (Unit {0}) F)
       → CopiesRaw left got count due written outcome reader writer
       → CopiesFlushed left' got' count due written (flushed_outcome outcome flushed) reader' writer'
@@ -124,7 +124,7 @@ module _ {R R' W W' E F : Type 0} (left : R → List ℕ → Type 0) (left' : R'
   flushed_on (Err (r.Write fault)) flushed copies = inl (handed_on (Err (r.Write fault)) copies)
 
 module _ {D S E F : Type 0} (source : Reader D E) (sink : Writer S F) where
-  -- if no header waits, what is due is what the reader has ahead
+  -- If no header waits, the bytes that are due are those that the reader has ahead.
   pub told_ahead : (old : Decoder D) (writer : S) (due written : List ℕ) → old.strict ≡ false → old.waiting ≡ None
       → source.ahead old.reader ≡ Some due → sink.written writer ≡ Some written
       → IsTold source sink false (sides old writer) due written
@@ -137,7 +137,7 @@ module _ {D S E F : Type 0} (source : Reader D E) (sink : Writer S F) where
         none_waits = λ on. none;
       }
 
-  -- if no header waited, none waits after calls that all succeeded
+  -- If no header waited, none waits after calls that all succeeded.
   still_none : (old new : Decoder D) (bytes : List ℕ) → ReadsPast source old bytes new → old.waiting ≡ None
       → new.waiting ≡ None
   still_none old new bytes passed none =
@@ -146,7 +146,7 @@ module _ {D S E F : Type 0} (source : Reader D E) (sink : Writer S F) where
         | inr gone ↦ gone
       ]
 
-  -- no header waits after a copy that met a syntax
+  -- No header waits after a copy that met a syntax.
   none_behind : (count room place : ℕ) (old new : Decoder D) (writer writer' : S)
       → StopsCopy source sink count room (sides old writer) (r.Read (e.Syntax place)) (sides new writer')
       → old.waiting ≡ None → new.waiting ≡ None
@@ -163,7 +163,7 @@ module _ {D S E F : Type 0} (source : Reader D E) (sink : Writer S F) where
 
   module _ (count : ℕ) (due written : List ℕ) (old new : Decoder D) (writer writer' : S) (start : old.offset ≡ 0)
       (none-waits : old.waiting ≡ None) where
-    -- what is due if no header waits is what the reader has ahead
+    -- If no header waits, the bytes that are left are those that the reader has ahead.
     left_ahead : (bytes : List ℕ) → new.waiting ≡ None → view source new ≡ Some bytes
         → source.ahead new.reader ≡ Some bytes
     left_ahead bytes none told = sym (view_none new.waiting (source.ahead new.reader) none) ∙ told
@@ -175,7 +175,7 @@ module _ {D S E F : Type 0} (source : Reader D E) (sink : Writer S F) where
     near : (offset consumed : ℕ) → offset ≡ consumed → 2 ^ 64 ≤ offset + 64 → 2 ^ 64 ≤ consumed + 64
     near offset consumed same full = omega (arith, same, full)
 
-    -- whatever the copy answered
+    -- The copy of raw elements follows for each answer.
     pub raw_any : (outcome : Result (Unit {0}) (RecodeError E F))
         → CopiesElements source sink count 64 (sides old writer) outcome (sides new writer')
         → RecodesAnyhow source sink false count 64 due written old outcome (sides new writer')

@@ -1,4 +1,4 @@
--- What the program says of an error.
+-- The texts of the program about an error.
 use Rattle.std.specs.Prelude.{◌≡◌, ℕ, List, ◌++◌, Option, Some, None, codes, decimal}
 use Rattle.tool_lines.specs.declared.fault.Fault.{Fault}
 use Rattle.tool_lines.specs.declared.fault.Fault.TheVariants as f
@@ -11,18 +11,18 @@ use Rattle.ciborium_ll_streams.specs.declared.streams.WriteFault.TheVariants as 
 use Rattle.ciborium_ll_decoder.specs.declared.copy.RecodeError.{RecodeError}
 use Rattle.ciborium_ll_decoder.specs.declared.copy.RecodeError.TheVariants as r
 
--- the fault of an error that ended a run
+-- The fault of an error that ended a run.
 abbrev pub fault_of : ToolError → Fault
 fault_of e.Memory = f.Memory
 fault_of (e.Read error) = f.Read
 fault_of (e.Write error) = f.Write
 
--- the error of a run whose write failed: the writer's own, if it has one
+-- The error of a run whose write failed: the writer's own, if it has one.
 abbrev pub IsWriteError : WriteFault → ToolError → Type 0
 IsWriteError w.Zero error = fault_of error ≡ f.Write
 IsWriteError (w.Failed own) error = error ≡ e.Write own
 
--- the fault of an error that ended a copy of raw bytes
+-- The fault of an error that ended a copy of raw bytes.
 abbrev pub fault_of_copy : RecodeError ReadFault WriteFault → Fault
 fault_of_copy (r.Read (d.Io error)) = f.Read
 fault_of_copy (r.Read (d.Syntax place)) = f.Syntax place
@@ -30,7 +30,7 @@ fault_of_copy (r.Read d.TooLong) = f.TooLong
 fault_of_copy (r.Read d.Waiting) = f.Read
 fault_of_copy (r.Write error) = f.Write
 
--- what the program says of a fault
+-- The text of a fault: `syntax 3` for bytes at the offset 3 that may not stand there.
 abbrev pub fault_text : Fault → List ℕ
 fault_text (f.Syntax place) = codes "syntax " ++ decimal place
 fault_text f.TooLong = codes "too long"
@@ -38,7 +38,7 @@ fault_text f.Read = codes "read"
 fault_text f.Write = codes "write"
 fault_text f.Memory = codes "memory"
 
--- what `{}` writes of the error of a run. What std's own error says is open (`None`)
+-- The text that `{}` writes of the error of a run. The text of std's own error is open (`None`).
 abbrev pub tool_error_text : ToolError → Option (List ℕ)
 tool_error_text e.Memory = Some (codes "there is no memory left")
 tool_error_text (e.Read error) = None

@@ -1,4 +1,4 @@
--- What a copy of elements from a reader to a writer does, if both tell their bytes.
+-- The results of a copy of elements from a reader to a writer, if both tell their bytes.
 --
 -- `left reader bytes` says that the reader still has these bytes, and `got writer bytes` that the writer has these
 -- bytes.
@@ -11,29 +11,30 @@ use Rattle.ciborium_ll_grammar.specs.Faults.{Syntax, BeginsWithElements, HasFaul
 use Rattle.ciborium_ll_decoder.specs.Decoding.{offset_limit}
 use Rattle.ciborium_ll_recode.specs.RecodingTold.{StopInReading, StopInWriting}
 
--- the bytes are told, and are exactly these
+-- The bytes are told, and are exactly these.
 abbrev pub Tells : {T : Type 0} → (T → Option (List ℕ)) → T → List ℕ → Type 0
 Tells told value bytes = told value ≡ Some bytes
 
--- the bytes are told, and are these without the first ones, at most `most`, which were read ahead
+-- The bytes are told, and are these without the first ones, at most `most`, which were read ahead. If `01 02` are these
+-- and `01` was read ahead, `02` is told.
 abbrev pub TellsBehind : {T : Type 0} → (T → Option (List ℕ)) → ℕ → T → List ℕ → Type 0
 TellsBehind told most value bytes = (lost : List ℕ) × (rest : List ℕ) × (told value ≡ Some rest)
     × (bytes ≡ lost ++ rest) × (length lost ≤ most)
 
--- the bytes are told, and are these without some at the end
+-- The bytes are told, and are these without some at the end. If `01 02` are these, `01` can be told.
 abbrev pub TellsFront : {T : Type 0} → (T → Option (List ℕ)) → T → List ℕ → Type 0
 TellsFront told value bytes = (front : List ℕ) × (lost : List ℕ) × (told value ≡ Some front) × (bytes ≡ front ++ lost)
 
--- nothing is said
+-- Nothing is said.
 abbrev pub IsAnything : {T : Type 0} → T → List ℕ → Type 0
 IsAnything value bytes = Unit {0}
 
--- the bytes are told, and are exactly these. If the flush after them failed, they may lack some at the end
+-- The bytes are told, and are exactly these. If the flush after them failed, they may lack some at the end.
 abbrev pub TellsFlushed : {T F : Type 0} → (T → Option (List ℕ)) → Result (Unit {0}) F → T → List ℕ → Type 0
 TellsFlushed told (Ok done) value bytes = Tells told value bytes
 TellsFlushed told (Err fault) value bytes = TellsFront told value bytes
 
--- how a copy ended with the flush after it: with its own error, otherwise with that of the flush
+-- A copy ended with the flush after it: with its own error, otherwise with that of the flush.
 abbrev pub flushed_outcome : {E F : Type 0} → Result (Unit {0}) (RecodeError E F) → Result (Unit {0}) F
     → Result (Unit {0}) (RecodeError E F)
 flushed_outcome (Ok done) (Ok sent) = Ok done
@@ -41,35 +42,36 @@ flushed_outcome (Ok done) (Err fault) = Err (r.Write fault)
 flushed_outcome (Err error) flushed = Err error
 
 module _ {W : Type 0} (got : W → List ℕ → Type 0) where
-  -- the reader failed or the offset was full: the writer got the spelling of a part of the elements
+  -- The reader failed, or the offset was full. The writer got the spelling of a part of the elements.
   pub record ReadsShort (count : ℕ) (due written : List ℕ) (writer : W) : Type 0 where
     pub stop : StopInReading count due
     pub output : got writer (written ++ stop.written)
 
 module _ {R W : Type 0} (left : R → List ℕ → Type 0) (got : W → List ℕ → Type 0) where
-  -- the writer failed: it got a beginning of the spelling of all elements, or of a part of them. What was not read is
-  -- left
+  -- The writer failed. It got a beginning of the spelling of all elements, or of a part of them. The bytes that were
+  -- not read are left.
   pub record WritesShort (count : ℕ) (due written : List ℕ) (reader : R) (writer : W) : Type 0 where
     pub stop : StopInWriting count 64 due
     pub output : got writer (written ++ stop.written)
     pub rest : left reader stop.rest
 
-  -- a syntax stopped the copy: the writer got what is written before that fault, and what follows the fault is left
+  -- A syntax stopped the copy. The writer got the bytes that a copy writes before that fault, and the bytes after the
+  -- fault are left.
   pub record MeetsSyntax (count place : ℕ) (due written : List ℕ) (reader : R) (writer : W) : Type 0 where
     pub fault : HasFault false count due
     pub answered : fault.answer ≡ Syntax place
     pub output : got writer (written ++ fault.written)
     pub rest : left reader (drop fault.consumed fault.ahead)
 
-  -- all elements were copied: the writer got their shortest spelling, and what follows them is left
+  -- All elements were copied. The writer got their shortest spelling, and the bytes after them are left.
   pub record CopiesCount (count : ℕ) (due written : List ℕ) (reader : R) (writer : W) : Type 0 where
     pub front : BeginsWithElements false count due
     pub output : got writer (written ++ spelling front.marks)
     pub rest : left reader front.rest
 
 module _ {R W E F : Type 0} (left : R → List ℕ → Type 0) (got : W → List ℕ → Type 0) where
-  -- what a copy of `count` elements does, through a buffer of 64 bytes, by its answer. After `Io` and `TooLong` nothing
-  -- is said of what is left
+  -- The result of a copy of `count` elements through a buffer of 64 bytes, by its answer. After `Io` and `TooLong`
+  -- nothing is said of the bytes that are left.
   abbrev pub CopiesRaw : ℕ → List ℕ → List ℕ → Result (Unit {0}) (RecodeError E F) → R → W → Type 0
   CopiesRaw count due written (Ok done) reader writer = CopiesCount left got count due written reader writer
   CopiesRaw count due written (Err (r.Read (e.Io fault))) reader writer = ReadsShort got count due written writer
@@ -82,7 +84,7 @@ module _ {R W E F : Type 0} (left : R → List ℕ → Type 0) (got : W → List
   CopiesRaw count due written (Err (r.Write fault)) reader writer =
       WritesShort left got count due written reader writer
 
-  -- the same of a copy and the flush after it, by one answer: `Write` may also be the flush's, after a whole copy
+  -- The result of a copy and the flush after it, by one answer. `Write` may also be the flush's, after a whole copy.
   abbrev pub CopiesFlushed : ℕ → List ℕ → List ℕ → Result (Unit {0}) (RecodeError E F) → R → W → Type 0
   CopiesFlushed count due written (Ok done) reader writer = CopiesCount left got count due written reader writer
   CopiesFlushed count due written (Err (r.Read error)) reader writer =

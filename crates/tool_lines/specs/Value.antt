@@ -1,10 +1,10 @@
--- What values are spelled as.
+-- The spellings of values.
 use Rattle.std.specs.Prelude.{◌≡◌, ℕ, List, Option}
 use Rattle.ciborium_ll_grammar.specs.Elements.{Mark, spelling}
 use Rattle.ciborium_ll_grammar.specs.Strings.{Kind}
 use Rattle.ciborium_ll_grammar.specs.Values.{IsWritten, value_limit}
 
--- the bytes are a string of the kind that holds the value, in segments within the limit
+-- The bytes are a string of the kind that holds the value, in segments within the limit.
 pub record IsValueSpelling (kind : Kind) (limit : Option ℕ) (value bytes : List ℕ) : Type 0 where
   pub marks : List Mark
   pub written : IsWritten kind (value_limit kind limit value) value marks

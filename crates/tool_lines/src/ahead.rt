@@ -11,8 +11,8 @@ use ciborium_ll_io::io::Read;
 use ciborium_ll_streams::{BufferedReader, FaultKept, ReadFault};
 use std::io;
 
-/// A buffered reader whose slice has at most `ROOM` bytes. The type keeps this bound, so it is known after a call that
-/// says nothing of the slice.
+/// A buffered reader whose slice has at most `ROOM` bytes. The type keeps this bound, also after a call that says
+/// nothing of the slice.
 #[derive(Drop)]
 pub(crate) struct ReadAhead<'a, T> {
     pub(crate) reader: BufferedReader<'a, T>,

@@ -11,7 +11,8 @@ use tool_requests::request::Numbered;
 /// How many bytes of a string are copied at a time, at most.
 pub const BUFFER_SIZE: usize = 64;
 
-/// Answers `recode`: what a copy of the elements wrote, and then what is left of the bytes, or why the copy stopped.
+/// Answers `recode`: the bytes that a copy of the elements wrote, and then those that are left, or why the copy
+/// stopped.
 pub fn elements(alloc: Global, asked: &Numbered, sink: &mut String) -> Result<(), AllocError> {
     let decoder = Decoder::from(SliceReader::new(asked.bytes.as_slice()));
     copy(alloc, decoder, asked, sink)
@@ -27,7 +28,7 @@ pub fn strict_elements(
     copy(alloc, decoder, asked, sink)
 }
 
-/// Copies elements of this decoder, and writes what the copy wrote, and then what is left, or why the copy stopped.
+/// Copies elements of this decoder, and writes the same answer.
 fn copy(
     alloc: Global,
     mut decoder: Decoder<SliceReader<'_>>,
@@ -43,9 +44,8 @@ fn copy(
     copy_line(alloc, last, writer.written(), reader.left(), sink)
 }
 
-/// Copies `count` elements, and returns why the copy stopped early, if it did. Its contract says nothing of the copy,
-/// since a caller would otherwise prove each further step with all of that in view. For the same reason the meaning of
-/// an error is a function of its own.
+/// Copies `count` elements, and returns why the copy stopped early, if it did. The contract says nothing of the copy,
+/// so that the proofs of its callers stay small. `describe_stop` is apart for the same reason.
 fn copy_elements(
     decoder: &mut Decoder<SliceReader<'_>>,
     encoder: &mut Encoder<SliceWriter<'_>>,

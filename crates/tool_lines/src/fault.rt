@@ -1,4 +1,4 @@
-//! What the program says when it fails.
+//! The messages of the program when it fails.
 
 ghost use Rattle.std.specs.Prelude.{◌≡◌};
 ghost use Rattle.tool_lines.specs.Fault.{fault_of, fault_of_copy};
@@ -93,7 +93,7 @@ impl fmt::Display for ToolError {
 
     ghost output = { tool_error_text };
 
-    /// Writes the message. For a reader or a writer that failed it is the text of its own error.
+    /// Writes the message. A reader or a writer that failed has the text of its own error.
     fn fmt<W: fmt::Write>(&self, f: &mut fmt::Formatter<W>) -> fmt::Result {
         match self {
             ToolError::Memory => f.write_str("there is no memory left"),

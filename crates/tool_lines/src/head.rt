@@ -6,7 +6,7 @@ use ciborium_ll_io::io::{EndOfFile, SliceReader};
 use std::alloc::AllocError;
 use tool_requests::answer::{Last, Value, last_line, title_line};
 
-/// Answers `heads`: a line for each title, and one for what ended them.
+/// Answers `heads`: a line for each title, and one for the end of the titles.
 pub fn heads(bytes: &[u8], sink: &mut String) -> Result<(), AllocError> {
     let mut decoder = Decoder::from(SliceReader::new(bytes));
     // Each title takes a byte, and the call after the last title fails.
@@ -20,7 +20,7 @@ pub fn heads(bytes: &[u8], sink: &mut String) -> Result<(), AllocError> {
     Ok(())
 }
 
-/// Returns what ended the titles: the error of a pull that began at one offset and ended at another.
+/// Returns the end of the titles: the error of a pull that began at one offset and ended at another.
 fn describe_end(error: Error<EndOfFile>, began: usize, offset: usize) -> Last {
     match error {
         Error::Syntax(place) => Last::Syntax(place),
@@ -52,7 +52,7 @@ fn name_of(header: Header) -> &'static str {
     }
 }
 
-/// Returns what follows the name of a header: its number, the bits of a float, or nothing.
+/// Returns the value after the name of a header: its number, the bits of a float, or nothing.
 fn value_of(header: Header) -> Value {
     match header {
         Header::Positive(n) | Header::Negative(n) | Header::Tag(n) => Value::Number(n),

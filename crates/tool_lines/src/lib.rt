@@ -1,6 +1,5 @@
 // SPDX-License-Identifier: Apache-2.0
-//! What the program does: it answers lines on CBOR titles, strings and copies over any reader and writer of std, and
-//! copies raw bytes.
+//! Answers lines on CBOR titles, strings and copies over any reader and writer of std, and copies raw bytes.
 //!
 //! `ciborium_ll_tool` is the program that calls it.
 #![tactic(auto)]

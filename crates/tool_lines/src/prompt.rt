@@ -1,4 +1,4 @@
-//! A copy that writes what it has before it waits for more of its input.
+//! A copy that writes its output before it waits for more of its input.
 
 ghost use Rattle.std.specs.Prelude.{◌≡◌, [], ℕ, List, Some};
 ghost use Rattle.tool_lines.specs.Raw.{CopiesRaw, IsAnything, TellsBehind};
@@ -14,7 +14,7 @@ use ciborium_ll_streams::{BufferedWriter, FaultKept};
 use std::cell::RefCell;
 use std::io;
 
-/// Writes to a buffered writer in a cell. It tells the bytes that it handed on, since no clause can speak of a cell.
+/// Writes to a buffered writer in a cell, and tells the bytes that it handed on. No clause can speak of a cell.
 #[derive(Drop)]
 struct Shared<'o, 'a, W> {
     output: &'o RefCell<BufferedWriter<'a, W>>,
@@ -110,13 +110,13 @@ impl<'o, 'a, R: io::Read, W: io::Write> io::Read for Prompt<'o, 'a, R, W> {
     }
 }
 
-/// Copies as [`crate::raw::raw_buffered`] does, and flushes what it kept back before each read, since a read may have
-/// to wait. So what is ready can be seen while more of the input is due.
+/// Copies as [`crate::raw::raw_buffered`] does, and flushes before each read, since a read may have to wait. So output
+/// that is ready can be seen while more of the input is due.
 ///
 /// If a flush before a read fails, the bytes are kept back, and a later write or the last flush tells the fault.
 ///
-/// If the reader tells its bytes, each answer means what it means for [`crate::raw::raw_buffered`], for what was read.
-/// The reader shares the writer in a cell, and no clause can speak of a cell. So no clause says what the writer got.
+/// If the reader tells its bytes, each answer says the same of the reads as there. No clause says which bytes the
+/// writer got, since none can speak of the cell that the reader shares.
 pub fn raw_prompt<R: io::Read, W: io::Write>(
     reader: R,
     writer: W,

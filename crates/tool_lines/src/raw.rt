@@ -45,16 +45,17 @@ fn copy_elements<R: Read, W: Write>(
 ///
 /// # Errors
 ///
-/// The error is that of the copy. If the copy succeeded, it is that of the flush.
+/// The error is that of the copy, or that of the flush after a copy that succeeded.
 ///
-/// - `Read` with `Syntax`: the place of the first fault, as `recode` names it. The writer got what the copy wrote
-///   before the fault.
+/// - `Read` with `Syntax`: the place of the first fault, as `recode` names it. The writer got the bytes that the copy
+///   wrote before the fault.
 /// - `Read` with `Io`: the reader failed, or it ended within the elements. The writer got the spelling of a part of
 ///   them.
 /// - `Read` with `TooLong`: the offset would pass `usize::MAX`. The writer got the spelling of a part of the elements.
 /// - `Write`: the writer failed. It got a beginning of the spelling, or all of it if the flush failed.
 ///
-/// After `Syntax` and `Write` the reader has what was not read. After `Io` and `TooLong` nothing is said of it.
+/// After `Syntax` and `Write` the reader has the bytes that were not read. After `Io` and `TooLong` nothing is said of
+/// it.
 pub fn raw<R: io::Read, W: io::Write>(
     reader: R,
     writer: W,
@@ -73,7 +74,7 @@ pub fn raw<R: io::Read, W: io::Write>(
     (reader.into_inner(), writer.into_inner(), outcome)
 }
 
-/// Returns how a copy ended with the flush after it: with its own error, otherwise with that of the flush.
+/// Returns the outcome of a copy and the flush after it: its own error, otherwise that of the flush.
 fn outcome_of(
     copied: Result<(), RecodeError<ReadFault, WriteFault>>,
     flushed: Result<(), WriteFault>,
@@ -89,24 +90,24 @@ fn outcome_of(
 /// How a buffered copy ended.
 #[derive(Drop)]
 pub struct BufferedCopy<R, W> {
-    /// The reader. The bytes after the last element that were read ahead are given up, at most `ROOM` of them.
+    /// The reader. It has lost the bytes that were read ahead after the last element, at most `ROOM`.
     pub reader: R,
-    /// The writer. It has all that was written. If the flush failed, it may lack bytes at the end.
+    /// The writer. It has all that was written, but may lack bytes at the end if the flush failed.
     pub writer: W,
-    /// How the copy ended.
+    /// The answer of the copy.
     pub copied: Result<(), RecodeError<ReadFault, WriteFault>>,
-    /// How the flush after the copy ended.
+    /// The answer of the flush after the copy.
     pub flushed: Result<(), WriteFault>,
 }
 
-/// Copies as [`raw`] does, but reads ahead and keeps back up to `ROOM` bytes. It returns the reader and the writer.
+/// Copies as [`raw`] does, but reads ahead and keeps back up to `ROOM` bytes.
 ///
-/// The flush comes after a failure too. The call that passes bytes on tells that their write failed. It may come after
-/// a read that failed, or be the flush.
+/// A failed write is told by the call that passes the bytes on. That call may come after a read that failed, or be the
+/// flush.
 ///
-/// If both tell their bytes, each answer means what it means for [`raw`], except for two things. The reader may have
-/// lost bytes that were read ahead: at most `ROOM` of those that follow what was copied. Only if the flush failed may
-/// the writer lack bytes at the end.
+/// If both tell their bytes, each answer means the same as for [`raw`], except for two things. The reader may have lost
+/// at most `ROOM` bytes that were read ahead after the copied ones. If the flush failed, the writer may lack bytes at
+/// the end.
 pub fn raw_buffered<R: io::Read, W: io::Write>(
     reader: R,
     writer: W,
@@ -163,7 +164,7 @@ pub(crate) fn restored_flush(
     }
 }
 
-/// Returns the error of a copy, with the fault that was kept aside. Each call that fails keeps one, so there is one.
+/// Returns the error of a copy, with the fault that was kept aside. Each call that fails keeps one.
 fn restore_error(
     error: RecodeError<FaultKept, FaultKept>,
     read_fault: Option<ReadFault>,

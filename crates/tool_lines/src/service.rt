@@ -1,4 +1,4 @@
-//! The service: each line that is read gets its answer.
+//! Answers each line that is read.
 
 use crate::answer;
 use crate::fault::ToolError;
@@ -13,7 +13,7 @@ use tool_requests::input::Lines;
 /// A line ends at a line feed or at the end of the input. After 2^64 - 1 lines the run ends as at the end of the input.
 /// An interrupted call is a failure like any other.
 ///
-/// No clause says what it reads and writes. It is safe, and it returns.
+/// No clause says which bytes it reads and writes. It is safe, and it returns.
 ///
 /// # Errors
 ///
@@ -52,7 +52,7 @@ fn answer_lines<R: io::Read + Drop, W: io::Write>(
     Ok(writer.flush()?)
 }
 
-/// Answers the next line, and says whether there was one. It reads the line and makes its answer in this memory.
+/// Answers the next line, and returns whether there was one. It reads the line and makes its answer in this memory.
 fn answer_next<R: io::Read + Drop, W: io::Write>(
     alloc: Global,
     lines: &mut Lines<R>,

@@ -11,7 +11,7 @@ use std::alloc::AllocError;
 use tool_requests::answer::{Last, last_line};
 use tool_requests::request::Numbered;
 
-/// Answers `skip`: the offset at which the item ends with which the bytes begin, or the fault in it.
+/// Answers `skip`: the offset at which the first item ends, or the fault in it.
 pub fn item(asked: &Numbered, sink: &mut String) -> Result<(), AllocError>
     requires { asked.now.number ≤ MOST_LEVELS }
 {

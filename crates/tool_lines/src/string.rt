@@ -45,7 +45,7 @@ impl From<AllocError> for Stop {
     }
 }
 
-/// Answers `chunks`: a line for each segment, chunk and end of a segment, and a line for what ended the string.
+/// Answers `chunks`: a line for each segment, chunk and end of a segment, and a line for the end of the string.
 pub fn chunks(alloc: Global, asked: &Numbered, sink: &mut String) -> Result<(), AllocError> {
     let mut buffer = vec![in alloc; 0u8; asked.number]?;
     chunks_within(alloc, asked.bytes.as_slice(), buffer.as_mut_slice(), sink)
