@@ -1,7 +1,7 @@
 -- Lists of two words.
 use Rattle.std.proofs.Common.{◌≡◌, List, [], ◌∷◌, length, get_or, arith}
 
--- a list of two has exactly the first and the second
+-- A list of two elements has exactly the first and the second element.
 pub two_in_all : {T : Type 0} (words : List T) (first second : T) → length words ≡ 2
     → first ≡ get_or words 0 first → second ≡ get_or words 1 second → words ≡ first ∷ second ∷ []
 two_in_all [] first second two one other = absurd (omega (arith, two))

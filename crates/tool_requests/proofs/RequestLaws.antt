@@ -1,4 +1,4 @@
--- A request is spelled in ASCII, and is cut at the ends of its words.
+-- A request is spelled in ASCII, and the program cuts it at the ends of its words.
 use Rattle.std.proofs.Common.{if◌then◌else◌, ◌*◌, ◌+◌, ◌∙◌, sym, ap, IfOk, IfSome, Result, Ok, Err}
 use Rattle.std.proofs.Common.{◌≡◌, ◌≢◌, ◌<◌, ◌==◌, ℕ, suc, zero, List, [], ◌∷◌, ◌++◌, length, get_or, Option, Some}
 use Rattle.std.proofs.Common.{None, MatchOption, IfNone, Result, Ok, Err, Bool, true, not}
@@ -24,20 +24,20 @@ use Rattle.tool_requests.specs.declared.request.Request.TheVariants.{Bytes, Chun
 use Rattle.tool_requests.specs.declared.request.Request.TheVariants.{Strict, Text}
 use Rattle.tool_requests.proofs.NumberLaws.{limit_has_no_space, number_has_no_space}
 
--- what was decoded to bytes is Ok
+-- If a word decodes to bytes, the decoder's answer is `Ok`.
 decoded-some : (r : Result (List ℕ) FromHexError) (bytes : List ℕ) → decoded r ≡ Some bytes → r ≡ Ok bytes
 decoded-some (Ok found) bytes h = cc h
 decoded-some (Err e) bytes h = cc h
 
--- a digit is ASCII
+-- A hexadecimal digit is ASCII.
 is_hex_digit-below : (c : ℕ) → is_hex_digit c ≡ true → c < 128
 is_hex_digit-below c h = grind (arith)
 
--- so are digits
+-- A word of hexadecimal digits is ASCII.
 IsAscii-digits : (word : List ℕ) → AllPass is_hex_digit word → IsAscii word
 IsAscii-digits word h = IsAscii-from_all word (λ k d below. is_hex_digit-below _ (h k d below))
 
--- and a word that has bytes
+-- A word that has bytes is ASCII.
 IsAscii-word : (word bytes : List ℕ) → bytes_of_word word ≡ Some bytes → IsAscii word
 IsAscii-word [] bytes h = cc h
 IsAscii-word (digit ∷ []) bytes h =
@@ -46,38 +46,38 @@ IsAscii-word (high ∷ low ∷ rest) bytes h =
     let digits = decode_of-ok (high ∷ low ∷ rest) bytes (decoded-some (decode_of (high ∷ low ∷ rest)) bytes h) in
     IsAscii-digits (high ∷ low ∷ rest) digits.1
 
--- text is ASCII by a test of each byte
+-- A text is ASCII if a test of each byte says so.
 IsAscii-from_test : (text : List ℕ) → list_all (λ byte. nat_lt byte 128) text ≡ true → IsAscii text
 IsAscii-from_test [] h = IsAscii-nil
 IsAscii-from_test (byte ∷ rest) h =
     IsAscii-cons byte rest (grind (arith)) (IsAscii-from_test rest (grind (arith)))
 
--- so are digits of a number
+-- The word of a number is ASCII.
 IsAscii-number : (word : List ℕ) (n : ℕ) → IsNumber word n → IsAscii word
 IsAscii-number word n is = IsAscii-from_digits word is.numeral.1
 
--- and a limit
+-- The word of a limit is ASCII.
 IsAscii-limit : (word : List ℕ) (limit : Option ℕ) → IsLimit word limit → IsAscii word
 IsAscii-limit word None is = rw is (IsAscii-from_test (codes "*") refl)
 IsAscii-limit word (Some n) is = IsAscii-number word n is
 
--- two words with a space between
+-- Two ASCII words with a space between them are ASCII.
 IsAscii-two : (first word : List ℕ) → IsAscii first → IsAscii word → IsAscii (first ++ (space ∷ word))
 IsAscii-two first word left right =
     IsAscii-append first (space ∷ word) left (IsAscii-cons space word (omega arith) right)
 
--- a number and bytes
+-- A number and bytes are ASCII.
 IsAscii-numbered : (most : ℕ) (words : List ℕ) (asked : Numbered) → SpellsNumbered most words asked → IsAscii words
 IsAscii-numbered most words asked (first, word, parts, number, has) =
     rw parts (IsAscii-two first word (IsAscii-number first asked.number number.0)
     (IsAscii-word word asked.bytes.items has))
 
--- a limit and bytes
+-- A limit and bytes are ASCII.
 IsAscii-limited : (words : List ℕ) (asked : Limited) → SpellsLimited words asked → IsAscii words
 IsAscii-limited words asked (first, word, parts, limit, has) =
     rw parts (IsAscii-two first word (IsAscii-limit first asked.limit limit) (IsAscii-word word asked.bytes.items has))
 
--- the words of a request
+-- The words of a request are ASCII.
 IsAscii-words : (words : List ℕ) (request : Request) → Spells words request → IsAscii words
 IsAscii-words words (Heads bytes) has = IsAscii-word words bytes.items has
 IsAscii-words words (Chunks asked) spelled = IsAscii-numbered most_size words asked spelled
@@ -87,7 +87,7 @@ IsAscii-words words (Recode asked) spelled = IsAscii-numbered most_number words 
 IsAscii-words words (Strict asked) spelled = IsAscii-numbered most_number words asked spelled
 IsAscii-words words (Skip asked) spelled = IsAscii-numbered most_depth words asked spelled
 
--- the first word of a line
+-- The first word of a line is ASCII.
 IsAscii-first : (asks : Command) → IsAscii (name_of asks)
 IsAscii-first command.Heads = IsAscii-from_test (codes "heads") refl
 IsAscii-first command.Chunks = IsAscii-from_test (codes "chunks") refl
@@ -97,15 +97,15 @@ IsAscii-first command.Recode = IsAscii-from_test (codes "recode") refl
 IsAscii-first command.Strict = IsAscii-from_test (codes "strict") refl
 IsAscii-first command.Skip = IsAscii-from_test (codes "skip") refl
 
--- a request is UTF-8
+-- A request is UTF-8.
 pub IsUtf8-request : (line : List ℕ) (request : Request) → Asks line request → IsUtf8 line
 IsUtf8-request line request (words, parts, spelled) =
     rw parts (IsUtf8-from_ascii _ (IsAscii-two (name_of (command_of request)) words (IsAscii-first (command_of request))
     (IsAscii-words words request spelled)))
 
--- ---- where a line is cut
+-- ---- cuts of a line
 
--- no byte is a space, by a test of each
+-- A test of each byte says whether a list holds no space.
 abbrev has_no_space : List ℕ → Bool
 has_no_space bytes = list_all (λ byte. not (byte == space)) bytes
 
@@ -114,7 +114,7 @@ no_space_at [] h i within = absurd (omega (arith, within))
 no_space_at (byte ∷ rest) h zero within = λ same. absurd (grind (arith))
 no_space_at (byte ∷ rest) h (suc i) within = no_space_at rest (grind (arith)) i (omega (arith, within))
 
--- no first word has a space
+-- No first word holds a space.
 first_has_no_space : (asks : Command) → (i : ℕ) → i < length (name_of asks) → get_or (name_of asks) i 0 ≢ space
 first_has_no_space command.Heads = no_space_at (codes "heads") refl
 first_has_no_space command.Chunks = no_space_at (codes "chunks") refl
@@ -124,7 +124,7 @@ first_has_no_space command.Recode = no_space_at (codes "recode") refl
 first_has_no_space command.Strict = no_space_at (codes "strict") refl
 first_has_no_space command.Skip = no_space_at (codes "skip") refl
 
--- a request is cut after its first word
+-- The first space of a request follows its first word.
 pub cut_behind_first : (line : List ℕ) (r : Option (Bor (List ℕ) × Bor (List ℕ))) → IsSplitOnceResult space line r
     → (request : Request) → Asks line request → MatchOption r ⊥
     (λ x. (x.0.now ≡ name_of (command_of request)) × Spells x.1.now request)
@@ -136,7 +136,7 @@ cut_behind_first line (Some x) cut request (words, parts, spelled) =
     (first_has_no_space (command_of request)) in
     (same.0, rw same.1 spelled)
 
--- first words differ in their first two bytes, which tell the command
+-- The command by a number that the first two bytes of its word give.
 abbrev command_at : ℕ → Command
 command_at initials =
     if initials == 26725 then command.Heads else
@@ -161,12 +161,12 @@ command_at-first command.Recode = refl
 command_at-first command.Strict = refl
 command_at-first command.Skip = refl
 
--- so the first word is that of one command
+-- A first word belongs to one command only.
 same_command : (one other : Command) → name_of one ≡ name_of other → one ≡ other
 same_command one other same =
     sym (command_at-first one) ∙ (ap (λ word. command_at (initials word)) same ∙ command_at-first other)
 
--- a line whose words spell no request of its command is no request
+-- A line whose words spell no request of its command is no request.
 pub none_of_line : {E : Type 0} (line name words : List ℕ) (asks : Command)
     (result : Result (Option Request) E)
     → name ≡ name_of asks
@@ -179,7 +179,7 @@ none_of_line line name words asks (Ok None) is cut refused = λ request asked.
     let parts = cut request asked in
     refused request (same_command _ _ (sym parts.0 ∙ is)) parts.1
 
--- a line whose words spell a request of its command is that request
+-- A line whose words spell a request of its command is that request.
 pub some_of_line : {E : Type 0} (line name words : List ℕ) (asks : Command)
     (result : Result (Option Request) E)
     → name ≡ name_of asks → line ≡ name ++ (space ∷ words)
@@ -190,7 +190,7 @@ some_of_line line name words asks (Ok None) is parts spelled = _
 some_of_line line name words asks (Ok (Some request)) is parts spelled =
     (words, parts ∙ ap (λ first. first ++ (space ∷ words)) (is ∙ ap name_of (sym spelled.0)), spelled.1)
 
--- a number and bytes are cut after the number
+-- The first space of a number and bytes follows the number.
 pub cut_behind_number : (most : ℕ) (words : List ℕ) (r : Option (Bor (List ℕ) × Bor (List ℕ)))
     → IsSplitOnceResult space words r → (asked : Numbered) → SpellsNumbered most words asked
     → MatchOption r ⊥ (λ x. IsNumberUpTo most x.0.now asked.number × (bytes_of_word x.1.now ≡ Some asked.bytes.items))
@@ -201,7 +201,7 @@ cut_behind_number most words (Some x) cut asked (first, word, parts, number, has
     (number_has_no_space first asked.number number.0) in
     (rw same.0 number, rw same.1 has)
 
--- a limit and bytes are cut after the limit
+-- The first space of a limit and bytes follows the limit.
 pub cut_behind_limit : (words : List ℕ) (r : Option (Bor (List ℕ) × Bor (List ℕ))) → IsSplitOnceResult space words r
     → (asked : Limited) → SpellsLimited words asked
     → MatchOption r ⊥ (λ x. IsLimit x.0.now asked.limit × (bytes_of_word x.1.now ≡ Some asked.bytes.items))

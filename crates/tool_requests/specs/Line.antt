@@ -2,10 +2,10 @@
 use Rattle.std.specs.Prelude.{◌≢◌, ℕ, List}
 use Rattle.std.specs.List.{All}
 
--- the byte that ends a line
+-- The byte that ends a line.
 abbrev pub line_feed : ℕ
 line_feed = 10
 
--- the bytes lie within one line
+-- The bytes lie within one line.
 abbrev pub IsOneLine : List ℕ → Type 0
 IsOneLine bytes = All (λ byte. byte ≢ line_feed) bytes

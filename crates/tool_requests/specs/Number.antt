@@ -2,31 +2,31 @@
 use Rattle.std.specs.Prelude.{◌≡◌, ◌≤◌, ℕ, List, length, codes, slice_index, Option, Some, None}
 use Rattle.std.specs.Str.Parse.{IsNumeral, digits_value}
 
--- the greatest number of a line
+-- The greatest number of a line.
 abbrev pub most_number : ℕ
 most_number = 4294967295
 
--- the greatest size of a buffer, in bytes
+-- The greatest size of a buffer, in bytes.
 abbrev pub most_size : ℕ
 most_size = 65536
 
--- the greatest depth of an item
+-- The greatest depth of an item.
 abbrev pub most_depth : ℕ
 most_depth = 256
 
 -- The word consists of digits, and the number is their value, at most 4294967295. The first digit is a zero only in the
--- word `0`
+-- word `0`, so `01` is no number.
 pub record IsNumber (word : List ℕ) (n : ℕ) : Type 0 where
   pub numeral : IsNumeral 10 word
   pub shortest : slice_index word 0 ≡ 48 → length word ≡ 1
   pub value : n ≡ digits_value 10 word
   pub most : n ≤ most_number
 
--- the word is a number that is at most `most`
+-- The word is a number that is at most `most`.
 abbrev pub IsNumberUpTo : ℕ → List ℕ → ℕ → Type 0
 IsNumberUpTo most word n = IsNumber word n × (n ≤ most)
 
--- the word is a limit: a number, or `*` for none
+-- The word is a limit: a number, or `*` for none.
 abbrev pub IsLimit : List ℕ → Option ℕ → Type 0
 IsLimit word None = word ≡ codes "*"
 IsLimit word (Some limit) = IsNumber word limit

@@ -1,4 +1,4 @@
--- What lines ask for.
+-- The requests that lines spell.
 use Rattle.std.specs.Prelude.{◌≡◌, ℕ, List, ◌++◌, ◌∷◌, codes, Some}
 use Rattle.tool_requests.specs.Number.{IsLimit, IsNumberUpTo, most_depth, most_number, most_size}
 use Rattle.tool_requests.specs.Word.{bytes_of_word}
@@ -10,21 +10,21 @@ use Rattle.tool_requests.specs.declared.request.Request.TheVariants.{Bytes, Chun
 use Rattle.tool_requests.specs.declared.request.Request.TheVariants.{Strict, Text}
 use Rattle.tool_requests.specs.declared.request.Numbered.{Numbered}
 
--- the byte between two words
+-- The byte between two words.
 abbrev pub space : ℕ
 space = 32
 
--- the words are a number of at most `most`, and bytes
+-- The words are a number of at most `most`, and bytes. `4 8101` has the number 4 and the bytes `81 01`.
 abbrev pub SpellsNumbered : ℕ → List ℕ → Numbered → Type 0
 SpellsNumbered most words asked = (first : List ℕ) × (word : List ℕ) × (words ≡ first ++ (space ∷ word))
     × IsNumberUpTo most first asked.number × (bytes_of_word word ≡ Some asked.bytes.items)
 
--- the words are a limit and bytes
+-- The words are a limit and bytes. `* 0102` has no limit and the bytes `01 02`.
 abbrev pub SpellsLimited : List ℕ → Limited → Type 0
 SpellsLimited words asked = (first : List ℕ) × (word : List ℕ) × (words ≡ first ++ (space ∷ word))
     × IsLimit first asked.limit × (bytes_of_word word ≡ Some asked.bytes.items)
 
--- the first word of a line that asks for this
+-- The first word of a line with this command.
 abbrev pub name_of : Command → List ℕ
 name_of command.Heads = codes "heads"
 name_of command.Chunks = codes "chunks"
@@ -34,7 +34,7 @@ name_of command.Recode = codes "recode"
 name_of command.Strict = codes "strict"
 name_of command.Skip = codes "skip"
 
--- the command of a request
+-- The command of a request.
 abbrev pub command_of : Request → Command
 command_of (Heads bytes) = command.Heads
 command_of (Chunks asked) = command.Chunks
@@ -44,7 +44,7 @@ command_of (Recode asked) = command.Recode
 command_of (Strict asked) = command.Strict
 command_of (Skip asked) = command.Skip
 
--- the words after the first one
+-- The words after the first word of this request.
 abbrev pub Spells : List ℕ → Request → Type 0
 Spells words (Heads bytes) = bytes_of_word words ≡ Some bytes.items
 Spells words (Chunks asked) = SpellsNumbered most_size words asked
@@ -54,6 +54,6 @@ Spells words (Recode asked) = SpellsNumbered most_number words asked
 Spells words (Strict asked) = SpellsNumbered most_number words asked
 Spells words (Skip asked) = SpellsNumbered most_depth words asked
 
--- the line is this request, spelled out. `skip 4 8101` asks for a skip of `81 01` to the depth 4
+-- The line is this request, spelled out. `skip 4 8101` asks for a skip of `81 01` to the depth 4.
 abbrev pub Asks : List ℕ → Request → Type 0
 Asks line request = (words : List ℕ) × (line ≡ name_of (command_of request) ++ (space ∷ words)) × Spells words request

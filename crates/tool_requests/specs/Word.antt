@@ -5,26 +5,27 @@ use Rattle.std.specs.List.{AllPass}
 use Rattle.hex.specs.Hex.{decode_of, encode_lower, is_hex_digit}
 use Rattle.hex.specs.declared.error.FromHexError.{FromHexError}
 
--- the word that stands for no bytes
+-- The word that stands for no bytes.
 abbrev pub no_bytes : List ℕ
 no_bytes = codes "-"
 
--- the word is `-`, or an even number of hexadecimal digits, at least two
+-- The word is `-`, or an even number of hexadecimal digits, at least two.
 abbrev pub IsHexWord : List ℕ → Type 0
 IsHexWord word = (word ≡ no_bytes) ⊎ ((0 < length word) × (length word % 2 ≡ 0) × AllPass is_hex_digit word)
 
--- the bytes that were decoded, if they were
+-- The bytes that were decoded, if they were.
 abbrev pub decoded : Result (List ℕ) FromHexError → Option (List ℕ)
 decoded (Ok bytes) = Some bytes
 decoded (Err e) = None
 
--- the bytes that a word stands for: none for `-`, otherwise those of its digits, at least two
+-- The bytes that a word stands for: none for `-`, otherwise those of its digits, at least two. `0aff` stands for `0a
+-- ff`.
 abbrev pub bytes_of_word : List ℕ → Option (List ℕ)
 bytes_of_word [] = None
 bytes_of_word (digit ∷ []) = if digit == 45 then Some [] else None
 bytes_of_word (high ∷ low ∷ rest) = decoded (decode_of (high ∷ low ∷ rest))
 
--- the word that stands for bytes: `-` for none, otherwise two lower case digits for each byte
+-- The word that stands for bytes: `-` for none, otherwise two lower case digits for each byte, as `0aff` for `0a ff`.
 abbrev pub word_of_bytes : List ℕ → List ℕ
 word_of_bytes [] = no_bytes
 word_of_bytes (first ∷ rest) = encode_lower (first ∷ rest)

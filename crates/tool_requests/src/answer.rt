@@ -5,7 +5,7 @@ use std::alloc::{AllocError, Global};
 use std::fmt;
 use std::fmt::Write;
 
-/// The last line of an answer, and at which offset the answer ended.
+/// The last line of an answer, with the offset at which the answer ended.
 #[derive(Drop)]
 pub enum Last {
     /// The call consumed all bytes.
@@ -55,7 +55,7 @@ impl fmt::Display for Last {
     }
 }
 
-/// What follows the name of a title.
+/// The value after the name of a title.
 #[derive(Drop)]
 pub enum Value {
     /// Nothing.
@@ -102,8 +102,8 @@ pub fn chunk_line(alloc: Global, chunk: &[u8], sink: &mut String) -> Result<(), 
     word_line(alloc, chunk, sink)
 }
 
-/// Writes what a copy wrote, and then what is left, or why the copy stopped. If the copy stopped for want of room, it
-/// writes only that.
+/// Writes the bytes that a copy wrote, and then those that are left, or why the copy stopped. If the copy stopped for
+/// want of room, the call writes only that.
 pub fn copy_line(
     alloc: Global,
     last: Option<Last>,

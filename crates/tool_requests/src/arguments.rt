@@ -1,12 +1,12 @@
-//! What the program's arguments ask for.
+//! The choice that the program's arguments make.
 
 ghost use Rattle.tool_requests.specs.Choice.{IsChosen};
 
 use crate::choice::Chosen;
 use crate::number::number_of;
 
-/// Returns what the words after the program's name ask for: no words ask for lines, and `recode` with a number asks for
-/// a copy.
+/// Returns the choice of the words after the program's name: no words ask for lines, and `recode` with a number asks
+/// for a copy.
 pub fn chosen(words: &[String]) -> Chosen
     ensures { IsChosen words.now result }
 {

@@ -1,6 +1,6 @@
-//! What the program does.
+//! The choices of the program.
 
-/// What the program does.
+/// A choice of the program.
 #[derive(Debug, PartialEq, Eq, Drop)]
 pub enum Chosen {
     /// It answers lines.

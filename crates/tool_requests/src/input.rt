@@ -41,7 +41,7 @@ impl<R: io::Read + Drop> Lines<R> {
         })
     }
 
-    /// Puts the next line in place of what `line` holds, without its line feed. It says whether there was a next line.
+    /// Replaces the content of `line` by the next line, without its line feed, and returns whether there was one.
     ///
     /// # Errors
     ///
@@ -65,7 +65,7 @@ impl<R: io::Read + Drop> Lines<R> {
         Ok(!line.is_empty())
     }
 
-    /// Appends the bytes of one read, up to the end of the line. It says whether a line feed ended the line.
+    /// Appends the bytes of one read, up to the end of the line, and returns whether a line feed ended the line.
     fn take_part(&mut self, line: &mut Vec<u8>) -> Result<bool, LineError>
         requires { IsOneLine line.old.items }
         ensures { OnOk result (IsOneLine line.new.items) }
@@ -86,7 +86,7 @@ impl<R: io::Read + Drop> Lines<R> {
     }
 }
 
-/// Returns how many bytes stand before the first line feed, or how many there are if there is no line feed.
+/// Returns how many bytes precede the first line feed, or how many there are if there is none.
 fn line_length(part: &[u8]) -> usize
     ensures within { result ≤ length part.now }
     ensures line { IsOneLine (take result part.now) }

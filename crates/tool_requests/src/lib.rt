@@ -1,6 +1,6 @@
 // SPDX-License-Identifier: Apache-2.0
-//! What the program's caller asks for, and how the program writes its answers: lines of input, requests out of them,
-//! the choice that its arguments make, and lines of answers.
+//! Reads lines of input, the requests that they spell and the choice of the program's arguments, and writes lines of
+//! answers.
 //!
 //! Each line and each row of arguments means one request, as `specs/` says. This crate does not answer them.
 #![tactic(auto)]

@@ -1,4 +1,4 @@
-//! What a line asks for.
+//! The requests of lines.
 
 ghost use Rattle.std.specs.Prelude.{IfNone, IfOk, IfSome};
 
@@ -11,7 +11,7 @@ use std::alloc::{AllocError, Global};
 pub struct Numbered {
     /// The size of a buffer, a count of elements or a depth, by the request.
     pub number: usize,
-    /// What is read or copied.
+    /// The bytes that are read or copied.
     pub bytes: Vec<u8>,
 }
 
@@ -21,7 +21,7 @@ impl Numbered {
 
     /// Reads two words, with exactly one space between them: a number of at most `most`, and bytes.
     ///
-    /// It is `None` if the words are anything other than that. The error says that there is no memory for the bytes.
+    /// The call returns `None` for other words. The error says that there is no memory for the bytes.
     fn parse(alloc: Global, most: u32, words: &str) -> Result<Option<Numbered>, AllocError>
         ensures some { IfOk result (λ found. IfSome found (SpellsNumbered most words.now)) }
         ensures none { IfOk result (λ found. IfNone found
@@ -45,7 +45,7 @@ impl Numbered {
 pub struct Limited {
     /// How many bytes a segment has at most, if there is a limit.
     pub limit: Option<usize>,
-    /// What is written.
+    /// The bytes that are written.
     pub bytes: Vec<u8>,
 }
 
@@ -55,7 +55,7 @@ impl Limited {
 
     /// Reads two words, with exactly one space between them: a limit, and bytes.
     ///
-    /// It is `None` if the words are anything other than that. The error says that there is no memory for the bytes.
+    /// The call returns `None` for other words. The error says that there is no memory for the bytes.
     fn parse(alloc: Global, words: &str) -> Result<Option<Limited>, AllocError>
         ensures some { IfOk result (λ found. IfSome found (SpellsLimited words.now)) }
         ensures none { IfOk result (λ found. IfNone found ((asked : Limited) → SpellsLimited words.now asked → ⊥)) }
@@ -108,7 +108,7 @@ impl Command {
     }
 }
 
-/// What a line asks for.
+/// The request of a line.
 #[derive(Drop)]
 pub enum Request {
     /// `heads HEX`: the headers of the titles that the bytes spell, one after the other.
@@ -134,7 +134,7 @@ impl Request {
 
     /// Reads a line, given without its line feed. Exactly one space stands between two words.
     ///
-    /// It is `None` if the line is no request. The error says that there is no memory for the request.
+    /// The call returns `None` if the line is no request. The error says that there is no memory for the request.
     pub fn parse(alloc: Global, line: &[u8]) -> Result<Option<Request>, AllocError>
         ensures some { IfOk result (λ found. IfSome found (Asks line.now)) }
         ensures none { IfOk result (λ found. IfNone found ((request : Request) → Asks line.now request → ⊥)) }

@@ -11,7 +11,7 @@ const NO_BYTES: &str = "-";
 
 /// Returns the bytes of a word: `-` for none, otherwise two hexadecimal digits of either case for each byte.
 ///
-/// It is `None` if the word is anything other than that. The error says that there is no memory for the bytes.
+/// The call returns `None` for another word. The error says that there is no memory for the bytes.
 pub fn bytes_of(alloc: Global, word: &str) -> Result<Option<Vec<u8>>, AllocError>
     ensures hex { IfOk result (λ found. IsSome found ↔ IsHexWord word.now) }
     ensures some { IfOk result (λ found. IfSome found (λ bytes. bytes_of_word word.now ≡ Some bytes.items)) }
