@@ -24,12 +24,12 @@ use tool_verdicts::verdict::{Status, Verdict};
 /// The number of the error that a read of a folder gives.
 const IS_A_DIRECTORY: i32 = 21;
 
-/// What the program does with each file.
+/// A task for each file.
 #[derive(Clone, Copy)]
 struct Task {
     word: Word,
     options: Options,
-    /// Whether the file's name precedes what is printed.
+    /// Whether the file's name precedes the answer.
     is_named: bool,
 }
 
@@ -41,7 +41,7 @@ fn main(rt: HostRuntime) -> ExitCode {
     ExitCode::from(run(&rt, words.as_slice()).code())
 }
 
-/// Runs what the words ask for.
+/// Runs the request of the words.
 fn run(rt: &HostRuntime, words: &[String]) -> Status {
     let Ok(mut files) = Vec::with_capacity(rt.alloc(), words.len()) else {
         let _ = eprintln!(rt; "cbor: {}", io::ErrorKind::OutOfMemory);
@@ -202,7 +202,7 @@ fn show_stream<R: io::Read + Drop>(
     }
 }
 
-/// Writes what is shown of a reader's bytes.
+/// Writes the view of a reader's bytes.
 fn write_view<R: io::Read + Drop>(
     rt: &HostRuntime,
     reader: R,
@@ -227,7 +227,7 @@ fn write_view<R: io::Read + Drop>(
     }
 }
 
-/// Prints what was found on standard output, and what kept the bytes from being read on standard error.
+/// Prints a verdict on standard output, and a failure to read on standard error.
 fn print_verdict(rt: &(impl Print + Eprint), task: Task, file: &str, verdict: Verdict) -> Status {
     let status = verdict.status();
     let printed = match (verdict, task.is_named) {
