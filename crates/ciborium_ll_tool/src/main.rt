@@ -50,8 +50,8 @@ fn answer_lines(rt: &HostRuntime) -> Result<(), Fault> {
     }
 }
 
-/// Copies `count` elements from standard input to standard output. It writes what is ready before it waits for more
-/// input.
+/// Copies `count` elements from standard input to standard output. It writes output that is ready before it waits for
+/// more input.
 fn copy_elements(rt: &HostRuntime, count: usize) -> Result<(), Fault> {
     let copy = raw_prompt(rt.reader(), io::writer(rt), count);
     match (copy.copied, copy.flushed) {
