@@ -1,4 +1,4 @@
-//! Shows each title of a sequence of items in a row, and the body of a string in rows below its title.
+//! Shows a sequence of items in rows: each title in one row, and the body of a string below its title.
 
 ghost use Rattle.std.specs.Prelude.{◌≡◌, ℕ, ◌+◌, ◌-◌, ◌<◌, ◌≤◌, ◌↔◌, List, [], ◌∷◌, ◌++◌, length, Bool, Err, IfErr};
 ghost use Rattle.std.specs.Prelude.{IsOk};
@@ -44,17 +44,16 @@ pub enum DumpError<E, W> {
 /// Shows a sequence of items (RFC 8742) in rows up to its end, and returns the reader's error there.
 ///
 /// Tags, arrays and maps nest at most `depth` levels deep, and `depth` is at most 256. A strict dump takes only the
-/// shortest spelling. The dump reads nothing ahead of the rows, takes no memory, and before an error shows all bytes
-/// that it read.
+/// shortest spelling. The dump reads nothing ahead of the rows, and before an error shows all bytes that it read.
 ///
 /// # Rows
+///
+/// Unless a row was refused:
 ///
 /// - A row has 1 to 16 bytes, at the level that [`Row`] says.
 /// - A part of a body has 16 bytes, at least 13 bytes of a text, or all that is left.
 /// - If the reader is steady and no header waits, the rows have exactly the consumed bytes. On `Ok` these are a
 ///   sequence of items to the depth, in the dump's spelling.
-///
-/// These facts hold after a fault too, unless a row was refused.
 ///
 /// # Errors
 ///
@@ -65,7 +64,7 @@ pub enum DumpError<E, W> {
 /// - `Item` with another error of a read: the last row can be at fault, with the first byte of a longer title, or at
 ///   least 13 bytes of a text that end inside a character.
 /// - `Item` with `SkipError::Break`: the last row shows a break that may not stand there.
-/// - `Item` with `SkipError::Deep`: the last row shows the title of a tag, an array or a map that is too deep.
+/// - `Item` with `SkipError::Deep`: the last row shows a title that is too deep.
 /// - `Item` with `Error::Waiting`: a header waits. The dump draws no row and reads nothing.
 /// - `Rows`: a row was refused. The rows up to it have exactly the consumed bytes, as if it had been taken.
 ///
@@ -75,10 +74,8 @@ pub enum DumpError<E, W> {
 /// # A dump as a check
 ///
 /// If no header waits and the decoder is as strict as the dump, the dump reads and answers as [`check`] does, unless a
-/// row was refused. The buffer of this check has at most 16 bytes, and can be smaller than `check` requires.
-///
-/// If a steady reader also tells its bytes and the offset fits, `Ok` comes exactly if they are a sequence of items to
-/// the depth.
+/// row was refused. The check's buffer has some size of at most 16 bytes. If a steady reader also tells its bytes and
+/// the offset fits, `Ok` comes exactly if they are a sequence of items.
 ///
 /// If the decoder is not as strict, the dump's strictness decides whether it takes a title. No clause then says at
 /// which fault it stops.

@@ -1,4 +1,4 @@
-//! Shows the bytes that a dump leaves if its reader fails within an item.
+//! Shows the bytes that a dump leaves.
 
 ghost use Rattle.std.specs.Prelude.{◌≡◌, [], Ok, OnErr, OnOk};
 ghost use Rattle.cbor_dump.specs.Dumps.{Draws, DrawsRefused, ShowsLeft, fault_lines};
@@ -9,11 +9,11 @@ use crate::taken::Taken;
 use ciborium_ll::Decoder;
 use ciborium_ll::io::Read;
 
-/// Shows the bytes that a dump left after its reader failed, in one row at fault of this level. If nothing is left,
-/// there is no row.
+/// Shows the bytes that a dump left after its reader failed, in one row at fault of this level. If none is left, there
+/// is no row.
 ///
 /// The call reads bytes one by one, until it has 16 or a read fails. On `Ok` the row shows exactly the consumed bytes.
-/// It shows all that are left if a steady reader tells at most 16, no header waits and the offset fits.
+/// These are all if a steady reader tells at most 16, no header waits and the offset fits.
 ///
 /// No clause says that they begin an affix or a part of a body, as they do if the reader ended the [`dump`].
 ///

@@ -1,4 +1,4 @@
-//! The rows of a dump, and the text of each row.
+//! The rows of a dump, and their text.
 
 ghost use Rattle.std.specs.Prelude.{◌≡◌, List, OnErr, OnOk, [], ◌∷◌, ◌++◌, Some, negsuc, true};
 ghost use Rattle.std.specs.Fmt.{WritesOnOk, signed_decimal};

@@ -33,10 +33,10 @@ pub struct Stopped<E> {
     pub error: SkipError<E>,
 }
 
-/// Reads items up to the end, and returns how many items and bytes there are, and the reader's error there.
+/// Reads items up to the end, and returns the [`Sequence`].
 ///
 /// Tags, arrays and maps nest at most `depth` levels deep, and `depth` is at most 256. Strings go through the buffer,
-/// of at least four bytes. The call takes no memory except a stack frame for each level.
+/// of at least four bytes. The stack has a frame for each level.
 ///
 /// `Ok` says that the reader failed at the offset of a further item, before a byte of it came. If the reader fails only
 /// if bytes are missing, this is the end. A strict decoder takes only the shortest spelling (RFC 7049, 3.9).
@@ -49,7 +49,7 @@ pub struct Stopped<E> {
 /// # Errors
 ///
 /// [`Stopped`] has the error of `skip_item` on the item after the whole items. The decoder has consumed what
-/// `skip_item` consumes with that error.
+/// `skip_item` then consumes.
 pub fn check<R: Read>(
     decoder: &mut Decoder<R>,
     depth: usize,

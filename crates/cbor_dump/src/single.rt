@@ -21,11 +21,10 @@ pub enum NotOne<E> {
     More(usize, Result<Header, Error<E>>),
 }
 
-/// Reads one item and the end after it, and returns how many bytes the item takes, and the reader's error there.
+/// Reads one item and the end after it, and returns a [`Sequence`] of one item.
 ///
-/// The depth, the buffer, strictness, the end and the decoder's moves are as in [`check`]. The call reads at most one
-/// title after the item. If the reader and the decoder are as that call assumes, `Ok` comes exactly if the bytes are
-/// one item.
+/// [`check`] says the rules of the depth, the buffer, strictness, the end and the decoder. The call reads at most one
+/// title after the item. With a reader and a decoder as there, `Ok` comes exactly if the bytes are one item.
 ///
 /// # Errors
 ///
