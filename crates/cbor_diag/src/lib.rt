@@ -45,36 +45,36 @@ impl<E, F> From<Error<E>> for DiagError<E, F> {
 
 /// Shows the next item in diagnostic notation (RFC 8949, section 8), as UTF-8.
 ///
-/// Tags, arrays and maps nest at most `depth` levels deep, and the depth is at most 256. If the writer does not fail,
-/// the call reads the item as `cbor_skip::skip_item` does. `Ok` says that one whole item was there, each text UTF-8,
-/// and that exactly the item's text was written.
+/// Tags, arrays and maps nest at most `depth` levels deep, and `depth` is at most 256. If the writer does not fail, the
+/// call reads the item as `cbor_skip::skip_item` does. `Ok` says that one whole item was there, each text UTF-8, and
+/// that exactly its text was written.
 ///
 /// The decoder moves on as [`Decoder`] says. The reader fails only for `Error::Io`, and then once.
 ///
 /// # The text
 ///
 /// - An integer is its digits in base 10. A simple value is its name or `simple(N)`.
-/// - A float is `NaN`, `Infinity` or `-Infinity`, or digits that the kit's `parse_float` reads as its value. They have
-///   a point, and a sign at an exponent, as the kit's `ryu` lays them out. Tests alone say that they are the shortest.
+/// - A float is `NaN`, `Infinity`, `-Infinity`, or digits that the kit's `parse_float` reads as its value. They have a
+///   point, and a sign at an exponent, as the kit's `ryu` lays them out. Tests alone say that they are the shortest.
 /// - `_2` or `_3` follows a float exactly if a shorter width holds the same value. The text shows the length of no
 ///   other title.
-/// - A byte string is `h'0102'`. A text string has the escapes of JSON in `""`. The bodies of the indefinite form stand
-///   in `(_ )`, with commas, and no body gives `''_` or `""_`.
+/// - A byte string is `h'0102'`. A text string has the escapes of JSON in `""`. Bodies of the indefinite form stand in
+///   `(_ )`, with commas, and no body gives `''_` or `""_`.
 /// - A tag is `1(2)`, an array `[1, 2]` and a map `{1: 2}`. An indefinite form has an underscore, as `[_ 1]`.
 ///
 /// # Errors
 ///
 /// - `Read`: the read of the item stopped, with the error of `skip_item` and the decoder as that call leaves it.
-/// - `Write`: the writer failed. The contract says up to which header the item was read, and how far a string. No byte
-///   is read after the header of an integer, a float or a simple value.
+/// - `Write`: the writer failed. The contract says how far the item was read: no byte after the header of an integer, a
+///   float or a simple value.
 ///
-/// Before an error the call wrote this text:
+/// Before an error the call wrote:
 ///
-/// - If no header, or a break, was pulled: nothing.
-/// - If the read of a string stopped: the text of all bytes that were handed out.
-/// - Within a tag, an array or a map: the earlier items. If the next item has a title, the text before it and its text
-///   so far follow.
-/// - If the writer failed: all of this up to a beginning of the write that failed.
+/// - Nothing, if no header or a break was pulled.
+/// - The text of all bytes that were handed out, if the read of a string stopped.
+/// - The earlier items of a tag, an array or a map. If the next item has a title, the text before it and its text so
+///   far follow.
+/// - If the writer failed, a beginning of this text.
 pub fn diagnose<R: Read, W: Write>(
     decoder: &mut Decoder<R>,
     writer: &mut W,
