@@ -174,7 +174,7 @@ fn dump_rows<R: io::Read + Drop, W: io::Write>(
 /// Prints the rows of the bytes that a decoder reads. The decoder is as strict as the dump.
 ///
 /// If every row was printed, a steady reader tells its bytes and the offset fits, `Ok` comes exactly if the bytes are a
-/// sequence of items. Otherwise the verdict names the first fault after the whole items, with its offset.
+/// sequence of items. Otherwise the error names the first fault after the whole items, with its offset.
 fn print_rows<R: Read, W: io::Write>(
     decoder: &mut Decoder<R>,
     depth: usize,
