@@ -1,4 +1,4 @@
--- The writes of a text of which contracts tell only some facts.
+-- The write of a text if contracts tell only some facts of the text.
 use Rattle.std.specs.Prelude.{List, ℕ, ◌++◌, Result}
 use Rattle.ciborium_ll.specs.Types.Write.{Ghosts}
 use Rattle.ciborium_ll.specs.Encoding.{WritesBytes}

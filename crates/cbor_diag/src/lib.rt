@@ -53,14 +53,14 @@ impl<E, F> From<Error<E>> for DiagError<E, F> {
 ///
 /// # The text
 ///
-/// - An integer is its digits in base 10. A simple value is its name or `simple(N)`.
+/// - Integers are decimal. A simple value is its name or `simple(N)`.
 /// - A float is `NaN`, `Infinity`, `-Infinity`, or digits that the kit's `parse_float` reads as its value. They have a
 ///   point, and a sign at an exponent, as the kit's `ryu` lays them out. Tests alone say that they are the shortest.
 /// - `_2` or `_3` follows a float exactly if a shorter width holds the same value. The text shows the length of no
 ///   other title.
 /// - A byte string is `h'0102'`. A text string has the escapes of JSON in `""`. Bodies of the indefinite form stand in
 ///   `(_ )`, with commas, and no body gives `''_` or `""_`.
-/// - A tag is `1(2)`, an array `[1, 2]` and a map `{1: 2}`. An indefinite form has an underscore, as `[_ 1]`.
+/// - A tag is `1(2)`, an array `[1, 2]`, a map `{1: 2}`, and an indefinite form `[_ 1]`.
 ///
 /// # Errors
 ///

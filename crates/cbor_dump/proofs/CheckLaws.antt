@@ -329,7 +329,7 @@ module _ {R E : Type 0} (source : Ghosts R E) where
         → ReadsAsCheck source depth old result new → AnswersTold source depth due old result new
     answers_told result new reads = grind (arith, nat_tests, check_told, ready_for)
 
-    -- With told bytes a dump answers `Ok` exactly if they are a sequence of items.
+    -- If the bytes are told, a dump answers `Ok` exactly if they are a sequence of items.
     pub answers_exactly : {W : Type 0} (result : Result E (DumpError E W)) (new : Decoder R)
         → ReadsAsCheck source depth old result new → IsOk result ↔ IsSequence old.strict depth due
     answers_exactly result new reads = grind (arith, nat_tests, check_exactly, ready_for, both_ok, ok_both)

@@ -48,7 +48,7 @@ pub enum DumpError<E, W> {
 ///
 /// # Rows
 ///
-/// Unless a row was refused:
+/// Unless a row was refused, after a fault too:
 ///
 /// - A row has 1 to 16 bytes, at the level that [`Row`] says.
 /// - A part of a body has 16 bytes, at least 13 bytes of a text, or all that is left.
@@ -59,11 +59,11 @@ pub enum DumpError<E, W> {
 ///
 /// Only the last row before an error can have the meaning [`Meaning::Fault`].
 ///
-/// - `Item` with `Error::Syntax`: the last row is at fault. It has all bytes of a title that is refused for its first
-///   byte, its spelling or its string, or bytes with which a body is no text.
+/// - `Item` with `Error::Syntax`: the last row is at fault. It has all bytes of a title that its first byte, a strict
+///   dump or its string refuses, or bytes with which a body is no text.
 /// - `Item` with another error of a read: the last row can be at fault, with the first byte of a longer title, or at
 ///   least 13 bytes of a text that end inside a character.
-/// - `Item` with `SkipError::Break`: the last row shows a break that may not stand there.
+/// - `Item` with `SkipError::Break`: the last row shows a misplaced break.
 /// - `Item` with `SkipError::Deep`: the last row shows a title that is too deep.
 /// - `Item` with `Error::Waiting`: a header waits. The dump draws no row and reads nothing.
 /// - `Rows`: a row was refused. The rows up to it have exactly the consumed bytes, as if it had been taken.
@@ -85,8 +85,8 @@ pub enum DumpError<E, W> {
 /// The decoder moves on as [`Decoder`] says. The reader fails only for `Ok`, for `Error::Io`, or before a refused row
 /// that has the bytes before the fault, and then once.
 ///
-/// The decoder counts a refusal for `Error::TooLong` and `Error::Waiting`. It can count one for a fault whose bytes a
-/// refused row has.
+/// The decoder counts one refusal for `Error::TooLong` and `Error::Waiting`, at most one before a refused row at fault,
+/// and otherwise none.
 pub fn dump<R: Read, S: Rows>(
     decoder: &mut Decoder<R>,
     depth: usize,

@@ -42,7 +42,7 @@ const DIGITS: &str = " \
 /// Spaces. A row rarely needs more at once.
 const SPACES: &str = "                                                                ";
 
-/// What the bytes of a row mean.
+/// The meaning of a row's bytes.
 #[derive(Debug, Clone, Copy)]
 pub enum Meaning {
     /// They are a title of this header.
@@ -65,7 +65,7 @@ pub struct Row<'a> {
     pub offset: usize,
     /// The bytes of the row, in a dump 1 to 16.
     pub bytes: &'a [u8],
-    /// What the bytes mean.
+    /// The meaning of the bytes.
     pub meaning: Meaning,
 }
 

@@ -22,7 +22,7 @@ pub struct Sequence<E> {
     pub end: E,
 }
 
-/// What stopped the read of a sequence, and at which offset.
+/// The fault that stopped the read of a sequence.
 #[derive(Debug, Drop)]
 pub struct Stopped<E> {
     /// How many whole items stand before the fault.
@@ -48,8 +48,8 @@ pub struct Stopped<E> {
 ///
 /// # Errors
 ///
-/// [`Stopped`] has the error of `skip_item` on the item after the whole items. The decoder has consumed what
-/// `skip_item` then consumes.
+/// [`Stopped`] is never the end. It has the error of `skip_item`, and the decoder has consumed what `skip_item` then
+/// consumes.
 pub fn check<R: Read>(
     decoder: &mut Decoder<R>,
     depth: usize,

@@ -28,7 +28,7 @@ pub enum NotOne<E> {
 ///
 /// # Errors
 ///
-/// - `Item`: the input does not begin with an item. It carries the error of `skip_item`.
+/// - `Item`: the input begins with no item, by the error of `skip_item`.
 /// - `More(offset, ..)`: more follows the item, from this offset on.
 pub fn check_one<R: Read>(
     decoder: &mut Decoder<R>,

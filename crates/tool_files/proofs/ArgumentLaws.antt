@@ -134,7 +134,7 @@ help_option name (inr same) = (codes "h", same, λ none. grind (arith, none))
 same_first : (a b : String Global) (left right : List (String Global)) → a ∷ left ≡ b ∷ right → (b ≡ a) × (right ≡ left)
 same_first a b left right same = (grind (arith, same), grind (arith, same))
 
--- One more file, before the others, is the last of the files in front.
+-- A further file joins the end of the files that precede a wish.
 pub with_files_more : (front : List (List ℕ)) (name : List ℕ) (wish : Wish)
     → with_files front (with_file name wish) ≡ with_files (front ++ (name ∷ [])) wish
 with_files_more front name (look choices files) = ap (look choices) (sym (append_assoc front (name ∷ []) files))
