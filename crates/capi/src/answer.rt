@@ -12,7 +12,7 @@ pub enum CllAnswer {
     Ok,
     /// The bytes end too early.
     Short,
-    /// At `place` stands no CBOR, or for `cll_utf8` no UTF-8, that may stand there.
+    /// No CBOR that may stand at `place` stands there, or for `cll_utf8` no UTF-8.
     Syntax,
     /// The next thing to write does not fit into the output.
     Room,
@@ -26,7 +26,7 @@ pub enum CllAnswer {
     Argument,
     /// At `place` stands a longer title than need be, or a float that fits a smaller width.
     NotShortest,
-    /// At `place` stands the title of an indefinite form, or a break.
+    /// At `place` stands a longer title than need be, or a float that fits a smaller width.
     Indefinite,
     /// At `place` stands a key that comes before the key of the pair before it.
     KeyOrder,
@@ -67,11 +67,9 @@ pub struct CllReport {
     pub written: u64,
     /// A number that depends on the answer, and 0 otherwise:
     ///
-    /// - `Syntax`, `BreakDue`, `TooDeep`, `NotShortest`, `Indefinite`, `KeyOrder`, `DuplicateKey`: the offset of the
-    ///   fault.
-    /// - `Short` of `cll_recode`, `cll_strict`, `cll_skip`, a checker or a copier of an item: how many more bytes are
-    ///   due at least, or 0 if no bytes can complete the input.
-    /// - `Ok` of `cll_checker_feed` or `cll_item_copier_feed`: the length of the item.
+    /// - `Syntax`, `BreakDue`, `TooDeep`, `NotShortest`, `Indefinite`, `KeyOrder`, `DuplicateKey`: the fault's offset.
+    /// - `Short` of `cll_recode`, `cll_strict`, `cll_skip`, a checker or a copier of an item: how many bytes are due.
+    /// - `Ok` of `cll_checker_feed` or `cll_item_copier_feed`: the item's length.
     pub place: u64,
     /// How many elements `cll_recode` or `cll_strict` did whole, and 0 otherwise.
     pub elements: u64,

@@ -23,7 +23,7 @@ const MARK: u64 = 0x6369_626f_7269_756d;
 #[derive(Drop)]
 #[repr(C)]
 pub struct CllChecker {
-    /// A number that memory in which no checker was set up is unlikely to hold.
+    /// A number that other memory is unlikely to hold.
     pub mark: u64,
     /// How far the item has come, as plain numbers.
     pub state: Snapshot,

@@ -18,7 +18,7 @@ const MARK: u64 = 0x656c_656d_656e_7473;
 #[derive(Drop)]
 #[repr(C)]
 pub struct CllCopier {
-    /// A number that memory in which no copier was set up is unlikely to hold.
+    /// A number that other memory is unlikely to hold.
     pub mark: u64,
     /// How far the copy has come, as plain numbers.
     pub state: Snapshot,

@@ -43,8 +43,8 @@ impl CllHeader {
         }
     }
 
-    /// Makes the parts of the header that a title means, out of the title's own parts. It does not look at which header
-    /// it is, so a pull is one jump by a table, except for the major type 7.
+    /// Makes the parts of a title's header from the title's own parts. The call does not look at the header except for
+    /// the major type 7, so a pull is one jump by a table.
     #[inline(always)]
     pub(crate) fn of_title(title: Title, header: Header) -> CllHeader
         requires parts { IsParts title }
@@ -58,7 +58,7 @@ impl CllHeader {
         }
     }
 
-    /// Makes the same of a title of the major type 7.
+    /// Makes the parts of the header of a title of the major type 7.
     #[inline(always)]
     fn of_other(minor: Minor, header: Header) -> CllHeader
         requires minor { IsMinor minor }
@@ -105,7 +105,7 @@ impl CllHeader {
         }
     }
 
-    /// Returns the header that has these parts, or nothing if no header has them.
+    /// Returns the header that has these parts, or `None` if no header has them.
     #[inline(always)]
     pub(crate) fn header(&self) -> Option<Header>
         ensures some { IfSome result (λ header. Says self.now header) }
@@ -116,8 +116,8 @@ impl CllHeader {
         if parts == *self { Some(header) } else { None }
     }
 
-    /// Returns the header that the parts make, if the kind is one. Its value is cut to what its kind holds, so it need
-    /// not have these parts.
+    /// Returns the header that the parts make, if the kind is one. The value is cut to what the kind holds, so the
+    /// header may have other parts.
     #[inline(always)]
     fn rebuilt(&self) -> Option<Header>
         ensures { result ≡ rebuilt self.now.kind self.now.indefinite self.now.value }
@@ -140,7 +140,7 @@ impl CllHeader {
         }
     }
 
-    /// Returns the length or the count, or nothing for the indefinite form.
+    /// Returns the length or the count, or `None` for the indefinite form.
     #[inline(always)]
     fn len(&self) -> Option<usize>
         ensures { result ≡ len_from self.now.indefinite self.now.value }

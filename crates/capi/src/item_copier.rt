@@ -26,7 +26,7 @@ const MARK: u64 = 0x6f6e_6520_6974_656d;
 #[derive(Drop)]
 #[repr(C)]
 pub struct CllItemCopier {
-    /// A number that memory in which no copier was set up is unlikely to hold.
+    /// A number that other memory is unlikely to hold.
     pub mark: u64,
     /// How far the copy has come, as plain numbers.
     pub state: Snapshot,

@@ -3,7 +3,7 @@
 //! it answers and reports. The exports stand in a crate of their own, since a static library is for C alone, and tests
 //! use this crate too. No call takes memory.
 //!
-//! The contracts speak of one [`CllAnswer`] by its number (`code`), and say by that answer what the call does.
+//! A contract speaks of a [`CllAnswer`] by its number (`code`).
 #![tactic(auto)]
 
 ghost use Rattle.std.specs.Prelude.{◌≡◌, ◌↔◌, ◌≤◌, ◌<◌, ◌⊎◌, List, ◌++◌, drop, length, Bool, true, false, ℕ};
@@ -73,8 +73,7 @@ use ciborium_ll_text::state::{State, text_front};
 /// The length of the buffer through which bodies go, in bytes.
 const BUFFER_SIZE: usize = 1024;
 
-/// The version of the library, which is 0.1.0: 65536 times its major number, 256 times its minor one, and its patch
-/// number.
+/// Returns the version, which is 0.1.0: 65536 times its major number, 256 times its minor one, and its patch number.
 pub fn cll_version() -> u32
     ensures { result ≡ version_code 0 1 0 }
 {
@@ -91,7 +90,7 @@ fn pull(bytes: &[u8], header: &mut CllHeader, consumed: &mut usize) -> CllAnswer
     match pulled {
         Ok((pulled, title)) => {
             let parts = CllHeader::of_title(title, pulled);
-            // Field by field, since a copy of a struct also copies the bytes between and after its fields.
+            // Copy field by field: a copy of a struct also copies the bytes between and after its fields.
             header.value = parts.value;
             header.kind = parts.kind;
             header.indefinite = parts.indefinite;
@@ -121,8 +120,8 @@ fn put(title: Title, out: &mut [u8], report: &mut CllReport) -> CllAnswer
     ensures { Puts (title_bytes title) out.old result out.new report.new }
 {
     report.say(0, 0, 0);
-    // The end of a loan that an encoder holds is not known (`copy_onto`), so the title goes through an array of its
-    // own.
+    // The contracts do not know the end of a loan that an encoder holds (`copy_onto`), so the title goes through an
+    // array.
     let mut space = [0; LONGEST_TITLE];
     let mut encoder = Encoder::from(SliceWriter::new(&mut space));
     if push_title(&mut encoder, title).is_err() {
@@ -210,7 +209,7 @@ fn copy_onto<'a, R: Read>(
         tally.new.spelled }
     ensures target { slice_target writer.new ≡ slice_target writer.old }
 {
-    // The end of a loan inside a writer is known, and the end of a loan inside an encoder over the writer is not.
+    // The contracts know the end of a loan inside a writer, but not inside an encoder over the writer.
     copy_counted(decoder, writer, count, buffer, tally)
 }
 
@@ -303,8 +302,8 @@ fn check_or_due(bytes: &[u8], count: usize, report: &mut CllReport) -> CllAnswer
 {
     match check(bytes, count, report) {
         CllAnswer::Short => {
-            // This names the law that elements in their shortest spelling are those whose titles are strict. It does
-            // nothing.
+            // This call does nothing. It names the law that elements in their shortest spelling are those whose titles
+            // are strict.
             strict_run();
             report.place = due_behind(
                 &bytes[report.whole as usize..],
@@ -328,7 +327,7 @@ pub fn cll_strict(bytes: &[u8], count: u64, report: &mut CllReport) -> u32
     check_or_due(bytes, count as usize, report).code()
 }
 
-/// The answer to a skip, and its place.
+/// Returns the answer to a skip, and its place.
 fn stop_of_skip(skipped: Result<(), SkipError<EndOfFile>>) -> (CllAnswer, usize)
     ensures answer { result.0 ≡ skip_answer skipped }
     ensures place { result.1 ≡ skip_place skipped }

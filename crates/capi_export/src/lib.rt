@@ -1,25 +1,21 @@
 // SPDX-License-Identifier: Apache-2.0
-//! The library for C and C++: a static library, whose header is `bindings/c/include/ciborium_ll.h`. Each export is the
+//! The library for C and C++: a static library with the header `bindings/c/include/ciborium_ll.h`. Each export is the
 //! call of the same name of `capi`.
 //!
-//! No call takes memory, and no call calls anything outside of this library except memcpy, memmove and memset. A
-//! checker and a copier keep what they need between calls in memory of the caller's own. C passes a slice as a pointer
-//! and then a length.
+//! No call takes memory, or calls anything outside of this library except memcpy, memmove and memset. C passes a slice
+//! as a pointer and then a length.
 //!
-//! Each call answers by a number, which is the code of a [`CllAnswer`]. Most calls also fill in a [`CllReport`], which
-//! says how far they came. `cll_pull` gives one number of bytes in place of a report, since a program calls it for each
-//! title. The calls that set something up have no report.
+//! Each call answers with the code of a [`CllAnswer`], and most calls fill in a [`CllReport`]. A program calls
+//! `cll_pull` for each title, so that call gives one number of bytes instead.
 //!
-//! The contracts speak of one [`CllAnswer`] by its number (`code`), and say by that answer what the call does.
+//! A tag, an array and a map take one level of a `depth`, an empty one too. A string takes none.
 //!
-//! The place of a `Short` of `cll_recode`, `cll_strict`, `cll_skip`, a checker and a copier of an item is how many
-//! bytes are due. It is the rest of the title or of the body that is cut, or all bytes of a body that is about to
-//! begin, or 1 before a title. All bytes that complete the input are at least that many. 0 says that no bytes complete
-//! the input, and any other number says that some bytes do.
+//! How many bytes are due after a `Short` is the rest of the title or body that is cut, all bytes of a body that is
+//! about to begin, or 1 before a title. All bytes that complete the input are at least that many. At 0 no bytes complete
+//! it, and at any other number some do.
 //!
-//! The place of a `Syntax` is the offset of a title. There is one exception, for the body of a text that is not UTF-8,
-//! in a string that no open begins. Its place is the end of the string's title less the length of the shortest title,
-//! which may lie inside the title.
+//! The place of a `Syntax` is the offset of a title. For a text that is not UTF-8, in a string that no open begins, it
+//! is the end of the title less the length of the shortest title. This may lie inside the title.
 #![tactic(auto)]
 
 ghost use Rattle.std.specs.Prelude.{◌≡◌, ◌↔◌, ◌≤◌, ◌<◌, ◌⊎◌, List, ◌++◌, drop, length, Bool, true, false, ℕ};
@@ -55,8 +51,7 @@ ghost use Rattle.ciborium_ll.specs.Limits.{MOST_LEVELS};
 
 pub use capi::{CllAnswer, CllChecker, CllCopier, CllHeader, CllItemCopier, CllReport};
 
-/// The version of the library, which is 0.1.0: 65536 times its major number, 256 times its minor one, and its patch
-/// number.
+/// Returns the version, which is 0.1.0: 65536 times its major number, 256 times its minor one, and its patch number.
 #[unsafe(no_mangle)]
 pub extern "C" fn cll_version() -> u32
     ensures { result ≡ version_code 0 1 0 }
@@ -64,16 +59,16 @@ pub extern "C" fn cll_version() -> u32
     capi::cll_version()
 }
 
-/// Reads the title with which the bytes begin (RFC 7049, 2.1 to 2.3), and says in `header` what it means. `consumed` is
-/// how many bytes it read.
+/// Reads the title with which the bytes begin (RFC 7049, 2.1 to 2.3) into `header`. `consumed` is how many bytes it
+/// read.
 ///
-/// The answer is one of these:
+/// # Answers
 ///
-/// - `Ok`, exactly if the bytes begin with a title: `consumed` is the title's length.
+/// - `Ok`: the bytes begin with a title.
 /// - `Short`: the bytes end before a title or inside it.
 /// - `Syntax`: no title begins with the first byte.
 ///
-/// After the last two `header` is as it was, and `consumed` counts the first byte, if there is one.
+/// An error leaves `header` as it was, and consumes the first byte, if there is one.
 #[unsafe(no_mangle)]
 pub extern "C" fn cll_pull(bytes: &[u8], header: &mut CllHeader, consumed: &mut usize) -> u32
     ensures exactly { result ≡ code a.Ok ↔ BeginsWithTitle bytes.now }
@@ -85,11 +80,11 @@ pub extern "C" fn cll_pull(bytes: &[u8], header: &mut CllHeader, consumed: &mut 
 
 /// Writes the shortest title of a header to the start of `out` (RFC 7049, 3.9), whole or not at all.
 ///
-/// The answer is one of these:
+/// # Answers
 ///
-/// - `Ok`: `written` is the length of the title. After the title `out` is as it was.
-/// - `Room`: the title is longer than `out`, which is as it was.
-/// - `Argument`: `header` has no kind, or a value or form that its kind does not have. `out` is as it was.
+/// - `Ok`: the title is written.
+/// - `Room`: the title is longer than `out`.
+/// - `Argument`: `header` has no kind, or a value or form that its kind does not have.
 #[unsafe(no_mangle)]
 pub extern "C" fn cll_push(header: &CllHeader, out: &mut [u8], report: &mut CllReport) -> u32
     ensures { (answer : CllAnswer) × (result ≡ code answer) × CllPush header.now out.old answer out.new report.new }
@@ -100,12 +95,10 @@ pub extern "C" fn cll_push(header: &CllHeader, out: &mut [u8], report: &mut CllR
 /// Writes the title of a header that has `width` bytes after its first one to the start of `out` (RFC 7049, 2.1), whole
 /// or not at all. The title need not be the shortest one.
 ///
-/// The answer is one of these:
+/// # Answers
 ///
-/// - `Ok`: `written` is the length of the title. After the title `out` is as it was.
-/// - `Room`: the title is longer than `out`, which is as it was.
-/// - `Argument`: `header` has no title of that width, and `out` is as it was. It has no kind, its value or form is none
-///   of its kind, or its number does not fit that many bytes.
+/// - `Ok`, `Room`: as of [`cll_push`].
+/// - `Argument`: as of [`cll_push`], or the header has no title of that width.
 #[unsafe(no_mangle)]
 pub extern "C" fn cll_push_wide(
     header: &CllHeader,
@@ -122,26 +115,17 @@ pub extern "C" fn cll_push_wide(
 /// Copies `count` elements into `out`, each in its shortest spelling (RFC 7049, 3.9). An element is a header that
 /// begins no string, or a whole string (2.1 and 2.2). No spelling is longer than the bytes that it is read from.
 ///
-/// The answer is one of these, in any room:
+/// # Answers
 ///
-/// - `Ok`: `count` elements were consumed, and their shortest spelling stands at the start of `out`.
-/// - `Short`: the bytes end before `count` elements do. The place is how many bytes are due.
-/// - `Syntax`: no title begins there, or its string may not contain the title, or the body of a text is not UTF-8.
-/// - `Room`: the next thing to write does not fit. It is the shortest title of a header that was read, or a chunk of a
-///   body.
+/// - `Ok`: `count` elements were consumed and written.
+/// - `Short`: the bytes end before `count` elements do.
+/// - `Syntax`: no title begins there, its string may not contain the title, or the body of a text is not UTF-8.
+/// - `Room`: the next thing to write does not fit: the shortest title of a header, or a chunk of a body.
 ///
-/// What was written before an error stands in `out`, and at most a beginning of the thing that did not fit follows it.
-/// After what was written `out` is as it was, whatever the answer is. `consumed` and `written` are how many bytes were
-/// consumed and written.
+/// What was written before an error stands in `out`. With `Room` a beginning of what did not fit may follow it.
 ///
-/// If `out` has room for the spelling, or for as many bytes as there are, `Ok` comes exactly if the bytes begin with
-/// `count` elements. Otherwise the answer is then the first fault, with its place, and what was written up to it stands
-/// in `out`. Whether a text that is damaged and cut off is `Short` or `Syntax` depends on the buffer.
-///
-/// Whatever the answer is, the bytes begin with `elements` elements, and the last of them ends at `whole`. Their
-/// spelling is the first `spelled` bytes of `out`, which were written. With `Ok` these are all, and `whole` is
-/// `consumed`. With `Short` and `Syntax` the bytes begin with no more elements. With `Room` they may, but the spelling
-/// of one more does not fit.
+/// In room for the spelling, or for as many bytes as there are, an error is the first fault. Whether a text that is
+/// damaged and cut off is `Short` or `Syntax` depends on the buffer.
 #[unsafe(no_mangle)]
 pub extern "C" fn cll_recode(
     bytes: &[u8],
@@ -163,17 +147,15 @@ pub extern "C" fn cll_recode(
 }
 
 /// Checks that the bytes begin with `count` elements in their shortest spelling (RFC 7049, 2.2.2, 2.3 and 3.9). A
-/// shortest spelling has no simple value from 24 to 31, and no string of indefinite length inside another one. Nothing
-/// is written.
+/// shortest spelling has no simple value from 24 to 31, and no string of indefinite length inside another one.
 ///
-/// The answer is one of these:
+/// # Answers
 ///
-/// - `Ok`, exactly if the bytes begin with them: exactly these elements were consumed.
-/// - `Short`: the bytes end before `count` elements do. The place is how many bytes are due.
-/// - `Syntax`: as of `cll_recode`, or a title that is not the shortest or may not stand in a shortest spelling.
+/// - `Ok`: these elements were consumed.
+/// - `Short`: the bytes end before `count` elements do.
+/// - `Syntax`: as of [`cll_recode`], or a title that may not stand in a shortest spelling.
 ///
-/// The last two are those of the first fault, and `consumed` is how many bytes were consumed up to it. `elements` and
-/// `whole` are as of `cll_recode`.
+/// An error is the first fault, and `consumed` counts the bytes up to it.
 #[unsafe(no_mangle)]
 pub extern "C" fn cll_strict(bytes: &[u8], count: u64, report: &mut CllReport) -> u32
     ensures exactly { result ≡ code a.Ok ↔ BeginsWithElements true count bytes.now }
@@ -186,18 +168,16 @@ pub extern "C" fn cll_strict(bytes: &[u8], count: u64, report: &mut CllReport) -
 }
 
 /// Skips the item with which the bytes begin, with tags, arrays and maps nested at most `depth` levels deep (RFC 7049,
-/// 2.1 to 2.4). A tag, an array and a map take one level, an empty one too. A string takes none.
+/// 2.1 to 2.4).
 ///
-/// The answer is one of these:
+/// # Answers
 ///
-/// - `Ok`, exactly if the bytes begin with an item to the depth: exactly this item was consumed.
-/// - `Short`: the bytes end before the item does. The place is how many bytes are due.
-/// - `Syntax`: no title begins there, or its string may not contain the title, or the body of a text is not UTF-8.
+/// - `Ok`: the item was consumed.
+/// - `Short`: the bytes end before the item does.
+/// - `Syntax`: as of [`cll_recode`].
 /// - `BreakDue`: a break stands in place of an item.
 /// - `TooDeep`: no level is left for a tag, an array or a map.
-/// - `Argument`: the depth is above 256. The report is of zeros.
-///
-/// With every other answer than `Ok` and `Argument`, `consumed` is how many bytes were consumed up to there.
+/// - `Argument`: the depth is above 256.
 #[unsafe(no_mangle)]
 pub extern "C" fn cll_skip(bytes: &[u8], depth: u32, report: &mut CllReport) -> u32
     ensures exactly { depth ≤ MOST_LEVELS → (result ≡ code a.Ok ↔ BeginsWithItem false depth bytes.now) }
@@ -211,28 +191,27 @@ pub extern "C" fn cll_skip(bytes: &[u8], depth: u32, report: &mut CllReport) -> 
 
 /// Checks that the bytes begin with an item in the deterministic encoding, with tags, arrays and maps nested at most
 /// `depth` levels deep. `order` is 0 for keys in the order of their bytes (RFC 8949, 4.2.1), and 1 for the shorter key
-/// first (4.2.3). Anything may follow the item. Nothing is written.
+/// first (4.2.3).
 ///
-/// Each number and length stands in the fewest bytes, and each float in the smallest width that has it. No length is
-/// indefinite. The keys of each map ascend, and no two of them are the same. A tag, an array and a map take one level,
-/// an empty one too. A string takes none.
+/// Each number and length stands in the fewest bytes, and each float in the smallest width that holds it. No length is
+/// indefinite. The keys of each map ascend, and no two of them are the same.
 ///
-/// The answer is `Ok` exactly if the bytes begin with an item in this encoding, and `consumed` is its length. Otherwise
-/// it says exactly why they do not:
+/// # Answers
 ///
-/// - `Short`: the bytes end too early, before a title, within it or within a body.
-/// - `Syntax`: a first byte with which no title begins, a simple value from 24 to 31, or a text that is not UTF-8.
-/// - `NotShortest`: a title that is longer than it need be, or a float that fits a smaller width.
+/// - `Ok`: the item is `consumed` bytes long.
+/// - `Short`: the bytes end before a title, within it or within a body.
+/// - `Syntax`: no title begins with a first byte, a simple value is from 24 to 31, or a text is not UTF-8.
+/// - `NotShortest`: a title is longer than need be, or a float fits a smaller width.
 /// - `Indefinite`: the title of an indefinite form, or a break.
-/// - `KeyOrder`: a key that comes before the key of the pair before it.
-/// - `DuplicateKey`: a key that is the same as that of the pair before it.
-/// - `TooDeep`: a tag, an array or a map for which no level is left.
-/// - `Argument`: a depth above 256 or another order. The report is of zeros.
+/// - `KeyOrder`: a key comes before the key of the pair before it.
+/// - `DuplicateKey`: a key is the same as that of the pair before it.
+/// - `TooDeep`: no level is left for a tag, an array or a map.
+/// - `Argument`: the depth is above 256, or there is no such order.
 ///
-/// With a fault `consumed` and the place are both the offset of the first title or key at which the bytes can't go on.
-/// The title of a text also stands for its body, and of two keys the answer names the later one. With `Short`
+/// With a fault, `consumed` and the place are the offset of the first title or key at which the bytes can't go on. A
+/// text that is not UTF-8 counts from its title, and of two keys the answer names the later one. With `Short`,
 /// `consumed` is the offset of the title that is cut, or the end of the bytes if a body is cut. The place is then 0,
-/// which promises nothing on how many bytes are due.
+/// and says nothing on how many bytes are due.
 #[unsafe(no_mangle)]
 pub extern "C" fn cll_deterministic(
     bytes: &[u8],
@@ -252,16 +231,15 @@ pub extern "C" fn cll_deterministic(
     capi::cll_deterministic(bytes, depth, order, report)
 }
 
-/// Finds the longest front of the bytes that is UTF-8 (RFC 3629). `consumed` is its length. Nothing is written.
+/// Finds the longest front of the bytes that is UTF-8 (RFC 3629). `consumed` is its length.
 ///
-/// The answer is one of these:
+/// # Answers
 ///
-/// - `Ok`, exactly if the front is all of the bytes.
+/// - `Ok`: all bytes are UTF-8.
 /// - `Short`: a character that is cut off follows the front.
-/// - `Syntax`: no text begins with the bytes after the front. The place is the front's length.
+/// - `Syntax`: no character begins with the bytes after the front. The place is the front's length.
 ///
-/// So a text may come in pieces. Put the bytes after the front before the next piece. The whole text is UTF-8 exactly
-/// if these bytes and all that follow them are.
+/// So a text may come in pieces: put the bytes after the front before the next piece.
 #[unsafe(no_mangle)]
 pub extern "C" fn cll_utf8(bytes: &[u8], report: &mut CllReport) -> u32
     ensures exactly { result ≡ code a.Ok ↔ IsCharacters bytes.now }
@@ -272,14 +250,13 @@ pub extern "C" fn cll_utf8(bytes: &[u8], report: &mut CllReport) -> u32
     capi::cll_utf8(bytes, report)
 }
 
-/// Sets a checker up in memory of the caller's own, for one item to which nothing came (RFC 7049, 2.1 to 2.4). What
-/// stood in the memory before does not count. Tags, arrays and maps may be nested at most `depth` levels deep. Each
-/// takes one level, an empty one too. A string takes none.
+/// Sets a checker of one item up (RFC 7049, 2.1 to 2.4), whatever the memory held. Tags, arrays and maps may be nested
+/// at most `depth` levels deep.
 ///
-/// The answer is one of these:
+/// # Answers
 ///
 /// - `Ok`: the checker is set up.
-/// - `Argument`: the depth is above 256, and the memory is as it was.
+/// - `Argument`: the depth is above 256.
 #[unsafe(no_mangle)]
 pub extern "C" fn cll_checker_init(checker: &mut CllChecker, depth: u32) -> u32
     ensures set_up { depth ≤ MOST_LEVELS → (result ≡ code a.Ok) × IsSetUp false depth checker.new }
@@ -288,8 +265,8 @@ pub extern "C" fn cll_checker_init(checker: &mut CllChecker, depth: u32) -> u32
     capi::cll_checker_init(checker, depth)
 }
 
-/// Sets a checker up as `cll_checker_init` does, for an item in its shortest spelling. Any other title is then a
-/// `Syntax`, and so is a string of indefinite length inside another one.
+/// Sets a checker up as [`cll_checker_init`] does, for an item in its shortest spelling. Any other title is a `Syntax`,
+/// and so is a string of indefinite length inside another one.
 #[unsafe(no_mangle)]
 pub extern "C" fn cll_checker_init_strict(checker: &mut CllChecker, depth: u32) -> u32
     ensures set_up { depth ≤ MOST_LEVELS → (result ≡ code a.Ok) × IsSetUp true depth checker.new }
@@ -299,22 +276,16 @@ pub extern "C" fn cll_checker_init_strict(checker: &mut CllChecker, depth: u32) 
 }
 
 /// Gives a checker the next bytes of its item, as many as have come. It takes all of them, or those up to the end of
-/// the item, or those up to and with the byte with which a fault comes. A later call then takes none, and answers the
-/// same.
+/// the item or to the byte with a fault. Each later call then takes none, and answers the same. How the caller cuts the
+/// bytes into pieces changes nothing.
 ///
-/// How the caller cuts the bytes into pieces changes nothing. After the call the checker is one to which came what came
-/// before, and then what was consumed of the piece.
-///
-/// The answer is one of these:
+/// # Answers
 ///
 /// - `Ok`: the item has ended, and the place is its length.
-/// - `Short`: all of the piece was consumed, and more is due. The place is how many bytes are due.
-/// - `Syntax`, `BreakDue`, `TooDeep`: no item begins as the bytes so far do. The place is the fault's offset in the
-///   item.
+/// - `Short`: more bytes are due.
+/// - `Syntax`, `BreakDue`, `TooDeep`: no item begins as the bytes so far do. The place is an offset in the item.
 /// - `TooLong`: the item goes on after `u64::MAX` bytes.
-/// - `Argument`: the memory holds no checker, and is as it was. The report is of zeros.
-///
-/// The fault, the place and the number of bytes are those of the state to which all bytes lead.
+/// - `Argument`: the memory holds no checker.
 #[unsafe(no_mangle)]
 pub extern "C" fn cll_checker_feed(
     checker: &mut CllChecker,
@@ -332,13 +303,13 @@ pub extern "C" fn cll_checker_feed(
     capi::cll_checker_feed(checker, bytes, report)
 }
 
-/// Says what it means that no more bytes come to a checker, and leaves the checker as it is.
+/// Says what it means that no more bytes come to a checker.
 ///
-/// The answer is one of these:
+/// # Answers
 ///
 /// - `Ok`: no byte came, or the item has ended.
-/// - `Short`: the item is cut off. The place is how many bytes were due.
-/// - `Syntax`, `BreakDue`, `TooDeep`, `Argument`: as of `cll_checker_feed`.
+/// - `Short`: the item is cut off, and the place is how many bytes were due.
+/// - `Syntax`, `BreakDue`, `TooDeep`, `Argument`: as of [`cll_checker_feed`].
 #[unsafe(no_mangle)]
 pub extern "C" fn cll_checker_end(checker: &CllChecker, report: &mut CllReport) -> u32
     ensures ended { (strict : Bool) (depth : ℕ) (fed : List ℕ) (spot : Spot) → IsFed strict depth fed spot → IsKept checker.now spot
@@ -349,8 +320,7 @@ pub extern "C" fn cll_checker_end(checker: &CllChecker, report: &mut CllReport) 
     capi::cll_checker_end(checker, report)
 }
 
-/// Sets a copier of `count` elements up in memory of the caller's own, to which nothing came (RFC 7049, 2.1 and 2.2).
-/// What stood in the memory before does not count. The answer is `Ok`.
+/// Sets a copier of `count` elements up (RFC 7049, 2.1 and 2.2), whatever the memory held. The answer is `Ok`.
 #[unsafe(no_mangle)]
 pub extern "C" fn cll_copier_init(copier: &mut CllCopier, count: u64) -> u32
     ensures { (result ≡ code a.Ok) × IsCopierOf count copier.new }
@@ -363,22 +333,19 @@ pub extern "C" fn cll_copier_init(copier: &mut CllCopier, count: u64) -> u32
 /// whole character of a text.
 ///
 /// How the caller cuts the bytes into pieces, and how long the outputs are, changes nothing of what is written in all.
-/// Whatever the memory of the copier holds, it consumes and writes no more than there is. After what was written `out`
-/// is as it was.
-///
-/// The answer is one of these:
-///
-/// - `Ok`: the elements have come, and what was written in all is exactly their shortest spelling.
-/// - `Short`: all bytes were taken, and more is due. They are written, except a title or a character that is not whole.
-///   Some bytes more complete the elements. The place is 0.
-/// - `Room`: `out` is full, and there is more to write. Give the rest of the bytes again. This does not come if nothing
-///   was pending and `out` has eight bytes more than the piece.
-/// - `Syntax`: the elements never begin as the bytes so far do. The place is the fault's offset in all of them. With
-///   some bytes more a copy is at this fault, with exactly this written.
-/// - `TooLong`: the elements go on after `u64::MAX` bytes.
-/// - `Argument`: the memory holds no copier. The memory and `out` are as they were, and the report is of zeros.
-///
 /// After `Ok` and after `Syntax` a later call takes and writes nothing, and answers the same.
+///
+/// # Answers
+///
+/// - `Ok`: the elements have come and are written.
+/// - `Short`: all bytes were taken and written, except a title or a character that is not whole. More are due, and the
+///   place is 0.
+/// - `Room`: `out` is full. Give the rest of the bytes again. If nothing was pending, eight bytes more than the piece
+///   are room enough.
+/// - `Syntax`: the elements never begin as the bytes so far do. The place is an offset in all of them. With some bytes
+///   more a copy is at this fault.
+/// - `TooLong`: the elements go on after `u64::MAX` bytes.
+/// - `Argument`: the memory holds no copier.
 #[unsafe(no_mangle)]
 pub extern "C" fn cll_copier_feed(
     copier: &mut CllCopier,
@@ -397,14 +364,14 @@ pub extern "C" fn cll_copier_feed(
     capi::cll_copier_feed(copier, bytes, out, report)
 }
 
-/// Says what it means that no more bytes come to a copier, and leaves the copier as it is.
+/// Says what it means that no more bytes come to a copier.
 ///
-/// The answer is one of these:
+/// # Answers
 ///
-/// - `Ok`, exactly if the bytes so far are the elements, and all of their shortest spelling was written.
+/// - `Ok`: the elements have come and are written.
 /// - `Short`: the elements are cut off.
-/// - `Room`: there is more to write, and `cll_copier_feed` writes it, also with no bytes.
-/// - `Syntax`, `Argument`: as of `cll_copier_feed`.
+/// - `Room`: [`cll_copier_feed`] has more to write, also with no bytes.
+/// - `Syntax`, `Argument`: as of [`cll_copier_feed`].
 #[unsafe(no_mangle)]
 pub extern "C" fn cll_copier_end(copier: &CllCopier, report: &mut CllReport) -> u32
     ensures ended { (count : ℕ) (fed given : List ℕ) (spot : CopySpot) → IsCopiedTo count fed given spot
@@ -416,14 +383,13 @@ pub extern "C" fn cll_copier_end(copier: &CllCopier, report: &mut CllReport) -> 
     capi::cll_copier_end(copier, report)
 }
 
-/// Sets a copier of an item up in memory of the caller's own, to which nothing came (RFC 7049, 2.1 to 2.4). What stood
-/// in the memory before does not count. Tags, arrays and maps may be nested at most `depth` levels deep. Each takes one
-/// level, an empty one too. A string takes none.
+/// Sets a copier of an item up (RFC 7049, 2.1 to 2.4), whatever the memory held. Tags, arrays and maps may be nested at
+/// most `depth` levels deep.
 ///
-/// The answer is one of these:
+/// # Answers
 ///
 /// - `Ok`: the copier is set up.
-/// - `Argument`: the depth is above 256, and the memory is as it was.
+/// - `Argument`: the depth is above 256.
 #[unsafe(no_mangle)]
 pub extern "C" fn cll_item_copier_init(copier: &mut CllItemCopier, depth: u32) -> u32
     ensures set_up { depth ≤ MOST_LEVELS → (result ≡ code a.Ok) × IsItemSetUp false depth copier.new }
@@ -432,8 +398,8 @@ pub extern "C" fn cll_item_copier_init(copier: &mut CllItemCopier, depth: u32) -
     capi::cll_item_copier_init(copier, depth)
 }
 
-/// Sets a copier of an item up as `cll_item_copier_init` does, for an item in its shortest spelling. Any other title is
-/// then a `Syntax`, and so is a string of indefinite length inside another one.
+/// Sets a copier of an item up as [`cll_item_copier_init`] does, for an item in its shortest spelling, as
+/// [`cll_checker_init_strict`] does.
 #[unsafe(no_mangle)]
 pub extern "C" fn cll_item_copier_init_strict(copier: &mut CllItemCopier, depth: u32) -> u32
     ensures set_up { depth ≤ MOST_LEVELS → (result ≡ code a.Ok) × IsItemSetUp true depth copier.new }
@@ -443,24 +409,14 @@ pub extern "C" fn cll_item_copier_init_strict(copier: &mut CllItemCopier, depth:
 }
 
 /// Gives a copier the next bytes of its item, as many as have come, and writes their shortest spelling (RFC 7049, 3.9)
-/// to the start of `out`, as `cll_copier_feed` does.
+/// to the start of `out`, as [`cll_copier_feed`] does. After a fault, too, a later call takes and writes nothing.
 ///
-/// How the caller cuts the bytes into pieces, and how long the outputs are, changes nothing of what is written in all.
-/// After what was written `out` is as it was.
-///
-/// The answer is one of these:
+/// # Answers
 ///
 /// - `Ok`: the item has ended and is written. The place is its length.
-/// - `Short`: all bytes were taken, and more is due. They are written, except a title or a character that is not whole.
-///   The place is how many bytes are due.
-/// - `Room`: `out` is full, and there is more to write. Give the rest of the bytes again. This does not come if nothing
-///   was pending and `out` has eight bytes more than the piece.
-/// - `Syntax`, `BreakDue`, `TooDeep`: no item begins as the bytes so far do. The place is the fault's offset in the
-///   item.
-/// - `TooLong`: the item goes on after `u64::MAX` bytes.
-/// - `Argument`: the memory holds no copier. The memory and `out` are as they were.
-///
-/// After `Ok` and after a fault a later call takes and writes nothing, and answers the same.
+/// - `Short`, `Room`: as of [`cll_copier_feed`], but the place of a `Short` is how many bytes are due.
+/// - `Syntax`, `BreakDue`, `TooDeep`, `TooLong`: as of [`cll_checker_feed`].
+/// - `Argument`: the memory holds no copier of an item.
 #[unsafe(no_mangle)]
 pub extern "C" fn cll_item_copier_feed(
     copier: &mut CllItemCopier,
@@ -480,14 +436,14 @@ pub extern "C" fn cll_item_copier_feed(
     capi::cll_item_copier_feed(copier, bytes, out, report)
 }
 
-/// Says what it means that no more bytes come to a copier of an item, and leaves the copier as it is.
+/// Says what it means that no more bytes come to a copier of an item.
 ///
-/// The answer is one of these:
+/// # Answers
 ///
-/// - `Ok`: no byte came, or the item has ended and all of its shortest spelling was written.
-/// - `Short`: the item is cut off. The place is how many bytes were due.
-/// - `Room`: there is more to write, and `cll_item_copier_feed` writes it, also with no bytes.
-/// - `Syntax`, `BreakDue`, `TooDeep`, `Argument`: as of `cll_item_copier_feed`.
+/// - `Ok`: no byte came, or the item has ended and is written.
+/// - `Short`: the item is cut off, and the place is how many bytes were due.
+/// - `Room`: [`cll_item_copier_feed`] has more to write, also with no bytes.
+/// - `Syntax`, `BreakDue`, `TooDeep`, `Argument`: as of [`cll_item_copier_feed`].
 #[unsafe(no_mangle)]
 pub extern "C" fn cll_item_copier_end(copier: &CllItemCopier, report: &mut CllReport) -> u32
     ensures ended { (strict : Bool) (depth : ℕ) (fed given : List ℕ) (item : Spot) (elements : CopySpot)
