@@ -1,4 +1,4 @@
-//! Whether an item begins some bytes, before it is rewritten.
+//! The check that an item begins some bytes, before it is rewritten.
 
 ghost use Rattle.std.specs.Prelude.{◌≤◌, MatchResult, false, length};
 ghost use Rattle.cbor_skip.specs.ItemFaults.{BeginsWithItem};
@@ -10,10 +10,10 @@ use cbor_skip::{SkipError, skip_item};
 use ciborium_ll_decoder::dec::{Decoder, Error};
 use ciborium_ll_io::io::{EndOfFile, SliceReader};
 
-/// How many bytes of a string are read at a time, at most.
+/// The most bytes of a string that the check reads at a time.
 const BUFFER_SIZE: usize = 256;
 
-/// Why and where no item to the depth begins the bytes, if none does.
+/// Checks that an item to the depth begins the bytes.
 pub(crate) fn check_item(bytes: &[u8], depth: usize) -> Result<(), Refusal>
     requires shallow { depth ≤ MAX_DEPTH }
     ensures { MatchResult result (λ done. BeginsWithItem false depth bytes.now)

@@ -1,4 +1,4 @@
-//! Laws of the rewriting, each the contract of an empty function. Each holds for both orders of keys.
+//! Laws of the rewriting, each the contract of an empty function, for both orders of keys.
 
 ghost use Rattle.std.specs.Prelude.{◌≡◌, ◌++◌, ℕ, List, false};
 ghost use Rattle.ciborium_ll_grammar.specs.Items.{IsItem};
@@ -10,22 +10,21 @@ ghost use Rattle.cbor_canonical.specs.declared.Why.{Why as AnyWhy};
 ghost use Rattle.cbor_canonical.specs.Canonical.{IsRewritten, IsFittingSpelling};
 ghost use Rattle.cbor_canonical.specs.Refusals.{HasRefusal};
 
-/// What is written for an item is the one deterministic encoding: each item in it that is a spelling of the same value
-/// is the same bytes, whatever the order in which the pairs of maps are listed.
+/// The encoding that a call writes is the one deterministic encoding of the item's value, whatever the order of pairs in
+/// maps.
 pub fn rewritten_is_the_encoding()
     ensures { (order : AnyOrder) (depth other : ℕ) (value same : Value) (item written others : List ℕ)
         → IsRewritten order depth item written → Encodes value item → Same value same
         → IsDeterministic order other others → Encodes same others → written ≡ others }
 {}
 
-/// A second run changes nothing: what is written for an item in the deterministic encoding is that item.
+/// An item in the deterministic encoding is written as it is.
 pub fn written_again()
     ensures { (order : AnyOrder) (depth other : ℕ) (item written : List ℕ) → IsDeterministic order other item
         → IsRewritten order depth item written → written ≡ item }
 {}
 
-/// Bytes are refused only if they begin with no item to the depth that is a spelling of a value in which no map has a
-/// key twice.
+/// Refused bytes begin with no item to the depth that spells a value in which no map has a key twice.
 #[tactic(auto, using(crate::proofs::CanonicalLaws::refused_has_none))]
 pub fn refused_has_none()
     ensures { (depth place : ℕ) (bytes item rest : List ℕ) (why : AnyWhy) → HasRefusal depth bytes why place

@@ -1,8 +1,7 @@
 // SPDX-License-Identifier: Apache-2.0
 //! The deterministic encoding of any well-formed item (RFC 8949, 4.2).
 //!
-//! [`canonical`] reads an item of any spelling, and writes the one deterministic encoding of the same value.
-//! [`narrow::narrowest`] gives a float in the smallest width that has it. [`laws`] says what the encoding keeps.
+//! [`canonical`] writes it, and [`narrow::narrowest`] narrows a float. [`laws`] says what the encoding keeps.
 #![tactic(auto)]
 
 ghost use Rattle.std.specs.Prelude.{◌≡◌, ◌≤◌, MatchResult};
@@ -24,9 +23,9 @@ use std::alloc::{AllocError, Global};
 /// Why bytes are refused.
 #[derive(Clone, Copy, Debug, PartialEq, Eq)]
 pub enum Why {
-    /// They end too early.
+    /// The bytes end too early.
     Cut,
-    /// A title that is none or may not stand within its string, or a text that is not UTF-8.
+    /// No title stands here, or none that its string may contain, or a text that is not UTF-8.
     Malformed,
     /// A break in place of an item.
     Break,
@@ -38,10 +37,10 @@ pub enum Why {
     DuplicateKey,
 }
 
-/// Why and where no item that has a deterministic encoding begins some bytes.
+/// Why no item that has a deterministic encoding begins some bytes.
 #[derive(Clone, Copy, Debug, PartialEq, Eq, Drop)]
 pub struct Refusal {
-    /// Why the bytes are refused.
+    /// The reason.
     pub why: Why,
     /// The offset of the place, in bytes.
     pub place: usize,
@@ -89,35 +88,31 @@ impl From<Refusal> for CanonicalError {
     }
 }
 
-/// Writes the deterministic encoding of the item at the beginning of the bytes, and gives the encoding and the rest of
+/// Writes the deterministic encoding of the item at the beginning of the bytes. Returns the encoding and the rest of
 /// the bytes.
 ///
-/// The encoding is that of RFC 8949, 4.2.1, or, for [`Order::LengthFirst`], of 4.2.3. The item may have any spelling: a
-/// title of any width, a string, an array or a map of indefinite length, and the keys of a map in any order. Tags,
-/// arrays and maps are nested at most `depth` levels deep, and `depth` is at most [`MAX_DEPTH`]. A string takes no
-/// level.
+/// The encoding is that of RFC 8949, 4.2.1, or for [`Order::LengthFirst`] of 4.2.3. The item may have any spelling:
+/// titles of any width, indefinite lengths, and keys in any order. Tags, arrays and maps are nested at most `depth`
+/// levels deep, and `depth` is at most [`MAX_DEPTH`]. A string takes no level.
 ///
-/// The encoding stands for the same value. A float keeps its value, a zero its sign, and a NaN its sign and payload. No
-/// integer is taken for a float, and no tag is looked into.
+/// A float keeps its value, a zero its sign, and a NaN its sign and payload. No integer is taken for a float, and no
+/// tag is looked into.
 ///
 /// # Errors
 ///
-/// - `Refused` with [`Why::Cut`]: the place is the end of the bytes.
-/// - `Refused` with [`Why::Malformed`], [`Why::Break`] or [`Why::Deep`]: the place is the one that
-///   `cbor_skip::skip_item` names.
-/// - `Refused` with [`Why::NoSimple`]: an item is there, and it stands for no value. The place is a simple value from
-///   24 to 31.
-/// - `Refused` with [`Why::DuplicateKey`]: an item is there, and a map in it has a key twice. The place is the later
-///   key.
+/// - `Refused` with [`Why::Cut`]: the bytes end too early; the place is their end.
+/// - `Refused` with [`Why::Malformed`], [`Why::Break`] or [`Why::Deep`]: as of `cbor_skip::skip_item`.
+/// - `Refused` with [`Why::NoSimple`]: the place is a simple value from 24 to 31 in an item.
+/// - `Refused` with [`Why::DuplicateKey`]: the place is the later of two same keys in an item.
 /// - `Memory`: no memory is left.
 ///
-/// The contract leaves the places of `NoSimple` and `DuplicateKey` open. Tests compare them.
+/// Tests alone say the places of `NoSimple` and `DuplicateKey`.
 ///
 /// # Time and memory
 ///
-/// The bytes are read twice. The pairs of a map are sorted, in `n * log n` comparisons of keys. A byte is copied once
-/// for each map and each array of indefinite length that contains it. Each key and each value takes a vector of its own
-/// until its map is written. The stack takes the frames of five calls a level.
+/// The call reads the bytes twice, and sorts the pairs of a map in `n * log n` comparisons of keys. It copies a byte
+/// once for each map and each array of indefinite length that contains the byte. Each key and each value takes a vector
+/// until its map is written. On the stack each level takes the frames of five calls.
 pub fn canonical(
     alloc: Global,
     bytes: &[u8],
@@ -139,7 +134,7 @@ pub fn canonical(
     }
 }
 
-/// Returns the error for bytes of which `left` are left from the refused place on.
+/// Returns the error for a place that is `left` bytes before the end of the `len` bytes.
 fn refused(why: Why, len: usize, left: usize) -> CanonicalError
     ensures { HasWhy why result }
 {

@@ -8,7 +8,7 @@ ghost use Rattle.cbor_canonical.specs.Narrowing.{IsNarrowestOf};
 use cbor_deterministic::floats::{is_half, is_single};
 use ciborium_ll_grammar::hdr::Float;
 
-/// The float in the smallest width that has it: by its value, and a NaN by its sign and payload.
+/// Returns the float in the smallest width that holds it: by its value, or a NaN by its sign and payload.
 pub fn narrowest(float: Float) -> Float
     ensures { IsNarrowestOf float result }
 {
@@ -22,7 +22,7 @@ pub fn narrowest(float: Float) -> Float
     }
 }
 
-/// The float of 32 bits with these bits in the smallest width that has it.
+/// Returns the float of 32 bits with these bits in the smallest width that holds it.
 fn narrow_single(bits: u32) -> Float
     ensures { IsNarrowestOf (Single bits) result }
 {
@@ -32,7 +32,7 @@ fn narrow_single(bits: u32) -> Float
     }
 }
 
-/// The bits of the float of 16 bits that is this one of 32, if there is one.
+/// Returns the bits of the float of 16 bits that is the same as this float of 32 bits, if there is one.
 fn as_half(bits: u32) -> Option<u16>
     ensures { MatchOption result (HasNarrower half single (parts single bits) → ⊥)
         (λ narrow. IsWidened half single (parts half narrow) (parts single bits)) }
@@ -52,11 +52,11 @@ fn as_half(bits: u32) -> Option<u16>
     if exponent > 112 {
         return Some((sign + (exponent - 112) * 0x400 + mantissa / 0x2000) as u16);
     }
-    // It is a subnormal one of 16 bits: the leading 1 stands in its mantissa.
+    // The float of 16 bits is subnormal: the leading 1 stands in its mantissa.
     Some((sign + (1 << (exponent - 103)) + mantissa / (1 << (126 - exponent))) as u16)
 }
 
-/// The bits of the float of 32 bits that is this one of 64, if there is one.
+/// Returns the bits of the float of 32 bits that is the same as this float of 64 bits, if there is one.
 fn as_single(bits: u64) -> Option<u32>
     ensures { MatchOption result (HasNarrower single double (parts double bits) → ⊥)
         (λ narrow. IsWidened single double (parts single narrow) (parts double bits)) }
@@ -76,6 +76,6 @@ fn as_single(bits: u64) -> Option<u32>
     if exponent > 896 {
         return Some((sign + (exponent - 896) * 0x80_0000 + mantissa / 0x2000_0000) as u32);
     }
-    // It is a subnormal one of 32 bits: the leading 1 stands in its mantissa.
+    // The float of 32 bits is subnormal: the leading 1 stands in its mantissa.
     Some((sign + (1 << (exponent - 874)) + mantissa / (1 << (926 - exponent))) as u32)
 }

@@ -31,7 +31,7 @@ pub(crate) struct Entry {
     pub(crate) left: usize,
 }
 
-/// The rest after the break, if the count is not told and a break stands at the beginning of the bytes.
+/// Returns the rest after the break, if there is no count and a break begins the bytes.
 fn past_end(count: Option<usize>, bytes: &[u8]) -> Option<&[u8]>
     ensures { MatchOption result ((rest : List ℕ) → count ≡ None → bytes.now ≡ 0xff ∷ rest → ⊥)
         (λ rest. (count ≡ None) × (bytes.now ≡ 0xff ∷ rest.now)) }
@@ -45,7 +45,7 @@ fn past_end(count: Option<usize>, bytes: &[u8]) -> Option<&[u8]>
     }
 }
 
-/// How many items or pairs may stand in the bytes at most.
+/// Returns the most items or pairs that the bytes may hold.
 fn limit_of(count: Option<usize>, bytes: &[u8]) -> usize
     ensures told { (told : ℕ) → count ≡ Some told → result ≡ told }
     ensures open_count { count ≡ None → result ≡ length bytes.now }
@@ -67,7 +67,7 @@ fn sort_entries(entries: &mut Vec<Entry>, order: Order) -> Result<(), AllocError
     Ok(())
 }
 
-/// How many bytes are left from a key on that is the same as another one. The entries are sorted.
+/// Returns how many bytes are left from the later of two equal keys on, if there are two. The entries are sorted.
 fn equal_key(entries: &[Entry], order: Order) -> Option<usize>
     requires { AreSorted order entries.now }
     ensures { MatchOption result (DoAscend order entries.now) (λ left. HasEqualKeys entries.now) }
@@ -85,7 +85,7 @@ fn equal_key(entries: &[Entry], order: Order) -> Option<usize>
     None
 }
 
-/// Puts an entry after the others.
+/// Adds an entry after the others.
 fn push_entry(entries: &mut Vec<Entry>, entry: Entry) -> Result<(), Stop>
     ensures { MatchResult result (λ done. entries.new.items ≡ entries.old.items ++ entry ∷ [])
         (λ stop. stop ≡ NoMemory) }
@@ -107,7 +107,7 @@ fn put_entries(entries: &[Entry], out: &mut Vec<u8>) -> Result<(), AllocError>
     Ok(())
 }
 
-/// Rewrites the item at the beginning of the bytes after what `out` has, and gives the rest.
+/// Rewrites the item at the beginning of the bytes to the end of `out`, and returns the rest.
 #[cycle(rewrites)]
 pub(crate) fn rewrite_item<'a>(
     alloc: Global,
@@ -128,8 +128,8 @@ pub(crate) fn rewrite_item<'a>(
     }
 }
 
-/// Rewrites the content that follows a title of this header, and returns the rest. From the title on `left` bytes are
-/// left.
+/// Rewrites the content that follows a title of this header, and returns the rest. The title begins `left` bytes before
+/// the end.
 #[cycle(rewrites)]
 fn rewrite_rest<'a>(
     alloc: Global,
@@ -175,7 +175,7 @@ fn rewrite_rest<'a>(
     }
 }
 
-/// Rewrites what follows the title of an array, and gives the rest.
+/// Rewrites the rest of an array after its title, and returns the bytes after it.
 #[cycle(rewrites)]
 fn rewrite_array<'a>(
     alloc: Global,
@@ -205,7 +205,7 @@ fn rewrite_array<'a>(
     }
 }
 
-/// Rewrites the items of an array, and gives their number and the rest.
+/// Rewrites the items of an array, and returns their number and the rest.
 #[cycle(rewrites)]
 fn rewrite_items<'a>(
     alloc: Global,
@@ -235,7 +235,7 @@ fn rewrite_items<'a>(
     }
 }
 
-/// Rewrites what follows the title of a map, and gives the rest.
+/// Rewrites the rest of a map after its title, and returns the bytes after it.
 #[cycle(rewrites)]
 fn rewrite_map<'a>(
     alloc: Global,
@@ -260,7 +260,7 @@ fn rewrite_map<'a>(
     Ok(rest)
 }
 
-/// Rewrites the pairs of a map, and gives the rest.
+/// Rewrites the pairs of a map, and returns the rest.
 #[cycle(rewrites)]
 fn rewrite_pairs<'a>(
     alloc: Global,
@@ -290,7 +290,7 @@ fn rewrite_pairs<'a>(
     }
 }
 
-/// Rewrites a key and its value, and gives the rest.
+/// Rewrites a key and its value, and returns the rest.
 #[cycle(rewrites)]
 fn rewrite_pair<'a>(
     alloc: Global,

@@ -24,19 +24,19 @@ pub(crate) enum StringKind {
     Text,
 }
 
-/// What stands at the beginning of the bytes within an open string.
+/// The next part of an open string.
 #[derive(Clone, Copy)]
 enum Step<'a> {
-    /// The break that ends it. The rest follows.
+    /// The break that ends the string, and the rest.
     Closed(&'a [u8]),
-    /// A further open. The rest follows.
+    /// A further open, and the rest.
     Opened(&'a [u8]),
-    /// A string whose length is told, with this body. The rest follows.
+    /// A string of definite length with this body, and the rest.
     Chunk(&'a [u8], &'a [u8]),
 }
 
 impl StringKind {
-    /// The header of a string of this kind.
+    /// Returns the header of a string of this kind.
     fn header(self, len: Option<usize>) -> Header
         ensures { result ≡ kind_header (kind_of self) len }
     {
@@ -46,7 +46,7 @@ impl StringKind {
         }
     }
 
-    /// The length that the header of a string of this kind tells, or the indefinite form. No other header has one.
+    /// Returns the length in the header of a string of this kind, or its indefinite form. Any other header has none.
     fn len_of(self, header: Header) -> Option<Option<usize>>
         ensures { MatchOption result ((len : Option ℕ) → header ≡ kind_header (kind_of self) len → ⊥)
             (λ len. header ≡ kind_header (kind_of self) len) }
@@ -59,14 +59,14 @@ impl StringKind {
     }
 }
 
-/// Whether the bytes are text.
+/// Returns whether the bytes are UTF-8.
 fn is_text(bytes: &[u8]) -> bool
     ensures { IsTrue result ↔ IsCharacters bytes.now }
 {
     text_front(bytes, 0, State::Between).0.len() == bytes.len()
 }
 
-/// Whether the bytes may be the body of a string of this kind.
+/// Returns whether the bytes may be the body of a string of this kind.
 fn is_body(kind: StringKind, bytes: &[u8]) -> bool
     ensures { IsTrue result ↔ IsWritable (kind_of kind) bytes.now }
 {
@@ -76,7 +76,7 @@ fn is_body(kind: StringKind, bytes: &[u8]) -> bool
     }
 }
 
-/// The body of this length at the beginning, and the rest.
+/// Returns the body of this length at the beginning, and the rest.
 fn take_body(kind: StringKind, bytes: &[u8], len: usize) -> Option<(&[u8], &[u8])>
     ensures { MatchOption result (HasNoBody (kind_of kind) len bytes.now)
         (λ found. IsBody (kind_of kind) len bytes.now found.0.now found.1.now) }
@@ -93,7 +93,7 @@ fn take_body(kind: StringKind, bytes: &[u8], len: usize) -> Option<(&[u8], &[u8]
     }
 }
 
-/// What stands at the beginning of the bytes within an open string.
+/// Returns the next part of an open string.
 fn next_step(kind: StringKind, bytes: &[u8]) -> Option<Step<'_>>
     ensures { MatchOption result (HasNoStep (kind_of kind) bytes.now) (IsStep (kind_of kind) bytes.now) }
 {
@@ -113,7 +113,7 @@ fn next_step(kind: StringKind, bytes: &[u8]) -> Option<Step<'_>>
     }
 }
 
-/// Joins the bodies of the strings up to the break that ends their open, and gives the rest.
+/// Joins the bodies of the strings up to the break that ends their open, and returns the rest.
 fn gather<'a>(kind: StringKind, bytes: &'a [u8], body: &mut Vec<u8>) -> Result<&'a [u8], Stop>
     ensures { MatchResult result (λ rest. Gathers (kind_of kind) bytes.now rest.now body.old.items body.new.items)
         (FailsGather (kind_of kind) bytes.now) }
@@ -154,7 +154,7 @@ fn put_string(kind: StringKind, body: &[u8], out: &mut Vec<u8>) -> Result<(), Al
     out.extend_from_slice(body)
 }
 
-/// Writes the string whose title told this length, and gives the rest.
+/// Writes the string with this length in its title, and returns the rest.
 pub(crate) fn rewrite_string<'a>(
     alloc: Global,
     kind: StringKind,

@@ -1,4 +1,4 @@
-//! Titles of any width that are read, and the shortest ones that are written.
+//! Reads titles of any width, and writes the shortest titles.
 
 ghost use Rattle.std.specs.Prelude.{◌≡◌, ◌+◌, ◌%◌, ◌++◌, List, ℕ, MatchOption, OnOk, length, slice_index};
 ghost use Rattle.ciborium_ll_grammar.specs.Title.{BeginsRefused, IsInRange, IsTitle, affix_len, shortest_title};
@@ -10,7 +10,7 @@ use ciborium_ll_grammar::hdr::{Header, Minor, shortest};
 use ciborium_ll_grammar::titles::title_of;
 use std::alloc::AllocError;
 
-/// What the title at the beginning means, and the rest.
+/// Returns the header of the title at the beginning, and the rest.
 #[inline(always)]
 pub(crate) fn next_title(bytes: &[u8]) -> Option<(Header, &[u8])>
     ensures { MatchOption result (HasNoTitle bytes.now)
@@ -29,7 +29,7 @@ pub(crate) fn next_title(bytes: &[u8]) -> Option<(Header, &[u8])>
     }
 }
 
-/// What a title means. All bytes that the first one announces are there.
+/// Returns the header of a title. All bytes that the first byte announces are there.
 #[inline(always)]
 fn header_of(bytes: &[u8]) -> Option<Header>
     requires { length bytes.now ≡ 1 + affix_len (slice_index bytes.now 0 % 32) }

@@ -1,4 +1,4 @@
-//! Floats that fit a smaller width.
+//! Floats that fit a smaller width, by their value, or NaNs by their sign and payload.
 
 ghost use Rattle.std.specs.Prelude.{◌↔◌, IsTrue};
 ghost use Rattle.cbor_deterministic.specs.Floats.{half, single, double, parts, HasNarrower};
@@ -6,7 +6,7 @@ ghost use Rattle.cbor_deterministic.specs.Preferred.{IsWideFloat};
 
 use ciborium_ll_grammar::hdr::Float;
 
-/// Returns whether a smaller width holds the float: by its value, or for a NaN by its sign and payload.
+/// Returns whether a smaller width holds the float.
 pub(crate) fn is_wide_float(float: Float) -> bool
     ensures { IsTrue result ↔ IsWideFloat float }
 {
@@ -17,7 +17,7 @@ pub(crate) fn is_wide_float(float: Float) -> bool
     }
 }
 
-/// Returns whether 16 bits hold a float of 32 bits, by its value, and a NaN by its sign and payload.
+/// Returns whether 16 bits hold a float of 32 bits.
 pub fn is_half(bits: u32) -> bool
     ensures { IsTrue result ↔ HasNarrower half single (parts single bits) }
 {
@@ -39,7 +39,7 @@ pub fn is_half(bits: u32) -> bool
     mantissa % (1 << (126 - exponent)) == 0
 }
 
-/// Returns whether 32 bits hold a float of 64 bits, by its value, and a NaN by its sign and payload.
+/// Returns whether 32 bits hold a float of 64 bits.
 pub fn is_single(bits: u64) -> bool
     ensures { IsTrue result ↔ HasNarrower single double (parts double bits) }
 {

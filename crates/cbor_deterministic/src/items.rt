@@ -38,7 +38,7 @@ fn is_text(bytes: &[u8]) -> bool
     text_front(bytes, 0, State::Between).0.len() == bytes.len()
 }
 
-/// Returns the rest after a text of `len` bytes. From its title on, `left` bytes were left.
+/// Returns the rest after a text of `len` bytes. Its title begins `left` bytes before the end.
 fn skip_text(bytes: &[u8], len: usize, left: usize) -> Result<&[u8], Stop>
     ensures { MatchResult result (λ rest. InFront (IsTextOfLength len) bytes.now rest.now)
         (λ stop. (order : AnyOrder) (depth : ℕ)
@@ -62,7 +62,7 @@ fn skip_text(bytes: &[u8], len: usize, left: usize) -> Result<&[u8], Stop>
     }
 }
 
-/// Returns how the encoding of the first key stands to that of the other key in this order.
+/// Compares the encodings of two keys in this order.
 pub fn compare_keys(order: Order, key: &[u8], other: &[u8]) -> Ordering
     ensures { MatchOrdering result (Precedes order key.now other.now) (key.now ≡ other.now)
         (Precedes order other.now key.now) }
@@ -107,7 +107,7 @@ pub(crate) fn skip_item(bytes: &[u8], depth: usize, order: Order) -> Result<&[u8
     }
 }
 
-/// Returns the rest after the contents of an item with this header. From its title on, `left` bytes were left.
+/// Returns the rest after the contents of an item with this header. Its title begins `left` bytes before the end.
 #[cycle(nests)]
 fn skip_rest(
     header: Header,

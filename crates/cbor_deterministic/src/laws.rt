@@ -1,4 +1,4 @@
-//! Laws of the deterministic encoding, each the contract of an empty function. Each holds for both orders of keys.
+//! Laws of the deterministic encoding, each the contract of an empty function, for both orders of keys.
 
 ghost use Rattle.std.specs.Prelude.{◌≡◌, ◌++◌, ℕ, List, true};
 ghost use Rattle.ciborium_ll_grammar.specs.Items.{IsItem};
@@ -11,8 +11,7 @@ ghost use Rattle.cbor_deterministic.specs.Spellings.{Encodes};
 ghost use Rattle.cbor_deterministic.specs.Laws.{HasStrictRun, IsSpelling};
 ghost use Rattle.cbor_deterministic.specs.Fitting.{Fits, HasEncoding};
 
-/// Equal values have one deterministic encoding. Two items in this encoding that are spellings of equal values are the
-/// same bytes, whatever the order of the pairs in maps.
+/// Equal values have one deterministic encoding, whatever the order of the pairs in maps.
 #[tactic(auto, using(crate::proofs::Law::one_deterministic))]
 pub fn one_encoding()
     ensures { (order : AnyOrder) (depth other : ℕ) (value same : Value) (bytes others : List ℕ)
@@ -20,21 +19,20 @@ pub fn one_encoding()
         → Encodes same others → Same value same → bytes ≡ others }
 {}
 
-/// An item in the deterministic encoding is a spelling of some value.
+/// An item in the deterministic encoding spells some value.
 #[tactic(auto, using(crate::proofs::Law::some_value))]
 pub fn stands_for_a_value()
     ensures { (order : AnyOrder) (depth : ℕ) (bytes : List ℕ) → IsDeterministic order depth bytes → IsSpelling bytes }
 {}
 
-/// Bytes are a spelling of only one value, and no spelling begins another spelling.
+/// Bytes spell only one value, and no spelling begins another one.
 #[tactic(auto, using(crate::proofs::OneValue::one_value))]
 pub fn one_value()
     ensures { (value other : Value) (bytes others rest more : List ℕ) → Encodes value bytes → Encodes other others
         → bytes ++ rest ≡ others ++ more → (value ≡ other) × (bytes ≡ others) × (rest ≡ more) }
 {}
 
-/// An item in the deterministic encoding is an item in its shortest spelling, to the same depth, as a strict decoder
-/// takes it.
+/// An item in the deterministic encoding is an item in its shortest spelling, to the same depth.
 #[tactic(auto, using(crate::proofs::ItemLaws::well_formed))]
 pub fn is_well_formed()
     ensures { (order : AnyOrder) (depth : ℕ) (bytes : List ℕ) → IsDeterministic order depth bytes
@@ -56,8 +54,7 @@ pub fn one_refusal()
         → (why ≡ other) × (place ≡ another) }
 {}
 
-/// A value has a deterministic encoding if its numbers are in their ranges, its texts are UTF-8 and its maps have no
-/// key twice.
+/// A value has a deterministic encoding if its numbers are in range, its texts are UTF-8 and no map has a key twice.
 #[tactic(auto, using(crate::proofs::Exists::has_encoding))]
 pub fn has_encoding()
     ensures { (order : AnyOrder) (value : Value) → Fits value → HasEncoding order value }

@@ -1,9 +1,9 @@
 // SPDX-License-Identifier: Apache-2.0
-//! One encoding of each value: items in the deterministic encoding of RFC 8949, 4.2.1, or of 4.2.3 with the shorter
-//! keys first. No call takes memory.
+//! Items in the deterministic encoding of RFC 8949, 4.2.1, or of 4.2.3 with the shorter keys first. No call takes
+//! memory.
 //!
-//! [`deterministic_len`] says whether bytes begin with an item in this encoding, and [`view::Item`] looks into it.
-//! [`laws`] say that equal values have one item in this encoding.
+//! [`deterministic_len`] checks bytes, and [`view::Item`] looks into an item. [`laws`] say that equal values have one
+//! item in this encoding.
 #![tactic(auto)]
 
 ghost use Rattle.std.specs.Prelude.{◌≡◌, ◌↔◌, ◌+◌, ◌≤◌, ℕ, Ok, Err};
@@ -30,8 +30,8 @@ pub const MAX_DEPTH: usize = MOST_LEVELS;
 pub enum Order {
     /// By their bytes (RFC 8949, 4.2.1). Integers and strings are then in the order of CTAP2 too.
     Bytewise,
-    /// The shorter key first, and keys of the same length by their bytes (RFC 7049, 3.9, and RFC 8949, 4.2.3). For
-    /// texts, which the keys of DAG-CBOR are, this is the bytewise order too.
+    /// The shorter key first, and keys of the same length by their bytes (RFC 7049, 3.9, and RFC 8949, 4.2.3). Texts,
+    /// which the keys of DAG-CBOR are, have the bytewise order too.
     LengthFirst,
 }
 
@@ -42,7 +42,7 @@ pub enum Why {
     Cut,
     /// No title begins with this byte.
     NoTitle,
-    /// A shorter title says the same: a number has a smaller form, or a float a smaller width (RFC 8949, 4.1).
+    /// A number has a shorter title, or a smaller width holds a float (RFC 8949, 4.1).
     NotShortest,
     /// The title of an indefinite form, or a break (RFC 8949, 3.2).
     Indefinite,
@@ -50,7 +50,7 @@ pub enum Why {
     NoSimple,
     /// The body of a text is not UTF-8.
     NoText,
-    /// A key that the order puts before the previous key.
+    /// A key that comes before the previous key.
     KeyOrder,
     /// A key that equals the previous key.
     DuplicateKey,
@@ -58,10 +58,10 @@ pub enum Why {
     Deep,
 }
 
-/// Why no item in the deterministic encoding begins some bytes, and at which offset.
+/// Why no item in the deterministic encoding begins some bytes.
 #[derive(Clone, Copy, Debug, PartialEq, Eq, Drop)]
 pub struct Refusal {
-    /// Why the bytes are refused.
+    /// The reason.
     pub why: Why,
     /// The offset of the first fault, in bytes.
     pub place: usize,
@@ -74,32 +74,30 @@ pub(crate) struct Stop {
     pub(crate) left: usize,
 }
 
-/// Returns how many bytes at the start are one item in the deterministic encoding (RFC 8949, 4.2.1, or 4.2.3 for
-/// [`Order::LengthFirst`]). Any bytes may follow the item.
+/// Returns the length of the item in the deterministic encoding with which the bytes begin.
 ///
 /// Tags, arrays and maps are nested at most `depth` levels deep, and `depth` is at most [`MAX_DEPTH`]. Each takes a
 /// level, even if it is empty; a string takes none.
 ///
 /// Each number and length stands in the fewest bytes, and each float in the smallest width that holds it. No length is
-/// indefinite. The keys of each map ascend in this order, and no two keys are the same.
+/// indefinite. The keys of each map ascend, and no two are the same.
 ///
-/// A NaN keeps its sign and payload, and has a smaller width only if the bits that this cuts off are zero. `0.0` and
-/// `-0.0` differ. An integer is never a float, and the call does not interpret tags.
+/// A smaller width holds a NaN exactly if the bits that this cuts off are zero. `0.0` and `-0.0` differ. An integer is never a
+/// float, and the call does not interpret tags.
 ///
 /// # Errors
 ///
-/// The refusal names the first place at which the bytes can't go on as an item of this kind:
+/// The refusal names the first place at which the bytes can't go on:
 ///
 /// - [`Why::Cut`]: the title that is cut, or the end of the bytes if a body is cut.
 /// - [`Why::NoTitle`], [`Why::NotShortest`], [`Why::Indefinite`], [`Why::NoSimple`], [`Why::Deep`]: the title.
 /// - [`Why::NoText`]: the title of the text.
-/// - [`Why::KeyOrder`], [`Why::DuplicateKey`]: the later of the two keys.
+/// - [`Why::KeyOrder`], [`Why::DuplicateKey`]: the later key.
 ///
 /// # Time and memory
 ///
-/// The call reads the bytes once, and compares each key with the previous key. It compares a byte of a key within keys
-/// once for each of these keys, so `n` bytes take at most `n * depth` comparisons of bytes. It takes no memory but the
-/// stack, on which each level takes the frames of three calls.
+/// The call reads the bytes once. It compares each key with the previous key, so `n` bytes take at most `n * depth`
+/// comparisons of bytes. On the stack each level takes the frames of three calls.
 ///
 /// ```rust
 /// let len = deterministic_len(bytes, 16, Order::Bytewise)?;

@@ -1,6 +1,4 @@
-//! An item in the deterministic encoding, as it stands in memory.
-//!
-//! No call takes memory. A call that passes items reads each byte of them once.
+//! An item in the deterministic encoding, as it stands in memory. A call that passes items reads each byte of them once.
 
 ghost use Rattle.std.specs.Prelude.{◌≡◌, ◌↔◌, ◌++◌, ◌+◌, ◌≤◌, ℕ, List, IfErr, IfOk, IsTrue, MatchOption};
 ghost use Rattle.std.specs.Prelude.{IfSome, Some, length};
@@ -19,7 +17,8 @@ use ciborium_ll_grammar::hdr::{Float, Header};
 use ciborium_ll_text::state::text_of;
 use std::cmp::Ordering;
 
-/// A checked item in the deterministic encoding. A copy takes no memory.
+/// A checked item in the deterministic encoding. A copy takes no memory. A call for one kind of item returns `None` for
+/// any other item.
 #[derive(Clone, Copy)]
 pub struct Item<'a> {
     bytes: &'a [u8],
@@ -92,14 +91,11 @@ impl<'a> Item<'a> {
     ghost use Rattle.cbor_deterministic.specs.Held.{entries_bytes, entries_depth, entries_due, entries_order};
     ghost use Rattle.cbor_deterministic.specs.Held.{item_bytes, item_depth, item_order};
 
-    /// Returns the item at the start of the bytes, and the bytes after it.
-    ///
-    /// The item is in the deterministic encoding with this order of keys. Its tags, arrays and maps are nested at most
-    /// `depth` levels deep, and `depth` is at most [`MAX_DEPTH`].
+    /// Returns the item at the start of the bytes, as [`crate::deterministic_len`] takes it, and the bytes after it.
     ///
     /// # Errors
     ///
-    /// The refusals of [`crate::deterministic_len`], which takes the same items.
+    /// Those of [`crate::deterministic_len`].
     ///
     /// ```rust
     /// let (item, rest) = Item::parse(bytes, 16, Order::Bytewise)?;
@@ -129,7 +125,7 @@ impl<'a> Item<'a> {
         self.bytes
     }
 
-    /// Returns the header of the item's title, and its contents: the bytes after the title.
+    /// Returns the header of the item's title, and the bytes after the title.
     pub fn open(&self) -> (Header, &'a [u8])
         ensures { Opens (item_order self.now) (item_depth self.now) (item_bytes self.now) result.0 result.1.now }
     {
@@ -139,14 +135,14 @@ impl<'a> Item<'a> {
         }
     }
 
-    /// Returns the header of the item's title. It is never [`Header::Break`], and never of an indefinite form.
+    /// Returns the header, never [`Header::Break`] or of an indefinite form.
     pub fn header(&self) -> Header
         ensures { IsOpenedBy (item_bytes self.now) result }
     {
         self.open().0
     }
 
-    /// Returns the number of an unsigned integer, or `None` for any other item.
+    /// Returns the number of an unsigned integer.
     pub fn positive(&self) -> Option<u64>
         ensures { MatchOption result
             ((number : ℕ) → IsPreferredTitle (item_bytes self.now) (Header.Positive number) → ⊥)
@@ -159,7 +155,7 @@ impl<'a> Item<'a> {
         }
     }
 
-    /// Returns the `n` of the negative integer -1 - n, or `None` for any other item.
+    /// Returns the `n` of the negative integer -1 - n.
     pub fn negative(&self) -> Option<u64>
         ensures { MatchOption result
             ((number : ℕ) → IsPreferredTitle (item_bytes self.now) (Header.Negative number) → ⊥)
@@ -172,7 +168,7 @@ impl<'a> Item<'a> {
         }
     }
 
-    /// Returns the number of a simple value, or `None` for any other item.
+    /// Returns the number of a simple value.
     pub fn simple(&self) -> Option<u8>
         ensures { MatchOption result ((number : ℕ) → IsPreferredTitle (item_bytes self.now) (Header.Simple number) → ⊥)
             (λ number. IsPreferredTitle (item_bytes self.now) (Header.Simple number)) }
@@ -184,7 +180,7 @@ impl<'a> Item<'a> {
         }
     }
 
-    /// Returns the bits of a float with their width, or `None` for any other item. No smaller width holds the float.
+    /// Returns the bits of a float with their width. No smaller width holds the float.
     pub fn float(&self) -> Option<Float>
         ensures { MatchOption result
             ((float : AnyFloat) → IsPreferredTitle (item_bytes self.now) (Header.Float float) → ⊥)
@@ -197,7 +193,7 @@ impl<'a> Item<'a> {
         }
     }
 
-    /// Returns the body of a byte string, or `None` for any other item.
+    /// Returns the body of a byte string.
     pub fn byte_string(&self) -> Option<&'a [u8]>
         ensures { MatchOption result ((body : List ℕ) → IsBytesOf (item_bytes self.now) body → ⊥)
             (λ body. IsBytesOf (item_bytes self.now) body.now) }
@@ -209,7 +205,7 @@ impl<'a> Item<'a> {
         }
     }
 
-    /// Returns the body of a text string, or `None` for any other item.
+    /// Returns the body of a text string.
     pub fn text(&self) -> Option<&'a str>
         ensures { MatchOption result ((body : List ℕ) → IsTextOf (item_bytes self.now) body → ⊥)
             (λ body. IsTextOf (item_bytes self.now) body.now) }
@@ -221,7 +217,7 @@ impl<'a> Item<'a> {
         }
     }
 
-    /// Returns the number of a tag and the item that it tags, or `None` for any other item.
+    /// Returns the number of a tag and the item that it tags.
     pub fn tag(&self) -> Option<(u64, Item<'a>)>
         ensures { MatchOption result ((number : ℕ) → IsOpenedBy (item_bytes self.now) (Header.Tag number) → ⊥)
             (λ found. Opens (item_order self.now) (item_depth self.now) (item_bytes self.now) (Header.Tag found.0)
@@ -242,7 +238,7 @@ impl<'a> Item<'a> {
         }
     }
 
-    /// Returns the items of an array, or `None` for any other item.
+    /// Returns the items of an array.
     pub fn elements(&self) -> Option<Elements<'a>>
         ensures { MatchOption result ((count : ℕ) → IsOpenedBy (item_bytes self.now) (Header.Array (Some count)) → ⊥)
             (λ elements. Opens (item_order self.now) (item_depth self.now) (item_bytes self.now)
@@ -262,7 +258,7 @@ impl<'a> Item<'a> {
         }
     }
 
-    /// Returns the pairs of a map, in the order of their keys, or `None` for any other item.
+    /// Returns the pairs of a map, in the order of their keys.
     pub fn entries(&self) -> Option<Entries<'a>>
         ensures { MatchOption result ((count : ℕ) → IsOpenedBy (item_bytes self.now) (Header.Map (Some count)) → ⊥)
             (λ entries. Opens (item_order self.now) (item_depth self.now) (item_bytes self.now)
@@ -286,9 +282,9 @@ impl<'a> Item<'a> {
 impl<'a> Item<'a> {
     ghost use Rattle.cbor_deterministic.specs.Held.{item_bytes, item_depth, item_order};
 
-    /// Returns the value of the key with these bytes, or `None` if the item is no map with this key.
+    /// Returns the value of the key with these bytes, in their deterministic encoding.
     ///
-    /// The bytes are the key in its deterministic encoding. The search stops at the first greater key.
+    /// The search stops at the first greater key.
     pub fn get(&self, key: &[u8]) -> Option<Item<'a>>
         ensures { MatchOption result
             (HasNoKey (item_order self.now) (item_depth self.now) (item_bytes self.now) key.now)
@@ -302,8 +298,7 @@ impl<'a> Item<'a> {
         }
     }
 
-    /// Returns the value of the key that is this text, or `None` if the item is no map with this key. The search passes
-    /// all pairs up to the key.
+    /// Returns the value of the key that is this text. The search passes all pairs up to the key.
     pub fn get_text(&self, key: &str) -> Option<Item<'a>>
         ensures { MatchOption result (HasNoKey (item_order self.now) (item_depth self.now) (item_bytes self.now)
             (shortest_title (Header.Text (Some (length key.now))) ++ key.now))
@@ -313,8 +308,7 @@ impl<'a> Item<'a> {
         self.get_titled(Header::Text(Some(key.len())), key.as_bytes())
     }
 
-    /// Returns the value of the key that is this unsigned integer, or `None` if the item is no map with this key. The
-    /// search passes all pairs up to the key.
+    /// Returns the value of the key that is this unsigned integer, as [`Item::get_text`] does.
     pub fn get_positive(&self, key: u64) -> Option<Item<'a>>
         ensures { MatchOption result (HasNoKey (item_order self.now) (item_depth self.now) (item_bytes self.now)
             (shortest_title (Header.Positive key)))
@@ -324,8 +318,7 @@ impl<'a> Item<'a> {
         self.get_titled(Header::Positive(key), &[])
     }
 
-    /// Returns the value of the key that is the negative integer -1 - n, or `None` if the item is no map with this key.
-    /// The search passes all pairs up to the key.
+    /// Returns the value of the key that is the negative integer -1 - n, as [`Item::get_text`] does.
     pub fn get_negative(&self, n: u64) -> Option<Item<'a>>
         ensures { MatchOption result (HasNoKey (item_order self.now) (item_depth self.now) (item_bytes self.now)
             (shortest_title (Header.Negative n)))

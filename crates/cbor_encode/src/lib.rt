@@ -1,7 +1,5 @@
 // SPDX-License-Identifier: Apache-2.0
 //! Encodes diagnostic notation (RFC 8949, section 8) as CBOR: the reverse of `cbor_diag`.
-//!
-//! [`encode`] reads one item, and [`encode_all`] reads a sequence of items.
 #![tactic(auto)]
 
 ghost use Rattle.std.specs.Prelude.{◌≡◌, ◌≤◌, true, false, IfErr, IfOk};
@@ -31,12 +29,12 @@ use std::alloc::Global;
 /// The greatest depth of tags, arrays, maps and embedded items, in levels.
 pub const MAX_DEPTH: usize = MOST_LEVELS;
 
-/// What the notation needs at a place at which something else stands.
+/// What the notation needs at a place.
 #[derive(Clone, Copy, Debug, PartialEq, Eq)]
 pub enum Expected {
     /// An item.
     Item,
-    /// The end of the text, since the item has ended.
+    /// The end of the text.
     End,
     /// A comma or white space between two items.
     Space,
@@ -78,7 +76,7 @@ pub enum Expected {
     Memory,
 }
 
-/// Why a text is not encoded, and at which place.
+/// Why a text is not encoded.
 #[derive(Clone, Copy, Debug, PartialEq, Eq, Drop)]
 pub struct NotationError {
     /// What the notation needs there.
@@ -91,9 +89,8 @@ pub struct NotationError {
     pub column: usize,
 }
 
-/// Encodes one item in diagnostic notation (RFC 8949, section 8). White space and comments may surround the item.
-///
-/// The bytes are exactly one well-formed item. Tests alone say that it is the item of the text.
+/// Encodes one item in diagnostic notation (RFC 8949, section 8). White space and comments may surround the item. Tests
+/// alone say that the bytes are the item of the text.
 ///
 /// Tags, arrays, maps and embedded items nest at most `depth` levels deep, and `depth` is at most [`MAX_DEPTH`].
 ///
@@ -101,24 +98,23 @@ pub struct NotationError {
 ///
 /// - An integer has digits in base 10, or in base 16, 8 or 2 after `0x`, `0o` or `0b`. It is from -2^64 to 2^64 - 1.
 /// - A float has a point or an exponent, as `1.5` or `1e10`, or is `NaN`, `Infinity` or `-Infinity`. It has the
-///   shortest width that holds the nearest double, or the width of its mark: `_1`, `_2` or `_3` for 16, 32 or 64 bits.
+///   shortest width that holds the nearest double, or 16, 32 or 64 bits with the mark `_1`, `_2` or `_3`.
 /// - `false`, `true`, `null`, `undefined` and `simple(N)` are simple values.
-/// - `"..."` is a text with the escapes of JSON. `'...'` is a byte string of such a text.
+/// - `"..."` is a text with the escapes of JSON, and `'...'` a byte string of such a text.
 /// - `h'...'` is a byte string in base 16, `b64'...'` in base 64 of either alphabet, `b64u'...'` in base 64 for URLs.
-///   White space and comments may stand between the digits. `<<1, 2>>` is a byte string that contains these items.
+///   White space may stand between the digits, and in base 16 comments too.
+/// - `<<1, 2>>` is a byte string that contains these items.
 /// - `[1, 2]` is an array, `{1: 2}` a map, and `N(item)` a tag. A comma may follow the last item.
 /// - `[_ 1]`, `{_ 1: 2}`, `(_ "a", "b")`, `''_` and `""_` have indefinite lengths.
 /// - `_i`, `_0`, `_1`, `_2` or `_3` asks for a title whose number is in the first byte, or in 1, 2, 4 or 8 bytes. It
-///   follows an integer, a string, or the number of a tag, as `1_1(2)`. In arrays and maps it follows the opening
-///   bracket, as `[_1 2]`.
+///   follows an integer, a string, the number of a tag as in `1_1(2)`, or the opening bracket as in `[_1 2]`.
 /// - A comment is between two slashes, or from `#` to the end of its line.
 ///
-/// Titles without a mark are the shortest. The contract says that for a text without an underscore, and for
-/// [`encode_shortest`].
+/// Titles without a mark are the shortest. The contract says so only for a text without an underscore.
 ///
 /// # Errors
 ///
-/// The error has what is expected, and a place within the text. Tests alone say which place it is:
+/// Tests alone say which place an error has:
 ///
 /// - [`Expected::Integer`], [`Expected::Float`], [`Expected::Mark`], [`Expected::Level`]: the start of the item.
 /// - [`Expected::Escape`], [`Expected::Comment`], [`Expected::Simple`]: the start of the escape, comment or number.
@@ -128,8 +124,8 @@ pub struct NotationError {
 ///
 /// # Time and memory
 ///
-/// The call reads each byte a few times. It copies a byte of the encoding once for each level that contains it, so
-/// `n` bytes of text take at most about `n * depth` steps. On the stack each level takes the frames of three calls.
+/// The call reads each byte a few times. It copies a byte of the encoding once for each level that contains the byte,
+/// so `n` bytes of text take at most about `n * depth` steps. On the stack each level takes the frames of three calls.
 pub fn encode(alloc: Global, text: &[u8], depth: usize) -> Result<Vec<u8>, NotationError>
     requires shallow { depth ≤ MOST_LEVELS }
     ensures item { IfOk result (λ bytes. IsItem false depth bytes.items) }
@@ -140,14 +136,12 @@ pub fn encode(alloc: Global, text: &[u8], depth: usize) -> Result<Vec<u8>, Notat
     one_item(alloc, text, depth, !text.contains(&b'_'))
 }
 
-/// Encodes one item as [`encode`] does, but takes no mark on an integer, a length or a tag. All titles are the shortest
-/// (RFC 8949, 4.1).
-///
-/// The marks of floats choose their width, and stay.
+/// Encodes one item as [`encode`] does, but takes no mark on an integer, a length or a tag (RFC 8949, 4.1). The marks
+/// of floats choose their width.
 ///
 /// # Errors
 ///
-/// The errors of [`encode`], and [`Expected::NoMark`]: the start of an item with a mark.
+/// Those of [`encode`], and [`Expected::NoMark`]: the start of an item with a mark.
 pub fn encode_shortest(alloc: Global, text: &[u8], depth: usize) -> Result<Vec<u8>, NotationError>
     requires shallow { depth ≤ MOST_LEVELS }
     ensures item { IfOk result (λ bytes. IsItem true depth bytes.items) }
@@ -156,13 +150,12 @@ pub fn encode_shortest(alloc: Global, text: &[u8], depth: usize) -> Result<Vec<u
     one_item(alloc, text, depth, true)
 }
 
-/// Encodes a sequence of items (RFC 8742). A comma, white space or a comment stands between two items.
-///
-/// Each item is as [`encode`] takes it. A text without items gives no bytes. A comma may follow the last item.
+/// Encodes a sequence of items (RFC 8742), each as [`encode`] takes it. A comma, white space or a comment stands
+/// between two items, and a comma may follow the last item. A text without items gives no bytes.
 ///
 /// # Errors
 ///
-/// The errors of [`encode`], but [`Expected::Space`] in place of [`Expected::End`].
+/// Those of [`encode`], but [`Expected::Space`] in place of [`Expected::End`].
 pub fn encode_all(alloc: Global, text: &[u8], depth: usize) -> Result<Vec<u8>, NotationError>
     requires shallow { depth ≤ MOST_LEVELS }
     ensures items { IfOk result (λ bytes. AreSequence false depth bytes.items) }

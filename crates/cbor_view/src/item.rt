@@ -21,9 +21,10 @@ use crate::title::next_title;
 use ciborium_ll_grammar::hdr::{Float, Header};
 use ciborium_ll_text::state::text_of;
 
-/// An item of CBOR in memory, which a call checked. A copy of it takes no memory.
+/// A checked item of CBOR in memory. A copy of it takes no memory.
 ///
-/// It holds its own bytes, and how many levels deep its tags, arrays and maps may be nested.
+/// It holds its own bytes, and how many levels deep its tags, arrays and maps may be nested. A call for one kind of
+/// item returns `None` for any other item.
 #[derive(Clone, Copy)]
 pub struct Item<'a> {
     bytes: &'a [u8],
@@ -52,19 +53,19 @@ impl<'a> Item<'a> {
     ghost use Rattle.cbor_view.specs.Held.{entries_bytes, entries_depth, entries_due};
     ghost use Rattle.cbor_view.specs.Held.{item_bytes, item_depth, segments_bytes, texts_bytes};
 
-    /// Parses the item that begins the bytes. What follows the item may be anything.
+    /// Parses the item that begins the bytes. Any bytes may follow it.
     ///
-    /// Tags, arrays and maps may be nested at most `depth` levels deep, and `depth` is at most [`MAX_DEPTH`]. A tag, an
-    /// array and a map take a level, also an empty one; a string takes none. The item holds its own bytes exactly.
+    /// Tags, arrays and maps may be nested at most `depth` levels deep, and `depth` is at most [`MAX_DEPTH`]. Each
+    /// takes a level, also an empty one; a string takes none.
     ///
     /// # Errors
     ///
-    /// The call fails exactly if no item to the depth begins the bytes. The faults are those of `cbor_skip::skip_item`:
+    /// The faults are those of `cbor_skip::skip_item`:
     ///
     /// - `Short`: the bytes end before the item does.
     /// - `Syntax(offset)`: no title, a title that its string may not contain, or a text that is not UTF-8.
-    /// - `Break(offset)`: a break that stands in place of an item.
-    /// - `Deep(offset)`: the title of a tag, an array or a map for which no level is left.
+    /// - `Break(offset)`: a break in place of an item.
+    /// - `Deep(offset)`: no level is left for a tag, an array or a map.
     pub fn parse(bytes: &'a [u8], depth: usize) -> Result<Item<'a>, Fault>
         requires shallow { depth ≤ MAX_DEPTH }
         ensures whole { IfOk result (λ item. (rest : List ℕ) × (bytes.now ≡ item_bytes item ++ rest)) }
@@ -79,11 +80,11 @@ impl<'a> Item<'a> {
         }
     }
 
-    /// Parses the item that begins the bytes, and returns the bytes that follow it too.
+    /// Parses as [`Item::parse`] does, and also returns the bytes after the item.
     ///
     /// # Errors
     ///
-    /// The call fails as [`Item::parse`] does.
+    /// Those of [`Item::parse`].
     pub fn parse_prefix(bytes: &'a [u8], depth: usize) -> Result<(Item<'a>, &'a [u8]), Fault>
         requires shallow { depth ≤ MAX_DEPTH }
         ensures whole { IfOk result (λ found. bytes.now ≡ item_bytes found.0 ++ found.1.now) }
@@ -102,9 +103,7 @@ impl<'a> Item<'a> {
         self.bytes
     }
 
-    /// Returns the header of the item's title, and its contents: the bytes that follow the title.
-    ///
-    /// The contents of an indefinite form end with its break.
+    /// Returns the header of the item's title, and its contents. The contents of an indefinite form end with its break.
     pub fn open(&self) -> (Header, &'a [u8])
         ensures { Opens (item_depth self.now) (item_bytes self.now) result.0 result.1.now }
     {
@@ -114,14 +113,14 @@ impl<'a> Item<'a> {
         }
     }
 
-    /// Returns the header of the item's title, which is never [`Header::Break`].
+    /// Returns the header, which is never [`Header::Break`].
     pub fn header(&self) -> Header
         ensures { (contents : List ℕ) × Opens (item_depth self.now) (item_bytes self.now) result contents }
     {
         self.open().0
     }
 
-    /// Returns the number of an unsigned integer, or `None` for any other item.
+    /// Returns the number of an unsigned integer.
     pub fn positive(&self) -> Option<u64>
         ensures { MatchOption result ((number : ℕ) → IsTitle (item_bytes self.now) (Header.Positive number) → ⊥)
             (λ number. IsTitle (item_bytes self.now) (Header.Positive number)) }
@@ -133,7 +132,7 @@ impl<'a> Item<'a> {
         }
     }
 
-    /// Returns the `n` of the negative integer -1 - n, or `None` for any other item.
+    /// Returns the `n` of the negative integer -1 - n.
     pub fn negative(&self) -> Option<u64>
         ensures { MatchOption result ((number : ℕ) → IsTitle (item_bytes self.now) (Header.Negative number) → ⊥)
             (λ number. IsTitle (item_bytes self.now) (Header.Negative number)) }
@@ -145,7 +144,7 @@ impl<'a> Item<'a> {
         }
     }
 
-    /// Returns the number of a simple value, or `None` for any other item.
+    /// Returns the number of a simple value.
     pub fn simple(&self) -> Option<u8>
         ensures { MatchOption result ((number : ℕ) → IsTitle (item_bytes self.now) (Header.Simple number) → ⊥)
             (λ number. IsTitle (item_bytes self.now) (Header.Simple number)) }
@@ -157,7 +156,7 @@ impl<'a> Item<'a> {
         }
     }
 
-    /// Returns the bits of a float with their width, or `None` for any other item.
+    /// Returns the bits of a float with their width.
     pub fn float(&self) -> Option<Float>
         ensures { MatchOption result ((float : AnyFloat) → IsTitle (item_bytes self.now) (Header.Float float) → ⊥)
             (λ float. IsTitle (item_bytes self.now) (Header.Float float)) }
@@ -169,7 +168,7 @@ impl<'a> Item<'a> {
         }
     }
 
-    /// Returns the body of a byte string of definite length, or `None` for any other item.
+    /// Returns the body of a byte string of definite length.
     pub fn byte_string(&self) -> Option<&'a [u8]>
         ensures { MatchOption result ((body : List ℕ) → IsBytesOf (item_bytes self.now) body → ⊥)
             (λ body. IsBytesOf (item_bytes self.now) body.now) }
@@ -181,7 +180,7 @@ impl<'a> Item<'a> {
         }
     }
 
-    /// Returns the body of a text string of definite length, or `None` for any other item.
+    /// Returns the body of a text string of definite length.
     pub fn text(&self) -> Option<&'a str>
         ensures { MatchOption result ((body : List ℕ) → IsTextOf (item_bytes self.now) body → ⊥)
             (λ body. IsTextOf (item_bytes self.now) body.now) }
@@ -193,7 +192,7 @@ impl<'a> Item<'a> {
         }
     }
 
-    /// Returns the segments of a byte string of definite or indefinite length, or `None` for any other item.
+    /// Returns the segments of a byte string.
     pub fn byte_segments(&self) -> Option<Segments<'a>>
         ensures { MatchOption result ((bodies : List (List ℕ)) → IsString ByteKind (item_bytes self.now) bodies → ⊥)
             (λ segments. IsSegmented ByteKind (item_bytes self.now) (segments_bytes segments)) }
@@ -205,7 +204,7 @@ impl<'a> Item<'a> {
         }
     }
 
-    /// Returns the segments of a text string of definite or indefinite length, or `None` for any other item.
+    /// Returns the segments of a text string.
     pub fn text_segments(&self) -> Option<TextSegments<'a>>
         ensures { MatchOption result ((bodies : List (List ℕ)) → IsString TextKind (item_bytes self.now) bodies → ⊥)
             (λ segments. IsSegmented TextKind (item_bytes self.now) (texts_bytes segments)) }
@@ -217,7 +216,7 @@ impl<'a> Item<'a> {
         }
     }
 
-    /// Returns the number of a tag and the item that the tag stands for, or `None` for any other item.
+    /// Returns the number of a tag and the item that it tags.
     pub fn tag(&self) -> Option<(u64, Item<'a>)>
         ensures { MatchOption result ((number : ℕ) → IsOpenedBy (item_bytes self.now) (Header.Tag number) → ⊥)
             (λ found. Opens (item_depth self.now) (item_bytes self.now) (Header.Tag found.0) (item_bytes found.1)
@@ -236,7 +235,7 @@ impl<'a> Item<'a> {
         }
     }
 
-    /// Returns the items of an array of definite or indefinite length, or `None` for any other item.
+    /// Returns the items of an array.
     pub fn elements(&self) -> Option<Elements<'a>>
         ensures { MatchOption result
             ((count : Option ℕ) → IsOpenedBy (item_bytes self.now) (Header.Array count) → ⊥)
@@ -258,7 +257,7 @@ impl<'a> Item<'a> {
         }
     }
 
-    /// Returns the pairs of a map of definite or indefinite length, or `None` for any other item.
+    /// Returns the pairs of a map.
     pub fn entries(&self) -> Option<Entries<'a>>
         ensures { MatchOption result ((count : Option ℕ) → IsOpenedBy (item_bytes self.now) (Header.Map count) → ⊥)
             (λ entries. Opens (item_depth self.now) (item_bytes self.now) (Header.Map (entries_due entries))
@@ -284,10 +283,7 @@ impl<'a> Item<'a> {
     ghost use Rattle.std.specs.Prelude.{IfSome};
     ghost use Rattle.cbor_view.specs.Held.{item_bytes, item_depth};
 
-    /// Returns the value of the first pair of a map whose key has these bytes.
-    ///
-    /// `None` means that no key of the map has them, or that the item is no map. If several keys match, the call finds
-    /// the first pair. A key in another spelling has other bytes.
+    /// Returns the value of the first key with these bytes. A key in another spelling has other bytes.
     pub fn get(&self, key: &[u8]) -> Option<Item<'a>>
         ensures found { MatchOption result
             (HasNone (λ other. other ≡ key.now) (item_depth self.now) (item_bytes self.now))
@@ -298,10 +294,8 @@ impl<'a> Item<'a> {
         self.get_key(&Key::Bytes(key))
     }
 
-    /// Returns the value of the first pair of a map whose key is this text, in any spelling.
-    ///
-    /// The key may be a text string of indefinite length, whose bodies are joined. `None` means that no key of the map
-    /// is this text, or that the item is no map. If several keys match, the call finds the first pair.
+    /// Returns the value of the first key that is this text, in any spelling. The bodies of a text of indefinite length
+    /// are joined.
     pub fn get_text(&self, key: &str) -> Option<Item<'a>>
         ensures found { MatchOption result
             (HasNone (λ other. ∥ SpellsText other key.now ∥₁) (item_depth self.now) (item_bytes self.now))
@@ -312,10 +306,7 @@ impl<'a> Item<'a> {
         self.get_key(&Key::Text(key))
     }
 
-    /// Returns the value of the first pair of a map whose key is this unsigned integer, in any spelling.
-    ///
-    /// `None` means that no key of the map is this integer, or that the item is no map. If several keys match, the call
-    /// finds the first pair.
+    /// Returns the value of the first key that is this unsigned integer, in any spelling.
     pub fn get_positive(&self, key: u64) -> Option<Item<'a>>
         ensures found { MatchOption result
             (HasNone (λ other. IsTitle other (Header.Positive key)) (item_depth self.now) (item_bytes self.now))
@@ -326,10 +317,7 @@ impl<'a> Item<'a> {
         self.get_key(&Key::Positive(key))
     }
 
-    /// Returns the value of the first pair of a map whose key is the negative integer -1 - n, in any spelling.
-    ///
-    /// `None` means that no key of the map is this integer, or that the item is no map. If several keys match, the call
-    /// finds the first pair.
+    /// Returns the value of the first key that is the negative integer -1 - n, in any spelling.
     pub fn get_negative(&self, n: u64) -> Option<Item<'a>>
         ensures found { MatchOption result
             (HasNone (λ other. IsTitle other (Header.Negative n)) (item_depth self.now) (item_bytes self.now))

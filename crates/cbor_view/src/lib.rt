@@ -1,10 +1,8 @@
 // SPDX-License-Identifier: Apache-2.0
 //! An item of CBOR (RFC 7049, 2.1 to 2.4) as it stands in memory, in any spelling. No call takes memory.
 //!
-//! [`Item::parse`] checks that bytes begin with an item. The calls of [`Item`] look into it: an array gives its items
-//! one by one, a map its pairs, and a string its segments.
-//!
-//! A call that passes an item reads each byte of the item once. Each level takes a frame of the stack in that call.
+//! [`Item::parse`] checks that bytes begin with an item, and the calls of [`Item`] look into it. A call that passes an
+//! item reads each byte of the item once. On the stack each level takes a frame in that call.
 #![tactic(auto)]
 
 mod item;

@@ -1,4 +1,4 @@
-//! What a fault says to a person.
+//! The messages of faults.
 
 ghost use Rattle.std.specs.Prelude.{Some};
 ghost use Rattle.cbor_view.specs.FaultTexts.{fault_text};

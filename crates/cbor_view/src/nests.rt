@@ -7,7 +7,7 @@ ghost use Rattle.cbor_view.specs.Views.{HasItems, HasPairs, closed, one_less};
 use crate::item::{Item, next_item};
 use std::iter::FusedIterator;
 
-/// The items of an array that are left. Their bytes are those before the break of an indefinite form.
+/// The items of an array that are left, without the break of an indefinite form.
 #[derive(Clone, Copy, Drop)]
 pub struct Elements<'a> {
     pub(crate) rest: &'a [u8],
@@ -17,7 +17,7 @@ pub struct Elements<'a> {
     ghost are: { ∥ HasItems depth due rest.now ∥₁ },
 }
 
-/// The pairs of a map that are left. Their bytes are those before the break of an indefinite form.
+/// The pairs of a map that are left, without the break of an indefinite form.
 #[derive(Clone, Copy, Drop)]
 pub struct Entries<'a> {
     pub(crate) rest: &'a [u8],
@@ -38,7 +38,7 @@ pub(crate) fn without_break(due: Option<usize>, contents: &[u8]) -> &[u8]
     }
 }
 
-/// Returns one less than a count that is told.
+/// Returns the count less one, if there is a count.
 fn one_less(due: Option<usize>) -> Option<usize>
     requires { IfSome due (λ count. 0 < count) }
     ensures { result ≡ one_less due }
@@ -52,7 +52,7 @@ fn one_less(due: Option<usize>) -> Option<usize>
 impl<'a> Elements<'a> {
     ghost use Rattle.cbor_view.specs.Held.{elements_due};
 
-    /// Returns how many items are left, or `None` for an array of indefinite length.
+    /// Returns how many items are left, or `None` for an indefinite length.
     pub fn left(&self) -> Option<usize>
         ensures { result ≡ elements_due self.now }
     {
@@ -70,7 +70,7 @@ impl<'a> Iterator for Elements<'a> {
 
     ghost remaining = { λ elements. at_most (length (elements_bytes elements)) };
 
-    /// Returns the next item, or `None` exactly if no item is left. The call reads each byte of the item once.
+    /// Returns the next item.
     fn next(&mut self) -> Option<Item<'a>> {
         if self.rest.is_empty() {
             return None;
@@ -89,7 +89,7 @@ impl<'a> FusedIterator for Elements<'a> {}
 impl<'a> Entries<'a> {
     ghost use Rattle.cbor_view.specs.Held.{entries_due};
 
-    /// Returns how many pairs are left, or `None` for a map of indefinite length.
+    /// Returns how many pairs are left, or `None` for an indefinite length.
     pub fn left(&self) -> Option<usize>
         ensures { result ≡ entries_due self.now }
     {
@@ -107,7 +107,7 @@ impl<'a> Iterator for Entries<'a> {
 
     ghost remaining = { λ entries. at_most (length (entries_bytes entries)) };
 
-    /// Returns the next key and its value, or `None` exactly if no pair is left. The call reads each byte of them once.
+    /// Returns the next key and its value.
     fn next(&mut self) -> Option<(Item<'a>, Item<'a>)> {
         if self.rest.is_empty() {
             return None;

@@ -16,8 +16,8 @@ pub enum Fault {
     /// The bytes end too early.
     Short,
     /// At this offset stands no title, or a title that its string may not contain, or the title of a text that is not
-    /// UTF-8. If that title is longer than its shortest one, the offset is that of the byte from which the shortest
-    /// title would reach the body.
+    /// UTF-8. If the title of that text is longer than its shortest one, the offset is that of the byte from which the
+    /// shortest title would reach the body.
     Syntax(usize),
     /// At this offset a break stands in place of an item, and ends nothing.
     Break(usize),

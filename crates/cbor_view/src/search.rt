@@ -77,7 +77,7 @@ fn is_text(item: &Item, text: &str) -> bool
     }
 }
 
-/// Returns what follows this front of the bytes, or `None` if they do not begin with it.
+/// Returns the rest after this front of the bytes, or `None` if they do not begin with it.
 fn after_front<'a>(bytes: &'a [u8], front: &[u8]) -> Option<&'a [u8]>
     ensures { MatchOption result ((rest : List ℕ) → bytes.now ≡ front.now ++ rest → ⊥)
         (λ rest. bytes.now ≡ front.now ++ rest.now) }

@@ -12,22 +12,22 @@ use std::iter::FusedIterator;
 
 /// The segments of a byte string or of a text string that are left, as bytes.
 ///
-/// A string of definite length has one segment, its body. A string of indefinite length has a segment for each string
-/// of definite length within it, in order, also within further opens (RFC 7049, 2.2.2).
+/// A string of definite length has one segment, its body. One of indefinite length has a segment for each string of
+/// definite length within it, also within further opens (RFC 7049, 2.2.2).
 #[derive(Clone, Copy, Drop)]
 pub struct Segments<'a> {
     pub(crate) rest: &'a [u8],
     ghost are: { ∥ HasSegments rest.now ∥₁ },
 }
 
-/// The segments of a text string that are left, as texts. They are otherwise as [`Segments`] has them.
+/// The [`Segments`] of a text string that are left, as texts.
 #[derive(Clone, Copy, Drop)]
 pub struct TextSegments<'a> {
     pub(crate) rest: &'a [u8],
     ghost are: { ∥ HasTexts rest.now ∥₁ },
 }
 
-/// Returns how many bytes the body of a byte string of definite length has, if the header is that of one.
+/// Returns the length of a byte string's body, if the header is that of a byte string of definite length.
 pub(crate) fn bytes_len(header: Header) -> Option<usize>
     ensures { MatchOption result ((len : ℕ) → header ≡ Header.Bytes (Some len) → ⊥)
         (λ len. header ≡ Header.Bytes (Some len)) }
@@ -38,7 +38,7 @@ pub(crate) fn bytes_len(header: Header) -> Option<usize>
     }
 }
 
-/// Returns how many bytes the body of a text string of definite length has, if the header is that of one.
+/// Returns the length of a text string's body, if the header is that of a text string of definite length.
 pub(crate) fn text_len(header: Header) -> Option<usize>
     ensures { MatchOption result ((len : ℕ) → header ≡ Header.Text (Some len) → ⊥)
         (λ len. header ≡ Header.Text (Some len)) }
@@ -49,7 +49,7 @@ pub(crate) fn text_len(header: Header) -> Option<usize>
     }
 }
 
-/// Returns how many bytes the body of a string of definite length has, if the header is that of one.
+/// Returns the length of a string's body, if the header is that of a string of definite length.
 fn segment_len(header: Header) -> Option<usize>
     ensures { MatchOption result ((kind : Kind) (len : ℕ) → header ≡ kind_header kind (Some len) → ⊥)
         (λ len. (kind : Kind) × (header ≡ kind_header kind (Some len))) }
@@ -92,7 +92,7 @@ impl<'a> Iterator for Segments<'a> {
 
     ghost remaining = { λ segments. at_most (length (segments_bytes segments)) };
 
-    /// Returns the body of the next segment, or `None` exactly if no segment is left.
+    /// Returns the body of the next segment.
     fn next(&mut self) -> Option<&'a [u8]> {
         match next_segment(self.rest) {
             Some((body, rest)) => {
@@ -116,7 +116,7 @@ impl<'a> Iterator for TextSegments<'a> {
 
     ghost remaining = { λ segments. at_most (length (texts_bytes segments)) };
 
-    /// Returns the text of the next segment, or `None` exactly if no segment is left.
+    /// Returns the text of the next segment.
     fn next(&mut self) -> Option<&'a str> {
         match next_segment(self.rest) {
             Some((body, rest)) => {
