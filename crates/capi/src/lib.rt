@@ -1,7 +1,5 @@
 // SPDX-License-Identifier: Apache-2.0
-//! What the calls for C do. `capi_export` exports each of them under its name, with its contract, and says there what
-//! it answers and reports. The exports stand in a crate of their own, since a static library is for C alone, and tests
-//! use this crate too. No call takes memory.
+//! The calls that `capi_export` exports for C. Tests use this crate, since a static library is for C alone.
 //!
 //! A contract speaks of a [`CllAnswer`] by its number (`code`).
 #![tactic(auto)]

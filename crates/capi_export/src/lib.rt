@@ -11,8 +11,8 @@
 //! A tag, an array and a map take one level of a `depth`, an empty one too. A string takes none.
 //!
 //! How many bytes are due after a `Short` is the rest of the title or body that is cut, all bytes of a body that is
-//! about to begin, or 1 before a title. All bytes that complete the input are at least that many. At 0 no bytes complete
-//! it, and at any other number some do.
+//! about to begin, or 1 before a title. All bytes that complete the input are at least that many. At 0 no bytes
+//! complete it, and at any other number some do.
 //!
 //! The place of a `Syntax` is the offset of a title. For a text that is not UTF-8, in a string that no open begins, it
 //! is the end of the title less the length of the shortest title. This may lie inside the title.
@@ -62,9 +62,8 @@ pub extern "C" fn cll_version() -> u32
 /// Reads the title with which the bytes begin (RFC 7049, 2.1 to 2.3) into `header`. `consumed` is how many bytes it
 /// read.
 ///
-/// # Answers
+/// # Errors
 ///
-/// - `Ok`: the bytes begin with a title.
 /// - `Short`: the bytes end before a title or inside it.
 /// - `Syntax`: no title begins with the first byte.
 ///
@@ -80,9 +79,8 @@ pub extern "C" fn cll_pull(bytes: &[u8], header: &mut CllHeader, consumed: &mut 
 
 /// Writes the shortest title of a header to the start of `out` (RFC 7049, 3.9), whole or not at all.
 ///
-/// # Answers
+/// # Errors
 ///
-/// - `Ok`: the title is written.
 /// - `Room`: the title is longer than `out`.
 /// - `Argument`: `header` has no kind, or a value or form that its kind does not have.
 #[unsafe(no_mangle)]
@@ -92,12 +90,12 @@ pub extern "C" fn cll_push(header: &CllHeader, out: &mut [u8], report: &mut CllR
     capi::cll_push(header, out, report)
 }
 
-/// Writes the title of a header that has `width` bytes after its first one to the start of `out` (RFC 7049, 2.1), whole
-/// or not at all. The title need not be the shortest one.
+/// Writes any title of a header that has `width` bytes after its first one to the start of `out` (RFC 7049, 2.1), whole
+/// or not at all.
 ///
-/// # Answers
+/// # Errors
 ///
-/// - `Ok`, `Room`: as of [`cll_push`].
+/// - `Room`: the title is longer than `out`.
 /// - `Argument`: as of [`cll_push`], or the header has no title of that width.
 #[unsafe(no_mangle)]
 pub extern "C" fn cll_push_wide(
@@ -115,12 +113,11 @@ pub extern "C" fn cll_push_wide(
 /// Copies `count` elements into `out`, each in its shortest spelling (RFC 7049, 3.9). An element is a header that
 /// begins no string, or a whole string (2.1 and 2.2). No spelling is longer than the bytes that it is read from.
 ///
-/// # Answers
+/// # Errors
 ///
-/// - `Ok`: `count` elements were consumed and written.
 /// - `Short`: the bytes end before `count` elements do.
 /// - `Syntax`: no title begins there, its string may not contain the title, or the body of a text is not UTF-8.
-/// - `Room`: the next thing to write does not fit: the shortest title of a header, or a chunk of a body.
+/// - `Room`: the shortest title of a header, or a chunk of a body, does not fit.
 ///
 /// What was written before an error stands in `out`. With `Room` a beginning of what did not fit may follow it.
 ///
@@ -149,13 +146,12 @@ pub extern "C" fn cll_recode(
 /// Checks that the bytes begin with `count` elements in their shortest spelling (RFC 7049, 2.2.2, 2.3 and 3.9). A
 /// shortest spelling has no simple value from 24 to 31, and no string of indefinite length inside another one.
 ///
-/// # Answers
-///
-/// - `Ok`: these elements were consumed.
-/// - `Short`: the bytes end before `count` elements do.
-/// - `Syntax`: as of [`cll_recode`], or a title that may not stand in a shortest spelling.
+/// # Errors
 ///
 /// An error is the first fault, and `consumed` counts the bytes up to it.
+///
+/// - `Short`: the bytes end before `count` elements do.
+/// - `Syntax`: as of [`cll_recode`], or a title that may not stand in a shortest spelling.
 #[unsafe(no_mangle)]
 pub extern "C" fn cll_strict(bytes: &[u8], count: u64, report: &mut CllReport) -> u32
     ensures exactly { result ≡ code a.Ok ↔ BeginsWithElements true count bytes.now }
@@ -170,13 +166,11 @@ pub extern "C" fn cll_strict(bytes: &[u8], count: u64, report: &mut CllReport) -
 /// Skips the item with which the bytes begin, with tags, arrays and maps nested at most `depth` levels deep (RFC 7049,
 /// 2.1 to 2.4).
 ///
-/// # Answers
+/// # Errors
 ///
-/// - `Ok`: the item was consumed.
 /// - `Short`: the bytes end before the item does.
 /// - `Syntax`: as of [`cll_recode`].
-/// - `BreakDue`: a break stands in place of an item.
-/// - `TooDeep`: no level is left for a tag, an array or a map.
+/// - `BreakDue`, `TooDeep`: as [`CllAnswer`] says.
 /// - `Argument`: the depth is above 256.
 #[unsafe(no_mangle)]
 pub extern "C" fn cll_skip(bytes: &[u8], depth: u32, report: &mut CllReport) -> u32
@@ -189,29 +183,20 @@ pub extern "C" fn cll_skip(bytes: &[u8], depth: u32, report: &mut CllReport) -> 
     capi::cll_skip(bytes, depth, report)
 }
 
-/// Checks that the bytes begin with an item in the deterministic encoding, with tags, arrays and maps nested at most
-/// `depth` levels deep. `order` is 0 for keys in the order of their bytes (RFC 8949, 4.2.1), and 1 for the shorter key
-/// first (4.2.3).
+/// Checks that the bytes begin with an item in the deterministic encoding, as `cbor_deterministic::deterministic_len`
+/// does. `consumed` is its length. `order` is 0 for keys in the order of their bytes (RFC 8949, 4.2.1), and 1 for the
+/// shorter key first (4.2.3).
 ///
-/// Each number and length stands in the fewest bytes, and each float in the smallest width that holds it. No length is
-/// indefinite. The keys of each map ascend, and no two of them are the same.
+/// # Errors
 ///
-/// # Answers
+/// With a fault, `consumed` and the place are the offset of the first title or key at which the bytes can't go on. With
+/// `Short`, `consumed` is the end of the bytes if a body is cut, and the place is 0, which says nothing on how many
+/// bytes are due.
 ///
-/// - `Ok`: the item is `consumed` bytes long.
-/// - `Short`: the bytes end before a title, within it or within a body.
-/// - `Syntax`: no title begins with a first byte, a simple value is from 24 to 31, or a text is not UTF-8.
-/// - `NotShortest`: a title is longer than need be, or a float fits a smaller width.
-/// - `Indefinite`: the title of an indefinite form, or a break.
-/// - `KeyOrder`: a key comes before the key of the pair before it.
-/// - `DuplicateKey`: a key is the same as that of the pair before it.
-/// - `TooDeep`: no level is left for a tag, an array or a map.
+/// - `Short`, `NotShortest`, `Indefinite`, `TooDeep`: as [`CllAnswer`] says.
+/// - `KeyOrder`, `DuplicateKey`: the later of the two keys.
+/// - `Syntax`: no title, a simple value from 24 to 31, or the title of a text that is not UTF-8.
 /// - `Argument`: the depth is above 256, or there is no such order.
-///
-/// With a fault, `consumed` and the place are the offset of the first title or key at which the bytes can't go on. A
-/// text that is not UTF-8 counts from its title, and of two keys the answer names the later one. With `Short`,
-/// `consumed` is the offset of the title that is cut, or the end of the bytes if a body is cut. The place is then 0,
-/// and says nothing on how many bytes are due.
 #[unsafe(no_mangle)]
 pub extern "C" fn cll_deterministic(
     bytes: &[u8],
@@ -233,9 +218,8 @@ pub extern "C" fn cll_deterministic(
 
 /// Finds the longest front of the bytes that is UTF-8 (RFC 3629). `consumed` is its length.
 ///
-/// # Answers
+/// # Errors
 ///
-/// - `Ok`: all bytes are UTF-8.
 /// - `Short`: a character that is cut off follows the front.
 /// - `Syntax`: no character begins with the bytes after the front. The place is the front's length.
 ///
@@ -253,9 +237,8 @@ pub extern "C" fn cll_utf8(bytes: &[u8], report: &mut CllReport) -> u32
 /// Sets a checker of one item up (RFC 7049, 2.1 to 2.4), whatever the memory held. Tags, arrays and maps may be nested
 /// at most `depth` levels deep.
 ///
-/// # Answers
+/// # Errors
 ///
-/// - `Ok`: the checker is set up.
 /// - `Argument`: the depth is above 256.
 #[unsafe(no_mangle)]
 pub extern "C" fn cll_checker_init(checker: &mut CllChecker, depth: u32) -> u32
@@ -275,9 +258,9 @@ pub extern "C" fn cll_checker_init_strict(checker: &mut CllChecker, depth: u32) 
     capi::cll_checker_init_strict(checker, depth)
 }
 
-/// Gives a checker the next bytes of its item, as many as have come. It takes all of them, or those up to the end of
-/// the item or to the byte with a fault. Each later call then takes none, and answers the same. How the caller cuts the
-/// bytes into pieces changes nothing.
+/// Gives a checker the next bytes of its item. It takes all of them, or those up to the end of the item or to the byte
+/// with a fault. Each later call then takes none, and answers the same. How the caller cuts the bytes into pieces
+/// changes nothing.
 ///
 /// # Answers
 ///
@@ -320,7 +303,7 @@ pub extern "C" fn cll_checker_end(checker: &CllChecker, report: &mut CllReport) 
     capi::cll_checker_end(checker, report)
 }
 
-/// Sets a copier of `count` elements up (RFC 7049, 2.1 and 2.2), whatever the memory held. The answer is `Ok`.
+/// Sets a copier of `count` elements up (RFC 7049, 2.1 and 2.2), whatever the memory held.
 #[unsafe(no_mangle)]
 pub extern "C" fn cll_copier_init(copier: &mut CllCopier, count: u64) -> u32
     ensures { (result ≡ code a.Ok) × IsCopierOf count copier.new }
@@ -328,9 +311,8 @@ pub extern "C" fn cll_copier_init(copier: &mut CllCopier, count: u64) -> u32
     capi::cll_copier_init(copier, count)
 }
 
-/// Gives a copier the next bytes of its elements, as many as have come, and writes their shortest spelling (RFC 7049,
-/// 3.9) to the start of `out`. It writes the shortest title of each whole title, each byte of a byte string, and each
-/// whole character of a text.
+/// Gives a copier the next bytes of its elements, and writes their shortest spelling (RFC 7049, 3.9) to the start of
+/// `out`: whole titles, each byte of a byte string, and whole characters of a text.
 ///
 /// How the caller cuts the bytes into pieces, and how long the outputs are, changes nothing of what is written in all.
 /// After `Ok` and after `Syntax` a later call takes and writes nothing, and answers the same.
@@ -338,12 +320,10 @@ pub extern "C" fn cll_copier_init(copier: &mut CllCopier, count: u64) -> u32
 /// # Answers
 ///
 /// - `Ok`: the elements have come and are written.
-/// - `Short`: all bytes were taken and written, except a title or a character that is not whole. More are due, and the
-///   place is 0.
+/// - `Short`: all bytes were taken, and all is written except a title or a character that is not whole. The place is 0.
 /// - `Room`: `out` is full. Give the rest of the bytes again. If nothing was pending, eight bytes more than the piece
 ///   are room enough.
-/// - `Syntax`: the elements never begin as the bytes so far do. The place is an offset in all of them. With some bytes
-///   more a copy is at this fault.
+/// - `Syntax`: the elements never begin as the bytes so far do. The place is an offset in all of them.
 /// - `TooLong`: the elements go on after `u64::MAX` bytes.
 /// - `Argument`: the memory holds no copier.
 #[unsafe(no_mangle)]
@@ -383,12 +363,10 @@ pub extern "C" fn cll_copier_end(copier: &CllCopier, report: &mut CllReport) -> 
     capi::cll_copier_end(copier, report)
 }
 
-/// Sets a copier of an item up (RFC 7049, 2.1 to 2.4), whatever the memory held. Tags, arrays and maps may be nested at
-/// most `depth` levels deep.
+/// Sets a copier of an item up, as [`cll_checker_init`] does a checker.
 ///
-/// # Answers
+/// # Errors
 ///
-/// - `Ok`: the copier is set up.
 /// - `Argument`: the depth is above 256.
 #[unsafe(no_mangle)]
 pub extern "C" fn cll_item_copier_init(copier: &mut CllItemCopier, depth: u32) -> u32
@@ -398,8 +376,11 @@ pub extern "C" fn cll_item_copier_init(copier: &mut CllItemCopier, depth: u32) -
     capi::cll_item_copier_init(copier, depth)
 }
 
-/// Sets a copier of an item up as [`cll_item_copier_init`] does, for an item in its shortest spelling, as
-/// [`cll_checker_init_strict`] does.
+/// Sets a copier of an item up, as [`cll_checker_init_strict`] does a checker.
+///
+/// # Errors
+///
+/// - `Argument`: the depth is above 256.
 #[unsafe(no_mangle)]
 pub extern "C" fn cll_item_copier_init_strict(copier: &mut CllItemCopier, depth: u32) -> u32
     ensures set_up { depth ≤ MOST_LEVELS → (result ≡ code a.Ok) × IsItemSetUp true depth copier.new }
@@ -408,8 +389,8 @@ pub extern "C" fn cll_item_copier_init_strict(copier: &mut CllItemCopier, depth:
     capi::cll_item_copier_init_strict(copier, depth)
 }
 
-/// Gives a copier the next bytes of its item, as many as have come, and writes their shortest spelling (RFC 7049, 3.9)
-/// to the start of `out`, as [`cll_copier_feed`] does. After a fault, too, a later call takes and writes nothing.
+/// Gives a copier the next bytes of its item, and writes their shortest spelling (RFC 7049, 3.9) as [`cll_copier_feed`]
+/// does. After a fault, too, a later call takes and writes nothing.
 ///
 /// # Answers
 ///
