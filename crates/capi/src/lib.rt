@@ -325,7 +325,7 @@ pub fn cll_strict(bytes: &[u8], count: u64, report: &mut CllReport) -> u32
     check_or_due(bytes, count as usize, report).code()
 }
 
-/// Returns the answer to a skip, and its place.
+/// The answer to a skip, and its place.
 fn stop_of_skip(skipped: Result<(), SkipError<EndOfFile>>) -> (CllAnswer, usize)
     ensures answer { result.0 ≡ skip_answer skipped }
     ensures place { result.1 ≡ skip_place skipped }

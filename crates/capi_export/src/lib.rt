@@ -5,8 +5,8 @@
 //! No call takes memory, or calls anything outside of this library except memcpy, memmove and memset. C passes a slice
 //! as a pointer and then a length.
 //!
-//! Each call answers with the code of a [`CllAnswer`], and most calls fill in a [`CllReport`]. A program calls
-//! `cll_pull` for each title, so that call gives one number of bytes instead.
+//! Each call answers with the code of a [`CllAnswer`], and most calls fill in a [`CllReport`]. `cll_pull` gives one
+//! number of bytes instead.
 //!
 //! A tag, an array and a map take one level of a `depth`, an empty one too. A string takes none.
 //!

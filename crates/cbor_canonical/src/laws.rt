@@ -10,8 +10,8 @@ ghost use Rattle.cbor_canonical.specs.declared.Why.{Why as AnyWhy};
 ghost use Rattle.cbor_canonical.specs.Canonical.{IsRewritten, IsFittingSpelling};
 ghost use Rattle.cbor_canonical.specs.Refusals.{HasRefusal};
 
-/// The encoding that a call writes is the one deterministic encoding of the item's value, whatever the order of pairs in
-/// maps.
+/// The encoding that a call writes is the one deterministic encoding of the item's value, whatever the order of pairs
+/// in maps.
 pub fn rewritten_is_the_encoding()
     ensures { (order : AnyOrder) (depth other : ℕ) (value same : Value) (item written others : List ℕ)
         → IsRewritten order depth item written → Encodes value item → Same value same

@@ -91,27 +91,27 @@ impl From<Refusal> for CanonicalError {
 /// Writes the deterministic encoding of the item at the beginning of the bytes. Returns the encoding and the rest of
 /// the bytes.
 ///
-/// The encoding is that of RFC 8949, 4.2.1, or for [`Order::LengthFirst`] of 4.2.3. The item may have any spelling:
-/// titles of any width, indefinite lengths, and keys in any order. Tags, arrays and maps are nested at most `depth`
-/// levels deep, and `depth` is at most [`MAX_DEPTH`]. A string takes no level.
+/// [`Order`] has the two orders of keys (RFC 8949, 4.2.1 and 4.2.3). The item may have any spelling: titles of any
+/// width, indefinite lengths, and keys in any order. Tags, arrays and maps are nested at most `depth` levels deep, also
+/// empty ones.
 ///
 /// A float keeps its value, a zero its sign, and a NaN its sign and payload. No integer is taken for a float, and no
 /// tag is looked into.
 ///
 /// # Errors
 ///
-/// - `Refused` with [`Why::Cut`]: the bytes end too early; the place is their end.
-/// - `Refused` with [`Why::Malformed`], [`Why::Break`] or [`Why::Deep`]: as of `cbor_skip::skip_item`.
-/// - `Refused` with [`Why::NoSimple`]: the place is a simple value from 24 to 31 in an item.
-/// - `Refused` with [`Why::DuplicateKey`]: the place is the later of two same keys in an item.
-/// - `Memory`: no memory is left.
+/// - [`Why::Cut`]: the place is the end of the bytes.
+/// - [`Why::Malformed`], [`Why::Break`], [`Why::Deep`]: as of `cbor_skip::skip_item`.
+/// - [`Why::NoSimple`]: the place is a simple value from 24 to 31 in an item.
+/// - [`Why::DuplicateKey`]: the place is the later of two same keys in an item.
+/// - [`CanonicalError::Memory`]: no memory is left.
 ///
 /// Tests alone say the places of `NoSimple` and `DuplicateKey`.
 ///
 /// # Time and memory
 ///
 /// The call reads the bytes twice, and sorts the pairs of a map in `n * log n` comparisons of keys. It copies a byte
-/// once for each map and each array of indefinite length that contains the byte. Each key and each value takes a vector
+/// once for each map and each array of indefinite length that contains the byte. Each key and value takes a vector
 /// until its map is written. On the stack each level takes the frames of five calls.
 pub fn canonical(
     alloc: Global,

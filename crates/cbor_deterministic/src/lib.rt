@@ -2,8 +2,7 @@
 //! Items in the deterministic encoding of RFC 8949, 4.2.1, or of 4.2.3 with the shorter keys first. No call takes
 //! memory.
 //!
-//! [`deterministic_len`] checks bytes, and [`view::Item`] looks into an item. [`laws`] say that equal values have one
-//! item in this encoding.
+//! [`deterministic_len`] checks bytes, and [`view::Item`] looks into an item.
 #![tactic(auto)]
 
 ghost use Rattle.std.specs.Prelude.{◌≡◌, ◌↔◌, ◌+◌, ◌≤◌, ℕ, Ok, Err};
@@ -22,7 +21,7 @@ pub use crate::items::compare_keys;
 use crate::items::skip_item;
 use ciborium_ll_grammar::limits::MOST_LEVELS;
 
-/// The greatest depth of tags, arrays and maps, in levels.
+/// The greatest depth, in levels.
 pub const MAX_DEPTH: usize = MOST_LEVELS;
 
 /// The order of the keys of a map, by their encodings.
@@ -76,14 +75,14 @@ pub(crate) struct Stop {
 
 /// Returns the length of the item in the deterministic encoding with which the bytes begin.
 ///
-/// Tags, arrays and maps are nested at most `depth` levels deep, and `depth` is at most [`MAX_DEPTH`]. Each takes a
-/// level, even if it is empty; a string takes none.
+/// Tags, arrays and maps are nested at most `depth` levels deep. Each takes a level, even if it is empty; a string
+/// takes none.
 ///
 /// Each number and length stands in the fewest bytes, and each float in the smallest width that holds it. No length is
 /// indefinite. The keys of each map ascend, and no two are the same.
 ///
-/// A smaller width holds a NaN exactly if the bits that this cuts off are zero. `0.0` and `-0.0` differ. An integer is never a
-/// float, and the call does not interpret tags.
+/// A smaller width holds a NaN exactly if the bits that this cuts off are zero. `0.0` and `-0.0` differ. An integer is
+/// never a float, and the call does not interpret tags.
 ///
 /// # Errors
 ///

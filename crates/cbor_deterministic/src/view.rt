@@ -1,4 +1,5 @@
-//! An item in the deterministic encoding, as it stands in memory. A call that passes items reads each byte of them once.
+//! An item in the deterministic encoding, as it stands in memory. A call that passes items reads each byte of them
+//! once.
 
 ghost use Rattle.std.specs.Prelude.{◌≡◌, ◌↔◌, ◌++◌, ◌+◌, ◌≤◌, ℕ, List, IfErr, IfOk, IsTrue, MatchOption};
 ghost use Rattle.std.specs.Prelude.{IfSome, Some, length};

@@ -1,5 +1,5 @@
 // SPDX-License-Identifier: Apache-2.0
-//! Encodes diagnostic notation (RFC 8949, section 8) as CBOR: the reverse of `cbor_diag`.
+//! Encodes diagnostic notation as CBOR: the reverse of `cbor_diag`.
 #![tactic(auto)]
 
 ghost use Rattle.std.specs.Prelude.{◌≡◌, ◌≤◌, true, false, IfErr, IfOk};
@@ -92,11 +92,11 @@ pub struct NotationError {
 /// Encodes one item in diagnostic notation (RFC 8949, section 8). White space and comments may surround the item. Tests
 /// alone say that the bytes are the item of the text.
 ///
-/// Tags, arrays, maps and embedded items nest at most `depth` levels deep, and `depth` is at most [`MAX_DEPTH`].
+/// Tags, arrays, maps and embedded items nest at most `depth` levels deep.
 ///
 /// # The notation
 ///
-/// - An integer has digits in base 10, or in base 16, 8 or 2 after `0x`, `0o` or `0b`. It is from -2^64 to 2^64 - 1.
+/// - An integer has digits in base 10, or in base 16, 8 or 2 after `0x`, `0o` or `0b`.
 /// - A float has a point or an exponent, as `1.5` or `1e10`, or is `NaN`, `Infinity` or `-Infinity`. It has the
 ///   shortest width that holds the nearest double, or 16, 32 or 64 bits with the mark `_1`, `_2` or `_3`.
 /// - `false`, `true`, `null`, `undefined` and `simple(N)` are simple values.
@@ -110,7 +110,7 @@ pub struct NotationError {
 ///   follows an integer, a string, the number of a tag as in `1_1(2)`, or the opening bracket as in `[_1 2]`.
 /// - A comment is between two slashes, or from `#` to the end of its line.
 ///
-/// Titles without a mark are the shortest. The contract says so only for a text without an underscore.
+/// Titles without a mark are the shortest.
 ///
 /// # Errors
 ///
@@ -124,8 +124,8 @@ pub struct NotationError {
 ///
 /// # Time and memory
 ///
-/// The call reads each byte a few times. It copies a byte of the encoding once for each level that contains the byte,
-/// so `n` bytes of text take at most about `n * depth` steps. On the stack each level takes the frames of three calls.
+/// `n` bytes of text take at most about `n * depth` steps, since each level copies the bytes that it contains. On the
+/// stack each level takes the frames of three calls.
 pub fn encode(alloc: Global, text: &[u8], depth: usize) -> Result<Vec<u8>, NotationError>
     requires shallow { depth ≤ MOST_LEVELS }
     ensures item { IfOk result (λ bytes. IsItem false depth bytes.items) }

@@ -23,8 +23,7 @@ use ciborium_ll_text::state::text_of;
 
 /// A checked item of CBOR in memory. A copy of it takes no memory.
 ///
-/// It holds its own bytes, and how many levels deep its tags, arrays and maps may be nested. A call for one kind of
-/// item returns `None` for any other item.
+/// It holds its bytes and its depth. A call for one kind of item returns `None` for any other item.
 #[derive(Clone, Copy)]
 pub struct Item<'a> {
     bytes: &'a [u8],
@@ -55,8 +54,8 @@ impl<'a> Item<'a> {
 
     /// Parses the item that begins the bytes. Any bytes may follow it.
     ///
-    /// Tags, arrays and maps may be nested at most `depth` levels deep, and `depth` is at most [`MAX_DEPTH`]. Each
-    /// takes a level, also an empty one; a string takes none.
+    /// Tags, arrays and maps may be nested at most `depth` levels deep. Each takes a level, also an empty one; a string
+    /// takes none.
     ///
     /// # Errors
     ///
@@ -283,7 +282,7 @@ impl<'a> Item<'a> {
     ghost use Rattle.std.specs.Prelude.{IfSome};
     ghost use Rattle.cbor_view.specs.Held.{item_bytes, item_depth};
 
-    /// Returns the value of the first key with these bytes. A key in another spelling has other bytes.
+    /// Returns the value of the first key with these bytes.
     pub fn get(&self, key: &[u8]) -> Option<Item<'a>>
         ensures found { MatchOption result
             (HasNone (λ other. other ≡ key.now) (item_depth self.now) (item_bytes self.now))

@@ -19,5 +19,5 @@ pub use self::parse::Fault;
 pub use self::segments::{Segments, TextSegments};
 use ciborium_ll_grammar::limits::MOST_LEVELS;
 
-/// The greatest depth of tags, arrays and maps, in levels.
+/// The greatest depth, in levels.
 pub const MAX_DEPTH: usize = MOST_LEVELS;
