@@ -28,7 +28,7 @@ use Rattle.ciborium_ll_recode.proofs.CopyLaws.{copies_all}
 use Rattle.capi.proofs.CopyLaws.{never_too_long, same_bytes}
 
 module _ {R E W F : Type 0} (source : Reader R E) (sink : Writer W F) where
-  -- a room that is told is less by what was written of the elements
+  -- A room that is told is less by what was written of the elements.
   pub spelled_room : (count : ℕ) (old now : Sides R W) (room left : ℕ) (run : CopiesRun source sink count old now)
       → sink.room old.writer ≡ Some room → sink.room now.writer ≡ Some left
       → room ≡ left + length (spelling run.marks)
@@ -38,7 +38,7 @@ module _ {R E W F : Type 0} (source : Reader R E) (sink : Writer W F) where
       let equal : less.0 ≡ left = cc in
       omega (arith, equal, less.2)
 
-  -- the bytes that a copy of elements wrote before it stopped follow those that were written before
+  -- The bytes that a copy of elements wrote before it stopped follow those that were written before.
   stopped_behind : (count : ℕ) (old new : Sides R W) (error : RecodeError E F) (due written : List ℕ)
       → IsTold source sink false old due written → StopsCopy source sink count buffer_size old error new
       → (more : List ℕ) × (sink.written new.writer ≡ Some (written ++ more))
@@ -58,7 +58,7 @@ module _ {R E W F : Type 0} (source : Reader R E) (sink : Writer W F) where
       let met = recode_anyhow source sink count buffer_size old due written told new (Err (r.Write fault)) stops in
       (met.stop.written, met.output)
 
-  -- after some elements the bytes ahead and those written are told too
+  -- After some elements the bytes ahead and those written are told too.
   told_behind : (count : ℕ) (old now : Sides R W) (due : List ℕ) (run : CopiesRun source sink count old now)
       → IsTold source sink false old due []
       → (rest : List ℕ) × IsTold source sink false now rest (spelling run.marks)
@@ -73,7 +73,7 @@ module _ {R E W F : Type 0} (source : Reader R E) (sink : Writer W F) where
         },
       )
 
-  -- all that was written begins with the spelling of the elements that were counted
+  -- All that was written begins with the spelling of the elements that were counted.
   counted_behind : (count : ℕ) (due : List ℕ) (old new : Sides R W) (result : Result (Unit {0}) (RecodeError E F))
       (elements whole spelled : ℕ) → IsTold source sink false old due []
       → (counted : CountsCopy source sink count buffer_size old result new elements whole spelled)
@@ -88,7 +88,7 @@ module _ {R E W F : Type 0} (source : Reader R E) (sink : Writer W F) where
       let behind = told_behind elements old counted.between due counted.run told in
       stopped_behind 1 counted.between new error behind.0 (spelling counted.run.marks) behind.1 counted.ends.2
 
--- the output begins with a beginning of what was written, and that was written
+-- The output begins with a beginning of what was written, and that was written.
 stands_within : (front more output before after : List ℕ) → output ≡ front ++ more → StandAtStart output before after
     → (take (length front) after ≡ front) × (length front ≤ length output)
 stands_within front more output before after is stands =
@@ -101,13 +101,13 @@ stands_within front more output before after is stands =
 
 module _ {R E W F : Type 0} (source : Reader R E) (sink : Writer W F) (count : ℕ) (due : List ℕ)
     (old new : Decoder R) (writer writer' : W) (report : CllReport) where
-  -- what a copy needs, whatever the count
+  -- What a copy needs, whatever the count.
   abbrev pub IsReadyFor : Bool → ℕ → Type 0
   IsReadyFor strict n = IsReady source sink strict n buffer_size (sides old writer) due []
 
   -- ---- elements
 
-  -- the bytes of the elements that were copied come first
+  -- The bytes of the elements that were copied come first.
   run_in_front : (strict : Bool) (elements : ℕ) (between : Sides R W)
       → IsTold source sink strict (sides old writer) due []
       → (run : CopiesRun source sink elements (sides old writer) between) → old.offset ≡ 0
@@ -130,7 +130,7 @@ module _ {R E W F : Type 0} (source : Reader R E) (sink : Writer W F) (count : �
   module _ (room : ℕ) (steady : IsSteady source old) (told : IsTold source sink false (sides old writer) due [])
       (ready : (n : ℕ) → HasRoom n due room → IsReadyFor false n) (object : length due < 2 ^ 63)
       (start : old.offset ≡ 0) (whole : report.whole ≡ new.offset → report.whole ≡ report.consumed) where
-    -- the place at which the copy of one more stops
+    -- The place at which the copy of one more stops.
     counted_to : (result : Result (Unit {0}) (RecodeError E F))
         → CountsCopy source sink count buffer_size (sides old writer) result (sides new writer') report.elements
         report.whole report.spelled

@@ -22,23 +22,23 @@ use Rattle.ciborium_ll.proofs.StepLaws.{add_element}
 use Rattle.ciborium_ll.proofs.NestLaws.{alone_bytes, open_alone}
 use Rattle.cbor_skip.proofs.ItemSteps.{item_of}
 
--- what is known of elements in their shortest spelling, if only these are taken
+-- What is known of elements in their shortest spelling, if only these are taken.
 abbrev pub StrictLaw : Bool → Type 0
 StrictLaw strict = strict ≡ true → (count : ℕ) (bytes : List ℕ) (marks : List Mark)
     → IsStrictRun count bytes marks ↔ AreStrictElements count bytes marks
 
--- if any spelling is taken, nothing is asked of the elements
+-- If any spelling is taken, nothing is asked of the elements.
 pub no_law : StrictLaw false
 no_law on count bytes marks = absurd cc
 
--- an element that is taken
+-- An element that is taken.
 abbrev IsTakenElement : Bool → List ℕ → List Mark → Type 0
 IsTakenElement true word marks = IsStrictElement word marks
 IsTakenElement false word marks = IsElement word marks
 
 -- ---- of an element
 
--- an element is a title that begins no string, or an item
+-- An element is a title that begins no string, or an item.
 pub data Shape (strict : Bool) (word : List ℕ) : Type 0 where
   titled : (header : Header) → IsTitle word header → IsTakenTitle strict word header → IsPlain header
       → Shape strict word
@@ -88,7 +88,7 @@ strict_shape word marks (parts {title = t} {strings = u} {bodies = bs} kind is_t
     whole_item (item_of true 1 t (u ++ 0xff ∷ []) (kind_header kind None) is_title (open_strict kind t is_title)
     (open_completes true kind u bs (flat_strings kind u bs flat) flat sound))
 
--- one element, and no more
+-- One element, and no more.
 record One (word : List ℕ) : Type 0 where
   same : List ℕ
   marks : List Mark
@@ -104,7 +104,7 @@ one_of n word marks single (next {count = m} first (next second rest)) = absurd 
 run_of_one : (word : List ℕ) (marks : List Mark) → IsElement word marks → IsRun 1 word marks
 run_of_one word marks element = add_element 0 [] [] run_done word marks element
 
--- an element that is its own spelling, if only the shortest is taken
+-- An element that is its own spelling, if only the shortest is taken.
 pub shape_of : (strict : Bool) → StrictLaw strict → (word : List ℕ) (marks : List Mark) → IsElement word marks
     → (strict ≡ true → (word ≡ spelling marks) × AllByRecursion IsNoSmallSimple marks) → Shape strict word
 shape_of false law word marks element spelled = any_shape word marks element
@@ -116,7 +116,7 @@ shape_of true law word marks element spelled =
 
 -- ---- of an item
 
--- the element that comes first, if it is taken
+-- The element that comes first, if it is taken.
 taken_front : (strict : Bool) → StrictLaw strict → (word rest bytes : List ℕ) (marks : List Mark)
     → IsTakenElement strict word marks → bytes ≡ word ++ rest → BeginsWithElements strict 1 bytes
 taken_front false law word rest bytes marks element is = record {
@@ -160,7 +160,7 @@ taken_open true kind title strings bodies is_title are taken sound = parts kind 
 taken_open false kind title strings bodies is_title are taken sound = string kind (indefinite is_title are) sound
 
 module _ (strict : Bool) (law : StrictLaw strict) (title : List ℕ) where
-  -- a title that begins no string is an element by itself
+  -- A title that begins no string is an element by itself.
   title_front : (rest bytes : List ℕ) (header : Header) → IsTitle title header → IsTakenTitle strict title header
       → IsPlain header → bytes ≡ title ++ rest → BeginsWithElements strict 1 bytes
   title_front rest bytes header is_title taken is_plain is =
@@ -215,7 +215,7 @@ module _ (strict : Bool) (law : StrictLaw strict) (title : List ℕ) where
   item_front depth rest bytes header is_title taken (open_pairs count items) is =
       title_front (rest ++ []) bytes header is_title taken tt is
 
--- an item begins with an element
+-- An item begins with an element.
 pub first_of : (strict : Bool) → StrictLaw strict → (depth : ℕ) (item : List ℕ) → IsItem strict depth item
     → BeginsWithElements strict 1 item
 first_of strict law depth item (more_items {title = t} {rest = r} {header = x} is_title taken completes no_items) =
@@ -254,7 +254,7 @@ completed strict h.Break is_plain goes = absurd (goes refl)
 completed strict (h.Bytes len) is_plain goes = absurd is_plain
 completed strict (h.Text len) is_plain goes = absurd is_plain
 
--- some bytes after a title make it an item
+-- Some bytes after a title make it an item.
 pub title_item : (strict : Bool) (title : List ℕ) (header : Header) → IsTitle title header
     → IsTakenTitle strict title header → IsPlain header → (header ≡ h.Break → ⊥)
     → (rest : List ℕ) × IsItem strict 1 (title ++ rest)
@@ -262,6 +262,6 @@ title_item strict title header is_title taken is_plain goes =
     let rest = completed strict header is_plain goes in
     (rest.0, item_of strict 1 title rest.0 header is_title taken rest.1)
 
--- a break is one byte
+-- A break is one byte.
 pub break_long : (title : List ℕ) → IsTitle title h.Break → length title ≡ 1
 break_long title is_title = ap length (alone_bytes title h.Break is_title refl)

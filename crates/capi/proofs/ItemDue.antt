@@ -13,7 +13,7 @@ use Rattle.cbor_checker.specs.Telling.{Tells, progress_of}
 use Rattle.cbor_skip.specs.ItemFaults.{BeginsWithItem}
 use Rattle.capi.specs.Lacking.{ItemLacks}
 
--- if no item comes first in the bytes, an item that comes first in the bytes and more goes on into what follows
+-- If no item comes first in the bytes, an item that comes first in the bytes and more goes on into what follows.
 pub record GoesOn (strict : Bool) (depth : ℕ) (bytes more : List ℕ) : Type 0 where
   pub next : List ℕ
   pub rest : List ℕ
@@ -39,7 +39,7 @@ module _ (strict : Bool) (depth : ℕ) (bytes : List ℕ) (cut : BeginsWithItem 
             )
       ]
 
-  -- a checker lacks some
+  -- A checker lacks some.
   pub some_lack : (taken due : ℕ) (spot : Spot) → taken ≡ length bytes → IsFed strict depth (take taken bytes) spot
       → Tells strict depth (take taken bytes) (r.More due) → r.More due ≡ progress_of spot
       → ItemLacks strict depth bytes due
@@ -68,7 +68,7 @@ module _ (strict : Bool) (depth : ℕ) (bytes : List ℕ) (cut : BeginsWithItem 
         };
       }
 
-  -- no item begins so
+  -- No item begins so.
   pub none_follow : (taken : ℕ) (fault : Fault) → Tells strict depth (take taken bytes) (r.Fault fault)
       → ItemLacks strict depth bytes 0
   none_follow taken fault never = record {
@@ -82,7 +82,7 @@ module _ (strict : Bool) (depth : ℕ) (bytes : List ℕ) (cut : BeginsWithItem 
     checker = λ positive. absurd (omega (arith, positive));
   }
 
-  -- nor has one ended
+  -- Nor has one ended.
   pub none_ended : (taken len : ℕ) → Tells strict depth (take taken bytes) (r.Ended len) → ⊥
   none_ended taken len tells =
       cut (record {
@@ -92,7 +92,7 @@ module _ (strict : Bool) (depth : ℕ) (bytes : List ℕ) (cut : BeginsWithItem 
         is = sym (take-append-drop taken bytes);
       })
 
--- if a checker says that an item ended, an item of that length comes first
+-- If a checker says that an item ended, an item of that length comes first.
 pub ended_in_front : (strict : Bool) (depth : ℕ) (bytes : List ℕ) (taken len : ℕ)
     → Tells strict depth (take taken bytes) (r.Ended len)
     → (front : BeginsWithItem strict depth bytes) × (len ≡ length front.item)

@@ -16,17 +16,17 @@ use Rattle.capi.specs.Answers.{code}
 use Rattle.capi.specs.Headers.{Says}
 use Rattle.capi.specs.Pulling.{CllPull, BeginsWithTitle}
 
--- if the bytes end inside a title, no title comes first
+-- If the bytes end inside a title, no title comes first.
 pub front_not_cut : (bytes : List ℕ) → BeginsWithTitle bytes → IsCutTitle bytes → ⊥
 front_not_cut bytes front cut = title_not_cut front.title front.rest front.header front.is_title
     (subst IsCutTitle front.is cut)
 
--- nor does one if they begin with a byte with which no title begins
+-- Nor does one if they begin with a byte with which no title begins.
 pub front_not_refused : (bytes : List ℕ) → BeginsWithTitle bytes → BeginsRefused bytes → ⊥
 front_not_refused bytes front refused =
     title_refused front.title front.rest front.header front.is_title (subst BeginsRefused front.is refused)
 
--- no other answer has the number of `Ok`
+-- No other answer has the number of `Ok`.
 pub code_ok : (answer : CllAnswer) (result : ℕ) → result ≡ code answer → (result ≡ code a.Ok) ↔ (answer ≡ a.Ok)
 code_ok a.Ok result is = (λ same. refl, λ same. is)
 code_ok a.Short result is = (λ same. absurd (omega (arith, is, same)), λ same. absurd cc)
@@ -41,13 +41,13 @@ code_ok a.Indefinite result is = (λ same. absurd (omega (arith, is, same)), λ 
 code_ok a.KeyOrder result is = (λ same. absurd (omega (arith, is, same)), λ same. absurd cc)
 code_ok a.DuplicateKey result is = (λ same. absurd (omega (arith, is, same)), λ same. absurd cc)
 
--- if the answer is `Ok` exactly under a condition, the number is that of `Ok` exactly then
+-- If the answer is `Ok` exactly under a condition, the number is that of `Ok` exactly then.
 pub code_exactly : {Holds : Type 0} (answer : CllAnswer) (result : ℕ) → result ≡ code answer → (answer ≡ a.Ok) ↔ Holds
     → (result ≡ code a.Ok) ↔ Holds
 code_exactly answer result is exact =
     let same = code_ok answer result is in (λ ok. exact.0 (same.0 ok), λ holds. same.1 (exact.1 holds))
 
--- no other answer has the number of `Short`
+-- No other answer has the number of `Short`.
 is_short : (answer : CllAnswer) (result : ℕ) → result ≡ code answer → result ≡ code a.Short → answer ≡ a.Short
 is_short a.Short result is same = refl
 is_short a.Ok result is same = absurd (omega (arith, is, same))
@@ -62,12 +62,12 @@ is_short a.Indefinite result is same = absurd (omega (arith, is, same))
 is_short a.KeyOrder result is same = absurd (omega (arith, is, same))
 is_short a.DuplicateKey result is same = absurd (omega (arith, is, same))
 
--- what holds if the answer is `Short` holds if the number is that of `Short`
+-- What holds if the answer is `Short` holds if the number is that of `Short`.
 pub code_short : {Holds : Type 0} (answer : CllAnswer) (result : ℕ) → result ≡ code answer
     → (answer ≡ a.Short → Holds) → result ≡ code a.Short → Holds
 code_short answer result is holds same = holds (is_short answer result is same)
 
--- `Ok` comes exactly if a title comes first
+-- `Ok` comes exactly if a title comes first.
 pub pulled_exactly : (bytes : List ℕ) (answer : CllAnswer) (old new : CllHeader) (consumed result : ℕ)
     → result ≡ code answer → CllPull bytes answer old new consumed → (result ≡ code a.Ok) ↔ BeginsWithTitle bytes
 pulled_exactly bytes a.Ok old new consumed result is pulled = (λ same. pulled.0, λ front. is)
@@ -87,7 +87,7 @@ pulled_exactly bytes a.DuplicateKey old new consumed result is pulled = absurd p
 
 module _ {R E : Type 0} (source : Ghosts R E) (strict : Bool) (reader : R) (decoder : Decoder R)
     (fresh : IsFreshAs strict reader 0 decoder) where
-  -- all that the reader has ahead is due
+  -- All that the reader has ahead is due.
   pub due_ahead : (due : List ℕ) → source.ahead reader ≡ Some due → view source decoder ≡ Some due
   due_ahead due ahead =
       view_none decoder.waiting (source.ahead decoder.reader) fresh.none_waits ∙ ap source.ahead fresh.reader ∙ ahead
@@ -95,7 +95,7 @@ module _ {R E : Type 0} (source : Ghosts R E) (strict : Bool) (reader : R) (deco
   pub still_steady : IsTrue (source.steady reader) → IsTrue (source.steady decoder.reader)
   still_steady steady = subst (λ (r : R). IsTrue (source.steady r)) (sym fresh.reader) steady
 
--- the bytes that were due began with the title that was pulled
+-- The bytes that were due began with the title that was pulled.
 module _ {R E : Type 0} (source : Ghosts R E) where
   pub pulled_front : (reader : R) (due : List ℕ) (header : Header) (old new : Decoder R) (parts : CllHeader)
       (consumed : ℕ) → consumed ≡ new.offset → PullsTitle source old header new

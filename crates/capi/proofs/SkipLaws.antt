@@ -110,7 +110,7 @@ module _ {R E : Type 0} (source : Ghosts R E) where
       } in
       subst (λ (x : CllAnswer). Skips depth due x report) (sym same) said
 
--- the answer `Ok` stands for the skip that succeeded alone
+-- The answer `Ok` stands for the skip that succeeded alone.
 pub skip_answers_ok : {E : Type 0} (result : Result (Unit {0}) (SkipError E))
     → (skip_answer result ≡ a.Ok) ↔ IsOk result
 skip_answers_ok (Ok done) = (λ same. cc, λ ok. refl)

@@ -20,7 +20,7 @@ use Rattle.capi.specs.Texts.{FindsText, IsCutCharacter}
 
 -- ---- what is stuck and goes on is one character that is cut off
 
--- the first character of a text that begins with the stuck bytes is longer
+-- The first character of a text that begins with the stuck bytes is longer.
 cut_in : (rest more : List ℕ) (characters : List (List ℕ)) → IsStuck rest → rest ≢ []
     → AllByRecursion IsCharacter characters → rest ++ more ≡ joined characters → IsCutCharacter rest
 cut_in [] more [] stuck some each whole = absurd (some refl)
@@ -51,7 +51,7 @@ cut_character bytes stuck some more text =
 -- ---- the front by the state behind it
 
 module _ (bytes text rest : List ℕ) (front : IsFront bytes text rest) where
-  -- between two characters nothing follows the front
+  -- Between two characters nothing follows the front.
   pub nothing_behind : after s.Between rest ≡ s.Between → rest ≡ []
   nothing_behind ends = IsStuck-rest bytes text rest front rest [] (sym (append-nil rest)) (text_from rest ends)
 
@@ -65,7 +65,7 @@ module _ (bytes text rest : List ℕ) (front : IsFront bytes text rest) where
         subst (λ (z : List ℕ). Reports report (length z) 0 0) same reports,
       )
 
-  -- inside a character that character is cut off
+  -- Inside a character that character is cut off.
   pub finds_cut : (report : CllReport) → after s.Between rest ≢ s.Between → after s.Between rest ≢ s.Damaged
       → Reports report (length text) 0 0 → FindsText bytes a.Short report
   finds_cut report inside goes reports =
@@ -76,7 +76,7 @@ module _ (bytes text rest : List ℕ) (front : IsFront bytes text rest) where
         reports,
       )
 
-  -- if no text goes on, no text begins after the front
+  -- If no text goes on, no text begins after the front.
   pub finds_damage : (report : CllReport) → after s.Between rest ≡ s.Damaged
       → Reports report (length text) 0 (length text) → FindsText bytes a.Syntax report
   finds_damage report damaged reports = (
@@ -87,7 +87,7 @@ module _ (bytes text rest : List ℕ) (front : IsFront bytes text rest) where
 
 -- ---- what the answers tell
 
--- whatever follows the bytes: all of it is text if what is after their front is text with what follows
+-- Whatever follows the bytes: all of it is text if what is after their front is text with what follows.
 goes_with : (bytes text rest more : List ℕ) → bytes ≡ text ++ rest → IsCharacters text
     → IsCharacters (bytes ++ more) ↔ IsCharacters (rest ++ more)
 goes_with bytes text rest more parts front =
@@ -97,7 +97,7 @@ goes_with bytes text rest more parts front =
       λ behind. subst IsCharacters (sym same) (IsCharacters-append text (rest ++ more) front behind),
     )
 
--- the same by how many bytes were consumed
+-- The same by how many bytes were consumed.
 goes_behind : (bytes text rest : List ℕ) (consumed : ℕ) → bytes ≡ text ++ rest → IsCharacters text
     → consumed ≡ length text
     → (more : List ℕ) → IsCharacters (bytes ++ more) ↔ IsCharacters (drop consumed bytes ++ more)
@@ -129,7 +129,7 @@ found_pieces bytes a.Indefinite report found = absurd found
 found_pieces bytes a.KeyOrder report found = absurd found
 found_pieces bytes a.DuplicateKey report found = absurd found
 
--- `Ok` comes exactly for a text
+-- `Ok` comes exactly for a text.
 pub found_exactly : (bytes : List ℕ) (answer : CllAnswer) (report : CllReport) → FindsText bytes answer report
     → (answer ≡ a.Ok) ↔ IsCharacters bytes
 found_exactly bytes a.Ok report found = (λ same. found.0, λ text. refl)

@@ -4,7 +4,7 @@ use Rattle.capi.specs.declared.answer.CllAnswer.{CllAnswer}
 use Rattle.capi.specs.declared.answer.CllAnswer.TheVariants as a
 use Rattle.capi.specs.declared.answer.CllReport.{CllReport}
 
--- the number of an answer, as the C header has it
+-- The number of an answer, as the C header has it.
 abbrev pub code : CllAnswer → ℕ
 code a.Ok = 0
 code a.Short = 1
@@ -19,15 +19,15 @@ code a.Indefinite = 9
 code a.KeyOrder = 10
 code a.DuplicateKey = 11
 
--- the number is that of an answer
+-- The number is that of an answer.
 abbrev pub IsCode : ℕ → Type 0
 IsCode number = (answer : CllAnswer) × (number ≡ code answer)
 
--- the number of a version, as the C header has it: 0.1.0 is 256
+-- The number of a version, as the C header has it: 0.1.0 is 256.
 abbrev pub version_code : ℕ → ℕ → ℕ → ℕ
 version_code major minor patch = 65536 * major + 256 * minor + patch
 
--- the report says how many bytes were consumed and written, and names this place. It counts no elements
+-- The report says how many bytes were consumed and written, and names this place. It counts no elements.
 pub record Reports (report : CllReport) (consumed written place : ℕ) : Type 0 where
   pub consumed_is : report.consumed ≡ consumed
   pub written_is : report.written ≡ written
@@ -36,14 +36,14 @@ pub record Reports (report : CllReport) (consumed written place : ℕ) : Type 0 
   pub none_whole : report.whole ≡ 0
   pub none_spelled : report.spelled ≡ 0
 
--- the same of a copy or a check, which also counts elements
+-- The same of a copy or a check, which also counts elements.
 pub record ReportsCopy (report : CllReport) (consumed written place : ℕ) : Type 0 where
   pub consumed_is : report.consumed ≡ consumed
   pub written_is : report.written ≡ written
   pub place_is : report.place ≡ place
 
--- the report says how many elements were done, at which offset the last of them ends, and how many bytes of them were
--- written
+-- The report says how many elements were done, at which offset the last of them ends, and how many bytes of them were
+-- written.
 pub record ReportsElements (report : CllReport) (elements whole spelled : ℕ) : Type 0 where
   pub elements_is : report.elements ≡ elements
   pub whole_is : report.whole ≡ whole

@@ -6,9 +6,9 @@ use Rattle.capi.specs.declared.answer.CllAnswer.TheVariants as a
 use Rattle.capi.specs.declared.answer.CllReport.{CllReport}
 use Rattle.capi.specs.Answers.{ReportsCopy}
 
--- what `cll_strict` does, by its answer. The bytes begin with `count` elements in their shortest spelling, or with the
+-- What `cll_strict` does, by its answer. The bytes begin with `count` elements in their shortest spelling, or with the
 -- first fault of a strict read. Nothing is written. If the bytes end too early, the place is a number of bytes
--- (`ElementsLack`)
+-- (`ElementsLack`).
 abbrev pub Checks : ℕ → List ℕ → CllAnswer → CllReport → Type 0
 Checks count bytes a.Ok report = (front : BeginsWithElements true count bytes) × ReportsCopy report (length front.elements) 0 0
 Checks count bytes a.Short report =

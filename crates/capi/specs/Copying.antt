@@ -11,29 +11,29 @@ use Rattle.capi.specs.declared.answer.CllAnswer.TheVariants as a
 use Rattle.capi.specs.declared.answer.CllReport.{CllReport}
 use Rattle.capi.specs.Answers.{ReportsCopy}
 
--- the room is enough: for the spelling, if the bytes begin with the elements, or for as many bytes as there are
+-- The room is enough: for the spelling, if the bytes begin with the elements, or for as many bytes as there are.
 abbrev pub HasRoom : ℕ → List ℕ → ℕ → Type 0
 HasRoom count bytes room =
     ((front : BeginsWithElements false count bytes) × (length (spelling front.marks) ≤ room)) ⊎ (length bytes ≤ room)
 
--- the output begins with the bytes, and after them it is as it was
+-- The output begins with the bytes, and after them it is as it was.
 abbrev pub StandAtStart : List ℕ → List ℕ → List ℕ → Type 0
 StandAtStart bytes old new = new ≡ bytes ++ drop (length bytes) old
 
--- the input began with `count` elements. All of them were consumed, and their shortest spelling stands in the output
+-- The input began with `count` elements. All of them were consumed, and their shortest spelling stands in the output.
 abbrev pub OutputsElements : ℕ → List ℕ → List ℕ → List ℕ → CllReport → Type 0
 OutputsElements count bytes old new report =
     (front : BeginsWithElements false count bytes) × StandAtStart (spelling front.marks) old new
     × ReportsCopy report (length front.elements) (length (spelling front.marks)) 0
 
--- the first fault stopped the copy at this place. What was written before the fault stands in the output
+-- The first fault stopped the copy at this place. What was written before the fault stands in the output.
 abbrev pub OutputsUpToFault : ℕ → List ℕ → List ℕ → List ℕ → CllReport → Type 0
 OutputsUpToFault count bytes old new report =
     (fault : HasFault false count bytes) × (fault.answer ≡ Syntax report.place) × StandAtStart fault.written old new
     × ReportsCopy report (length fault.before + fault.consumed) (length fault.written) report.place
 
--- what `cll_recode` does with enough room, by its answer. If the bytes do not begin with `count` elements, the first
--- fault stops it. If they end too early, the place is a number of bytes (`ElementsLack`)
+-- What `cll_recode` does with enough room, by its answer. If the bytes do not begin with `count` elements, the first
+-- fault stops it. If they end too early, the place is a number of bytes (`ElementsLack`).
 abbrev pub CopiesInto : ℕ → List ℕ → List ℕ → CllAnswer → List ℕ → CllReport → Type 0
 CopiesInto count bytes old a.Ok new report = OutputsElements count bytes old new report
 CopiesInto count bytes old a.Short new report =
@@ -42,18 +42,18 @@ CopiesInto count bytes old a.Short new report =
 CopiesInto count bytes old a.Syntax new report = OutputsUpToFault count bytes old new report
 CopiesInto count bytes old answer new report = ⊥
 
--- the length of the buffer through which bodies go, in bytes
+-- The length of the buffer through which bodies go, in bytes.
 abbrev pub buffer_size : ℕ
 buffer_size = 1024
 
--- in this room the copy stops, since the next thing to write does not fit: the shortest title of a header that was
--- read, or a chunk of a body
+-- In this room the copy stops, since the next thing to write does not fit: the shortest title of a header that was
+-- read, or a chunk of a body.
 pub record StopsForRoom (count : ℕ) (bytes : List ℕ) (room : ℕ) : Type 0 where
   pub stop : StopInWriting count buffer_size bytes
   pub fits : length stop.whole ≤ room
   pub lacks : room < length stop.whole + length stop.next
 
--- what `cll_recode` does in any room: the same, or it stops since the next thing to write does not fit
+-- What `cll_recode` does in any room: the same, or it stops since the next thing to write does not fit.
 abbrev pub CopiesAnyhow : ℕ → List ℕ → List ℕ → CllAnswer → List ℕ → CllReport → Type 0
 CopiesAnyhow count bytes old a.Room new report =
     (stops : StopsForRoom count bytes (length old)) × StandAtStart stops.stop.written old new
@@ -61,7 +61,7 @@ CopiesAnyhow count bytes old a.Room new report =
 CopiesAnyhow count bytes old answer new report = CopiesInto count bytes old answer new report
 
 module _ {E F : Type 0} where
-  -- the answer that stands for the result of `recode`
+  -- The answer that stands for the result of `recode`.
   abbrev pub copy_answer : Result (Unit {0}) (RecodeError E F) → CllAnswer
   copy_answer (Ok done) = a.Ok
   copy_answer (Err (r.Read (e.Io fault))) = a.Short
@@ -70,7 +70,7 @@ module _ {E F : Type 0} where
   copy_answer (Err (r.Read e.Waiting)) = a.TooLong
   copy_answer (Err (r.Write fault)) = a.Room
 
-  -- the place that the result names, or 0
+  -- The place that the result names, or 0.
   abbrev pub copy_place : Result (Unit {0}) (RecodeError E F) → ℕ
   copy_place (Err (r.Read (e.Syntax place))) = place
   copy_place copied = 0

@@ -11,16 +11,16 @@ use Rattle.capi.specs.declared.answer.CllAnswer.TheVariants as a
 use Rattle.capi.specs.declared.answer.CllReport.{CllReport}
 use Rattle.capi.specs.Answers.{Reports}
 
--- the number of an order of keys, as the C header has it
+-- The number of an order of keys, as the C header has it.
 abbrev pub order_code : Order → ℕ
 order_code Bytewise = 0
 order_code LengthFirst = 1
 
--- the number is that of no order of keys
+-- The number is that of no order of keys.
 abbrev pub IsNoOrder : ℕ → Type 0
 IsNoOrder number = (order : Order) → number ≡ order_code order → ⊥
 
--- the answer that stands for the reason of a refusal
+-- The answer that stands for the reason of a refusal.
 abbrev pub why_answer : Why → CllAnswer
 why_answer w.Cut = a.Short
 why_answer w.NoTitle = a.Syntax
@@ -32,13 +32,13 @@ why_answer w.KeyOrder = a.KeyOrder
 why_answer w.DuplicateKey = a.DuplicateKey
 why_answer w.Deep = a.TooDeep
 
--- the place that a report names for a refusal at this offset: the offset, or 0 if the bytes end too early
+-- The place that a report names for a refusal at this offset: the offset, or 0 if the bytes end too early.
 abbrev pub named_place : Why → ℕ → ℕ
 named_place w.Cut offset = 0
 named_place why offset = offset
 
--- what `cll_deterministic` does, by its answer: it finds the item that comes first, or refuses it. After a refusal the
--- bytes up to its offset are consumed. Nothing is written
+-- What `cll_deterministic` does, by its answer: it finds the item that comes first, or refuses it. After a refusal the
+-- bytes up to its offset are consumed. Nothing is written.
 pub data Determines (order : Order) (depth : ℕ) (bytes : List ℕ) : CllAnswer → CllReport → Type 0 where
   has_item : {len : ℕ} {report : CllReport} → HasDeterministic order depth bytes len → Reports report len 0 0
       → Determines order depth bytes a.Ok report

@@ -16,66 +16,66 @@ use Rattle.capi.specs.declared.answer.CllReport.{CllReport}
 use Rattle.capi.specs.declared.checker.CllChecker.{CllChecker}
 use Rattle.capi.specs.Answers.{Reports}
 
--- this memory holds a checker that has come to the spot. The mark is "ciborium" in ASCII
+-- This memory holds a checker that has come to the spot. The mark is "ciborium" in ASCII.
 pub record IsKept (checker : CllChecker) (spot : Spot) : Type 0 where
   pub mark : checker.mark ≡ 7163364913109890413
   pub state : Holds checker.state spot
 
--- this memory holds no checker
+-- This memory holds no checker.
 abbrev pub IsNoChecker : CllChecker → Type 0
 IsNoChecker checker = (spot : Spot) → IsKept checker spot → ⊥
 
--- this memory holds a checker of an item to the depth, to which nothing came. With `strict` the item is one in its
--- shortest spelling
+-- This memory holds a checker of an item to the depth, to which nothing came. With `strict` the item is one in its
+-- shortest spelling.
 abbrev pub IsSetUp : Bool → ℕ → CllChecker → Type 0
 IsSetUp strict depth checker = (spot : Spot) × IsKept checker spot × IsFed strict depth [] spot
 
--- the answer that stands for a fault
+-- The answer that stands for a fault.
 abbrev pub fault_answer : Fault → CllAnswer
 fault_answer (f.Syntax place) = a.Syntax
 fault_answer (f.Break place) = a.BreakDue
 fault_answer (f.Deep place) = a.TooDeep
 
--- the place of a fault
+-- The place of a fault.
 abbrev pub fault_place : Fault → ℕ
 fault_place (f.Syntax place) = place
 fault_place (f.Break place) = place
 fault_place (f.Deep place) = place
 
--- the answer that stands for what `feed` of `cbor_checker` returned
+-- The answer that stands for what `feed` of `cbor_checker` returned.
 abbrev pub progress_answer : Progress → CllAnswer
 progress_answer (r.Ended len) = a.Ok
 progress_answer (r.More due) = a.Short
 progress_answer (r.Fault fault) = fault_answer fault
 progress_answer r.TooLong = a.TooLong
 
--- the number that comes with it: the length of the item, how many bytes are due, or the place of the fault
+-- The number that comes with it: the length of the item, how many bytes are due, or the place of the fault.
 abbrev pub progress_number : Progress → ℕ
 progress_number (r.Ended len) = len
 progress_number (r.More due) = due
 progress_number (r.Fault fault) = fault_place fault
 progress_number r.TooLong = 0
 
--- the answer that stands for what `end` of `cbor_checker` returned
+-- The answer that stands for what `end` of `cbor_checker` returned.
 abbrev pub end_answer : End → CllAnswer
 end_answer e.Between = a.Ok
 end_answer (e.Short due) = a.Short
 end_answer (e.Fault fault) = fault_answer fault
 
--- the number that comes with it: how many bytes are due, or the place of the fault
+-- The number that comes with it: how many bytes are due, or the place of the fault.
 abbrev pub end_number : End → ℕ
 end_number e.Between = 0
 end_number (e.Short due) = due
 end_number (e.Fault fault) = fault_place fault
 
--- the answer with its number is that of the spot. If no more bytes can be counted, more are due there
+-- The answer with its number is that of the spot. If no more bytes can be counted, more are due there.
 abbrev pub IsAnswer : CllAnswer → ℕ → Spot → Type 0
 IsAnswer a.TooLong number spot = IsMore (progress_of spot)
 IsAnswer answer number spot =
     (answer ≡ progress_answer (progress_of spot)) × (number ≡ progress_number (progress_of spot))
 
 -- What an answer with its number says of all bytes so far. They are one item of this length. Or at least this many more
--- bytes are due. Or no item begins so, with a fault at this place (RFC 7049, 2.1 to 2.4)
+-- bytes are due. Or no item begins so, with a fault at this place (RFC 7049, 2.1 to 2.4).
 abbrev pub SaysOf : Bool → ℕ → List ℕ → CllAnswer → ℕ → Type 0
 SaysOf strict depth whole a.Ok number = Tells strict depth whole (r.Ended number)
 SaysOf strict depth whole a.Short number = Tells strict depth whole (r.More number)
@@ -85,14 +85,14 @@ SaysOf strict depth whole a.TooDeep number = Tells strict depth whole (r.Fault (
 SaysOf strict depth whole a.TooLong number = Tells strict depth whole r.TooLong × (number ≡ 0)
 SaysOf strict depth whole answer number = ⊥
 
--- whatever the memory of the checker held: no more was taken than there is, and nothing is written
+-- Whatever the memory of the checker held: no more was taken than there is, and nothing is written.
 pub record TakesWithin (bytes : List ℕ) (report : CllReport) : Type 0 where
   pub taken : report.consumed ≤ length bytes
   pub written : report.written ≡ 0
 
 -- What `cll_checker_feed` does with a piece, for a checker that has come to the old spot. It takes all bytes if more
 -- are due, fewer if no more can be counted, and none if none was due. The answer says what it says of all bytes so far,
--- which have led to the spot of the new checker (RFC 7049, 2.1 to 2.4)
+-- which have led to the spot of the new checker (RFC 7049, 2.1 to 2.4).
 pub record Feeds (strict : Bool) (depth : ℕ) (fed : List ℕ) (old : Spot) (bytes : List ℕ) (answer : CllAnswer) (report : CllReport)
     (new : CllChecker) : Type 0 where
   pub taken : report.consumed ≤ length bytes
@@ -106,8 +106,8 @@ pub record Feeds (strict : Bool) (depth : ℕ) (fed : List ℕ) (old : Spot) (by
   pub answers : IsAnswer answer report.place spot
   pub stays : is_due old.phase ≡ false → (report.consumed ≡ 0) × (spot ≡ old)
 
--- what an answer with its number says if no more bytes come: none came or they are one item, they are cut off, or no
--- item begins so
+-- What an answer with its number says if no more bytes come: none came or they are one item, they are cut off, or no
+-- item begins so.
 abbrev pub SaysOfEnd : Bool → ℕ → List ℕ → CllAnswer → ℕ → Type 0
 SaysOfEnd strict depth whole a.Ok number = TellsEnd strict depth whole e.Between × (number ≡ 0)
 SaysOfEnd strict depth whole a.Short number = TellsEnd strict depth whole (e.Short number)
@@ -116,7 +116,7 @@ SaysOfEnd strict depth whole a.BreakDue number = TellsEnd strict depth whole (e.
 SaysOfEnd strict depth whole a.TooDeep number = TellsEnd strict depth whole (e.Fault (f.Deep number))
 SaysOfEnd strict depth whole answer number = ⊥
 
--- what `cll_checker_end` does at the spot: the answer and its number are those of the spot (RFC 7049, 2.1 to 2.4)
+-- What `cll_checker_end` does at the spot: the answer and its number are those of the spot (RFC 7049, 2.1 to 2.4).
 pub record EndsFed (strict : Bool) (depth : ℕ) (fed : List ℕ) (spot : Spot) (answer : CllAnswer) (report : CllReport)
     : Type 0 where
   pub says : SaysOfEnd strict depth fed answer report.place

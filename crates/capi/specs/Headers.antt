@@ -6,7 +6,7 @@ use Rattle.ciborium_ll.specs.Types.Float.TheVariants as f
 use Rattle.ciborium_ll.specs.Title.{IsInRange}
 use Rattle.capi.specs.declared.header.CllHeader.{CllHeader}
 
--- the number of a header's kind (RFC 7049, 2.1 to 2.4)
+-- The number of a header's kind (RFC 7049, 2.1 to 2.4).
 abbrev pub kind_number : Header → ℕ
 kind_number (h.Positive n) = 0
 kind_number (h.Negative n) = 1
@@ -21,12 +21,12 @@ kind_number (h.Float (f.Single bits)) = 9
 kind_number (h.Float (f.Double bits)) = 10
 kind_number h.Break = 11
 
--- a length, or 0 for the indefinite form
+-- A length, or 0 for the indefinite form.
 abbrev pub length_or_none : Option ℕ → ℕ
 length_or_none (Some len) = len
 length_or_none None = 0
 
--- the number of a header, its length or count, or the bits of its float (RFC 7049, 2.1 to 2.4)
+-- The number of a header, its length or count, or the bits of its float (RFC 7049, 2.1 to 2.4).
 abbrev pub value_of : Header → ℕ
 value_of (h.Positive n) = n
 value_of (h.Negative n) = n
@@ -41,12 +41,12 @@ value_of (h.Float (f.Single bits)) = bits
 value_of (h.Float (f.Double bits)) = bits
 value_of h.Break = 0
 
--- 1 for the indefinite form, and 0 otherwise
+-- 1 for the indefinite form, and 0 otherwise.
 abbrev pub indefinite_of : Option ℕ → ℕ
 indefinite_of (Some len) = 0
 indefinite_of None = 1
 
--- 1 for a header of the indefinite form, and 0 otherwise (RFC 7049, 2.2)
+-- 1 for a header of the indefinite form, and 0 otherwise (RFC 7049, 2.2).
 abbrev pub open_of : Header → ℕ
 open_of (h.Bytes len) = indefinite_of len
 open_of (h.Text len) = indefinite_of len
@@ -54,18 +54,18 @@ open_of (h.Array len) = indefinite_of len
 open_of (h.Map len) = indefinite_of len
 open_of header = 0
 
--- the parts are those of the header: its kind, its number, and 1 for its indefinite form (RFC 7049, 2.1 to 2.4). `19 03
--- e8` has kind 0, value 1000 and form 0
+-- The parts are those of the header: its kind, its number, and 1 for its indefinite form (RFC 7049, 2.1 to 2.4). `19 03
+-- e8` has kind 0, value 1000 and form 0.
 pub record Says (parts : CllHeader) (header : Header) : Type 0 where
   pub kind : parts.kind ≡ kind_number header
   pub value : parts.value ≡ value_of header
   pub indefinite : parts.indefinite ≡ open_of header
 
--- the length that a form and a value say: none for the indefinite form
+-- The length that a form and a value say: none for the indefinite form.
 abbrev pub len_from : ℕ → ℕ → Option ℕ
 len_from form n = if form == 0 then Some n else None
 
--- the header that a kind, a form and a value make, if the kind is one. Of the value it has what the kind holds
+-- The header that a kind, a form and a value make, if the kind is one. Of the value it has what the kind holds.
 abbrev pub rebuilt : ℕ → ℕ → ℕ → Option Header
 rebuilt kind form n =
     if kind == 0 then Some (h.Positive n) else
@@ -81,6 +81,6 @@ rebuilt kind form n =
     (if kind == 10 then Some (h.Float (f.Double n)) else
     (if kind == 11 then Some h.Break else None)))))))))))
 
--- no header has these parts
+-- No header has these parts.
 abbrev pub IsNoHeader : CllHeader → Type 0
 IsNoHeader parts = (header : Header) → IsInRange header → Says parts header → ⊥

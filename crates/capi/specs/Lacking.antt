@@ -7,22 +7,22 @@ use Rattle.cbor_checker.specs.Steps.{IsFed}
 use Rattle.cbor_checker.specs.Telling.{progress_of}
 use Rattle.cbor_skip.specs.ItemFaults.{BeginsWithItem}
 
--- a checker that got exactly these bytes lacks this many more: the rest of a title or of a body (RFC 7049, 2.1), or 1.
--- After `43 01` it lacks 2
+-- A checker that got exactly these bytes lacks this many more: the rest of a title or of a body (RFC 7049, 2.1), or 1.
+-- After `43 01` it lacks 2.
 pub record CheckerLacks (strict : Bool) (depth : ℕ) (bytes : List ℕ) (due : ℕ) : Type 0 where
   pub spot : Spot
   pub is_fed : IsFed strict depth bytes spot
   pub lacks : progress_of spot ≡ r.More due
 
 -- All bytes after which the input begins with an item are at least this many, and at least one. 0 says that there are
--- none. Any other number says that there are some, and that a checker lacks this many (RFC 7049, 2.1 to 2.4)
+-- none. Any other number says that there are some, and that a checker lacks this many (RFC 7049, 2.1 to 2.4).
 pub record ItemLacks (strict : Bool) (depth : ℕ) (bytes : List ℕ) (due : ℕ) : Type 0 where
   pub least : (more : List ℕ) → BeginsWithItem strict depth (bytes ++ more) → (1 ≤ due) × (due ≤ length more)
   pub some : 1 ≤ due → (more : List ℕ) × BeginsWithItem strict depth (bytes ++ more)
   pub checker : 1 ≤ due → CheckerLacks strict depth bytes due
 
 -- The same of `count` elements. The whole ones among them end at the offset `whole`, and the bytes after it begin one
--- more. To a checker that is an item: a string, or the title of a nest (RFC 7049, 2.1 and 2.2)
+-- more. To a checker that is an item: a string, or the title of a nest (RFC 7049, 2.1 and 2.2).
 pub record ElementsLack (strict : Bool) (count : ℕ) (bytes : List ℕ) (whole due : ℕ) : Type 0 where
   pub least : (more : List ℕ) → BeginsWithElements strict count (bytes ++ more) → (1 ≤ due) × (due ≤ length more)
   pub some : 1 ≤ due → (more : List ℕ) × BeginsWithElements strict count (bytes ++ more)

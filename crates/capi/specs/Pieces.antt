@@ -14,20 +14,20 @@ use Rattle.capi.specs.declared.answer.CllReport.{CllReport}
 use Rattle.capi.specs.declared.copier.CllCopier.{CllCopier}
 use Rattle.capi.specs.Answers.{Reports}
 
--- this memory holds a copier that has come to the spot. The mark is "elements" in ASCII
+-- This memory holds a copier that has come to the spot. The mark is "elements" in ASCII.
 pub record IsCopier (copier : CllCopier) (spot : Spot) : Type 0 where
   pub mark : copier.mark ≡ 7308327815843050611
   pub state : Holds copier.state spot
 
--- this memory holds no copier
+-- This memory holds no copier.
 abbrev pub IsNoCopier : CllCopier → Type 0
 IsNoCopier copier = (spot : Spot) → IsCopier copier spot → ⊥
 
--- this memory holds a copier of `count` elements, to which nothing came and which wrote nothing
+-- This memory holds a copier of `count` elements, to which nothing came and which wrote nothing.
 abbrev pub IsCopierOf : ℕ → CllCopier → Type 0
 IsCopierOf count copier = (spot : Spot) × IsCopier copier spot × IsCopiedTo count [] [] spot
 
--- the answer that stands for what `feed` of `cbor_copier` returned
+-- The answer that stands for what `feed` of `cbor_copier` returned.
 abbrev pub progress_answer : Progress → CllAnswer
 progress_answer r.Ended = a.Ok
 progress_answer r.More = a.Short
@@ -35,24 +35,24 @@ progress_answer r.Room = a.Room
 progress_answer (r.Syntax place) = a.Syntax
 progress_answer r.TooLong = a.TooLong
 
--- the place that comes with it, or 0
+-- The place that comes with it, or 0.
 abbrev pub progress_place : Progress → ℕ
 progress_place (r.Syntax place) = place
 progress_place progress = 0
 
--- the answer that stands for what `end` of `cbor_copier` returned
+-- The answer that stands for what `end` of `cbor_copier` returned.
 abbrev pub end_answer : End → CllAnswer
 end_answer e.Ended = a.Ok
 end_answer e.Short = a.Short
 end_answer e.Room = a.Room
 end_answer (e.Syntax place) = a.Syntax
 
--- the place that comes with it, or 0
+-- The place that comes with it, or 0.
 abbrev pub end_place : End → ℕ
 end_place (e.Syntax place) = place
 end_place end = 0
 
--- the answer with its place is that of the spot, unless no more bytes can be counted
+-- The answer with its place is that of the spot, unless no more bytes can be counted.
 abbrev pub IsAnswer : CllAnswer → ℕ → Spot → Type 0
 IsAnswer a.TooLong place spot = progress_of spot.put spot.phase ≡ r.More
 IsAnswer answer place spot =
@@ -61,7 +61,7 @@ IsAnswer answer place spot =
 
 -- What an answer with its place says of all bytes so far and of all that was written. They are `count` elements, in
 -- their shortest spelling. Or more are due, and all that can be written is. Or there is more to write. Or the elements
--- never begin so, with a fault at this place (RFC 7049, 2.1 and 2.2)
+-- never begin so, with a fault at this place (RFC 7049, 2.1 and 2.2).
 abbrev pub SaysOf : ℕ → List ℕ → List ℕ → CllAnswer → ℕ → Type 0
 SaysOf count whole output a.Ok place = Tells count whole output r.Ended × (place ≡ 0)
 SaysOf count whole output a.Short place = Tells count whole output r.More × (place ≡ 0)
@@ -70,8 +70,8 @@ SaysOf count whole output a.Syntax place = Tells count whole output (r.Syntax pl
 SaysOf count whole output a.TooLong place = Tells count whole output r.TooLong × (place ≡ 0)
 SaysOf count whole output answer place = ⊥
 
--- whatever the memory of the copier held: no more was taken and written than there is, and after what was written the
--- output is as it was
+-- Whatever the memory of the copier held: no more was taken and written than there is, and after what was written the
+-- output is as it was.
 pub record StaysWithin (bytes out output : List ℕ) (report : CllReport) : Type 0 where
   pub taken : report.consumed ≤ length bytes
   pub written : report.written ≤ length out
@@ -81,7 +81,7 @@ pub record StaysWithin (bytes out output : List ℕ) (report : CllReport) : Type
 -- due, and fewer if no more can be counted. It writes as much as there is room for, if there is more. If nothing was
 -- pending, a room of eight bytes more than the piece has is enough. The answer says what it says of all bytes so far
 -- and of all that was written, which have led to the spot of the new copier. After an end or a fault nothing is taken
--- or written (RFC 7049, 2.1 and 2.2)
+-- or written (RFC 7049, 2.1 and 2.2).
 pub record FeedsCopied (count : ℕ) (fed given : List ℕ) (old : Spot) (bytes out : List ℕ) (answer : CllAnswer)
     (output : List ℕ) (report : CllReport) (new : CllCopier) : Type 0 where
   pub all : answer ≡ a.Short → report.consumed ≡ length bytes
@@ -97,8 +97,8 @@ pub record FeedsCopied (count : ℕ) (fed given : List ℕ) (old : Spot) (bytes 
   pub stays : is_due old.phase ≡ false → old.put ≡ []
       → (report.consumed ≡ 0) × (report.written ≡ 0) × (spot ≡ old)
 
--- what an answer with its place says if no more bytes come: they are `count` elements, they are cut off, there is more
--- to write, or the elements never begin so
+-- What an answer with its place says if no more bytes come: they are `count` elements, they are cut off, there is more
+-- to write, or the elements never begin so.
 abbrev pub SaysOfEnd : ℕ → List ℕ → List ℕ → CllAnswer → ℕ → Type 0
 SaysOfEnd count whole output a.Ok place = TellsEnd count whole output e.Ended × (place ≡ 0)
 SaysOfEnd count whole output a.Short place = TellsEnd count whole output e.Short × (place ≡ 0)
@@ -107,7 +107,7 @@ SaysOfEnd count whole output a.Syntax place = TellsEnd count whole output (e.Syn
 SaysOfEnd count whole output answer place = ⊥
 
 -- What `cll_copier_end` does at the spot. The answer and its place are those of the spot. It is Ok exactly if the bytes
--- are `count` elements and their shortest spelling is written (RFC 7049, 2.1 and 2.2)
+-- are `count` elements and their shortest spelling is written (RFC 7049, 2.1 and 2.2).
 pub record EndsCopied (count : ℕ) (fed given : List ℕ) (spot : Spot) (answer : CllAnswer) (report : CllReport)
     : Type 0 where
   pub says : SaysOfEnd count fed given answer report.place

@@ -7,7 +7,7 @@ use Rattle.capi.specs.declared.answer.CllAnswer.TheVariants as a
 use Rattle.capi.specs.declared.header.CllHeader.{CllHeader}
 use Rattle.capi.specs.Headers.{Says}
 
--- the bytes begin with a title (RFC 7049, 2.1 to 2.3)
+-- The bytes begin with a title (RFC 7049, 2.1 to 2.3).
 pub record BeginsWithTitle (bytes : List ℕ) : Type 0 where
   pub title : List ℕ
   pub header : Header
@@ -16,7 +16,7 @@ pub record BeginsWithTitle (bytes : List ℕ) : Type 0 where
   pub is : bytes ≡ title ++ rest
 
 -- What `cll_pull` does, by its answer. It gives the parts of the header of the first title, and consumes the title. If
--- the bytes begin with no title, the parts are as they were, and a first byte was consumed, if there is one
+-- the bytes begin with no title, the parts are as they were, and a first byte was consumed, if there is one.
 abbrev pub CllPull : List ℕ → CllAnswer → CllHeader → CllHeader → ℕ → Type 0
 CllPull bytes a.Ok old new consumed = (front : BeginsWithTitle bytes) × Says new front.header
     × (consumed ≡ length front.title)

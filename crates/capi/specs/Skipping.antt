@@ -10,8 +10,8 @@ use Rattle.capi.specs.declared.answer.CllAnswer.TheVariants as a
 use Rattle.capi.specs.declared.answer.CllReport.{CllReport}
 use Rattle.capi.specs.Answers.{Reports}
 
--- what `cll_skip` does, by its answer: it finds the item with which the bytes begin, or a fault that stops the read of
--- it. Nothing is written. If the bytes end too early, the place is a number of bytes (`ItemLacks`)
+-- What `cll_skip` does, by its answer: it finds the item with which the bytes begin, or a fault that stops the read of
+-- it. Nothing is written. If the bytes end too early, the place is a number of bytes (`ItemLacks`).
 abbrev pub Skips : ℕ → List ℕ → CllAnswer → CllReport → Type 0
 Skips depth bytes a.Ok report = (front : BeginsWithItem false depth bytes) × Reports report (length front.item) 0 0
 Skips depth bytes a.Short report =
@@ -28,7 +28,7 @@ Skips depth bytes a.TooDeep report =
 Skips depth bytes answer report = ⊥
 
 module _ {E : Type 0} where
-  -- the answer that stands for what `skip_item` returned
+  -- The answer that stands for what `skip_item` returned.
   abbrev pub skip_answer : Result (Unit {0}) (SkipError E) → CllAnswer
   skip_answer (Ok done) = a.Ok
   skip_answer (Err (s.Read (e.Io fault))) = a.Short
@@ -38,7 +38,7 @@ module _ {E : Type 0} where
   skip_answer (Err (s.Break place)) = a.BreakDue
   skip_answer (Err (s.Deep place)) = a.TooDeep
 
-  -- the place that it names, or 0
+  -- The place that it names, or 0.
   abbrev pub skip_place : Result (Unit {0}) (SkipError E) → ℕ
   skip_place (Err (s.Read (e.Syntax place))) = place
   skip_place (Err (s.Break place)) = place

@@ -6,21 +6,21 @@ use Rattle.capi.specs.declared.answer.CllAnswer.TheVariants as a
 use Rattle.capi.specs.declared.answer.CllReport.{CllReport}
 use Rattle.capi.specs.Answers.{Reports}
 
--- the longest text that the bytes begin with, and the bytes after it (RFC 3629, 4)
+-- The longest text that the bytes begin with, and the bytes after it (RFC 3629, 4).
 pub record TextInFront (bytes : List ℕ) : Type 0 where
   pub text : List ℕ
   pub rest : List ℕ
   pub is_front : IsFront bytes text rest
 
--- the bytes are the beginning of one character, and more of it is due (RFC 3629, 4)
+-- The bytes are the beginning of one character, and more of it is due (RFC 3629, 4).
 pub record IsCutCharacter (bytes : List ℕ) : Type 0 where
   pub more : List ℕ
   pub is_character : IsCharacter (bytes ++ more)
   pub begins : bytes ≢ []
   pub goes_on : more ≢ []
 
--- what `cll_utf8` does, by its answer: all bytes are text, or a character is cut off after the text, or no text begins
--- there. Nothing is written
+-- What `cll_utf8` does, by its answer: all bytes are text, or a character is cut off after the text, or no text begins
+-- there. Nothing is written.
 abbrev pub FindsText : List ℕ → CllAnswer → CllReport → Type 0
 FindsText bytes a.Ok report = IsCharacters bytes × Reports report (length bytes) 0 0
 FindsText bytes a.Short report =

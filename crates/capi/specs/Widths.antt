@@ -16,25 +16,25 @@ use Rattle.capi.specs.declared.header.CllHeader.{CllHeader}
 use Rattle.capi.specs.Answers.{Reports}
 use Rattle.capi.specs.Headers.{Says}
 
--- a title of the header that has `width` bytes after its first one (RFC 7049, 2.1)
+-- A title of the header that has `width` bytes after its first one (RFC 7049, 2.1).
 pub record WideTitle (header : Header) (width : ℕ) : Type 0 where
   pub title : List ℕ
   pub is_title : IsTitle title header
   pub wide : length title ≡ suc width
 
--- this title in its parts, or there is no title of that width
+-- This title in its parts, or there is no title of that width.
 abbrev pub Wide : Header → ℕ → Option Title → Type 0
 Wide header width (Some title) =
     IsParts title × IsTitle (title_bytes title) header × (length (title_bytes title) ≡ suc width)
 Wide header width None = WideTitle header width → ⊥
 
--- the same of the header that has the parts of C
+-- The same of the header that has the parts of C.
 abbrev pub WideOf : CllHeader → ℕ → Option Title → Type 0
 WideOf parts width (Some title) = (header : Header) × Says parts header × Wide header width (Some title)
 WideOf parts width None = (header : Header) → Says parts header → WideTitle header width → ⊥
 
 -- What `cll_push_wide` does, by its answer. The output begins with the title of that width. If the title does not fit,
--- or no header with the parts has a title of that width, the output is as it was
+-- or no header with the parts has a title of that width, the output is as it was.
 abbrev pub PushesWide : CllHeader → ℕ → List ℕ → CllAnswer → List ℕ → CllReport → Type 0
 PushesWide parts width old a.Ok new report =
     (header : Header) × Says parts header × (front : WideTitle header width)
@@ -48,12 +48,12 @@ PushesWide parts width old answer new report = ⊥
 
 -- ---- the title that the code makes
 
--- the minor if it holds its number
+-- The minor if it holds its number.
 abbrev pub minor_where : Bool → Minor → Option Minor
 minor_where true minor = Some minor
 minor_where false minor = None
 
--- a number in `width` bytes after the first one, if it fits them
+-- A number in `width` bytes after the first one, if it fits them.
 abbrev pub minor_in : ℕ → ℕ → Option Minor
 minor_in width n =
     if width == 0 then minor_where (nat_lt n 24) (m.Small n) else
@@ -62,25 +62,25 @@ minor_in width n =
     (if width == 4 then minor_where (nat_lt n (2 ^ 32)) (m.Four n) else
     (if width == 8 then Some (m.Eight n) else None))))
 
--- a minor under a major type
+-- A minor under a major type.
 abbrev pub with_major : ℕ → Option Minor → Option Title
 with_major major (Some minor) = Some (record { major = major; minor = minor })
 with_major major None = None
 
--- a title of a number under a major type, if the number fits the width
+-- A title of a number under a major type, if the number fits the width.
 abbrev pub numbered_in : ℕ → ℕ → ℕ → Option Title
 numbered_in major width n = with_major major (minor_in width n)
 
--- the title of the minor 31 under a major type, which has no bytes after its first one
+-- The title of the minor 31 under a major type, which has no bytes after its first one.
 abbrev pub open_in : ℕ → ℕ → Option Title
 open_in major width = if width == 0 then Some (record { major = major; minor = m.Open }) else None
 
--- a title of a length, or of the indefinite form, which has no bytes after its first one
+-- A title of a length, or of the indefinite form, which has no bytes after its first one.
 abbrev pub length_in : ℕ → ℕ → Option ℕ → Option Title
 length_in major width (Some len) = numbered_in major width len
 length_in major width None = open_in major width
 
--- the title of a header in its parts (RFC 7049, 2.1 to 2.3)
+-- The title of a header in its parts (RFC 7049, 2.1 to 2.3).
 abbrev pub title_in : Header → ℕ → Option Title
 title_in (h.Positive n) width = numbered_in 0 width n
 title_in (h.Negative n) width = numbered_in 1 width n

@@ -1,4 +1,4 @@
--- What the rewriting keeps, and when it is refused.
+-- Laws of the rewriting, and of its refusals.
 use Rattle.std.proofs.Common.{◌≡◌, ℕ, ◌+◌, ◌<◌, List, [], ◌++◌, length, refl, sym, ◌∙◌, ap, subst, arith, false, Bool}
 use Rattle.std.proofs.Common.{IsTrue, Some, Result, Ok, Err, MatchResult}
 use Rattle.ciborium_ll_io.specs.declared.io.Read.{Ghosts}

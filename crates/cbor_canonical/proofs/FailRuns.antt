@@ -1,4 +1,4 @@
--- Bytes at which a call fails begin with nothing that it would have read.
+-- If a call fails at some bytes, these begin with nothing that the call reads.
 use Rattle.std.proofs.Common.{◌≡◌, ℕ, zero, suc, ◌*◌, ◌<◌, ◌≤◌, ◌⊎◌, inl, inr, List, [], ◌∷◌, ◌++◌, length, Bool, true}
 use Rattle.std.proofs.Common.{Option, Some, None, refl, sym, ◌∙◌, ap, subst, arith, append_assoc, append-nil, false}
 use Rattle.std.proofs.Common.{nat_lt}
@@ -43,9 +43,9 @@ use Rattle.cbor_canonical.specs.declared.Stop.TheVariants as st
 use Rattle.cbor_canonical.proofs.TitleRuns.{none_there}
 use Rattle.cbor_canonical.proofs.PairRuns.{Turned}
 
--- ---- what was read
+-- ---- items that were read
 
--- an item to the depth that stands for a value
+-- An item to the depth that is a spelling of a value.
 pub record IsRead (d : ℕ) (w : List ℕ) : Type 0 where
   pub is_item : IsItem false d w
   pub value : Value
@@ -82,7 +82,7 @@ read_pairs {ord = ord} d n bytes es q e = subst (λ (m : ℕ). AreJoined (IsPair
           whole = r.whole;
         }) (go o ys rs)
 
--- the same bytes and the same rest
+-- The same bytes and the same rest.
 abbrev SameFront : List ℕ → List ℕ → List ℕ → List ℕ → Type 0
 SameFront f g s t = (f ≡ g) × (s ≡ t)
 
@@ -179,7 +179,7 @@ module _ (P Q : List ℕ → Type 0)
   joined_length m read (more_joined {first = f} {others = o} p ps) =
       omega (arith, length-append f o, some f p, joined_length _ o ps)
 
-  -- where the next one fails, the array or the map does
+  -- The array or the map fails if the next item or pair fails.
   nest_stops : (o : Option ℕ) (m : ℕ) (bytes read rest : List ℕ) → bytes ≡ read ++ rest → AreJoined P m read
       → ((n : ℕ) → o ≡ Some n → m < n) → ((v : List ℕ) → o ≡ None → rest ≡ 0xff ∷ v → ⊥) → NoneInFront Q rest
       → FailsNest Q o bytes
@@ -200,7 +200,7 @@ module _ (P Q : List ℕ → Type 0)
               let l : n ≤ m = grind (arith, nat_tests) in
               let v = closes m n read items rest r ps qs l z in open_end v.0 refl v.1
 
-  -- where as many were read as there are bytes, no break follows
+  -- If as many items or pairs were read as there are bytes, no break follows.
   nest_over : (o : Option ℕ) (m : ℕ) (bytes read rest : List ℕ) → bytes ≡ read ++ rest → AreJoined P m read → o ≡ None
       → length bytes ≤ m → FailsNest Q o bytes
   nest_over o m bytes read rest w ps e l =
@@ -264,7 +264,7 @@ value_stops d stop bytes after key t fails r f =
 
 -- ---- after a title
 
--- what completes one of those that are missed
+-- The contents that complete an item which the call misses.
 abbrev pub Completing : ℕ → Stop → Header → List ℕ → Type 0
 Completing d st.Malformed y r = CompletesAny false d y r
 Completing d (st.NoSimple left) y r = (v : Value) × Follows y v r
@@ -337,7 +337,7 @@ after_title d (st.Duplicate left) y t bytes rest p f =
     }
 after_title d st.Memory y t bytes rest p f = absurd f.is
 
--- nothing completes it
+-- The contents fail if no contents complete such an item.
 pub none_completes : (d : ℕ) (stop : Stop) (y : Header) (bytes : List ℕ)
     → ((r : List ℕ) → Completing d stop y r → ⊥) → FailsRest d y bytes stop
 none_completes d stop y bytes q t p rest f = let g = after_title d stop y t bytes rest p f in q g.front g.is
@@ -359,7 +359,7 @@ break_completes d x r c e = grind arith
 pub break_stops : (d : ℕ) (y : Header) (bytes : List ℕ) → y ≡ h.Break → FailsRest d y bytes st.Malformed
 break_stops d y bytes e = none_completes d st.Malformed y bytes (λ r c. break_completes d y r c e)
 
--- a header of a nest
+-- The header of a tag, an array or a map.
 abbrev pub IsNestOf : Header → Type 0
 IsNestOf y = ((n : ℕ) × (y ≡ h.Tag n)) ⊎ (((o : Option ℕ) × (y ≡ h.Array o)) ⊎ ((o : Option ℕ) × (y ≡ h.Map o)))
 
@@ -433,7 +433,7 @@ tag_stops e d n stop y bytes is deep fails = rw (is, ← deep) (λ t p rest f.
     let g = after_title (suc d) stop (h.Tag n) t bytes rest p f in
     fails rest (record { front = g.front; is = tag_missed d n stop g.front g.is; whole = g.whole }))
 
--- the items or the pairs of a nest, and its end
+-- The items or the pairs of a nest, and its end.
 record NestParts (P : List ℕ → Type 0) (o : Option ℕ) (r : List ℕ) : Type 0 where
   pub done : ℕ
   pub items : List ℕ

@@ -1,4 +1,4 @@
--- What the rewriter writes for what it reads.
+-- The rewriting of each kind of item.
 use Rattle.std.proofs.Common.{◌≡◌, ℕ, zero, suc, ◌+◌, ◌<◌, ◌≤◌, ◌^◌, ◌⊎◌, inl, inr, List, [], ◌∷◌, ◌++◌, length}
 use Rattle.std.proofs.Common.{Option, Some, None, refl, sym, ◌∙◌, ap, subst, arith, append_assoc, append-nil, false}
 use Rattle.ciborium_ll_text.specs.Text.{joined}
@@ -48,11 +48,11 @@ use Rattle.cbor_canonical.specs.Runs.{counted}
 use Rattle.cbor_canonical.specs.Runs.{at_break, TurnsItems}
 use Rattle.cbor_canonical.proofs.StringRuns.{joined_writable}
 
--- two pieces, one after the other
+-- Two pieces that were written one after the other are one piece.
 pub two_pieces : (old mid new a b : List ℕ) → mid ≡ old ++ a → new ≡ mid ++ b → new ≡ old ++ (a ++ b)
 two_pieces old mid new a b e f = f ∙ ap (λ (z : List ℕ). z ++ b) e ∙ append_assoc old a b
 
--- an item of the header x that is written, for one of the header y that was read
+-- A shortest title and contents are the rewriting of an item whose value is the same.
 pub made : {ord : Order} (d : ℕ) (y x : Header) (v w : Value) (t front rest : List ℕ) → IsTitle t y
     → CompletesAny false d y front → Follows y v front → Fits v → IsInRange x → (IsSmallSimple x → ⊥)
     → (IsIndefinite x → ⊥) → (IsWide x → ⊥) → Completes ord d x rest → Follows x w rest → Same v w
@@ -72,7 +72,7 @@ made d y x v w t front rest p c f fit r s i wide k g to =
 
 -- ---- numbers
 
--- what is written of a title alone
+-- A call writes a title without contents.
 alone : (P : List ℕ → List ℕ → Type 0) (x : Header) (bytes old new : List ℕ) → P [] (shortest_title x)
     → new ≡ old ++ shortest_title x → Turns P bytes bytes old new
 alone P x bytes old new is e = record { front = []; written = shortest_title x; is = is; whole = refl; wrote = e }
@@ -204,7 +204,7 @@ tag_turned {ord = o} e d n y bytes rest old mid new is deep b g = rw (is, ← de
 
 -- ---- items
 
--- one item, and so many after it
+-- One item and n items after it, joined, are n + 1 items.
 pub join : (d n : ℕ) (w others : List ℕ) → IsItem false d w → AreItems false d n others
     → AreItems false d (suc n) (w ++ others)
 join d n w others i is = go (suc zero) w i refl
@@ -263,7 +263,7 @@ all_of d n bytes written (more_rewritten {count = m} {bytes = f} {others = fs} {
       to = same_item r.to a.to;
     }
 
--- an array that is read
+-- The items of an array, and its end, complete the array.
 array_completes : (d n : ℕ) (o : Option ℕ) (items tail : List ℕ) → EndsNest o n tail → AreItems false d n items
     → CompletesAny false (suc d) (h.Array o) (items ++ tail)
 array_completes d n o items tail counted i =

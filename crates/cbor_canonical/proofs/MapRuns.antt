@@ -40,14 +40,14 @@ use Rattle.cbor_canonical.specs.Runs.{more_pairs, TurnsPairs, joined_pairs, IsBe
 use Rattle.cbor_canonical.proofs.ItemRuns.{made, join, two_pieces}
 use Rattle.cbor_canonical.proofs.SameLaws.{same_trans, same_sym}
 
--- ---- how often a key stands among entries
+-- ---- the number of entries with a key
 
 abbrev tied_at : Ordering → ℕ
 tied_at Less = 0
 tied_at Equal = 1
 tied_at Greater = 0
 
--- 1 if this is the key of the entry
+-- 1 if the entry has this key, and 0 otherwise.
 abbrev tied : List ℕ → Entry → ℕ
 tied key e = tied_at (slice_cmp nat_cmp key e.key.items)
 
@@ -104,7 +104,7 @@ ascend_rest ord e es up k d l =
 ascend_first : (ord : Order) (e f : Entry) (es : List Entry) → DoAscend ord (e ∷ (f ∷ es)) → IsBefore ord e f
 ascend_first ord e f es up = up 0 e (omega arith)
 
--- the first of the entries comes after this key
+-- The key of the first entry comes after this key.
 abbrev IsFirstAfter : Order → List ℕ → List Entry → Type 0
 IsFirstAfter ord key [] = Unit {0}
 IsFirstAfter ord key (e ∷ es) = Precedes ord key e.key.items
@@ -142,9 +142,9 @@ once_at_most ord key (e ∷ es) up = go (tied_cases key e) (once_at_most ord key
               (next_after ord e es up)) (ascend_rest ord e es up),
         )
 
--- ---- what entries have
+-- ---- the contents of entries
 
--- the key and the value are written, for some value each
+-- The key and the value of the entry are each the encoding of some value.
 record IsWritten (ord : Order) (d : ℕ) (e : Entry) : Type 0 where
   pub key : Value
   pub value : Value
@@ -160,7 +160,7 @@ record IsEntryOf (ord : Order) (d : ℕ) (k v : Value) (e : Entry) : Type 0 wher
   pub key_fits : Fits k
   pub value_fits : Fits v
 
--- the entries are those of the pairs, in order
+-- The entries are the encodings of the pairs, in order.
 data AreEntriesOf (ord : Order) (d : ℕ) : Pairs → List Entry → Type 0 where
   no_entries : AreEntriesOf ord d NoPair []
   more_entries : {k v : Value} {ps : Pairs} {e : Entry} {es : List Entry} → IsEntryOf ord d k v e
@@ -213,7 +213,7 @@ module _ (ord : Order) (d : ℕ) where
   all_written ps es no_entries = tt
   all_written ps es (more_entries i is) = (i.written, all_written _ _ is)
 
-  -- the pairs that are written
+  -- The pairs of values that the entries encode.
   abbrev pairs_of : (es : List Entry) → AllByRecursion (IsWritten ord d) es → Pairs
   pairs_of [] a = NoPair
   pairs_of (e ∷ es) a = Pair a.0.key a.0.value (pairs_of es a.1)
@@ -334,7 +334,7 @@ module _ (ord : Order) (d : ℕ) where
       go (inl z) l = omega (arith, z, l)
       go (inr z) l = omega (arith, z.0, old_key k v e qs fs key z.1 i is n)
 
--- two neighbours with the same key are two entries with it
+-- Two neighbours with the same key are two entries with this key.
 twice_at : (es : List Entry) (k : ℕ) → k + 1 < length es
     → ((d : Entry) → (slice_index_or es k d).key.items ≡ (slice_index_or es (k + 1) d).key.items)
     → (key : List ℕ) × (2 ≤ keys_of key es)

@@ -14,7 +14,7 @@ half_go n m u i x e bits (single_of {n = k} r v) =
     half_of n u i r (subst (λ (z : ℕ). IsWidened single double (parts single z) (parts double bits)) g v)
 half_go n m u i x e bits (half_of b r v q t) = absurd cc
 
--- a float of 16 bits in place of one of 32
+-- A float of 16 bits is the narrowest form of the float of 32 bits that is the same.
 pub half_narrowest : (n m : ℕ) → n < 2 ^ 32 → IsWidened half single (parts half m) (parts single n)
     → IsNarrowestOf (f.Single n) (f.Half m)
 half_narrowest n m u i = record {
@@ -22,7 +22,7 @@ half_narrowest n m u i = record {
   same = λ bits x. half_go n m u i (f.Single n) refl bits x;
 }
 
--- one of 32 bits that no smaller width has
+-- A float of 32 bits is its own narrowest form if no smaller width holds it.
 pub single_narrowest : (n : ℕ) → (HasNarrower half single (parts single n) → ⊥)
     → IsNarrowestOf (f.Single n) (f.Single n)
 single_narrowest n q = record { not_wide = q; same = λ bits x. x }
@@ -35,7 +35,7 @@ single_go n m i x e bits (double_of r) =
 single_go n m i x e bits (single_of r v) = absurd cc
 single_go n m i x e bits (half_of b r v q t) = absurd cc
 
--- one of 64 bits, by the one of 32 bits that it is
+-- The narrowest form of a float of 64 bits is that of the float of 32 bits that is the same.
 pub double_narrowest : (n m : ℕ) (narrow : Float) → IsWidened single double (parts single m) (parts double n)
     → IsNarrowestOf (f.Single m) narrow → IsNarrowestOf (f.Double n) narrow
 double_narrowest n m narrow i s = record {

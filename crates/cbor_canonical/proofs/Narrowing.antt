@@ -1,11 +1,11 @@
--- The bits of a float below the normal ones of half its width.
+-- The bits of a float that is subnormal in half its width.
 use Rattle.std.proofs.Common.{◌≡◌, ℕ, ◌+◌, ◌-◌, ◌*◌, ◌/◌, ◌%◌, ◌<◌, ◌≤◌, ◌^◌, refl, sym, ◌∙◌, ap, subst, arith}
 use Rattle.std.proofs.lemmas.Nat.{pow_pos}
 use Rattle.cbor_deterministic.specs.Floats.{Parts, half, single, double, parts, IsWidened, subnormal}
 use Rattle.cbor_deterministic.proofs.FloatTests.{whole_of, same_parts, rest_fits}
 use Rattle.cbor_deterministic.proofs.Exists.{power_fits}
 
--- a mantissa behind a sign
+-- A number of 23 bits after a sign is the mantissa of a float of 32 bits with exponent 0.
 pub placed32 : (s q : ℕ) → q < 8388608
     → parts single (s * 2147483648 + q) ≡ record { sign = s; exponent = 0; mantissa = q }
 placed32 s q l =
@@ -21,7 +21,7 @@ pub record Below (limit s : ℕ) (wide : Parts → Type 0) (q : ℕ) : Type 0 wh
   pub fits : q < limit
   pub is : wide (record { sign = s; exponent = 0; mantissa = q })
 
--- a float of 64 bits
+-- A float of 64 bits that is subnormal in 32 bits, by its mantissa there.
 pub narrow32 : (s x m : ℕ) → m < 2 ^ 52 → 874 ≤ x → x < 897 → m % 2 ^ (926 - x) ≡ 0
     → Below 8388608 s (λ a. IsWidened single double a (record { sign = s; exponent = x; mantissa = m }))
     (2 ^ (x - 874) + m / 2 ^ (926 - x))
@@ -41,7 +41,7 @@ narrow32 s x m u l h e =
           (subnormal (omega arith) g);
     }
 
--- a float of 32 bits
+-- A float of 32 bits that is subnormal in 16 bits, by its mantissa there.
 pub narrow16 : (s x m : ℕ) → m < 2 ^ 23 → 103 ≤ x → x < 113 → m % 2 ^ (126 - x) ≡ 0
     → Below 1024 s (λ a. IsWidened half single a (record { sign = s; exponent = x; mantissa = m }))
     (2 ^ (x - 103) + m / 2 ^ (126 - x))
@@ -65,7 +65,7 @@ pub record Narrowed (limit n : ℕ) (narrow : Parts → Type 0) (p : ℕ → Par
   pub fits : n < limit
   pub is : narrow (p n)
 
--- the sum that the code makes
+-- The sum in the code gives the bits of the float of 32 bits.
 pub summed32 : (s x m : ℕ) → s < 2 → m < 2 ^ 52 → 874 ≤ x → x < 897 → m % 2 ^ (926 - x) ≡ 0 → (one zeros : ℕ)
     → one ≡ 2 ^ (x - 874) → zeros ≡ 2 ^ (926 - x)
     → Narrowed 4294967296 (s * 2147483648 + one + m / zeros)

@@ -55,7 +55,7 @@ pairs_closed d n o bytes rest after es s e z = record {
   whole = s.whole ∙ ap (λ (y : List ℕ). s.pairs ++ y) z;
 }
 
--- bytes that were written into an empty vector
+-- A front of the bytes was rewritten to these bytes, in an empty vector.
 pub record Turned (P : List ℕ → List ℕ → Type 0) (bytes rest new : List ℕ) : Type 0 where
   pub front : List ℕ
   pub is : P front new

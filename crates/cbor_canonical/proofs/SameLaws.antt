@@ -1,4 +1,4 @@
--- Values that are the same as a third one.
+-- Two values that are the same as a third value are the same.
 use Rattle.cbor_deterministic.specs.Values.{Value, Values, Pairs, Same, SameAll, EachIn, IsIn, here, there, each_none}
 use Rattle.cbor_deterministic.specs.Values.{each_pair, same_unsigned, same_negative, same_bytes, same_text, same_array}
 use Rattle.cbor_deterministic.specs.Values.{same_map, same_tagged, same_simple, same_float, same_end, same_item}
@@ -13,7 +13,7 @@ map_each each_none f = each_none
 map_each (each_pair i is) f = each_pair (f _ _ i) (map_each is f)
 
 mutual
-  -- by the first of the two
+  -- The proof by cases of the first premise.
   pub same_trans : {u v w : Value} → Same u v → Same v w → Same u w
   same_trans same_unsigned same_unsigned = same_unsigned
   same_trans same_negative same_negative = same_negative
@@ -37,7 +37,7 @@ mutual
   in_trans (here s t) (each_pair i is) = map_in (λ m z. same_trans s z) (λ n z. same_trans t z) i
   in_trans (there j) (each_pair i is) = in_trans j is
 
-  -- and by the second
+  -- The proof by cases of the second premise.
   back_trans : {u v w : Value} → Same u v → Same v w → Same u w
   back_trans same_unsigned same_unsigned = same_unsigned
   back_trans same_negative same_negative = same_negative

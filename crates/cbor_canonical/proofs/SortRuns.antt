@@ -16,7 +16,7 @@ use Rattle.cbor_deterministic.proofs.OrderLaws.{Ranks, ranks_own, not_itself, no
 use Rattle.cbor_canonical.specs.Runs.{IsBefore, AreSorted, HasEqualKeys}
 use Rattle.cbor_canonical.specs.declared.rewrite.Entry.{Entry}
 
--- how two keys compare
+-- The ordering of two keys.
 abbrev pub order_cmp : Order → List ℕ → List ℕ → Ordering
 order_cmp Bytewise xs ys = slice_cmp nat_cmp xs ys
 order_cmp LengthFirst xs ys = ordering_then (nat_cmp (length xs) (length ys)) (slice_cmp nat_cmp xs ys)
@@ -41,7 +41,7 @@ order_ranks LengthFirst xs ys =
     length_ranks (nat_cmp (length xs) (length ys)) (slice_cmp nat_cmp xs ys) xs ys
     (ranked (length xs) (length ys) _ refl) (ranks_own xs ys)
 
--- two keys compare in one way alone
+-- Two keys have only one ordering.
 pub one_rank : (o : Order) (r s : Ordering) (xs ys : List ℕ) → Ranks o r xs ys → Ranks o s xs ys → r ≡ s
 one_rank o Less Less xs ys p q = refl
 one_rank o Less Equal xs ys p q = absurd (not_itself o ys (subst (λ (z : List ℕ). Precedes o z ys) q p))
@@ -53,7 +53,7 @@ one_rank o Greater Less xs ys p q = absurd (not_both o xs ys q p)
 one_rank o Greater Equal xs ys p q = absurd (not_itself o ys (subst (λ (z : List ℕ). Precedes o ys z) q p))
 one_rank o Greater Greater xs ys p q = refl
 
--- a key that does not compare as less does not come before
+-- A key that does not compare as less does not come before the other key.
 not_less : (o : Order) (r : Ordering) (xs ys : List ℕ) → Ranks o r xs ys → is_lt r ≡ false → Precedes o xs ys → ⊥
 not_less o Less xs ys p e q = cc
 not_less o Equal xs ys p e q = not_itself o ys (subst (λ (z : List ℕ). Precedes o z ys) p q)
@@ -62,14 +62,14 @@ not_less o Greater xs ys p e q = not_both o xs ys q p
 abbrev pub entry_before : Order → Entry → Entry → Bool
 entry_before o a b = is_lt (order_cmp o a.key.items b.key.items)
 
--- what a sort ensures
+-- Entries that a sort has put in order are sorted by their keys.
 pub sorted_keys : (o : Order) (es : List Entry) → IsSortedBy (entry_before o) es → AreSorted o es
 sorted_keys o es up k d l p =
     let b = (slice_index_or es (k + 1) d).key.items in
     let a = (slice_index_or es k d).key.items in
     not_less o (order_cmp o b a) b a (order_ranks o b a) (up k d (omega arith) l) p
 
--- keys of which neither comes before the other are the same
+-- Two keys are the same if neither comes before the other.
 pub equal_there : (o : Order) (r : Ordering) (a b : List ℕ) → Ranks o r a b → (r ≡ Less → ⊥)
     → (Precedes o b a → ⊥) → a ≡ b
 equal_there o Less a b m n q = absurd (n refl)
@@ -80,7 +80,7 @@ at_least : (r : Ordering) → (r ≡ Equal) ⊎ (r ≡ Greater) → r ≡ Less �
 at_least r (inl e) f = cc
 at_least r (inr e) f = cc
 
--- two keys that the test of neighbours finds
+-- Neighbours whose keys do not ascend have equal keys, since the entries are sorted.
 pub equal_found : (o : Order) (es : List Entry) (at : ℕ) (x y : Entry) (a b : List ℕ) (r : Ordering) → 0 < at
     → at < length es → x ≡ slice_index_or es (at - 1) x → y ≡ slice_index_or es at y → a ≡ x.key.items
     → b ≡ y.key.items → Ranks o r a b → (r ≡ Equal) ⊎ (r ≡ Greater) → AreSorted o es → HasEqualKeys es

@@ -27,14 +27,14 @@ use Rattle.cbor_canonical.proofs.TitleRuns.{none_there}
 
 -- ---- bodies
 
--- a body that may not stand there
+-- Bytes have no body of this length if their first bytes may not be a body.
 pub no_body : (k : Kind) (len : ℕ) (bytes body rest : List ℕ) → bytes ≡ body ++ rest → length body ≡ len
     → (IsWritable k body → ⊥) → HasNoBody k len bytes
 no_body k len bytes body rest w l n other others b =
     let s = same_front other body others rest (b.is ∙ sym l) (sym b.whole ∙ w) in
     n (subst (λ (z : List ℕ). IsWritable k z) s.0 b.writable)
 
--- bytes that are too few
+-- Bytes that are fewer than the length have no body of this length.
 pub few_bytes : (k : Kind) (len : ℕ) (bytes : List ℕ) → length bytes < len → HasNoBody k len bytes
 few_bytes k len bytes l other others b = omega (arith, b.is, ap (length {A = ℕ}) b.whole, length-append other others)
 
@@ -55,7 +55,7 @@ chunk_there k len o x bytes rest body after f e l b = record {
   whole = f.whole ∙ ap (λ (z : List ℕ). f.front ++ z) b.whole ∙ sym (append_assoc f.front body after);
 }
 
--- a break has one title
+-- A break is the byte `ff`.
 pub break_there : (x : Header) (bytes rest : List ℕ) → InFront (λ t. IsTitle t x) bytes rest → x ≡ h.Break
     → bytes ≡ 0xff ∷ rest
 break_there x bytes rest f e =
@@ -71,7 +71,7 @@ open_there k o x bytes rest f e n = record {
   whole = f.whole;
 }
 
--- what the first title of bytes that close opens is
+-- The title at the beginning of bytes that close their opens is a break, a string or a further open.
 data Stepped (k : Kind) (n : ℕ) (x : Header) (rest : List ℕ) : Type 0 where
   at_break : x ≡ h.Break → Closes k n rest → Stepped k n x rest
   at_chunk : (body more : List ℕ) → x ≡ kind_header k (Some (length body)) → IsWritable k body → rest ≡ body ++ more
@@ -90,13 +90,13 @@ stepped k n x t b rest (by_open {title = t'} {rest = r} p' c) p z =
     let o = one_title t' t r rest _ x p' p z in
     at_open (sym o.1) (subst (λ (w : List ℕ). Closes k (suc (suc n)) w) o.2 c)
 
--- no title
+-- Bytes that begin with no title have no step of an open string.
 pub no_title_step : (k : Kind) (b : List ℕ) → HasNoTitle b → HasNoStep k b
 no_title_step k b q n (by_break {rest = r} c) = none_there b (0xff ∷ []) r h.Break q break_title refl
 no_title_step k b q n (by_chunk {title = t} {rest = r} y p w c) = none_there b t (y ++ r) _ q p refl
 no_title_step k b q n (by_open {title = t} {rest = r} p c) = none_there b t r _ q p refl
 
--- a title that may not stand there
+-- Bytes have no step if their title is no break and no string of the kind.
 pub other_step : (k : Kind) (x : Header) (b rest : List ℕ) → InFront (λ t. IsTitle t x) b rest
     → ((o : Option ℕ) → x ≡ kind_header k o → ⊥) → (x ≡ h.Break → ⊥) → HasNoStep k b
 other_step k x b rest f other not n c = go (stepped k n x f.front b rest c f.is f.whole)
@@ -106,7 +106,7 @@ other_step k x b rest f other not n c = go (stepped k n x f.front b rest c f.is 
     go (at_chunk y r e w z d) = other _ e
     go (at_open e d) = other None e
 
--- a body that may not
+-- Bytes have no step if they have no body of the length in their title.
 pub body_step : (k : Kind) (len : ℕ) (x : Header) (b rest : List ℕ) → InFront (λ t. IsTitle t x) b rest
     → x ≡ kind_header k (Some len) → HasNoBody k len rest → HasNoStep k b
 body_step k len x b rest f e empty n c = go (stepped k n x f.front b rest c f.is f.whole)
@@ -184,7 +184,7 @@ mutual
       (string_closes k n f (r ++ rest) b i (all_front (IsWritable k) b o a)
       (strings_close k n r rest o is (all_back (IsWritable k) b o a) c))
 
--- within an open string, and so many opens in it that aren't closed
+-- Bytes within an open string, after a number of further opens that are not closed.
 pub data Inside (k : Kind) : ℕ → List ℕ → List (List ℕ) → Type 0 where
   outermost : {strings : List ℕ} {bodies : List (List ℕ)} → AreStrings k strings bodies → Inside k zero strings bodies
   deeper : {opens : ℕ} {outer title strings : List ℕ} {bodies others : List (List ℕ)} → Inside k opens outer bodies
@@ -376,7 +376,7 @@ open_turned k bytes rest body start old new s g l e =
       wrote = e;
     }
 
--- where no strings and no break stand, no open string goes on
+-- A fault in the strings and the break of an open string is a fault of the string.
 pub gather_string_fails : (k : Kind) (bytes : List ℕ) (stop : Stop) → FailsGather k bytes stop
     → FailsString k None bytes stop
 gather_string_fails k bytes st.Malformed f = λ content body rest i z. go content body rest i z

@@ -1,4 +1,4 @@
--- Titles at the beginning of bytes, and bytes that begin with none.
+-- Titles at the beginning of bytes, and bytes that begin with no title.
 use Rattle.std.proofs.Common.{◌≡◌, ℕ, ◌<◌, inl, inr, List, [], ◌∷◌, ◌++◌, subst, arith}
 use Rattle.ciborium_ll_grammar.specs.declared.hdr.Minor.{Minor}
 use Rattle.ciborium_ll_grammar.specs.declared.hdr.Title.{Title}
@@ -22,7 +22,7 @@ pub never_begins : (t : Title) (b rest : List ℕ) → IsParts t → title_bytes
 never_begins t b rest q is c n =
     refused_goes_on b rest (subst BeginsRefused is (never_refused t.major t.minor q.major c n))
 
--- no title stands there
+-- Bytes without a title at their beginning do not begin with a title.
 pub none_there : (b t v : List ℕ) (x : Header) → HasNoTitle b → IsTitle t x → b ≡ t ++ v → ⊥
 none_there b t v x (inl c) p z = title_not_cut t v x p (subst IsCutTitle z c)
 none_there b t v x (inr r) p z = title_refused t v x p (subst BeginsRefused z r)

@@ -7,8 +7,8 @@ use Rattle.cbor_deterministic.specs.Fitting.{Fits}
 use Rattle.cbor_deterministic.specs.Values.{Value, Same}
 use Rattle.cbor_deterministic.specs.Spellings.{Encodes}
 
--- the item, of any spelling, is one to the depth and stands for a value in which no map has a key twice. What is
--- written is the deterministic encoding of the same value, in this order of keys and to the same depth (RFC 8949, 4.2)
+-- The item, of any spelling, is one to the depth and stands for a value in which no map has a key twice. What is
+-- written is the deterministic encoding of the same value, in this order of keys and to the same depth (RFC 8949, 4.2).
 pub record IsRewritten (order : Order) (depth : ℕ) (item written : List ℕ) : Type 0 where
   pub is_item : IsItem false depth item
   pub value : Value
@@ -19,13 +19,13 @@ pub record IsRewritten (order : Order) (depth : ℕ) (item written : List ℕ) :
   pub encodes : Encodes same written
   pub to : Same value same
 
--- the bytes begin with an item, this rest follows it, and what is written is the deterministic encoding of its value
+-- The bytes begin with an item, this rest follows it, and what is written is the deterministic encoding of its value.
 pub record IsCanonical (order : Order) (depth : ℕ) (bytes rest written : List ℕ) : Type 0 where
   pub item : List ℕ
   pub whole : bytes ≡ item ++ rest
   pub is : IsRewritten order depth item written
 
--- the bytes are a spelling of a value in which no map has a key twice
+-- The bytes are a spelling of a value in which no map has a key twice.
 pub record IsFittingSpelling (bytes : List ℕ) : Type 0 where
   pub value : Value
   pub encodes : Encodes value bytes

@@ -16,7 +16,7 @@ use Rattle.cbor_canonical.specs.declared.Why.TheVariants as w
 
 -- `HasRefusal depth bytes why place`: no item to the depth begins the bytes, and `why` stops the read of one at this
 -- offset. Or an item begins them, and it spells no value, or only values in which a map has a key twice (RFC 8949, 3.3
--- and 5.6)
+-- and 5.6).
 abbrev pub HasRefusal : ℕ → List ℕ → Why → ℕ → Type 0
 HasRefusal depth bytes w.Cut place =
     (fault : HasItemFault false depth bytes) × (fault.answer ≡ Short) × (place ≡ length bytes)
@@ -26,17 +26,17 @@ HasRefusal depth bytes w.Deep place = (fault : HasDeepNest false depth bytes) ×
 HasRefusal depth bytes w.NoSimple place = BeginsWithItem false depth bytes × NoneInFront IsSpelling bytes
 HasRefusal depth bytes w.DuplicateKey place = BeginsWithItem false depth bytes × NoneInFront IsFittingSpelling bytes
 
--- why nothing is written: the bytes are refused, or no memory is left
+-- Why nothing is written: the bytes are refused, or no memory is left.
 abbrev pub IsUnwritten : ℕ → List ℕ → CanonicalError → Type 0
 IsUnwritten depth bytes (Refused refusal) = HasRefusal depth bytes refusal.why refusal.place
 IsUnwritten depth bytes Memory = Unit {0}
 
--- the error refuses for this reason
+-- The error refuses for this reason.
 abbrev pub HasWhy : Why → CanonicalError → Type 0
 HasWhy why (Refused refusal) = refusal.why ≡ why
 HasWhy why Memory = ⊥
 
--- the refusal for the error of a skip over bytes of this number
+-- The refusal for the error of a skip over bytes of this number.
 abbrev pub IsRefusalOf : {E : Type 0} → ℕ → Result (Unit {0}) (SkipError E) → Result (Unit {0}) Refusal → Type 0
 IsRefusalOf len (Ok done) (Ok other) = Unit {0}
 IsRefusalOf len (Err (s.Break place)) (Err refusal) = (refusal.why ≡ w.Break) × (refusal.place ≡ place)

@@ -14,7 +14,7 @@ use Rattle.cbor_canonical.specs.declared.Stop.{Stop}
 use Rattle.cbor_canonical.specs.declared.Stop.TheVariants as stop
 use Rattle.cbor_canonical.specs.declared.rewrite.Entry.{Entry}
 
--- the bytes begin with a front, and something was written after the old bytes, for which P holds
+-- The bytes begin with a front, and something was written after the old bytes, for which P holds.
 pub record Turns (P : List ℕ → List ℕ → Type 0) (bytes rest old new : List ℕ) : Type 0 where
   pub front : List ℕ
   pub written : List ℕ
@@ -22,12 +22,12 @@ pub record Turns (P : List ℕ → List ℕ → Type 0) (bytes rest old new : Li
   pub whole : bytes ≡ front ++ rest
   pub wrote : new ≡ old ++ written
 
--- after a title of the header the bytes complete an item, and its deterministic encoding is written
+-- After a title of the header the bytes complete an item, and its deterministic encoding is written.
 abbrev pub IsCompleted : Order → ℕ → Header → List ℕ → List ℕ → Type 0
 IsCompleted order depth header bytes written =
     (title : List ℕ) → IsTitle title header → IsRewritten order depth (title ++ bytes) written
 
--- items, each rewritten, and their number
+-- Items, each rewritten, and their number.
 pub data AreRewritten (order : Order) (depth : ℕ) : ℕ → List ℕ → List ℕ → Type 0 where
   none_rewritten : AreRewritten order depth zero [] []
   more_rewritten : {count : ℕ} {bytes others written more : List ℕ} → IsRewritten order depth bytes written
@@ -35,12 +35,13 @@ pub data AreRewritten (order : Order) (depth : ℕ) : ℕ → List ℕ → List 
       → AreRewritten order depth (suc count) (bytes ++ others) (written ++ more)
 
 -- `EndsNest count done bytes`: after `done` items or pairs the bytes end an array or a map of this count. They are none
--- if the count is told and reached, and a break if it is not told (RFC 8949, 3.2.2)
+-- if the count is told and reached, and a break if it is not told (RFC 8949, 3.2.2).
 pub data EndsNest : Option ℕ → ℕ → List ℕ → Type 0 where
   counted : {done : ℕ} → EndsNest (Some done) done []
   at_break : {done : ℕ} → EndsNest None done (0xff ∷ [])
 
--- the bytes begin with this number of items of an array of this count, and with the array's end. Each is rewritten after the old bytes
+-- The bytes begin with this number of items of an array of this count, and with the array's end. Each is rewritten
+-- after the old bytes.
 pub record TurnsItems (order : Order) (depth : ℕ) (count : Option ℕ) (done : ℕ) (bytes rest old new : List ℕ) : Type 0
   where
     pub items : List ℕ
@@ -51,7 +52,7 @@ pub record TurnsItems (order : Order) (depth : ℕ) (count : Option ℕ) (done :
     pub whole : bytes ≡ items ++ (tail ++ rest)
     pub wrote : new ≡ old ++ written
 
--- the bytes are a key and a value, and the entry has both rewritten
+-- The bytes are a key and a value, and the entry has both rewritten.
 pub record IsPairOf (order : Order) (depth : ℕ) (bytes : List ℕ) (entry : Entry) : Type 0 where
   pub key : List ℕ
   pub value : List ℕ
@@ -59,13 +60,13 @@ pub record IsPairOf (order : Order) (depth : ℕ) (bytes : List ℕ) (entry : En
   pub value_is : IsRewritten order depth value entry.value.items
   pub whole : bytes ≡ key ++ value
 
--- the bytes are the keys and the values of these entries, in order
+-- The bytes are the keys and the values of these entries, in order.
 pub data ArePairsOf (order : Order) (depth : ℕ) : List ℕ → List Entry → Type 0 where
   no_pairs : ArePairsOf order depth [] []
   more_pairs : {bytes others : List ℕ} {entry : Entry} {entries : List Entry} → IsPairOf order depth bytes entry
       → ArePairsOf order depth others entries → ArePairsOf order depth (bytes ++ others) (entry ∷ entries)
 
--- the bytes begin with a pair, and its entry is put after the old ones
+-- The bytes begin with a pair, and its entry is put after the old ones.
 pub record TurnsPair (order : Order) (depth : ℕ) (bytes rest : List ℕ) (old new : List Entry) : Type 0 where
   pub front : List ℕ
   pub entry : Entry
@@ -73,7 +74,7 @@ pub record TurnsPair (order : Order) (depth : ℕ) (bytes rest : List ℕ) (old 
   pub whole : bytes ≡ front ++ rest
   pub put : new ≡ old ++ entry ∷ []
 
--- the bytes begin with the pairs of a map of this count and its end. The entries are these pairs
+-- The bytes begin with the pairs of a map of this count and its end. The entries are these pairs.
 pub record TurnsPairs (order : Order) (depth : ℕ) (count : Option ℕ) (bytes rest : List ℕ) (entries : List Entry) :
     Type 0 where
   pub pairs : List ℕ
@@ -82,24 +83,24 @@ pub record TurnsPairs (order : Order) (depth : ℕ) (count : Option ℕ) (bytes 
   pub ends : EndsNest count (length entries) tail
   pub whole : bytes ≡ pairs ++ (tail ++ rest)
 
--- the keys and the values of the entries, joined
+-- The keys and the values of the entries, joined.
 abbrev pub joined_pairs : List Entry → List ℕ
 joined_pairs [] = []
 joined_pairs (entry ∷ entries) = entry.key.items ++ (entry.value.items ++ joined_pairs entries)
 
--- the key of the first entry comes before that of the second
+-- The key of the first entry comes before that of the second.
 abbrev pub IsBefore : Order → Entry → Entry → Type 0
 IsBefore order entry other = Precedes order entry.key.items other.key.items
 
--- the keys of the entries ascend
+-- The keys of the entries ascend.
 abbrev pub DoAscend : Order → List Entry → Type 0
 DoAscend order entries = AllAdjacentBelow (IsBefore order) entries (length entries)
 
--- no key comes after the next one
+-- No key comes after the next one.
 abbrev pub AreSorted : Order → List Entry → Type 0
 AreSorted order entries = AllAdjacentBelow (λ entry other. IsBefore order other entry → ⊥) entries (length entries)
 
--- a key is the same as the next one
+-- A key is the same as the next one.
 pub record HasEqualKeys (entries : List Entry) : Type 0 where
   pub at : ℕ
   pub within : at + 1 < length entries
@@ -108,15 +109,15 @@ pub record HasEqualKeys (entries : List Entry) : Type 0 where
 
 -- ---- what does not begin the bytes if a call fails
 
--- what can't stand at the beginning of the bytes at which a call stops so: an item to the depth; a spelling of a value;
--- one of a value in which no map has a key twice
+-- What can't stand at the beginning of the bytes at which a call stops so: an item to the depth; a spelling of a value;
+-- one of a value in which no map has a key twice.
 abbrev pub IsMissed : ℕ → Stop → List ℕ → Type 0
 IsMissed depth stop.Malformed bytes = IsItem false depth bytes
 IsMissed depth (stop.NoSimple left) bytes = IsSpelling bytes
 IsMissed depth (stop.Duplicate left) bytes = IsFittingSpelling bytes
 IsMissed depth stop.Memory bytes = ⊥
 
--- they are two of them, joined
+-- They are two of them, joined.
 pub record ArePairMissed (depth : ℕ) (stop : Stop) (bytes : List ℕ) : Type 0 where
   pub key : List ℕ
   pub value : List ℕ
@@ -124,22 +125,22 @@ pub record ArePairMissed (depth : ℕ) (stop : Stop) (bytes : List ℕ) : Type 0
   pub value_is : IsMissed depth stop value
   pub whole : bytes ≡ key ++ value
 
--- that many of them, joined
+-- That many of them, joined.
 pub data AreJoined (P : List ℕ → Type 0) : ℕ → List ℕ → Type 0 where
   none_joined : AreJoined P zero []
   more_joined : {count : ℕ} {first others : List ℕ} → P first → AreJoined P count others
       → AreJoined P (suc count) (first ++ others)
 
--- why no item begins the bytes
+-- Why no item begins the bytes.
 abbrev pub FailsItem : ℕ → List ℕ → Stop → Type 0
 FailsItem depth bytes stop = NoneInFront (IsMissed depth stop) bytes
 
--- why the bytes don't complete an item after a title of the header
+-- Why the bytes don't complete an item after a title of the header.
 abbrev pub FailsRest : ℕ → Header → List ℕ → Stop → Type 0
 FailsRest depth header bytes stop =
     (title : List ℕ) → IsTitle title header → NoneInFront (IsMissed depth stop) (title ++ bytes)
 
--- why they don't begin with the items, or the pairs, that an array, or a map, of this count has
+-- Why they don't begin with the items, or the pairs, that an array, or a map, of this count has.
 abbrev pub FailsNest : (List ℕ → Type 0) → Option ℕ → List ℕ → Type 0
 FailsNest P count bytes = (done : ℕ) (items tail rest : List ℕ) → AreJoined P done items → EndsNest count done tail
     → bytes ≡ items ++ (tail ++ rest) → ⊥

@@ -12,37 +12,37 @@ use Rattle.cbor_canonical.specs.declared.strings.StringKind.TheVariants as k
 use Rattle.cbor_canonical.specs.declared.strings.Step.{Step}
 use Rattle.cbor_canonical.specs.declared.strings.Step.TheVariants as s
 
--- the kind of string in the words of the grammar
+-- The kind of string in the words of the grammar.
 abbrev pub kind_of : StringKind → Kind
 kind_of k.Bytes = Bytes
 kind_of k.Text = Text
 
--- the bytes begin with a body of this length, which a string of the kind may have
+-- The bytes begin with a body of this length, which a string of the kind may have.
 pub record IsBody (kind : Kind) (len : ℕ) (bytes body rest : List ℕ) : Type 0 where
   pub whole : bytes ≡ body ++ rest
   pub is : length body ≡ len
   pub writable : IsWritable kind body
 
--- the bytes begin with no such body
+-- The bytes begin with no such body.
 abbrev pub HasNoBody : Kind → ℕ → List ℕ → Type 0
 HasNoBody kind len bytes = (body rest : List ℕ) → IsBody kind len bytes body rest → ⊥
 
--- the bytes are a string whose length is told, with this body
+-- The bytes are a string whose length is told, with this body.
 pub record IsChunk (kind : Kind) (body bytes : List ℕ) : Type 0 where
   pub title : List ℕ
   pub is_title : IsTitle title (kind_header kind (Some (length body)))
   pub writable : IsWritable kind body
   pub whole : bytes ≡ title ++ body
 
--- what stands at the beginning of the bytes within an open string: a break, a further open or a string whose length is
--- told (RFC 8949, 3.2.3)
+-- What stands at the beginning of the bytes within an open string: a break, a further open or a string whose length is
+-- told (RFC 8949, 3.2.3).
 abbrev pub IsStep : Kind → List ℕ → Step → Type 0
 IsStep kind bytes (s.Closed rest) = bytes ≡ 0xff ∷ rest.now
 IsStep kind bytes (s.Opened rest) = InFront (λ title. IsTitle title (kind_header kind None)) bytes rest.now
 IsStep kind bytes (s.Chunk body rest) = InFront (IsChunk kind body.now) bytes rest.now
 
 -- `Closes kind opens bytes`: the bytes begin with strings of the kind and breaks that end that many opens (RFC 8949,
--- 3.2.3)
+-- 3.2.3).
 pub data Closes (kind : Kind) : ℕ → List ℕ → Type 0 where
   all_closed : {bytes : List ℕ} → Closes kind zero bytes
   by_break : {opens : ℕ} {rest : List ℕ} → Closes kind opens rest → Closes kind (suc opens) (0xff ∷ rest)
@@ -51,11 +51,11 @@ pub data Closes (kind : Kind) : ℕ → List ℕ → Type 0 where
   by_open : {opens : ℕ} {title rest : List ℕ} → IsTitle title (kind_header kind None)
       → Closes kind (suc (suc opens)) rest → Closes kind (suc opens) (title ++ rest)
 
--- nothing that stands within an open string begins the bytes
+-- Nothing that stands within an open string begins the bytes.
 abbrev pub HasNoStep : Kind → List ℕ → Type 0
 HasNoStep kind bytes = (opens : ℕ) → Closes kind (suc opens) bytes → ⊥
 
--- the bytes are strings of the kind and a break, and then this rest. Their bodies are joined after the old bytes
+-- The bytes are strings of the kind and a break, and then this rest. Their bodies are joined after the old bytes.
 pub record Gathers (kind : Kind) (bytes rest old new : List ℕ) : Type 0 where
   pub strings : List ℕ
   pub bodies : List (List ℕ)
@@ -64,7 +64,7 @@ pub record Gathers (kind : Kind) (bytes rest old new : List ℕ) : Type 0 where
   pub whole : bytes ≡ strings ++ 0xff ∷ rest
   pub wrote : new ≡ old ++ joined bodies
 
--- why the bytes begin with no strings of the kind and a break: there are none, or no memory is left
+-- Why the bytes begin with no strings of the kind and a break: there are none, or no memory is left.
 abbrev pub FailsGather : Kind → List ℕ → Stop → Type 0
 FailsGather kind bytes stop.Malformed = (strings rest : List ℕ) (bodies : List (List ℕ))
     → AreStrings kind strings bodies → AreWritable kind bodies → bytes ≡ strings ++ 0xff ∷ rest → ⊥
@@ -72,20 +72,20 @@ FailsGather kind bytes (stop.NoSimple left) = ⊥
 FailsGather kind bytes (stop.Duplicate left) = ⊥
 FailsGather kind bytes stop.Memory = Unit {0}
 
--- the bytes that follow a title of this length are the body, or strings and a break
+-- The bytes that follow a title of this length are the body, or strings and a break.
 pub data IsContent (kind : Kind) : Option ℕ → List ℕ → List ℕ → Type 0 where
   told : {body : List ℕ} → IsWritable kind body → IsContent kind (Some (length body)) body body
   until_break : {strings : List ℕ} {bodies : List (List ℕ)} → AreStrings kind strings bodies
       → AreWritable kind bodies → IsContent kind None (strings ++ 0xff ∷ []) (joined bodies)
 
--- the bytes follow a title of this length, and the string is written after a title that has its length
+-- The bytes follow a title of this length, and the string is written after a title that has its length.
 pub record IsStringTurned (kind : Kind) (len : Option ℕ) (bytes written : List ℕ) : Type 0 where
   pub body : List ℕ
   pub content : IsContent kind len bytes body
   pub range : length body < 2 ^ 64
   pub spelled : written ≡ body_spelling kind body
 
--- why no content of a string of this length begins the bytes: there is none, or no memory is left
+-- Why no content of a string of this length begins the bytes: there is none, or no memory is left.
 abbrev pub FailsString : Kind → Option ℕ → List ℕ → Stop → Type 0
 FailsString kind len bytes stop.Malformed = (content body rest : List ℕ) → IsContent kind len content body
     → bytes ≡ content ++ rest → ⊥

@@ -62,7 +62,7 @@ one_error r w n p q = ap Err (same_parts r w n p q)
 
 module _ (ord : Order) (e left : ℕ) (bytes : List ℕ) (why : Why) (r : Refusal) (s : FailsItem ord e bytes why left)
     (is : r.why ≡ why) (sum : r.place + left ≡ length bytes) where
-  -- the refusal by its place
+  -- The bytes have the refusal that the call returns.
   pub refused_there : (other : Why) (place : ℕ)
       → ◌≡◌ {A = Result ℕ Refusal} (Err r) (Err (record { why = other; place = place }))
       → HasRefusal ord e bytes other place

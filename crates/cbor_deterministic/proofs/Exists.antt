@@ -50,7 +50,7 @@ use Rattle.cbor_deterministic.proofs.Insertion.{NotIn, insert, still_in, new_in,
 
 -- ---- depth
 
--- an item to this depth and to each greater one
+-- The bytes are an item to this depth and to each greater depth.
 pub record DeepItem (ord : Order) (w : List ℕ) : Type 0 where
   pub depth : ℕ
   pub is : (e : ℕ) → depth ≤ e → IsDeterministic ord e w
@@ -125,7 +125,7 @@ module _ {ord : Order} where
 
 -- ---- titles
 
--- the header has a preferred title
+-- The header has a preferred title.
 record HasTitle (x : Header) : Type 0 where
   pub title : List ℕ
   pub is : IsPreferredTitle title x
@@ -187,7 +187,7 @@ bits16 b s e m =
       is = same_parts (n / 32768) b.sign (n / 1024 % 32) b.exponent (n % 1024) b.mantissa x y z;
     }
 
--- a float with these bits that no smaller width has
+-- A float with these bits that no smaller width holds.
 record Narrowest (bits : ℕ) : Type 0 where
   pub float : AnyFloat
   pub range : IsFloatInRange float

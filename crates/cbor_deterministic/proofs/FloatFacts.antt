@@ -51,7 +51,7 @@ pub record HasBits (x : Float) : Type 0 where
   pub bits : ℕ
   pub is : IsFloatOf x bits
 
--- the parts on either side may be told as others that are the same
+-- The parts of the wider float may be replaced by equal parts.
 pub to_parts : (narrow wide : Format) (a b c : Parts) → c ≡ b → IsWidened narrow wide a b → IsWidened narrow wide a c
 to_parts narrow wide a b c e w = subst (λ (z : Parts). IsWidened narrow wide a z) (sym e) w
 
@@ -98,7 +98,7 @@ half_bits n l =
     let d = single_bits b.bits b.range in
     record { bits = d.bits; is = half_go n b.bits b.range b.is (fl.Single b.bits) refl d.bits d.is }
 
--- ---- of one float, and of one value
+-- ---- floats with the same value
 
 pub float_once : (x : Float) (d d' : ℕ) → IsFloatOf x d → IsFloatOf x d' → d ≡ d'
 float_once x d d' (double_of r) (double_of r') = refl
@@ -109,7 +109,7 @@ float_once x d d' (half_of {n = n} s l v r w) (half_of s' l' v' r' w') =
     same_double d d' (single_once (parts single s') (parts double d) (parts double d')
     (subst (λ (z : ℕ). IsWidened single double (parts single z) (parts double d)) e w) w')
 
--- of the floats with the same bits one alone has no smaller width
+-- Two floats with the same 64 bits are the same, if no smaller width holds either.
 pub same_narrow : (x x' : Float) (d : ℕ) → (IsWideFloat x → ⊥) → (IsWideFloat x' → ⊥) → IsFloatOf x d → IsFloatOf x' d
     → x ≡ x'
 same_narrow x x' d p p' (double_of r) (double_of r') = refl
@@ -140,7 +140,7 @@ same_narrow x x' d p p' (half_of {n = n} s l v r w) (half_of {n = n'} s' l' v' r
     ap fl.Half (same_half n n' (one_half (parts half n) (parts half n') (parts single s')
     (subst (λ (z : Parts). IsWidened half single (parts half n) z) e v) v'))
 
--- each float has bits
+-- Each float has 64 bits.
 pub float_bits : (x : Float) → IsFloatInRange x → HasBits x
 float_bits (fl.Half n) r = half_bits n r
 float_bits (fl.Single n) r = single_bits n r

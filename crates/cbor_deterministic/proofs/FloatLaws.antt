@@ -8,7 +8,7 @@ use Rattle.cbor_deterministic.specs.Floats.{Parts, half, single, IsWidened, zero
 use Rattle.cbor_deterministic.specs.Floats.{HasNarrower}
 use Rattle.cbor_deterministic.proofs.FloatTests.{test_is, is_test, whole_of, none_over, same_parts, rest_fits}
 
--- what a float has that is one of fewer bits
+-- The exponent and the mantissa of a float of 32 bits that 16 bits hold.
 data Shape (x m : ℕ) : Type 0 where
   is_zero : x ≡ 0 → m ≡ 0 → Shape x m
   is_normal : (n : ℕ) → 112 < x → x < 143 → m ≡ n * 2 ^ 13 → Shape x m
@@ -129,13 +129,13 @@ no_test s x m l c n = go c (shaped s x m n)
     go (inr k) (is_special n p r) = k.1 p
     go (inr k) (is_subnormal p r u q o) = let j = k.0 in omega arith
 
--- by a test
+-- A test decides whether 16 bits hold the float.
 by_test : (s x m : ℕ) (b : Bool) → (b ≡ true → Narrower s x m) × (Narrower s x m → b ≡ true)
     → Narrower s x m ⊎ (Narrower s x m → ⊥)
 by_test s x m true t = inl (t.0 refl)
 by_test s x m false t = inr (λ n. let e = t.1 n in absurd cc)
 
--- each float is one of half the width or none
+-- Either 16 bits hold a float of 32 bits, or they do not.
 pub decide : (s x m : ℕ) → m < 2 ^ 23 → Narrower s x m ⊎ (Narrower s x m → ⊥)
 decide s x m u = go (nat_lt 0 x) (nat_lt x 103) (nat_lt 142 x) (nat_lt 112 x) (nat_eq x 255) refl refl refl refl refl
   where

@@ -41,7 +41,7 @@ leading (suc (suc n)) l =
     let k = leading (suc n) (omega arith) in
     next_leading (suc n) k (nat_lt (k.r + 1) (2 ^ k.p)) refl
 
--- one power of two is the greatest that a number holds
+-- A number whose first 1 is at bit p is less than 2 ^ q, if p < q.
 no_less : (p q r s : ℕ) → p < q → r < 2 ^ p → 2 ^ p + r ≡ 2 ^ q + s → ⊥
 no_less p q r s l h e =
     let more : 2 ^ (p + 1) ≡ 2 ^ p * 2 = pow_more 2 p in
@@ -69,7 +69,7 @@ one_leading p q r s h g e = go (nat_lt p q) (nat_lt q p) refl refl
 
 -- ---- 16 bits in 32
 
--- the first one stands below the width
+-- The first 1 of a number that is less than 2 ^ k stands below bit k.
 small : (m p r k : ℕ) → m ≡ 2 ^ p + r → m < 2 ^ k → p < k
 small m p r k i h = go (nat_lt p k) (nat_lt k p) refl refl
   where
@@ -213,7 +213,7 @@ widened32 s e m l h = go (nat_lt e 255) (nat_lt 0 e) (nat_lt 0 m) refl refl refl
           mantissa = fits_behind k.r k.p 52 (omega arith) k.rest;
         }))
 
--- ---- one alone
+-- ---- only one float
 
 one_sum : (e e' m m' : ℕ) → e ≡ e' → m ≡ m' → (e ≡ e') × (m ≡ m')
 one_sum e e' m m' p q = (p, q)
@@ -221,7 +221,7 @@ one_sum e e' m m' p q = (p, q)
 cancel : (a b c : ℕ) → 0 < c → a * c ≡ b * c → a ≡ b
 cancel a b c l e = sym (mul-div_cancel a l) ∙ ap (λ (z : ℕ). z / c) e ∙ mul-div_cancel b l
 
--- a float is one of the narrower width in one way
+-- Only one float of 16 bits is a given float of 32 bits.
 one_half_go : (a a' b b' : Parts) → IsWidened half single a b → IsWidened half single a' b' → b.sign ≡ b'.sign
     → b.exponent ≡ b'.exponent
     → b.mantissa ≡ b'.mantissa → a ≡ a'
@@ -256,7 +256,7 @@ one_half_go a a' b b' (subnormal {s = s} {p = p} {r = r} l h) (subnormal {s = s'
 pub one_half : (a a' b : Parts) → IsWidened half single a b → IsWidened half single a' b → a ≡ a'
 one_half a a' b x y = one_half_go a a' b b x y refl refl refl
 
--- a float is one of the narrower width in one way
+-- Only one float of 32 bits is a given float of 64 bits.
 one_single_go : (a a' b b' : Parts) → IsWidened single double a b → IsWidened single double a' b' → b.sign ≡ b'.sign
     → b.exponent ≡ b'.exponent
     → b.mantissa ≡ b'.mantissa → a ≡ a'
@@ -292,7 +292,7 @@ one_single_go a a' b b' (subnormal {s = s} {p = p} {r = r} l h) (subnormal {s = 
 pub one_single : (a a' b : Parts) → IsWidened single double a b → IsWidened single double a' b → a ≡ a'
 one_single a a' b x y = one_single_go a a' b b x y refl refl refl
 
--- a float is one of the wider width in one way
+-- A float of 16 bits is only one float of 32 bits.
 half_once_go : (a a' b b' : Parts) → IsWidened half single a b → IsWidened half single a' b' → a.sign ≡ a'.sign
     → a.exponent ≡ a'.exponent
     → a.mantissa ≡ a'.mantissa → b ≡ b'
@@ -330,7 +330,7 @@ half_once_go a a' b b' (subnormal {s = s} {p = p} {r = r} l h) (subnormal {s = s
 pub half_once : (a b b' : Parts) → IsWidened half single a b → IsWidened half single a b' → b ≡ b'
 half_once a b b' x y = half_once_go a a b b' x y refl refl refl
 
--- a float is one of the wider width in one way
+-- A float of 32 bits is only one float of 64 bits.
 single_once_go : (a a' b b' : Parts) → IsWidened single double a b → IsWidened single double a' b' → a.sign ≡ a'.sign
     → a.exponent ≡ a'.exponent
     → a.mantissa ≡ a'.mantissa → b ≡ b'
@@ -368,7 +368,7 @@ single_once_go a a' b b' (subnormal {s = s} {p = p} {r = r} l h) (subnormal {s =
 pub single_once : (a b b' : Parts) → IsWidened single double a b → IsWidened single double a b' → b ≡ b'
 single_once a b b' x y = single_once_go a a b b' x y refl refl refl
 
--- bits by their parts
+-- Bits with the same parts are the same.
 pub same_half : (n n' : ℕ) → parts half n ≡ parts half n' → n ≡ n'
 same_half n n' e =
     let s = ap (λ (c : Parts). c.sign) e in

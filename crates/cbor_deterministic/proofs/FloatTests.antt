@@ -23,14 +23,14 @@ pub same_parts : (s s' e e' m m' : ℕ) → s ≡ s' → e ≡ e' → m ≡ m'
     (record { sign = s'; exponent = e'; mantissa = m' })
 same_parts s s' e e' m m' p q r = cc
 
--- what is left of a mantissa fits before so many zeros
+-- If a number is less than 2 ^ k, its quotient by 2 ^ (k - p) is less than 2 ^ p.
 pub rest_fits : (n p k : ℕ) → p ≤ k → n < 2 ^ k → n / 2 ^ (k - p) < 2 ^ p
 rest_fits n p k l h =
     let e : p + (k - p) ≡ k = omega arith in
     let q : 2 ^ p * 2 ^ (k - p) ≡ 2 ^ k = sym (pow-add 2 p (k - p)) ∙ ap (λ (z : ℕ). 2 ^ z) e in
     (div-lt_iff_lt-mul (pow_pos (k - p))).1 (subst (λ (z : ℕ). n < z) (sym q) h)
 
--- a 1 that is shifted within the width
+-- A 1 that is shifted by k bits stays within a width of more than k bits.
 pub shifted : (k w : ℕ) → k < w → 1 * 2 ^ k % 2 ^ w ≡ 2 ^ k
 shifted k w l =
     let b = pow_below k w l in

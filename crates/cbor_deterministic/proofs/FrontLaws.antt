@@ -1,4 +1,4 @@
--- The beginning of bytes, and the place at which they fail, by the rest of them.
+-- A front of bytes, and the place of a fault, by the rest of the bytes.
 use Rattle.std.proofs.Common.{◌≡◌, ℕ, List, ◌-◌, ◌∙◌, ap, arith, length, length-append, take}
 use Rattle.std.proofs.Common.{◌++◌, refl, sym}
 use Rattle.std.specs.List.{IsSplitAt}
@@ -7,8 +7,8 @@ use Rattle.std.proofs.Math.Seq.{take-append_seam}
 use Rattle.cbor_deterministic.specs.declared.Why.{Why}
 use Rattle.cbor_deterministic.specs.Fronts.{InFront, NoneInFront}
 
--- what stands at the beginning of the rest leads to what stands at the beginning of the bytes, with the same rest after
--- it, and the bytes fail as the rest does
+-- A front of the rest gives a front of the bytes, with the same bytes after it. A fault of the rest gives a fault of
+-- the bytes.
 pub record Leads (P : List ℕ → Type 0) (S : List ℕ → Why → ℕ → Type 0) (bytes : List ℕ) (Q : List ℕ → Type 0)
     (T : List ℕ → Why → ℕ → Type 0) (rest : List ℕ) : Type 0 where
   pub there : (more : List ℕ) → InFront Q rest more → InFront P bytes more
@@ -17,7 +17,7 @@ pub record Leads (P : List ℕ → Type 0) (S : List ℕ → Why → ℕ → Typ
 pub leads_same : (P : List ℕ → Type 0) (S : List ℕ → Why → ℕ → Type 0) (bytes : List ℕ) → Leads P S bytes P S bytes
 leads_same P S bytes = record { there = λ more f. f; stops = λ why left f. f }
 
--- what is of the one kind is of the other
+-- If all bytes of the first kind are of the second kind, a front of the first kind is one of the second kind.
 pub map_front : (P Q : List ℕ → Type 0) (bytes rest : List ℕ) → ((w : List ℕ) → P w → Q w) → InFront P bytes rest
     → InFront Q bytes rest
 map_front P Q bytes rest f i = record { front = i.front; is = f i.front i.is; whole = i.whole }
@@ -26,7 +26,7 @@ pub map_none : (P Q : List ℕ → Type 0) (bytes : List ℕ) → ((w : List ℕ
     → NoneInFront Q bytes
 map_none P Q bytes f none rest i = none rest (map_front Q P bytes rest f i)
 
--- the bytes before a rest
+-- The length of a front is the difference of the lengths of the bytes and of the rest.
 pub front_is : (P : List ℕ → Type 0) (rest behind : List ℕ) (f : InFront P rest behind)
     → take (length rest - length behind) rest ≡ f.front
 front_is P rest behind f =
@@ -35,6 +35,6 @@ front_is P rest behind f =
     ap (λ (n : ℕ). take n rest) l ∙ ap (λ (z : List ℕ). take (length f.front) z) f.whole
     ∙ take-append_seam f.front behind
 
--- bytes that are split are their two parts
+-- Bytes are the two parts of a split, joined.
 pub split_whole : (xs front back : List ℕ) (mid : ℕ) → IsSplitAt xs mid front back → xs ≡ front ++ back
 split_whole xs front back mid s = sym (take-append-drop mid xs) ∙ sym (rw (s.1, s.2) refl)

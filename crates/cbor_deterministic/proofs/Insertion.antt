@@ -1,4 +1,4 @@
--- A pair put among ascending pairs, at the place of its key.
+-- The insertion of a pair into ascending pairs, at the place of its key.
 use Rattle.cbor_deterministic.specs.Orders.{Precedes}
 use Rattle.cbor_deterministic.specs.declared.Order.{Order}
 use Rattle.std.proofs.Common.{◌≡◌, ℕ, suc, List, [], ◌∷◌, ◌++◌}
@@ -11,12 +11,12 @@ use Rattle.cbor_deterministic.proofs.Sorted.{Entry}
 use Rattle.cbor_deterministic.proofs.Valued.{Det, DetPairs, det_none, det_pair}
 use Rattle.cbor_deterministic.proofs.OneEncoding.{entries}
 
--- `Put k v qs ps`: the pairs ps are the pairs qs with this one put among them
+-- `Put k v qs ps`: the pairs ps are the pairs qs with this pair among them.
 pub data Put (k v : Value) : Pairs → Pairs → Type 0 where
   put_here : {qs : Pairs} → Put k v qs (Pair k v qs)
   put_there : {l w : Value} {qs ps : Pairs} → Put k v qs ps → Put k v (Pair l w qs) (Pair l w ps)
 
--- no entry has this key
+-- No entry has this key.
 abbrev pub NotIn : List ℕ → List Entry → Type 0
 NotIn key [] = Unit {0}
 NotIn key (e ∷ es) = (key ≡ e.key → ⊥) × NotIn key es
@@ -60,7 +60,7 @@ module _ {ord : Order} where
             put = put_there i.put;
           }
 
--- ---- what the pairs mean is kept, with the new one
+-- ---- the pairs with the new pair
 
 is_still_in : {k v l w : Value} {qs ps : Pairs} → Put k v qs ps → IsIn l w qs → IsIn l w ps
 is_still_in put_here i = there i

@@ -17,7 +17,7 @@ use Rattle.cbor_deterministic.specs.Deterministic.{IsDeterministic, item, AreDet
 use Rattle.cbor_deterministic.specs.Deterministic.{AreSortedPairs}
 use Rattle.cbor_deterministic.specs.Deterministic.{no_pairs, more_pairs}
 
--- one item, and so many after it
+-- One item and n items after it, joined, are n + 1 items.
 joined_go : (e n : ℕ) (w others : List ℕ) (k : ℕ) → AreItems true e k w → k ≡ 1 → AreItems true e n others
     → AreItems true e (suc n) (w ++ others)
 joined_go e n w others k none_any one is = absurd (omega arith)
@@ -68,12 +68,12 @@ module _ {ord : Order} where
         (join e _ x (y ++ z) (item_formed e x i)
         (join e _ y z (item_formed e y u) (pairs_formed e m _ z is)))
 
-  -- no item begins another one
+  -- No item begins another one.
   pub one_item : (e : ℕ) (w : List ℕ) → IsDeterministic ord e w → (e' : ℕ) (w' v v' : List ℕ)
       → IsDeterministic ord e' w'
       → w ++ v ≡ w' ++ v' → (w ≡ w') × (v ≡ v')
   one_item e w i e' w' v v' i' z = one_any true true e e' w w' v v' (item_formed e w i) (item_formed e' w' i') z
 
--- an item in the deterministic encoding is one in its shortest spelling, nested as deep
+-- An item in the deterministic encoding is an item in its shortest spelling, to the same depth.
 pub well_formed : (ord : Order) (e : ℕ) (w : List ℕ) → IsDeterministic ord e w → IsItem true e w
 well_formed ord e w i = item_formed e w i

@@ -1,4 +1,4 @@
--- Items in a row at the beginning of bytes, and the place at which the bytes fail.
+-- Items in a row at the beginning of bytes, and the place of a fault in the bytes.
 use Rattle.cbor_deterministic.specs.Orders.{Precedes}
 use Rattle.ciborium_ll_grammar.specs.declared.hdr.Header.{Header}
 use Rattle.ciborium_ll_grammar.specs.declared.hdr.Header.TheVariants as h
@@ -21,7 +21,7 @@ use Rattle.cbor_deterministic.specs.declared.Why.TheVariants.{Deep}
 use Rattle.cbor_deterministic.specs.Fronts.{InFront, IsOfLength, IsTextOfLength}
 use Rattle.cbor_deterministic.proofs.FrontLaws.{Leads, map_front, front_is}
 
--- the answer of a call: what it looks for stands at the beginning, or the bytes fail
+-- The answer of a call: the bytes have a front of this kind, or they fail.
 abbrev pub Gives : (List ℕ → Type 0) → (List ℕ → Why → ℕ → Type 0) → List ℕ → Result (Bor (List ℕ)) Stop → Type 0
 Gives P S bytes result =
     MatchResult result (λ rest. InFront P bytes rest.now) (λ stop. S bytes stop.why stop.left)
@@ -29,7 +29,7 @@ Gives P S bytes result =
 -- ---- one item
 
 module _ (ord : Order) where
-  -- a title and what completes it
+  -- A title and the bytes that complete it are an item.
   item_in_front : (e : ℕ) (x : Header) (bytes rest more : List ℕ) → InFront (λ t. IsPreferredTitle t x) bytes rest
       → InFront (Completes ord e x) rest more → InFront (IsDeterministic ord e) bytes more
   item_in_front e x bytes rest more f g = record {
@@ -52,7 +52,7 @@ module _ (ord : Order) where
   item_result e x bytes rest (Ok more) f i = item_in_front e x bytes rest more.now f i
   item_result e x bytes rest (Err stop) f i = item_stops e x bytes rest stop.why stop.left f i
 
--- ---- what completes an item
+-- ---- contents
 
 module _ (ord : Order) where
   pub bytes_result : (e len at : ℕ) (x : Header) (bytes : List ℕ) (r : Result (Bor (List ℕ)) Stop)
@@ -100,7 +100,7 @@ module _ (ord : Order) where
       (λ w q. pairs q) i)
   map_result e d n at x bytes (Err stop) is deep i = rw (is, ← deep) (in_map i)
 
-  -- a header that says all
+  -- No bytes complete the header of an integer, a simple value or a float.
   pub value_in_front : (e : ℕ) (x : Header) (bytes : List ℕ)
       → ((n : ℕ) × (x ≡ h.Positive n)) ⊎ (((n : ℕ) × (x ≡ h.Negative n)) ⊎ (((n : ℕ) × (x ≡ h.Simple n))
       ⊎ ((n : Float) × (x ≡ h.Float n)))) → InFront (Completes ord e x) bytes bytes
@@ -109,9 +109,9 @@ module _ (ord : Order) where
   value_in_front e x bytes (inr (inr (inl p))) = rw p.1 (record { front = []; is = simple; whole = refl })
   value_in_front e x bytes (inr (inr (inr p))) = rw p.1 (record { front = []; is = float; whole = refl })
 
--- ---- so many items
+-- ---- a number of items
 
--- the way from the items that are due at the beginning of the rest to all of them
+-- The items that are due at the beginning of the rest complete all items.
 abbrev pub ItemsLead : Order → ℕ → ℕ → List ℕ → ℕ → List ℕ → Type 0
 ItemsLead ord e n bytes k rest = Leads (AreDeterministic ord e n) (FailsItems ord e n) bytes (AreDeterministic ord e k)
     (FailsItems ord e k) rest
@@ -151,7 +151,7 @@ module _ (ord : Order) where
         stops = λ why left s. m.stops why left (items_behind e k rest behind why left f s);
       }
 
--- ---- so many pairs
+-- ---- a number of pairs
 
 abbrev pub PairsLead : Order → ℕ → ℕ → List ℕ → ℕ → List ℕ → List ℕ → Type 0
 PairsLead ord e n bytes k above rest =

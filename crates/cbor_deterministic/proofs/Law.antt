@@ -29,7 +29,7 @@ module _ {ord : Order} where
     fills_follows x v w m (array d) = let e = all_encode _ _ w d in follows_array e.0 e.1
     fills_follows x v w m (map d) = let e = pairs_encode _ _ _ w d in follows_map e.0 e.1
 
-    -- a deterministic encoding is a spelling
+    -- A deterministic encoding is a spelling.
     pub det_encodes : (v : Value) (w : List ℕ) → Det ord v w → Encodes v w
     det_encodes v w (det {x = x} {r = r} p f) = encodes p.is_title (fills_follows x v r p.strict.meant f)
 
@@ -49,7 +49,7 @@ module _ {ord : Order} where
         let g = pairs_encode _ _ _ z ds in
         (ap suc g.0, encode_pair e f g.1)
 
--- an item that is a spelling of a value is its deterministic encoding
+-- An item that is a spelling of a value is its deterministic encoding.
 pub det_of : (ord : Order) (d : ℕ) (v : Value) (w : List ℕ) → IsDeterministic ord d w → Encodes v w → Det ord v w
 det_of ord d v w i e =
     let a = valued d w i in

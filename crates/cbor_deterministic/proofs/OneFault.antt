@@ -136,7 +136,7 @@ module _ {ord : Order} where
         let p = one_item e v u e v' r r' u' q.1 in
         pairs_once e c k r w l s k' r' w' l' s' q.0 p.1
 
--- bytes are refused at one place alone, for one reason
+-- Bytes are refused at only one place, for one reason.
 pub one_place : (ord : Order) (e p p' : ℕ) (b : List ℕ) (w w' : Why) → HasRefusal ord e b w p → HasRefusal ord e b w' p'
     → OnePlace w w' p p'
 one_place ord e p p' b w w' r r' =

@@ -18,7 +18,7 @@ use Rattle.cbor_deterministic.specs.Spellings.{Encodes, encodes, EncodeAll, enco
 use Rattle.cbor_deterministic.specs.Spellings.{EncodePairs, encode_none, encode_pair}
 use Rattle.cbor_deterministic.proofs.FloatFacts.{float_once}
 
--- the same value, the same bytes and the same rest
+-- The values, the bytes and the rests are the same.
 abbrev pub SameValue : Value → Value → List ℕ → List ℕ → List ℕ → List ℕ → Type 0
 SameValue a a' w w' v v' = (a ≡ a') × (w ≡ w') × (v ≡ v')
 
@@ -31,7 +31,7 @@ SamePairs a a' w w' v v' = (a ≡ a') × (w ≡ w') × (v ≡ v')
 break_go : (x : Header) (a : Value) (r : List ℕ) → Follows x a r → x ≡ h.Break → ⊥
 break_go x a r f e = grind arith
 
--- no spelling begins with a break
+-- No spelling begins with a break.
 value_break : (a : Value) (w u v : List ℕ) → Encodes a w → w ++ u ≡ 0xff ∷ v → ⊥
 value_break a w u v (encodes {title = t} {rest = r} {header = x} {value = b} p f) z =
     break_go x b r f (one_title t (0xff ∷ []) (r ++ u) v x h.Break p break_title (sym (append_assoc t r u) ∙ z)).1

@@ -21,7 +21,7 @@ ranks_more x y xs ys Equal h Equal k = cc
 ranks_more x y xs ys Equal h Greater k = inr (sym h, k)
 ranks_more x y xs ys Greater h p k = inl h
 
--- what std's order of lists says
+-- The order of lists in std is the bytewise order.
 pub ranks_own : (xs ys : List ℕ)
     → MatchOrdering (slice_cmp nat_cmp xs ys) (IsBytewiseBefore xs ys) (xs ≡ ys) (IsBytewiseBefore ys xs)
 ranks_own [] [] = refl
@@ -49,7 +49,7 @@ bytes_trans (x ∷ xs) (y ∷ ys) (z ∷ zs) (inr e) (inr f) = inr (e.0 ∙ f.0,
 
 -- ---- each order
 
--- two keys stand to each other in one of three ways
+-- The first key comes before the second, is the same, or comes after it.
 abbrev pub Ranks : Order → Ordering → List ℕ → List ℕ → Type 0
 Ranks ord r xs ys = MatchOrdering r (Precedes ord xs ys) (xs ≡ ys) (Precedes ord ys xs)
 
@@ -70,7 +70,7 @@ pub record Ranked (ord : Order) (xs ys : List ℕ) : Type 0 where
   pub ordering : Ordering
   pub ranks : Ranks ord ordering xs ys
 
--- so do any two
+-- Any two keys have one of these three orderings.
 pub rank : (ord : Order) (xs ys : List ℕ) → Ranked ord xs ys
 rank Bytewise xs ys = record { ordering = slice_cmp nat_cmp xs ys; ranks = ranks_own xs ys }
 rank LengthFirst xs ys = go (nat_cmp (length xs) (length ys)) (ranked (length xs) (length ys) _ refl)
@@ -81,7 +81,7 @@ rank LengthFirst xs ys = go (nat_cmp (length xs) (length ys)) (ranked (length xs
     go Equal l = record { ordering = slice_cmp nat_cmp xs ys; ranks = length_rank xs ys _ l refl }
     go Greater l = record { ordering = Greater; ranks = inl l }
 
--- no key comes before itself
+-- No key comes before itself.
 pub not_itself : (ord : Order) (xs : List ℕ) → Precedes ord xs xs → ⊥
 not_itself Bytewise xs p = bytes_itself xs p
 not_itself LengthFirst xs (inl l) = omega arith
@@ -94,12 +94,12 @@ precedes_trans LengthFirst xs ys zs (inl l) (inr e) = inl (let f = e.0 in omega 
 precedes_trans LengthFirst xs ys zs (inr e) (inl m) = inl (let f = e.0 in omega arith)
 precedes_trans LengthFirst xs ys zs (inr e) (inr f) = inr (e.0 ∙ f.0, bytes_trans xs ys zs e.1 f.1)
 
--- the empty list comes before each other one
+-- The empty list comes before each other list.
 pub first_key : (ord : Order) (w : List ℕ) → 0 < length w → Precedes ord [] w
 first_key ord [] l = absurd (omega arith)
 first_key Bytewise (x ∷ w) l = tt
 first_key LengthFirst (x ∷ w) l = inl (omega arith)
 
--- of two keys one alone comes before the other
+-- Two keys do not both come before each other.
 pub not_both : (ord : Order) (xs ys : List ℕ) → Precedes ord xs ys → Precedes ord ys xs → ⊥
 not_both ord xs ys p q = not_itself ord xs (precedes_trans ord xs ys xs p q)

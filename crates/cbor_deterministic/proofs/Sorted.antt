@@ -4,7 +4,7 @@ use Rattle.cbor_deterministic.specs.declared.Order.{Order}
 use Rattle.std.proofs.Common.{◌≡◌, ℕ, ◌⊎◌, inl, inr, List, [], ◌∷◌, refl, sym, ap, subst}
 use Rattle.cbor_deterministic.proofs.OrderLaws.{precedes_trans, not_itself, not_both}
 
--- the bytes of a key and of a value
+-- The bytes of a key and of a value.
 pub record Entry : Type 0 where
   pub key : List ℕ
   pub value : List ℕ
@@ -22,14 +22,14 @@ Ascends ord above [] = Unit {0}
 Ascends ord above (e ∷ es) = Precedes ord above e.key × Ascends ord e.key es
 
 module _ (ord : Order) where
-  -- each member comes after what they ascend from
+  -- Each member of entries that ascend from `above` comes after `above`.
   pub behind : (above : List ℕ) (es : List Entry) (x : Entry) → Ascends ord above es → Has x es
       → Precedes ord above x.key
   behind above [] x a i = absurd i
   behind above (e ∷ es) x a (inl s) = subst (λ (y : Entry). Precedes ord above y.key) (sym s) a.0
   behind above (e ∷ es) x a (inr i) = precedes_trans ord above e.key x.key a.0 (behind e.key es x a.1 i)
 
-  -- members that come after the first one of another list are among its others
+  -- If all members come after the first member of another list, they are among its other members.
   drop_first : (f : Entry) (es fs : List Entry) (above : List ℕ) → Ascends ord above es → above ≡ f.key
       → AllIn es (f ∷ fs) → AllIn es fs
   drop_first f [] fs above a s i = tt

@@ -103,6 +103,6 @@ module _ {ord : Order} where
     pairs_run e n a w (more_pairs {count = m} {key = x} {value = y} {others = z} i o u is) =
         join x (y ++ z) (item_run e x i) (join y z (item_run e y u) (pairs_run e m x z is))
 
--- an item in the deterministic encoding is such a run
+-- An item in the deterministic encoding is such a run.
 pub strict_run : (ord : Order) (e : ℕ) (w : List ℕ) → IsDeterministic ord e w → HasStrictRun w
 strict_run ord e w i = item_run e w i

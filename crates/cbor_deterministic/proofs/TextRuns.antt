@@ -1,11 +1,11 @@
--- The longest beginning of bytes that is text decides whether the bytes are text.
+-- The length of the longest front that is UTF-8 decides whether the bytes are UTF-8.
 use Rattle.std.proofs.Common.{◌≡◌, ℕ, List, [], ◌++◌, length, sym, ◌∙◌, ap, subst, arith, append-nil, length-append}
 use Rattle.std.proofs.Common.{IsTrue, nat_eq}
 use Rattle.std.proofs.lemmas.Bool.Decides.{nat_tests}
 use Rattle.ciborium_ll_text.specs.Text.{IsCharacters, IsFront}
 use Rattle.ciborium_ll_text.proofs.Lists.{length_zero}
 
--- a front that is as long as the bytes is all of them
+-- Bytes are UTF-8 if they are as long as their longest front that is UTF-8.
 front_whole : (bytes front rest : List ℕ) → IsFront bytes front rest → length front ≡ length bytes → IsCharacters bytes
 front_whole bytes front rest f e =
     let n : rest ≡ [] = length_zero rest (omega (arith, e, ap (length {A = ℕ}) f.parts, length-append front rest)) in
@@ -22,7 +22,7 @@ same_told m n e = grind (arith, nat_tests)
 told_same : (m n : ℕ) → m ≡ n → IsTrue (nat_eq m n)
 told_same m n e = grind (arith, nat_tests)
 
--- the test of the lengths says whether the bytes are text
+-- The test of the lengths decides whether the bytes are UTF-8.
 pub text_told : (bytes front rest : List ℕ) → IsFront bytes front rest
     → (IsTrue (nat_eq (length front) (length bytes)) → IsCharacters bytes)
     × (IsCharacters bytes → IsTrue (nat_eq (length front) (length bytes)))

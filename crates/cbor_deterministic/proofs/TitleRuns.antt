@@ -1,4 +1,4 @@
--- Titles of the preferred serialization, and bytes that begin with no title of it.
+-- Titles of the preferred serialization, and bytes that begin with no such title.
 use Rattle.std.proofs.Common.{◌≡◌, ℕ, ◌%◌, ◌<◌, inl, inr, List, [], ◌∷◌, ◌++◌, length, refl, sym, ◌∙◌, subst, arith}
 use Rattle.std.proofs.Common.{◌+◌, Bool, true, false, IsTrue, slice_index}
 use Rattle.ciborium_ll_grammar.specs.declared.hdr.Minor.{Minor}
@@ -21,23 +21,23 @@ use Rattle.cbor_deterministic.specs.Refusals.{small_simple}
 
 -- ---- preferred titles
 
--- no preferred title begins another one, and each is of one header
+-- No preferred title begins another one, and each has one header.
 pub one_preferred : (t t' v v' : List ℕ) (x x' : Header) → IsPreferredTitle t x → IsPreferredTitle t' x'
     → t ++ v ≡ t' ++ v' → Same t t' x x' v v'
 one_preferred t t' v v' x x' p p' z = one_title t t' v v' x x' p.is_title p'.is_title z
 
--- a preferred title has a first byte
+-- A preferred title has a first byte.
 pub preferred_some : (t : List ℕ) (x : Header) → IsPreferredTitle t x → 0 < length t
 preferred_some t x p = title_some t x p.is_title
 
--- a header has one preferred title
+-- A header has one preferred title.
 pub same_preferred : (t t' : List ℕ) (x : Header) → IsPreferredTitle t x → IsPreferredTitle t' x → t ≡ t'
 same_preferred t t' x p p' = p.strict.shortest ∙ sym p'.strict.shortest
 
 pub preferred_in_range : (t : List ℕ) (x : Header) → IsPreferredTitle t x → IsInRange x
 preferred_in_range t x p = title_in_range t x p.is_title
 
--- the shortest title of a header is its preferred one, if it has one
+-- The shortest title of a header is its preferred title, if the header has one.
 pub shortest_preferred : (x : Header) → IsInRange x → (IsSmallSimple x → ⊥) → (IsIndefinite x → ⊥) → (IsWide x → ⊥)
     → IsPreferredTitle (shortest_title x) x
 shortest_preferred x r s d w = record {
@@ -47,18 +47,18 @@ shortest_preferred x r s d w = record {
   narrow = w;
 }
 
--- ---- bytes that begin with none
+-- ---- bytes that begin with no preferred title
 
--- a title of the indefinite form is the shortest one
+-- A title of the indefinite form is the shortest one.
 indefinite_shortest : (t : List ℕ) (x : Header) → IsTitle t x → IsIndefinite x → t ≡ shortest_title x
 indefinite_shortest t x (numbered m s n p) d = grind arith
 indefinite_shortest t x (alone m y o) d = grind arith
 
--- and of no wide float
+-- A header of an indefinite form and a break have no wide float.
 indefinite_narrow : (x : Header) → IsIndefinite x → IsWide x → ⊥
 indefinite_narrow x d w = grind arith
 
--- so is the title of a small simple value
+-- The title of a simple value from 24 to 31 is the shortest title.
 small_shortest : (t : List ℕ) (x : Header) → IsTitle t x → IsSmallSimple x → t ≡ shortest_title x
 small_shortest t x (numbered m s n p) d = grind arith
 small_shortest t x (alone m y o) d = grind arith
@@ -69,7 +69,7 @@ small_narrow x d w = grind arith
 small_definite : (x : Header) → IsSmallSimple x → IsIndefinite x → ⊥
 small_definite x d w = grind arith
 
--- a title that is the shortest one, of no wide float, is not longer
+-- The shortest title is not longer, if its header has no wide float.
 not_longer : (t : List ℕ) (x : Header) → t ≡ shortest_title x → (IsWide x → ⊥) → IsLonger t x → ⊥
 not_longer t x e w (inl n) = n e
 not_longer t x e w (inr v) = w v
@@ -77,7 +77,7 @@ not_longer t x e w (inr v) = w v
 same_longer : (t t' : List ℕ) (x x' : Header) → t ≡ t' → x ≡ x' → IsLonger t x → IsLonger t' x'
 same_longer t t' x x' e f l = subst (λ (z : Header). IsLonger t' z) f (subst (λ (w : List ℕ). IsLonger w x) e l)
 
--- no preferred title begins bytes that fail as one
+-- No preferred title begins bytes that fail as one.
 pub title_none : (b : List ℕ) (why : Why) → FailsTitle b why → (t v : List ℕ) (x : Header) → IsPreferredTitle t x
     → b ≡ t ++ v → ⊥
 title_none b why (cut_title c) t v x p z = title_not_cut t v x p.is_title (subst IsCutTitle z c)
@@ -90,12 +90,12 @@ title_none b why (indefinite {title = u} {header = y} rest q d) t v x p z =
 title_none b why (small_simple {title = u} {header = y} rest q d) t v x p z =
     let o = one_title u t rest v y x q p.is_title z in p.strict.meant (subst IsSmallSimple o.1 d)
 
--- bytes that end within a title begin with no refused one
+-- Bytes that end before a title or within it do not begin with a byte that begins no title.
 cut_or_refused : (b : List ℕ) → IsCutTitle b → BeginsRefused b → ⊥
 cut_or_refused [] c r = r
 cut_or_refused (x ∷ b) c r = let e = refused_affix x r in omega arith
 
--- bytes fail as a title for one reason
+-- Bytes fail as a title for one reason.
 pub title_once : (b b' : List ℕ) (w w' : Why) → FailsTitle b w → FailsTitle b' w' → b ≡ b' → w ≡ w'
 title_once b b' w w' (cut_title c) (cut_title c') z = refl
 title_once b b' w w' (cut_title c) (no_title r') z = absurd (cut_or_refused b' (subst IsCutTitle z c) r')
@@ -147,16 +147,16 @@ title_once b b' w w' (small_simple {title = t} {header = x} v p d) (indefinite {
 title_once b b' w w' (small_simple {title = t} {header = x} v p d) (small_simple {title = t'} {header = x'} v' p' d')
     z = refl
 
--- ---- what the parts of a title say
+-- ---- the meaning of the parts of a title
 
--- a test that holds
+-- The proposition of a test holds if the test is true.
 pub told : {P : Type 0} (r : Bool) → r ≡ true → (IsTrue r → P) × (P → IsTrue r) → P
 told r e i = i.0 e
 
 pub not_both_ways : (r : Bool) → r ≡ false → IsTrue r → ⊥
 not_both_ways r e f = cc
 
--- and one that doesn't
+-- The proposition of a test fails if the test is false.
 pub untold : {P : Type 0} (r : Bool) → r ≡ false → (IsTrue r → P) × (P → IsTrue r) → P → ⊥
 untold r e i p = not_both_ways r e (i.1 p)
 

@@ -1,4 +1,4 @@
--- The deterministic encoding of a value. Each item in this encoding is that of some value.
+-- The deterministic encoding of a value. Each item in this encoding encodes some value.
 use Rattle.std.proofs.Common.{◌≡◌, ℕ, zero, suc, List, [], ◌++◌, length, Some}
 use Rattle.ciborium_ll_text.specs.Text.{IsCharacters}
 use Rattle.ciborium_ll_grammar.specs.declared.hdr.Header.{Header}
@@ -22,7 +22,7 @@ use Rattle.cbor_deterministic.proofs.TitleRuns.{preferred_in_range}
 use Rattle.cbor_deterministic.proofs.FloatFacts.{float_bits}
 
 mutual
-  -- after a title of the header the rest completes the value
+  -- After a title of the header the rest completes the value.
   pub data Fills (ord : Order) : Header → Value → List ℕ → Type 0 where
     unsigned : {n : ℕ} → Fills ord (h.Positive n) (Unsigned n) []
     negative : {n : ℕ} → Fills ord (h.Negative n) (Negative n) []
@@ -35,7 +35,7 @@ mutual
     array : {n : ℕ} {vs : Values} {w : List ℕ} → DetAll ord n vs w → Fills ord (h.Array (Some n)) (Array vs) w
     map : {n : ℕ} {ps : Pairs} {w : List ℕ} → DetPairs ord n [] ps w → Fills ord (h.Map (Some n)) (Map ps) w
 
-  -- the bytes are the deterministic encoding of the value
+  -- The bytes are the deterministic encoding of the value.
   pub data Det (ord : Order) : Value → List ℕ → Type 0 where
     det : {x : Header} {v : Value} {t r : List ℕ} → IsPreferredTitle t x → Fills ord x v r → Det ord v (t ++ r)
 
@@ -49,7 +49,7 @@ mutual
     det_pair : {n : ℕ} {k v : Value} {ps : Pairs} {a kw vw u : List ℕ} → Det ord k kw → Precedes ord a kw
         → Det ord v vw → DetPairs ord n kw ps u → DetPairs ord (suc n) a (Pair k v ps) (kw ++ (vw ++ u))
 
--- some value is so encoded
+-- The contents complete some value.
 pub record Filled (ord : Order) (x : Header) (w : List ℕ) : Type 0 where
   pub value : Value
   pub fills : Fills ord x value w
@@ -84,7 +84,7 @@ module _ {ord : Order} where
     filled d x t w i (c_pairs {depth = e} {count = n} q) =
         let v = valued_pairs e n [] w q in record { value = Map v.pairs; fills = map v.are }
 
-    -- each item in the deterministic encoding is that of a value
+    -- Each item in the deterministic encoding encodes a value.
     pub valued : (d : ℕ) (w : List ℕ) → IsDeterministic ord d w → Valued ord w
     valued d w (item {title = t} {rest = r} {header = x} q f) =
         let v = filled d x t r q f in record { value = v.value; is = det q v.fills }

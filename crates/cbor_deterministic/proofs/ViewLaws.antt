@@ -57,7 +57,7 @@ module _ {ord : Order} where
     completes = ∥∥₁_map t (λ i. completes_go e w [] rest x i f.front f.is (append-nil w ∙ f.whole) refl);
   }
 
-  -- an item opens in one way
+  -- An item has one header and one sequence of contents.
   pub one_opening : (e : ℕ) (w r r' : List ℕ) (x x' : Header) → Opens ord e w x r → Opens ord e w x' r'
       → (x ≡ x') × (r ≡ r')
   one_opening e w r r' x x' o o' =
@@ -133,9 +133,9 @@ module _ {ord : Order} where
       let s : e ≡ suc (e - 1) = omega arith in
       ∥∥₁_map (subst (λ (d : ℕ). ∥ Completes ord d (h.Map (Some n)) w ∥₁) s t) (of_map (e - 1) n w)
 
--- ---- the pairs of a map, one after the other
+-- ---- the pairs of a map, one by one
 
--- the first pair of some, and the others
+-- The first of some pairs, and the others.
 record FirstPair (ord : Order) (e n : ℕ) (above w : List ℕ) : Type 0 where
   pub key : List ℕ
   pub value : List ℕ
@@ -162,7 +162,7 @@ module _ {ord : Order} where
         whole = refl;
       }
 
-  -- where the first key ends
+  -- The first key of some pairs does not fail as an item.
   pub key_there : (e n : ℕ) (w : List ℕ) (why : Why) (left : ℕ) → ∥ HasPairs ord e n w ∥₁ → 0 < n
       → FailsItem ord e w why left
       → ⊥
@@ -191,7 +191,7 @@ module _ {ord : Order} where
   pairs_left e n w key value behind last t l i z j y =
       ∥∥₁_map t (λ p. pairs_left_go e n w key value behind last p l i z j y)
 
--- one of some pairs is the first one, or one of the others
+-- A pair is the first of some pairs, or one of the others.
 pub data Which (ord : Order) (e : ℕ) (key value last k v : List ℕ) : Type 0 where
   the_first : k ≡ key → v ≡ value → Which ord e key value last k v
   another : IsPairOf ord e last k v → Which ord e key value last k v
@@ -218,7 +218,7 @@ module _ {ord : Order} where
   pair_some e w k v (later_pair {other = a} {another = b} {others = o} p q r) =
       omega (arith, item_some e a p, length-append a (b ++ o))
 
-  -- the keys of ascending pairs come after what they ascend from
+  -- The keys of pairs that ascend from `above` come after `above`.
   behind_all : (e n : ℕ) (above w k v : List ℕ) → AreSortedPairs ord e n above w → IsPairOf ord e w k v
       → Precedes ord above k
   behind_all e n above w k v no_pairs q = absurd (omega (arith, pair_some e [] k v q))
@@ -269,7 +269,7 @@ module _ {ord : Order} where
       go are (the_first s t) = not_itself ord key (subst (λ (u : List ℕ). Precedes ord u key) s o)
       go are (another r) = not_both ord key k (behind_all e (n - 1) key last k v are r) o
 
-  -- after a greater key there is none
+  -- No pair has a key that comes before the first key.
   pub no_more : (e n : ℕ) (w key value behind last k v : List ℕ) → ∥ HasPairs ord e n w ∥₁ → 0 < n
       → IsDeterministic ord e key
       → w ≡ key ++ behind → IsDeterministic ord e value → behind ≡ value ++ last → Precedes ord k key
@@ -348,7 +348,7 @@ module _ {ord : Order} where
   text_valid e (Some len) w (text_string l k) = k
   text_valid e None w c = elim c [ ]
 
-  -- the contents of a text are text
+  -- The contents of a text are UTF-8.
   pub text_told : (e : ℕ) (len : Option ℕ) (w rest : List ℕ) → Opens ord e w (h.Text len) rest → IsCharacters rest
   text_told e len w rest o = go (text_or_none rest)
     where
@@ -358,7 +358,7 @@ module _ {ord : Order} where
 
   -- ---- items without contents
 
-  -- an item that its title completes is that title
+  -- An item with empty contents is its title.
   value_item : (e : ℕ) (w rest : List ℕ) (x : Header) → Opens ord e w x rest
       → (Completes ord e x rest → length rest ≡ 0) → IsPreferredTitle w x
   value_item e w rest x o f =
@@ -394,7 +394,7 @@ module _ {ord : Order} where
       → IsPreferredTitle w (h.Float n)
   float_item e n w rest o = value_item e w rest (h.Float n) o (float_go e n rest)
 
-  -- the header that a whole title tells is the one that was read
+  -- If a title of a header is the whole item, the item has this header.
   pub whole_header : (e : ℕ) (w rest : List ℕ) (x y : Header) → Opens ord e w x rest → IsPreferredTitle w y → x ≡ y
   whole_header e w rest x y o p =
       (one_preferred o.title w rest [] x y o.is_title p (sym o.whole ∙ sym (append-nil w))).1
@@ -418,7 +418,7 @@ module _ {ord : Order} where
   text_header e w rest body x o b =
       same_header e w rest x _ o (record { title = b.title; contents = body; is_title = b.is_title; whole = b.whole })
 
-  -- an item is the shortest title of a header and these bytes exactly if that is what it opens to
+  -- An item is the shortest title of a header and these bytes exactly if it has this header and these contents.
   pub titled_is : (e : ℕ) (w rest b : List ℕ) (x y : Header) → Opens ord e w x rest → x ≡ y → rest ≡ b
       → w ≡ shortest_title y ++ b
   titled_is e w rest b x y o s c =
@@ -466,13 +466,13 @@ module _ {ord : Order} where
       let s : e ≡ suc (e - 1) = omega arith in
       ∥∥₁_map (subst (λ (d : ℕ). ∥ Completes ord d (h.Tag n) w ∥₁) s t) (of_tag (e - 1) n w)
 
--- a key that comes before another one is not the same
+-- A key that comes before another key is not the same key.
 pub apart : (ord : Order) (key k : List ℕ) → Precedes ord key k → key ≡ k → ⊥
 apart ord key k o s = not_itself ord k (subst (λ (u : List ℕ). Precedes ord u k) s o)
 
 -- ---- the answers of a search
 
--- whether a map has the key with these bytes
+-- The result of a search for the key with these bytes in a map.
 abbrev pub Gets : Order → ℕ → List ℕ → List ℕ → Option Item → Type 0
 Gets ord e w key r = MatchOption r (HasNoKey ord e w key) (λ i. HasKey ord e w key i.bytes.now)
 

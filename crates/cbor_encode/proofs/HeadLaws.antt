@@ -16,7 +16,7 @@ numbered_means : (major : Major) (minor : Minor) (number : ℕ) (header : Header
 numbered_means major minor number header same reads =
     grind (arith, reads Small, reads One, reads Two, reads Four, reads Eight)
 
--- a minor with the number of a header makes a title of it
+-- A minor with the number of a header makes a title of this header.
 pub marked_title : (header : Header) (code number : ℕ) (minor : Minor) → HasNumber header code number → IsMinor minor
     → minor_number minor ≡ Some number → IsTitle (parts_bytes code minor) header
 marked_title header code number minor has is same =
@@ -28,7 +28,7 @@ shortest_taken : (strict : Bool) (header : Header) (bytes : List ℕ) → (IsSma
 shortest_taken true header bytes meant same = record { shortest = same; meant = meant }
 shortest_taken false header bytes meant same = tt
 
--- the shortest title is taken in each mode
+-- The shortest title is taken in each mode.
 pub shortest_head : (strict : Bool) (header : Header) (bytes : List ℕ) → (IsSmallSimple header → ⊥) → IsInRange header
     → bytes ≡ shortest_title header → IsHead strict header bytes
 shortest_head strict header bytes meant range same = record {
@@ -36,12 +36,12 @@ shortest_head strict header bytes meant range same = record {
   taken = shortest_taken strict header bytes meant same;
 }
 
--- a title of any length is taken if any titles are
+-- A title of any width is taken if the mode is not strict.
 pub loose_head : (strict : Bool) (header : Header) (bytes : List ℕ) → strict ≡ false → IsTitle bytes header
     → IsHead strict header bytes
 loose_head strict header bytes loose title = rw loose (record { title = title; taken = tt })
 
--- a title and a body, which two calls add
+-- Two calls add a title and a body.
 pub body_added : (strict : Bool) (header : Header) (title body before within after : List ℕ)
     → IsHead strict header title → within ≡ before ++ title → after ≡ within ++ body
     → Adds (HasBody strict header body) before after

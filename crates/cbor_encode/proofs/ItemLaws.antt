@@ -1,4 +1,4 @@
--- A title and what completes it are an item, and an item more.
+-- Items from a title and contents, and items one by one.
 use Rattle.std.proofs.Common.{◌≡◌, ℕ, suc, ◌+◌, ◌*◌, Bool, List, [], ◌∷◌, ◌++◌, sym, subst}
 use Rattle.std.proofs.Common.{append_assoc, append-nil, Some, None, arith, Result, Ok, Err}
 use Rattle.std.specs.Result.{OnOk}
@@ -10,14 +10,14 @@ use Rattle.ciborium_ll_grammar.specs.Items.{tag, array, pairs, open_array, open_
 use Rattle.cbor_encode.specs.Adding.{Adds, IsHead, HasBody}
 use Rattle.cbor_encode.specs.Scalars.{IsScalar}
 
--- a title and what completes it are an item
+-- A title and the contents that complete it are an item.
 pub one_item : (strict : Bool) (depth : ℕ) (header : Header) (title body : List ℕ) → IsHead strict header title
     → Completes strict depth header body → IsItem strict depth (title ++ body)
 one_item strict depth header title body head completes =
     subst (λ (z : List ℕ). IsItem strict depth (title ++ z)) (append-nil body)
     (more_items head.title head.taken completes no_items)
 
--- so is what a call adds
+-- A title and the contents that a call adds are an item.
 pub item_added : (strict : Bool) (depth : ℕ) (header : Header) (body before after : List ℕ)
     → Adds (HasBody strict header body) before after → Completes strict depth header body
     → Adds (IsItem strict depth) before after
@@ -28,14 +28,14 @@ item_added strict depth header body before after adds completes = record {
       (one_item strict depth header adds.is.title body adds.is.head completes);
 }
 
--- items and an item
+-- Some items and one item after them are one item more.
 items_then : (strict : Bool) (depth count : ℕ) (items item : List ℕ) → AreItems strict depth count items
     → IsItem strict depth item → AreItems strict depth (suc count) (items ++ item)
 items_then strict depth count items item no_items i = i
 items_then strict depth count items item (more_items {others = others} title taken completes are) i =
     simp append_assoc (more_items title taken completes (items_then strict depth _ others item are i))
 
--- items, and an item that a call adds
+-- Some items and an item that a call adds are one item more.
 pub items_more : (strict : Bool) (depth count : ℕ) (before after : List ℕ) → AreItems strict depth count before
     → Adds (IsItem strict depth) before after → AreItems strict depth (count + 1) after
 items_more strict depth count before after are adds =
@@ -44,7 +44,7 @@ items_more strict depth count before after are adds =
     items_then strict depth count before adds.added are adds.is in
     let same : suc count ≡ count + 1 = omega arith in rw same at next)
 
--- pairs, and a key and a value that two calls add
+-- Some pairs, and a key and a value that two calls add, are one pair more.
 pub pairs_more : (strict : Bool) (depth count : ℕ) (before key after : List ℕ)
     → AreItems strict depth (2 * count) before → Adds (IsItem strict depth) before key
     → Adds (IsItem strict depth) key after → AreItems strict depth (2 * (count + 1)) after
@@ -54,13 +54,13 @@ pairs_more strict depth count before key after are first second =
     let same : 2 * count + 1 + 1 ≡ 2 * (count + 1) = omega arith in
     rw same at next
 
--- an item that a call adds to nothing
+-- An item that a call adds to no bytes is all bytes.
 pub item_alone : (strict : Bool) (depth : ℕ) (before after : List ℕ) → before ≡ []
     → Adds (IsItem strict depth) before after → IsItem strict depth after
 item_alone strict depth before after none adds =
     subst (IsItem strict depth) (sym (rw none at adds.parts)) adds.is
 
--- a scalar is an item by itself
+-- A scalar is an item by itself.
 pub scalar_completes : (strict : Bool) (depth : ℕ) (header : Header) → IsScalar header
     → Completes strict depth header []
 scalar_completes strict depth (h.Positive number) is = positive
@@ -74,7 +74,7 @@ scalar_completes strict depth (h.Text len) is = absurd is
 scalar_completes strict depth (h.Array len) is = absurd is
 scalar_completes strict depth (h.Map len) is = absurd is
 
--- and has a meaning
+-- A scalar is no simple value from 24 to 31.
 pub scalar_meant : (header : Header) → IsScalar header → IsSmallSimple header → ⊥
 scalar_meant (h.Positive number) is small = small
 scalar_meant (h.Negative number) is small = small
@@ -87,7 +87,7 @@ scalar_meant (h.Text len) is small = small
 scalar_meant (h.Array len) is small = small
 scalar_meant (h.Map len) is small = small
 
--- ---- what nests contain completes them
+-- ---- contents of nests
 
 pub tag_completes : (strict : Bool) (depth inner number : ℕ) (item : List ℕ) → suc inner ≡ depth
     → IsItem strict inner item → Completes strict depth (h.Tag number) item
@@ -116,7 +116,7 @@ open_map_completes strict depth inner count items level are =
 
 -- ---- a call that may fail
 
--- a title and a body are an item if the body completes the title
+-- A title and a body are an item if the body completes the title.
 pub whole_added : {T E : Type 0} (strict : Bool) (header : Header) (body before after : List ℕ) (result : Result T E)
     → OnOk result (Adds (HasBody strict header body) before after)
     → OnOk result ((depth : ℕ) → Completes strict depth header body → Adds (IsItem strict depth) before after)

@@ -27,7 +27,7 @@ mutual
   loose_items (more_items title taken completes items) =
       more_items title tt (loose_completion completes) (loose_items items)
 
--- items in any mode are items
+-- Items in any mode are items.
 pub any_items : (strict : Bool) (depth count : ℕ) (bytes : List ℕ) → AreItems strict depth count bytes
     → AreItems false depth count bytes
 any_items true depth count bytes items = loose_items items

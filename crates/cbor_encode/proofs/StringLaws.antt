@@ -15,19 +15,19 @@ use Rattle.cbor_encode.specs.Adding.{Adds, HasBody}
 use Rattle.cbor_encode.specs.Chunks.{HasChunks}
 use Rattle.cbor_encode.specs.Scalars.{kind_of}
 
--- the header of a string is no simple value
+-- The header of a string is no simple value from 24 to 31.
 pub string_meant : (kind : Kind) (len : Option ℕ) → IsSmallSimple (kind_header kind len) → ⊥
 string_meant Bytes len small = small
 string_meant Text len small = small
 
--- the body of a string completes it
+-- The body of a string completes it.
 pub string_completes : (strict : Bool) (depth : ℕ) (is_text : Bool) (body : List ℕ)
     → (is_text ≡ true → IsCharacters body)
     → Completes strict depth (kind_header (kind_of is_text) (Some (length body))) body
 string_completes strict depth true body text = text_string refl (text refl)
 string_completes strict depth false body text = byte_string refl
 
--- strings and a break complete an open
+-- Strings and a break complete an open.
 pub open_completes : (strict : Bool) (depth : ℕ) (is_text : Bool) (strings : List ℕ)
     → HasChunks strict (kind_of is_text) strings
     → Completes strict depth (kind_header (kind_of is_text) None) (strings ++ 0xff ∷ [])
@@ -38,7 +38,7 @@ none_taken : (strict : Bool) (kind : Kind) → AreTakenStrings strict kind [] []
 none_taken true kind = flat.none
 none_taken false kind = tt
 
--- no strings
+-- No bytes are no strings within an open string.
 pub no_chunks : (strict : Bool) (kind : Kind) → HasChunks strict kind []
 no_chunks strict kind = record { bodies = []; are = none; taken = none_taken strict kind; writable = tt }
 
@@ -64,7 +64,7 @@ one_string : (kind : Kind) (title body : List ℕ) → IsTitle title (kind_heade
 one_string kind title body is =
     subst (λ (z : List ℕ). AreStrings kind z (body ∷ [])) (append-nil (title ++ body)) (one_more (definite is) none)
 
--- strings, and a string that a call adds
+-- Strings within an open string and a string that a call adds are such strings.
 pub chunks_more : (strict : Bool) (kind : Kind) (body before after : List ℕ) → HasChunks strict kind before
     → Adds (HasBody strict (kind_header kind (Some (length body))) body) before after → IsWritable kind body
     → HasChunks strict kind after
@@ -79,13 +79,13 @@ chunks_more strict kind body before after chunks adds writable =
       writable = AreWritable-append kind chunks.bodies (body ∷ []) chunks.writable (writable, tt);
     })
 
--- a body that was checked if it is a text may be written
+-- A body may be written if it is that of a byte string or is UTF-8.
 pub body_writable : (is_text : Bool) (body : List ℕ) → (is_text ≡ true → IsCharacters body)
     → IsWritable (kind_of is_text) body
 body_writable true body text = text refl
 body_writable false body text = tt
 
--- two kinds that are not found different are the same
+-- Two kinds are the same if a test does not find them different.
 pub same_kind : (found wanted : Bool) → not (beq found wanted) ≡ false → wanted ≡ true → found ≡ true
 same_kind true wanted same text = refl
 same_kind false true same text = sym same

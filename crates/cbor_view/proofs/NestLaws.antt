@@ -1,4 +1,4 @@
--- The items of an array and the pairs of a map, one after the other.
+-- The items of an array and the pairs of a map, one by one.
 use Rattle.std.proofs.Common.{◌≡◌, ℕ, zero, suc, ◌+◌, ◌-◌, ◌*◌, ◌<◌, false, List, [], ◌∷◌, ◌++◌, length, take, refl}
 use Rattle.std.proofs.Common.{Option, Some, None, IfSome, sym, ◌∙◌, ap, subst, append_assoc, append-nil, arith}
 use Rattle.std.proofs.Common.{length-append, true}
@@ -16,9 +16,9 @@ use Rattle.cbor_skip.specs.ItemFaults.{BeginsWithItem}
 use Rattle.cbor_view.specs.Views.{HasItems, HasPairs, closed, one_less}
 use Rattle.cbor_view.specs.Nexts.{CountsDown}
 
--- ---- the first item of some
+-- ---- the first item
 
--- the first one of some items, and the others
+-- The first of some items, and the others.
 pub record FirstItem (e n : ℕ) (w : List ℕ) : Type 0 where
   pub first : List ℕ
   pub others : List ℕ
@@ -51,7 +51,7 @@ pub in_front : (e n : ℕ) (w : List ℕ) → AreItems false e n w → 0 < n →
 in_front e n w i l =
     let f = first_item e n w i l in record { item = f.first; rest = f.others; is_item = f.is_item; is = f.whole }
 
--- what follows the first item are the others
+-- The bytes after the first item are the other items.
 pub others_left : (e n : ℕ) (w item rest : List ℕ) → AreItems false e n w → 0 < n → IsItem false e item
     → w ≡ item ++ rest → AreItems false e (n - 1) rest
 others_left e n w item rest i l is z =
@@ -59,7 +59,7 @@ others_left e n w item rest i l is z =
     let one = one_item false false e e item f.first rest f.others is f.is_item (sym z ∙ f.whole) in
     subst (λ (v : List ℕ). AreItems false e (n - 1) v) (sym one.1) f.are
 
--- an item takes a byte at least
+-- An item has at least one byte.
 pub item_takes : (e : ℕ) (w item rest : List ℕ) → IsItem false e item → w ≡ item ++ rest → length rest < length w
 item_takes e w item rest is z =
     omega (arith, items_some e (suc zero) item is (omega arith), ap length z, length-append item rest)
@@ -68,7 +68,7 @@ pub counts_down : (due : Option ℕ) → IfSome due (λ n. 0 < n) → CountsDown
 counts_down (Some n) l = omega arith
 counts_down None l = tt
 
--- a pair takes a byte at least
+-- A pair has at least one byte.
 pub pair_takes : (e : ℕ) (w key value rest last : List ℕ) → IsItem false e key → w ≡ key ++ rest
     → IsItem false e value → rest ≡ value ++ last → length last < length w
 pair_takes e w key value rest last is z iv y =
@@ -118,7 +118,7 @@ items_left e due w item rest t l is z = ∥∥₁_map t (λ i. items_left_go e d
 
 -- ---- the pairs of a map
 
--- the first pair of some, and the others
+-- The first of some pairs, and the others.
 pub record FirstPair (e n : ℕ) (w : List ℕ) : Type 0 where
   pub key : List ℕ
   pub value : List ℕ
@@ -146,7 +146,7 @@ first_pair e n w i l =
 pub some_pairs : (e n : ℕ) (w : List ℕ) → AreItems false e (2 * n) w → 0 < length w → 0 < n
 some_pairs e n w i l = let some = some_items e (2 * n) w i l in omega arith
 
--- how many pairs there are, with their first one
+-- The number of the pairs, with the first pair.
 pub record SomePairs (e : ℕ) (due : Option ℕ) (w : List ℕ) : Type 0 where
   pub count : ℕ
   pub some : 0 < count
@@ -209,7 +209,7 @@ pairs_done e (Some (suc n)) w t z =
 
 -- ---- the contents of an array and of a map
 
--- what stands before the break that ends an indefinite form
+-- The bytes before the break that ends an indefinite form are all bytes but the last.
 before_break : (items w : List ℕ) → w ≡ items ++ 0xff ∷ [] → w ≡ take (length w - 1) w ++ 0xff ∷ []
 before_break items w z =
     let l : length w - 1 ≡ length items = omega (arith, ap length z, length-append items (0xff ∷ [])) in

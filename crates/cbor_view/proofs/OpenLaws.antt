@@ -1,4 +1,4 @@
--- An item that was checked, by its title and its contents.
+-- The title and the contents of a checked item.
 use Rattle.std.proofs.Common.{◌≡◌, ℕ, zero, suc, ◌-◌, ◌<◌, false, List, [], ◌∷◌, ◌++◌, length, Option, Some, None, refl}
 use Rattle.std.proofs.Common.{sym, ◌∙◌, ap, subst, append_assoc, append-nil, arith, length-append, Bool, true, nat_eq}
 use Rattle.std.proofs.Common.{◌⊎◌, inl, inr}
@@ -22,7 +22,7 @@ titled_go e n w no_items l f = absurd (omega arith)
 titled_go e n w (more_items {title = t} {rest = r} {others = a} {header = x} p k c i) l f =
     f x (record { title = t; contents = r ++ a; is_title = p; whole = refl })
 
--- an item begins with a title
+-- An item begins with a title.
 pub checked_title : (e : ℕ) (w : List ℕ) → ∥ IsItem false e w ∥₁ → ((x : Header) → IsOpenedBy w x → ⊥) → ⊥
 checked_title e w t f = not_there t (λ i. titled_go e (suc zero) w i (omega arith) f)
 
@@ -58,7 +58,7 @@ pub whole_header : (e : ℕ) (w rest : List ℕ) (x y : Header) → Opens e w x 
 whole_header e w rest x y o p =
     (one_title o.title w rest [] x y o.is_title p (sym o.whole ∙ sym (append-nil w))).1
 
--- an item opens in one way
+-- An item has one header and one sequence of contents.
 pub one_opening : (e : ℕ) (w r r' : List ℕ) (x x' : Header) → Opens e w x r → Opens e w x' r' → (x ≡ x') × (r ≡ r')
 one_opening e w r r' x x' o o' =
     let one = one_title o.title o'.title r r' x x' o.is_title o'.is_title (sym o.whole ∙ o'.whole) in (one.1, one.2)
@@ -69,7 +69,7 @@ as_header e w x y rest o s = subst (λ (z : Header). Opens e w z rest) s o
 pub same_contents : (e : ℕ) (w : List ℕ) (x : Header) (r r' : List ℕ) → Opens e w x r → r ≡ r' → Opens e w x r'
 same_contents e w x r r' o z = subst (λ (v : List ℕ). Opens e w x v) z o
 
--- ---- items that their title completes
+-- ---- items with empty contents
 
 pub len_is : (a b : ℕ) → ¬ (¬ (a ≡ b)) → a ≡ b
 len_is a b f = absurd_or (nat_eq a b) refl
@@ -141,7 +141,7 @@ text_is e len w rest o =
       whole = o.whole;
     }
 
--- the contents of a text are text
+-- The contents of a text are UTF-8.
 pub text_told : (e len : ℕ) (w rest : List ℕ) → Opens e w (h.Text (Some len)) rest → IsCharacters rest
 text_told e len w rest o = go (text_or_none rest)
   where

@@ -1,4 +1,4 @@
--- What a skip over memory says of the bytes.
+-- The result of a skip over memory, as a fact of the bytes.
 use Rattle.std.proofs.Common.{◌≡◌, ℕ, ◌+◌, ◌<◌, ◌∙◌, IsTrue, Bool, false, List, length, Option, Some, None, Result, Err}
 use Rattle.std.proofs.Common.{ap, sym, subst, refl, arith}
 use Rattle.ciborium_ll_io.specs.declared.io.Read.{Ghosts}
@@ -79,7 +79,7 @@ module _ {R E : Type 0} (source : Ghosts R E) where
   fault_named depth due old new (s.Deep place) fault told start n =
       named_deep depth due old new place fault told start n
 
-  -- the same of a decoder that is not strict, as a fact of it
+  -- An error of a decoder that is not strict is a fact of its bytes.
   pub told_of_bytes : (strict : Bool) (depth : ℕ) (due : List ℕ) (old new : Decoder R) (error : SkipError E)
       → strict ≡ false → SkipsTold source strict depth due old (Err error) new → IsOfBytes error
   told_of_bytes strict depth due old new error z told =

@@ -21,7 +21,7 @@ use Rattle.cbor_view.proofs.NestLaws.{items_some, false_true, same_before}
 use Rattle.cbor_view.proofs.OpenLaws.{one_opening, opened_by}
 use Rattle.cbor_view.proofs.TitleLaws.{split_whole}
 
--- ---- one pair after the other
+-- ---- pairs one by one
 
 module _ (Matches : List ℕ → Type 0) where
   pub first_here : (e : ℕ) (w key value last : List ℕ) → IsItem false e key → IsItem false e value
@@ -35,7 +35,7 @@ module _ (Matches : List ℕ → Type 0) where
   first_later e w key value last found i v z n f =
       subst (λ (u : List ℕ). IsFirstPair Matches e u found) (sym z) (later i v n f)
 
-  -- a pair whose key matches is a later one, if the first key does not match
+  -- A pair whose key matches is a later one, if the first key does not match.
   pub later_back : (e : ℕ) (w key value last k v : List ℕ) → IsItem false e key → IsItem false e value
       → w ≡ key ++ (value ++ last) → (Matches key → ⊥) → IsPairOf e w k v → Matches k → IsPairOf e last k v
   later_back e w key value last k v i j z n (first_pair others p q) m =
@@ -94,7 +94,7 @@ module _ (Matches : List ℕ → Type 0) where
 
 -- ---- integers
 
--- a test of two numbers says whether an item is the one
+-- A test of two numbers tells whether an item is the integer that is sought.
 pub same_positive : (w : List ℕ) (n m : ℕ) (r : Bool) → IsTitle w (h.Positive n)
     → (IsTrue r → n ≡ m) × (n ≡ m → IsTrue r)
     → (IsTrue r → IsTitle w (h.Positive m)) × (IsTitle w (h.Positive m) → IsTrue r)
@@ -123,7 +123,7 @@ pub truth : (r : Bool) → ¬ (¬ (r ≡ true)) → r ≡ true
 truth true f = refl
 truth false f = absurd (f (λ z. false_true z))
 
--- what is left of the bodies and of the bytes that they are compared with
+-- The bodies that are left equal the bytes that are left exactly if all bodies equal all bytes.
 pub record LeftOf (kind : Kind) (bodies : List (List ℕ)) (bytes rest left : List ℕ) : Type 0 where
   pub more : List (List ℕ)
   pub are : AreSegments kind rest more
@@ -150,7 +150,7 @@ less_left kind bodies bytes rest left body after more l g z =
       back = λ y. l.back (ap concat f.is ∙ ap (λ (v : List ℕ). body ++ v) y ∙ sym z);
     }
 
--- bytes that do not begin with the next body are not the bodies, joined
+-- If the bytes do not begin with the next body, they are not the joined bodies.
 pub other_front : (kind : Kind) (bodies : List (List ℕ)) (bytes rest left body after : List ℕ)
     → LeftOf kind bodies bytes rest left → GivesFirst rest body after → ((more : List ℕ) → left ≡ body ++ more → ⊥)
     → (false ≡ true → concat bodies ≡ bytes) × (concat bodies ≡ bytes → false ≡ true)
@@ -160,7 +160,7 @@ other_front kind bodies bytes rest left body after l g n =
       λ y. absurd (n (concat f.others) (sym (l.to y) ∙ ap concat f.is)),
     )
 
--- after the last body the bytes are the bodies, joined, exactly if none is left
+-- After the last body, the bytes are the joined bodies exactly if none is left.
 pub at_end : (kind : Kind) (bodies : List (List ℕ)) (bytes rest left : List ℕ) (r : Bool)
     → LeftOf kind bodies bytes rest left → ((k : Kind) (bs : List (List ℕ)) → AreSegments k rest bs → bs ≡ [])
     → (IsTrue r → left ≡ []) × (left ≡ [] → IsTrue r)
@@ -171,7 +171,7 @@ at_end kind bodies bytes rest left r l none i =
       λ y. i.1 (sym (l.to y) ∙ done),
     )
 
--- a text is told by its bodies
+-- The bodies of a text tell which text it is.
 pub text_told : (w rest text : List ℕ) (r : Bool) → IsSegmented Text w rest
     → ((k : Kind) (bs : List (List ℕ)) → AreSegments k rest bs
     → (IsTrue r → concat bs ≡ text) × (concat bs ≡ text → IsTrue r))

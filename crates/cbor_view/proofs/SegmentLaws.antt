@@ -1,4 +1,4 @@
--- The segments of a string, one after the other.
+-- The segments of a string, one by one.
 use Rattle.std.proofs.Common.{◌≡◌, ℕ, zero, suc, ◌<◌, ◌≤◌, false, List, [], ◌∷◌, ◌++◌, length, Option, Some, None}
 use Rattle.std.proofs.Common.{MatchOption, refl, sym, ◌∙◌, ap, subst, append_assoc, append-nil, arith, length-append}
 use Rattle.std.proofs.Common.{◌⊎◌, inl, inr}
@@ -43,7 +43,7 @@ mutual
       subst (λ (z : List ℕ). AreSegments k z ((b ++ o) ++ cs)) (sym (append_assoc f r v))
       (subst (λ (z : List (List ℕ)). AreSegments k (f ++ (r ++ v)) z) (sym (append_assoc b o cs)) all)
 
--- a string has the segments of its bodies
+-- A string has the segments of its bodies.
 pub whole_segments : (k : Kind) (w : List ℕ) (bs : List (List ℕ)) → IsString k w bs → AreSegments k w bs
 whole_segments k w bs s =
     subst (λ (z : List ℕ). AreSegments k z bs) (append-nil w)
@@ -51,7 +51,7 @@ whole_segments k w bs s =
 
 -- ---- the first title
 
--- a title at the beginning of segments is that of one, an open, or a break
+-- The title at the beginning of segments is that of a segment, an open or a break.
 data Step (k : Kind) (x : Header) (after : List ℕ) (bodies : List (List ℕ)) : Type 0 where
   at_segment : (body rest : List ℕ) (others : List (List ℕ)) → x ≡ kind_header k (Some (length body))
       → after ≡ body ++ rest → AreSegments k rest others → bodies ≡ body ∷ others → Step k x after bodies
@@ -82,7 +82,7 @@ title_go k w bodies (opened {title = t} {rest = r} q s) l f =
 title_go k w bodies (closed {rest = r} s) l f =
     f h.Break (record { title = 0xff ∷ []; contents = r; is_title = break_title; whole = refl })
 
--- segments begin with a title
+-- Segments begin with a title.
 pub title_there : (w : List ℕ) → ∥ HasSegments w ∥₁ → 0 < length w → ((x : Header) → IsOpenedBy w x → ⊥) → ⊥
 title_there w t l f = not_there t (λ i. title_go i.kind w i.bodies i.are l f)
 
@@ -94,7 +94,7 @@ none_left k w bodies (opened {title = t} {rest = r} q s) z =
     absurd (omega (arith, title_some t (kind_header k None) q, length-append t r))
 none_left k w bodies (closed s) z = absurd (omega arith)
 
--- the header of a segment, in either kind
+-- The header is that of a segment, in either kind of string.
 abbrev pub IsSegmentHeader : Header → ℕ → Type 0
 IsSegmentHeader x len = (kind : Kind) × (x ≡ kind_header kind (Some len))
 
@@ -112,7 +112,7 @@ fits_go k x after bodies len i (at_segment b r others e z s q) =
 fits_go k x after bodies len i (at_open e s) = absurd (no_open k i.0 x len e i.1)
 fits_go k x after bodies len i (at_break e s) = absurd (not_break i.0 (Some len) (sym i.1 ∙ e))
 
--- the body of a segment is there whole
+-- The whole body of a segment follows its title.
 pub segment_fits : (w after : List ℕ) (x : Header) (len : ℕ) → ∥ HasSegments w ∥₁ → IsSplit w x after
     → IsSegmentHeader x len → len ≤ length after
 segment_fits w after x len t f i =
@@ -133,7 +133,7 @@ first_go k x after body last bodies len i split l (at_segment b r others e z s q
 first_go k x after body last bodies len i split l (at_open e s) = absurd (no_open k i.0 x len e i.1)
 first_go k x after body last bodies len i split l (at_break e s) = absurd (not_break i.0 (Some len) (sym i.1 ∙ e))
 
--- the bytes after the title of a segment are its body and the rest
+-- The bytes after the title of a segment are its body and the rest.
 pub first_segment : (k : Kind) (w after body last : List ℕ) (x : Header) (bodies : List (List ℕ)) (len : ℕ)
     → AreSegments k w bodies → IsSplit w x after → IsSegmentHeader x len → after ≡ body ++ last → length body ≡ len
     → IsFirstSegment k bodies body last
@@ -147,7 +147,7 @@ first_left w after body last x len t f i split l =
     let g = first_segment s.kind w after body last x s.bodies len s.are f i split l in
     let has : HasSegments last = record { kind = s.kind; bodies = g.others; are = g.are } in has)
 
--- an open and a break are passed
+-- The segments stay the same after an open and after a break.
 passed_go : (k : Kind) (x : Header) (after : List ℕ) (bodies : List (List ℕ))
     → ((kind : Kind) (len : ℕ) → x ≡ kind_header kind (Some len) → ⊥) → Step k x after bodies
     → AreSegments k after bodies
@@ -166,7 +166,7 @@ passed_left w after x t f n =
     let has : HasSegments after =
     record { kind = s.kind; bodies = s.bodies; are = passed s.kind w after x s.bodies s.are f n } in has)
 
--- a title takes a byte at least
+-- A title has at least one byte.
 pub title_takes : (w after : List ℕ) (x : Header) → IsSplit w x after → length after < length w
 title_takes w after x f =
     omega (arith, title_some f.title x f.is_title, ap length f.whole, length-append f.title after)
@@ -192,7 +192,7 @@ text_front : (bodies : List (List ℕ)) (body : List ℕ) (others : List (List �
     → AreWritable Text bodies → IsCharacters body × AreWritable Text others
 text_front bodies body others e k = subst (λ (v : List (List ℕ)). AreWritable Text v) e k
 
--- the first body of texts is text
+-- The first body of texts is UTF-8.
 pub first_text : (w body last : List ℕ) → ∥ HasTexts w ∥₁
     → ((k : Kind) (bodies : List (List ℕ)) → AreSegments k w bodies → IsFirstSegment k bodies body last)
     → IsCharacters body
@@ -266,7 +266,7 @@ has_texts w t = ∥∥₁_map t (λ s.
     let has : HasTexts w =
     record { bodies = s.bodies; are = whole_segments Text w s.bodies s.is; texts = s.written } in has)
 
--- the header of a string
+-- A string begins with a title of its kind.
 pub string_header : (k : Kind) (w : List ℕ) (bodies : List (List ℕ)) → IsString k w bodies
     → ((len : Option ℕ) → IsOpenedBy w (kind_header k len) → ⊥) → ⊥
 string_header k w bodies (definite {title = t} {body = b} p) f =

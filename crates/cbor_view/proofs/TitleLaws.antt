@@ -16,7 +16,7 @@ refused_more : (b rest : List ℕ) → BeginsRefused b → BeginsRefused (b ++ r
 refused_more [] rest r = absurd r
 refused_more (x ∷ b) rest r = r
 
--- no title begins with a refused byte
+-- No title begins with a refused byte.
 pub refused_none : (b rest : List ℕ) (x : Header) → BeginsRefused b → IsOpenedBy (b ++ rest) x → ⊥
 refused_none b rest x r o =
     title_refused o.title o.contents x o.is_title
@@ -26,7 +26,7 @@ never_refused : (major : ℕ) (minor : Minor) → major < 8 → minor_code minor
     → BeginsRefused (parts_bytes major minor)
 never_refused major minor l c n = inr (grind (arith, n))
 
--- no title has the minor 31 under a major type without an indefinite form
+-- No title has the minor 31 under a major type without an indefinite form.
 pub never_none : (t : Title) (b rest : List ℕ) (x : Header) → IsParts t → title_bytes t ≡ b → minor_code t.minor ≡ 31
     → IsNeverOpen t.major → IsOpenedBy (b ++ rest) x → ⊥
 never_none t b rest x q is c n o =
@@ -37,7 +37,7 @@ few_cut : (b : List ℕ) (len : ℕ) → 0 < length b → len ≡ affix_len (sli
 few_cut [] len s e l = tt
 few_cut (x ∷ b) len s e l = subst (λ (n : ℕ). length b < n) e (omega arith)
 
--- bytes that end within a title begin with none
+-- Bytes that end within a title begin with no title.
 pub cut_none : (b : List ℕ) (len : ℕ) (x : Header) → 0 < length b → len ≡ affix_len (slice_index b 0 % 32)
     → length b < 1 + len → IsOpenedBy b x → ⊥
 cut_none b len x s e l o =
@@ -52,7 +52,7 @@ pub empty_none : (b : List ℕ) (x : Header) → length b ≡ 0 → IsOpenedBy b
 empty_none b x e o =
     title_not_cut o.title o.contents x o.is_title (subst (λ (z : List ℕ). IsCutTitle z) o.whole (none_cut b e))
 
--- bytes that are split are their two parts
+-- Bytes are the two parts of a split, joined.
 pub split_whole : (xs front back : List ℕ) (mid : ℕ) → IsSplitAt xs mid front back → xs ≡ front ++ back
 split_whole xs front back mid s = sym (take-append-drop mid xs) ∙ sym (rw (s.1, s.2) refl)
 

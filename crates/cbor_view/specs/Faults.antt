@@ -8,14 +8,14 @@ use Rattle.cbor_skip.specs.declared.SkipError.TheVariants as s
 use Rattle.cbor_view.specs.declared.parse.Fault.{Fault}
 use Rattle.cbor_view.specs.declared.parse.Fault.TheVariants.{Short, Syntax, Break, Deep}
 
--- what stops the read of an item: the bytes end too early, or a fault, a break or a nest stands at this offset
+-- What stops the read of an item: the bytes end too early, or a fault, a break or a nest stands at this offset.
 abbrev pub HasFault : ℕ → List ℕ → Fault → Type 0
 HasFault depth bytes Short = (fault : HasItemFault false depth bytes) × (fault.answer ≡ EndsShort)
 HasFault depth bytes (Syntax place) = (fault : HasItemFault false depth bytes) × (fault.answer ≡ IsSyntax place)
 HasFault depth bytes (Break place) = (fault : HasEarlyBreak false depth bytes) × (place ≡ length fault.before)
 HasFault depth bytes (Deep place) = (fault : HasDeepNest false depth bytes) × (place ≡ length fault.before)
 
--- the error names a fault of the bytes, as each error over memory does
+-- The error names a fault of the bytes, as each error over memory does.
 abbrev pub IsOfBytes : {E : Type 0} → SkipError E → Type 0
 IsOfBytes (s.Read (e.Io fault)) = Unit {0}
 IsOfBytes (s.Read (e.Syntax place)) = Unit {0}
@@ -24,7 +24,7 @@ IsOfBytes (s.Read e.Waiting) = ⊥
 IsOfBytes (s.Break place) = Unit {0}
 IsOfBytes (s.Deep place) = Unit {0}
 
--- the error names this fault
+-- The error names this fault.
 abbrev pub NamesFault : {E : Type 0} → SkipError E → Fault → Type 0
 NamesFault (s.Read (e.Io cause)) fault = fault ≡ Short
 NamesFault (s.Read (e.Syntax place)) fault = fault ≡ Syntax place

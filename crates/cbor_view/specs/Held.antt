@@ -6,42 +6,42 @@ use Rattle.cbor_view.specs.declared.nests.Entries.{Entries}
 use Rattle.cbor_view.specs.declared.segments.Segments.{Segments}
 use Rattle.cbor_view.specs.declared.segments.TextSegments.{TextSegments}
 
--- the bytes of an item
+-- The bytes of an item.
 abbrev pub item_bytes : Item → List ℕ
 item_bytes item = item.bytes.now
 
--- how many levels its tags, arrays and maps may take
+-- How many levels its tags, arrays and maps may take.
 abbrev pub item_depth : Item → ℕ
 item_depth item = item.depth
 
--- the bytes of the items of an array that are left, without the break of an indefinite form
+-- The bytes of the items of an array that are left, without the break of an indefinite form.
 abbrev pub elements_bytes : Elements → List ℕ
 elements_bytes elements = elements.rest.now
 
--- how many items are left, if the array's title told how many it has
+-- How many items are left, if the array's title told how many it has.
 abbrev pub elements_due : Elements → Option ℕ
 elements_due elements = elements.due
 
--- how many levels each of them may take
+-- How many levels each of them may take.
 abbrev pub elements_depth : Elements → ℕ
 elements_depth elements = elements.depth
 
--- the bytes of the pairs of a map that are left, without the break of an indefinite form
+-- The bytes of the pairs of a map that are left, without the break of an indefinite form.
 abbrev pub entries_bytes : Entries → List ℕ
 entries_bytes entries = entries.rest.now
 
--- how many pairs are left, if the map's title told how many it has
+-- How many pairs are left, if the map's title told how many it has.
 abbrev pub entries_due : Entries → Option ℕ
 entries_due entries = entries.due
 
--- how many levels each key and each value may take
+-- How many levels each key and each value may take.
 abbrev pub entries_depth : Entries → ℕ
 entries_depth entries = entries.depth
 
--- the bytes that are left of a string, as `AreSegments` has them
+-- The bytes that are left of a string, as `AreSegments` has them.
 abbrev pub segments_bytes : Segments → List ℕ
 segments_bytes segments = segments.rest.now
 
--- the same of a text string
+-- The same of a text string.
 abbrev pub texts_bytes : TextSegments → List ℕ
 texts_bytes segments = segments.rest.now

@@ -12,14 +12,14 @@ use Rattle.cbor_view.specs.Held.{item_bytes, item_depth, elements_bytes, element
 use Rattle.cbor_view.specs.Held.{entries_bytes, entries_due, entries_depth, segments_bytes, texts_bytes}
 use Rattle.cbor_view.specs.Segments.{AreSegments, IsFirstSegment}
 
--- one less is left of a count that is told, and none is told if none was
+-- One less is left of a count that is told, and none is told if none was.
 abbrev pub CountsDown : Option ℕ → Option ℕ → Type 0
 CountsDown (Some old) (Some new) = old ≡ new + 1
 CountsDown (Some old) None = ⊥
 CountsDown None (Some new) = ⊥
 CountsDown None None = Unit {0}
 
--- this item was the first of those left, and the others are left
+-- This item was the first of those left, and the others are left.
 pub record TakesItem (old : Elements) (item : Item) (new : Elements) : Type 0 where
   pub whole : elements_bytes old ≡ item_bytes item ++ elements_bytes new
   pub is_item : IsItem false (elements_depth old) (item_bytes item)
@@ -27,17 +27,17 @@ pub record TakesItem (old : Elements) (item : Item) (new : Elements) : Type 0 wh
   pub counted : CountsDown (elements_due old) (elements_due new)
   pub same_levels : elements_depth new ≡ elements_depth old
 
--- no item was left, and nothing changed
+-- No item was left, and nothing changed.
 pub record HasNoItem (old new : Elements) : Type 0 where
   pub none_left : elements_bytes old ≡ []
   pub counted : IfSome (elements_due old) (λ count. count ≡ 0)
   pub same : new ≡ old
 
--- `next` gives the first item of those that are left, or `None` exactly if none is left
+-- `next` gives the first item of those that are left, or `None` exactly if none is left.
 abbrev pub GivesItem : Elements → Option Item → Elements → Type 0
 GivesItem old result new = MatchOption result (HasNoItem old new) (λ item. TakesItem old item new)
 
--- this pair was the first of those left, and the others are left
+-- This pair was the first of those left, and the others are left.
 pub record TakesPair (old : Entries) (key value : Item) (new : Entries) : Type 0 where
   pub whole : entries_bytes old ≡ item_bytes key ++ (item_bytes value ++ entries_bytes new)
   pub is_key : IsItem false (entries_depth old) (item_bytes key)
@@ -47,23 +47,23 @@ pub record TakesPair (old : Entries) (key value : Item) (new : Entries) : Type 0
   pub counted : CountsDown (entries_due old) (entries_due new)
   pub same_levels : entries_depth new ≡ entries_depth old
 
--- no pair was left, and nothing changed
+-- No pair was left, and nothing changed.
 pub record HasNoPair (old new : Entries) : Type 0 where
   pub none_left : entries_bytes old ≡ []
   pub counted : IfSome (entries_due old) (λ count. count ≡ 0)
   pub same : new ≡ old
 
--- `next` gives the first pair of those that are left, or `None` exactly if none is left
+-- `next` gives the first pair of those that are left, or `None` exactly if none is left.
 abbrev pub GivesPair : Entries → Option (Item × Item) → Entries → Type 0
 GivesPair old result new = MatchOption result (HasNoPair old new) (λ pair. TakesPair old pair.0 pair.1 new)
 
--- `next` gives the body of the first segment that is left, or `None` exactly if none is left, and then changes nothing
+-- `next` gives the body of the first segment that is left, or `None` exactly if none is left, and then changes nothing.
 abbrev pub GivesSegment : Segments → Option (Bor (List ℕ)) → Segments → Type 0
 GivesSegment old result new = (kind : Kind) (bodies : List (List ℕ)) → AreSegments kind (segments_bytes old) bodies
     → MatchOption result ((bodies ≡ []) × (new ≡ old))
     (λ body. IsFirstSegment kind bodies body.now (segments_bytes new))
 
--- the same of a text string
+-- The same of a text string.
 abbrev pub GivesText : TextSegments → Option (Bor (List ℕ)) → TextSegments → Type 0
 GivesText old result new = (bodies : List (List ℕ)) → AreSegments Text (texts_bytes old) bodies
     → MatchOption result ((bodies ≡ []) × (new ≡ old))

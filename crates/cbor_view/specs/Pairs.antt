@@ -8,14 +8,14 @@ use Rattle.cbor_view.specs.declared.search.Key.TheVariants as k
 use Rattle.cbor_view.specs.Segments.{SpellsText}
 use Rattle.cbor_view.specs.Views.{Opens, closed}
 
--- `IsPairOf depth pairs key value`: one of these pairs, joined, has this key and this value (RFC 7049, 2.1)
+-- `IsPairOf depth pairs key value`: one of these pairs, joined, has this key and this value (RFC 7049, 2.1).
 pub data IsPairOf (depth : ℕ) : List ℕ → List ℕ → List ℕ → Type 0 where
   first_pair : {key value : List ℕ} (others : List ℕ) → IsItem false depth key → IsItem false depth value
       → IsPairOf depth (key ++ (value ++ others)) key value
   later_pair : {other another others key value : List ℕ} → IsItem false depth other → IsItem false depth another
       → IsPairOf depth others key value → IsPairOf depth (other ++ (another ++ others)) key value
 
--- `IsFirstPair Matches depth pairs value`: of these pairs, joined, whose key matches, the first one has this value
+-- `IsFirstPair Matches depth pairs value`: of these pairs, joined, whose key matches, the first one has this value.
 pub data IsFirstPair (Matches : List ℕ → Type 0) (depth : ℕ) : List ℕ → List ℕ → Type 0 where
   here : {key value : List ℕ} (others : List ℕ) → IsItem false depth key → IsItem false depth value → Matches key
       → IsFirstPair Matches depth (key ++ (value ++ others)) value
@@ -23,19 +23,19 @@ pub data IsFirstPair (Matches : List ℕ → Type 0) (depth : ℕ) : List ℕ �
       → (Matches other → ⊥) → IsFirstPair Matches depth others value
       → IsFirstPair Matches depth (other ++ (another ++ others)) value
 
--- the bytes are a map of definite or indefinite length, and this is the value of its first pair whose key matches
+-- The bytes are a map of definite or indefinite length, and this is the value of its first pair whose key matches.
 pub record HasFirst (Matches : List ℕ → Type 0) (depth : ℕ) (bytes value : List ℕ) : Type 0 where
   pub count : Option ℕ
   pub pairs : List ℕ
   pub opens : Opens depth bytes (h.Map count) (closed count pairs)
   pub first : IsFirstPair Matches (depth - 1) pairs value
 
--- the bytes are no map that has a key which matches
+-- The bytes are no map that has a key which matches.
 abbrev pub HasNone : (List ℕ → Type 0) → ℕ → List ℕ → Type 0
 HasNone Matches depth bytes = (count : Option ℕ) (pairs key value : List ℕ)
     → Opens depth bytes (h.Map count) (closed count pairs) → IsPairOf (depth - 1) pairs key value → Matches key → ⊥
 
--- the bytes of an item are the key that is sought: the same bytes, or this text or this integer in any spelling
+-- The bytes of an item are the key that is sought: the same bytes, or this text or this integer in any spelling.
 abbrev pub IsKey : Key → List ℕ → Type 0
 IsKey (k.Bytes bytes) item = item ≡ bytes.now
 IsKey (k.Text text) item = ∥ SpellsText item text.now ∥₁

@@ -7,7 +7,7 @@ use Rattle.ciborium_ll_grammar.specs.Elements.{AreWritable}
 
 -- `AreSegments kind bytes bodies`: the bytes are a string of the kind, or what follows one of its segments, and the
 -- segments in them have these bodies. A segment is a string of definite length. Opens and breaks stand between them: of
--- (_ 'a', 'b') the bytes `61 62 ff` are left after the first segment (RFC 7049, 2.2.2)
+-- (_ 'a', 'b') the bytes `61 62 ff` are left after the first segment (RFC 7049, 2.2.2).
 pub data AreSegments (kind : Kind) : List ℕ → List (List ℕ) → Type 0 where
   ended : AreSegments kind [] []
   segment : {title body rest : List ℕ} {others : List (List ℕ)} → IsTitle title (kind_header kind (Some (length body)))
@@ -17,37 +17,37 @@ pub data AreSegments (kind : Kind) : List ℕ → List (List ℕ) → Type 0 whe
   closed : {rest : List ℕ} {bodies : List (List ℕ)} → AreSegments kind rest bodies
       → AreSegments kind (0xff ∷ rest) bodies
 
--- the bytes are what is left of a string
+-- The bytes are what is left of a string.
 pub record HasSegments (bytes : List ℕ) : Type 0 where
   pub kind : Kind
   pub bodies : List (List ℕ)
   pub are : AreSegments kind bytes bodies
 
--- the bytes are what is left of a text string, and each body is text by itself
+-- The bytes are what is left of a text string, and each body is text by itself.
 pub record HasTexts (bytes : List ℕ) : Type 0 where
   pub bodies : List (List ℕ)
   pub are : AreSegments Text bytes bodies
   pub texts : AreWritable Text bodies
 
--- this body is the first of them, and this rest has the others
+-- This body is the first of them, and this rest has the others.
 pub record IsFirstSegment (kind : Kind) (bodies : List (List ℕ)) (body rest : List ℕ) : Type 0 where
   pub others : List (List ℕ)
   pub is : bodies ≡ body ∷ others
   pub are : AreSegments kind rest others
 
--- the bytes are a string of the kind with some bodies
+-- The bytes are a string of the kind with some bodies.
 pub record IsStringItem (kind : Kind) (bytes : List ℕ) : Type 0 where
   pub bodies : List (List ℕ)
   pub is : IsString kind bytes bodies
   pub written : AreWritable kind bodies
 
--- the bytes are a string of the kind, and the segments that are left are all of its segments (RFC 7049, 2.2.2)
+-- The bytes are a string of the kind, and the segments that are left are all of its segments (RFC 7049, 2.2.2).
 pub record IsSegmented (kind : Kind) (bytes rest : List ℕ) : Type 0 where
   pub is_string : ∥ IsStringItem kind bytes ∥₁
   pub same : (bodies : List (List ℕ)) → IsString kind bytes bodies → AreSegments kind rest bodies
 
--- the bytes are a text string whose bodies, joined, are this text: of definite or of indefinite length (RFC 7049, 2.1
--- and 2.2.2)
+-- The bytes are a text string whose bodies, joined, are this text: of definite or of indefinite length (RFC 7049, 2.1
+-- and 2.2.2).
 pub record SpellsText (bytes text : List ℕ) : Type 0 where
   pub bodies : List (List ℕ)
   pub is : IsString Text bytes bodies

@@ -5,55 +5,56 @@ use Rattle.ciborium_ll_grammar.specs.declared.hdr.Header.TheVariants as h
 use Rattle.ciborium_ll_grammar.specs.Title.{IsTitle}
 use Rattle.ciborium_ll_grammar.specs.Items.{Completes, AreItems}
 
--- the bytes are a title of this header, and then these contents
+-- The bytes are a title of this header, and then these contents.
 pub record IsSplit (bytes : List ℕ) (header : Header) (contents : List ℕ) : Type 0 where
   pub title : List ℕ
   pub is_title : IsTitle title header
   pub whole : bytes ≡ title ++ contents
 
--- the bytes are a title of this header, and then these contents, which complete the item (RFC 7049, 2.1 to 2.4)
+-- The bytes are a title of this header, and then these contents, which complete the item (RFC 7049, 2.1 to 2.4).
 pub record Opens (depth : ℕ) (bytes : List ℕ) (header : Header) (contents : List ℕ) : Type 0 where
   pub title : List ℕ
   pub is_title : IsTitle title header
   pub whole : bytes ≡ title ++ contents
   pub completes : ∥ Completes false depth header contents ∥₁
 
--- the bytes begin with a title of this header
+-- The bytes begin with a title of this header.
 pub record IsOpenedBy (bytes : List ℕ) (header : Header) : Type 0 where
   pub title : List ℕ
   pub contents : List ℕ
   pub is_title : IsTitle title header
   pub whole : bytes ≡ title ++ contents
 
--- the bytes are a byte string of definite length with this body (RFC 7049, 2.1)
+-- The bytes are a byte string of definite length with this body (RFC 7049, 2.1).
 pub record IsBytesOf (bytes body : List ℕ) : Type 0 where
   pub title : List ℕ
   pub is_title : IsTitle title (h.Bytes (Some (length body)))
   pub whole : bytes ≡ title ++ body
 
--- the bytes are a text string of definite length with this body (RFC 7049, 2.1)
+-- The bytes are a text string of definite length with this body (RFC 7049, 2.1).
 pub record IsTextOf (bytes body : List ℕ) : Type 0 where
   pub title : List ℕ
   pub is_title : IsTitle title (h.Text (Some (length body)))
   pub whole : bytes ≡ title ++ body
 
--- the contents of an array or a map that contains these items, joined. If its title tells no count, a break ends them
--- (RFC 7049, 2.2.1)
+-- The contents of an array or a map that contains these items, joined. If its title tells no count, a break ends them
+-- (RFC 7049, 2.2.1).
 abbrev pub closed : Option ℕ → List ℕ → List ℕ
 closed (Some count) items = items
 closed None items = items ++ 0xff ∷ []
 
--- the bytes are this many items, joined, or any number of them if no count is told
+-- The bytes are this many items, joined, or any number of them if no count is told.
 abbrev pub HasItems : ℕ → Option ℕ → List ℕ → Type 0
 HasItems depth (Some count) bytes = AreItems false depth count bytes
 HasItems depth None bytes = (count : ℕ) × AreItems false depth count bytes
 
--- the bytes are this many pairs, joined, or any number of them if no count is told. A pair is two items (RFC 7049, 2.1)
+-- The bytes are this many pairs, joined, or any number of them if no count is told. A pair is two items (RFC 7049,
+-- 2.1).
 abbrev pub HasPairs : ℕ → Option ℕ → List ℕ → Type 0
 HasPairs depth (Some count) bytes = AreItems false depth (2 * count) bytes
 HasPairs depth None bytes = (count : ℕ) × AreItems false depth (2 * count) bytes
 
--- one less than a count that is told
+-- One less than a count that is told.
 abbrev pub one_less : Option ℕ → Option ℕ
 one_less (Some count) = Some (count - 1)
 one_less None = None

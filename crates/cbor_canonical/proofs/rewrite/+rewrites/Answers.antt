@@ -31,7 +31,7 @@ rewrite_item-returns-in-Some t c =
     c.args.out.now.items c.rewrite_rest.new.out.items c.in-Some.ensures g)
     (λ stop f. item_stops c.args.depth stop c.in-Some.header c.args.bytes.now c.in-Some.rest.now c.in-Some.ensures f)
 
--- ---- what follows a title
+-- ---- contents after a title
 
 pub rewrite_rest-returns-then-number-lt32 : goal.rewrite_rest-returns-then-number-lt32
 rewrite_rest-returns-then-number-lt32 t c =

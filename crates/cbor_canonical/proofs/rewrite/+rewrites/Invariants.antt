@@ -3,7 +3,7 @@ use Rattle.cbor_canonical.proofs.ItemRuns.{ItemsSoFar}
 use Rattle.cbor_canonical.proofs.PairRuns.{PairsSoFar}
 use Rattle.cbor_canonical.proofs.rewrite.+rewrites.Given as goal
 
--- what a nest contains is a level deeper
+-- The contents of a nest are a level deeper.
 abbrev pub decreases-rewrite_rest : goal.decreases-rewrite_rest
 decreases-rewrite_rest l = 6 * l.depth
 

@@ -2,7 +2,7 @@ use Rattle.std.proofs.Common.{◌+◌, ◌*◌}
 use Rattle.cbor_deterministic.proofs.ItemRuns.{ItemsLead, PairsLead}
 use Rattle.cbor_deterministic.proofs.items.+nests.Given as goal
 
--- what a nest contains is a level deeper
+-- The contents of a nest are a level deeper.
 abbrev pub decreases-skip_rest : goal.decreases-skip_rest
 decreases-skip_rest l = 3 * l.depth
 

@@ -2,7 +2,7 @@ use Rattle.std.proofs.Common.{ℕ, List}
 use Rattle.cbor_deterministic.specs.Views.{HasPairs, IsPairOf}
 use Rattle.cbor_deterministic.proofs.view.find.Given as goal
 
--- the pairs that are left are the last ones of the map, and the key has the same values among them as among all
+-- The pairs that are left are the last pairs of the map. The key has the same values among them as among all pairs.
 abbrev pub invariant-pairs : goal.invariant-pairs
 invariant-pairs l = record {
   are : ∥ HasPairs l.order l.depth l.due l.rest ∥₁;

@@ -3,7 +3,7 @@ use Rattle.ciborium_ll_grammar.specs.Items.{AreItems}
 use Rattle.cbor_encode.specs.Left.{left_of}
 use Rattle.cbor_encode.proofs.items.+items.Given as goal
 
--- what a nest contains is a level deeper
+-- The contents of a nest are a level deeper.
 abbrev pub decreases-put_array : goal.decreases-put_array
 decreases-put_array l = 3 * l.depth
 

@@ -4,7 +4,7 @@ use Rattle.cbor_view.specs.Segments.{AreSegments, HasSegments}
 use Rattle.cbor_view.proofs.SearchLaws.{LeftOf}
 use Rattle.cbor_view.proofs.search.are_joined.Given as goal
 
--- the bodies that are left, joined, are the bytes that are left exactly if all of them are all bytes
+-- The joined bodies that are left equal the bytes that are left exactly if all bodies, joined, equal all bytes.
 abbrev pub invariant-segments : goal.invariant-segments
 invariant-segments l = record {
   has : ∥ HasSegments l.rest ∥₁;

@@ -2,7 +2,7 @@ use Rattle.std.proofs.Common.{ℕ, ◌≡◌, List, length}
 use Rattle.cbor_view.specs.Pairs.{IsFirstPair, IsKey, IsPairOf}
 use Rattle.cbor_view.proofs.search.find.Given as goal
 
--- no key of the pairs that were passed is the one that is sought
+-- No key of the pairs that were passed is the key that is sought.
 abbrev pub invariant-pairs : goal.invariant-pairs
 invariant-pairs l = record {
   levels : l.left.depth ≡ l.fn.pairs.depth;

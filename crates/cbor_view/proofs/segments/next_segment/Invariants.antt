@@ -3,7 +3,7 @@ use Rattle.ciborium_ll_grammar.specs.Strings.{Kind}
 use Rattle.cbor_view.specs.Segments.{AreSegments, HasSegments}
 use Rattle.cbor_view.proofs.segments.next_segment.Given as goal
 
--- what is left has the segments of the whole, since only opens and breaks were passed
+-- The bytes that are left have the segments of all bytes, since the loop passed only opens and breaks.
 abbrev pub invariant-titles : goal.invariant-titles
 invariant-titles l = record {
   has : ∥ HasSegments l.rest ∥₁;
