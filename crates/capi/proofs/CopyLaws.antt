@@ -1,4 +1,4 @@
--- What a copy by a fresh decoder says of the bytes ahead.
+-- The result of a copy by a fresh decoder, as a fact of the bytes ahead.
 use Rattle.std.proofs.Common.{◌≡◌, ℕ, ◌+◌, ◌<◌, ◌≤◌, ◌^◌, ◌∙◌, ◌↔◌, IsTrue, IsOk, Bool, true, false, max, List, [], ◌++◌}
 use Rattle.std.proofs.Common.{drop}
 use Rattle.std.proofs.Common.{length, Option, Result, Ok, Err, Some, ap, sym, subst, refl, arith, length-append}
@@ -29,7 +29,7 @@ use Rattle.ciborium_ll_recode.proofs.RecodeAnyhowLaws.{recode_anyhow, unwritten}
 use Rattle.ciborium_ll_recode.proofs.RecodeReadyLaws.{short_told}
 use Rattle.capi.proofs.PullLaws.{due_ahead, still_steady}
 
--- Bytes that are told are told once.
+-- A reader or a writer tells only one list of bytes.
 pub same_bytes : (known : Option (List ℕ)) (one other : List ℕ) → known ≡ Some one → known ≡ Some other → one ≡ other
 same_bytes known one other p q = let same : Some one ≡ Some other = sym p ∙ q in cc
 
@@ -37,24 +37,24 @@ same_length : (known : Option (List ℕ)) (one other : List ℕ) → known ≡ S
     ≡ length other
 same_length known one other p q = ap length (same_bytes known one other p q)
 
--- The output begins with the bytes that a writer tells, if it begins with those that it wrote.
+-- The output begins with the bytes that a writer tells, if it begins with those that the writer wrote.
 stands_too : (known : Option (List ℕ)) (one other before after : List ℕ) → known ≡ Some one → known ≡ Some other
     → StandAtStart one before after → StandAtStart other before after
 stands_too known one other before after p q stands =
     subst (λ (bytes : List ℕ). StandAtStart bytes before after) (same_bytes known one other p q) stands
 
--- No more is consumed than is ahead.
+-- A copy consumes no more bytes than are ahead.
 no_more : (marks : List Mark) (point : Point) (ahead written : List ℕ) (consumed : ℕ)
     → StopsAt marks point ahead written consumed → consumed ≤ length ahead
 no_more marks Due ahead written consumed stops = omega (arith, stops.1)
 no_more marks (In kind) ahead written consumed stops = omega (arith, stops.1)
 no_more marks (BodyDue kind len start) ahead written consumed stops = omega (arith, stops.7)
 
--- A writer whose target is told has exactly that target.
+-- A writer has the target that it tells.
 pub same_target : {one other : Target} → Some one ≡ Some other → one ≡ other
 same_target same = cc
 
--- A writer that stayed on its slice left the bytes that it wrote before those that stood there.
+-- A writer that stayed on its slice left the slice as it was after the bytes that it wrote.
 pub stands_behind : (behind first : SliceWriter) (written out after : List ℕ) → slice_target behind ≡ slice_target first
     → slice_before first ≡ out → behind.buffer.now ≡ written ++ drop (length written) (slice_before behind)
     → after ≡ behind.buffer.now → StandAtStart written out after
@@ -138,7 +138,7 @@ module _ {R E W F : Type 0} (source : Reader R E) (sink : Writer W F) where
   copy_reported count due old new writer' (Err (r.Write fault)) report output before after told start out
       reports stands = absurd told
 
-  -- A writer that tells its room failed since the next thing to write did not fit.
+  -- A writer that tells its room failed because the next thing to write did not fit.
   room_stops : (count room : ℕ) (due : List ℕ) (old new : Sides R W) → IsTold source sink false old due []
       → sink.room old.writer ≡ Some room → StopsWriting source sink count buffer_size old new
       → (for_room : StopsForRoom count due room) × (sink.written new.writer ≡ Some for_room.stop.written)
@@ -294,7 +294,7 @@ module _ {R E W F : Type 0} (source : Reader R E) (sink : Writer W F) where
       } in
       subst (λ (x : CllAnswer). Checks count due x report) (sym same) said
 
--- The answer `Ok` stands for the copy that succeeded alone.
+-- The answer is `Ok` exactly if the copy succeeded.
 copy_answers_ok : {E F : Type 0} (result : Result (Unit {0}) (RecodeError E F))
     → (copy_answer result ≡ a.Ok) ↔ IsOk result
 copy_answers_ok (Ok done) = (λ same. cc, λ ok. refl)

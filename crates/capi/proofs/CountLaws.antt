@@ -1,4 +1,4 @@
--- What the count of a copy by a fresh decoder says of the bytes ahead.
+-- The count of a copy by a fresh decoder, as a fact of the bytes ahead.
 use Rattle.std.proofs.Common.{◌≡◌, ℕ, suc, ◌<◌, ◌≤◌, ◌^◌, ◌∙◌, Bool, true, false, List, []}
 use Rattle.std.proofs.Common.{◌++◌, ◌+◌, drop, take, length, Result, Ok, Err, Some, refl, sym, ap, subst, inl, arith}
 use Rattle.std.proofs.Common.{append-nil, append_assoc, length-append}
@@ -28,7 +28,7 @@ use Rattle.ciborium_ll_recode.proofs.CopyLaws.{copies_all}
 use Rattle.capi.proofs.CopyLaws.{never_too_long, same_bytes}
 
 module _ {R E W F : Type 0} (source : Reader R E) (sink : Writer W F) where
-  -- A room that is told is less by what was written of the elements.
+  -- The room of a writer is less by the spelling of the elements that were copied.
   pub spelled_room : (count : ℕ) (old now : Sides R W) (room left : ℕ) (run : CopiesRun source sink count old now)
       → sink.room old.writer ≡ Some room → sink.room now.writer ≡ Some left
       → room ≡ left + length (spelling run.marks)
@@ -38,7 +38,7 @@ module _ {R E W F : Type 0} (source : Reader R E) (sink : Writer W F) where
       let equal : less.0 ≡ left = cc in
       omega (arith, equal, less.2)
 
-  -- The bytes that a copy of elements wrote before it stopped follow those that were written before.
+  -- A copy of elements that stops adds its bytes after those that were written before.
   stopped_behind : (count : ℕ) (old new : Sides R W) (error : RecodeError E F) (due written : List ℕ)
       → IsTold source sink false old due written → StopsCopy source sink count buffer_size old error new
       → (more : List ℕ) × (sink.written new.writer ≡ Some (written ++ more))
@@ -58,7 +58,7 @@ module _ {R E W F : Type 0} (source : Reader R E) (sink : Writer W F) where
       let met = recode_anyhow source sink count buffer_size old due written told new (Err (r.Write fault)) stops in
       (met.stop.written, met.output)
 
-  -- After some elements the bytes ahead and those written are told too.
+  -- After some elements the sides still tell the bytes ahead and the bytes written.
   told_behind : (count : ℕ) (old now : Sides R W) (due : List ℕ) (run : CopiesRun source sink count old now)
       → IsTold source sink false old due []
       → (rest : List ℕ) × IsTold source sink false now rest (spelling run.marks)
@@ -73,7 +73,7 @@ module _ {R E W F : Type 0} (source : Reader R E) (sink : Writer W F) where
         },
       )
 
-  -- All that was written begins with the spelling of the elements that were counted.
+  -- All bytes that were written begin with the spelling of the elements that were counted.
   counted_behind : (count : ℕ) (due : List ℕ) (old new : Sides R W) (result : Result (Unit {0}) (RecodeError E F))
       (elements whole spelled : ℕ) → IsTold source sink false old due []
       → (counted : CountsCopy source sink count buffer_size old result new elements whole spelled)
@@ -88,7 +88,7 @@ module _ {R E W F : Type 0} (source : Reader R E) (sink : Writer W F) where
       let behind = told_behind elements old counted.between due counted.run told in
       stopped_behind 1 counted.between new error behind.0 (spelling counted.run.marks) behind.1 counted.ends.2
 
--- The output begins with a beginning of what was written, and that was written.
+-- The output begins with each beginning of the bytes that were written.
 stands_within : (front more output before after : List ℕ) → output ≡ front ++ more → StandAtStart output before after
     → (take (length front) after ≡ front) × (length front ≤ length output)
 stands_within front more output before after is stands =
@@ -101,13 +101,13 @@ stands_within front more output before after is stands =
 
 module _ {R E W F : Type 0} (source : Reader R E) (sink : Writer W F) (count : ℕ) (due : List ℕ)
     (old new : Decoder R) (writer writer' : W) (report : CllReport) where
-  -- What a copy needs, whatever the count.
+  -- The premises of a copy, which hold for any count.
   abbrev pub IsReadyFor : Bool → ℕ → Type 0
   IsReadyFor strict n = IsReady source sink strict n buffer_size (sides old writer) due []
 
   -- ---- elements
 
-  -- The bytes of the elements that were copied come first.
+  -- The bytes begin with the elements that were copied.
   run_in_front : (strict : Bool) (elements : ℕ) (between : Sides R W)
       → IsTold source sink strict (sides old writer) due []
       → (run : CopiesRun source sink elements (sides old writer) between) → old.offset ≡ 0
@@ -130,7 +130,7 @@ module _ {R E W F : Type 0} (source : Reader R E) (sink : Writer W F) (count : �
   module _ (room : ℕ) (steady : IsSteady source old) (told : IsTold source sink false (sides old writer) due [])
       (ready : (n : ℕ) → HasRoom n due room → IsReadyFor false n) (object : length due < 2 ^ 63)
       (start : old.offset ≡ 0) (whole : report.whole ≡ new.offset → report.whole ≡ report.consumed) where
-    -- The place at which the copy of one more stops.
+    -- The copy of one more element stops for want of room, or since the bytes do not begin with one more.
     counted_to : (result : Result (Unit {0}) (RecodeError E F))
         → CountsCopy source sink count buffer_size (sides old writer) result (sides new writer') report.elements
         report.whole report.spelled

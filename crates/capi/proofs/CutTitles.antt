@@ -11,17 +11,17 @@ use Rattle.cbor_checker.specs.Spots.{Spot}
 use Rattle.cbor_checker.specs.Steps.{IsFed, fresh, more, StepIn, TitleStep, cut, early, whole, none, with_byte}
 use Rattle.cbor_checker.specs.Telling.{FaultIn, IsAtFault, progress_in, progress_of, title_due}
 
--- A title is due, and all of these bytes of it came.
+-- A title is due, and all of its bytes so far are these bytes.
 record AtTitle (bytes : List ℕ) (spot : Spot) : Type 0 where
   phase : spot.phase ≡ p.Title
   front : spot.front ≡ bytes
 
--- With a byte less a title is cut too.
+-- A cut title is also cut without its last byte.
 cut_sooner : (bytes : List ℕ) (b : ℕ) → IsCutTitle (bytes ++ b ∷ []) → IsCutTitle bytes
 cut_sooner [] b is_cut = tt
 cut_sooner (first ∷ bytes) b is_cut = omega (arith, is_cut, length-append bytes (b ∷ []))
 
--- Nothing comes after a fault.
+-- No byte comes after a fault.
 no_step : (phase : Phase) (spot new : Spot) (b : ℕ) → FaultIn phase → StepIn phase spot b new → ⊥
 no_step (p.Faulted fault) spot new b has step = step
 no_step p.Title spot new b has step = has
@@ -29,7 +29,7 @@ no_step (p.Bytes left) spot new b has step = has
 no_step (p.Text left state) spot new b has step = has
 no_step p.Ended spot new b has step = has
 
--- A byte more of a title that stays cut.
+-- With one byte more of a cut title, the title stays due or a fault comes.
 title_goes : (bytes : List ℕ) (b : ℕ) (spot new : Spot) → AtTitle bytes spot → IsCutTitle (bytes ++ b ∷ [])
     → TitleStep (with_byte b spot) new → AtTitle (bytes ++ b ∷ []) new ⊎ IsAtFault new
 title_goes bytes b spot new at is_cut (cut c some may) =
@@ -65,7 +65,7 @@ title_lacks (p.Bytes left) spot due at lacks = absurd cc
 title_lacks (p.Text left state) spot due at lacks = absurd cc
 title_lacks p.Ended spot due at lacks = absurd cc
 
--- What a checker lacks of a cut title is what the title lacks.
+-- A checker lacks as many bytes of a cut title as the title lacks.
 pub cut_lacks : (strict : Bool) (depth : ℕ) (bytes : List ℕ) (spot : Spot) (due : ℕ) → IsFed strict depth bytes spot
     → IsCutTitle bytes → progress_of spot ≡ r.More due → due ≡ title_due bytes
 cut_lacks strict depth bytes spot due fed is_cut lacks =
@@ -83,7 +83,7 @@ least_by (b ∷ bytes) next affix first is long =
     let same : affix_len (b % 32) ≡ affix_len (first % 32) = ap (λ (z : ℕ). affix_len (z % 32)) heads in
     omega (arith, counted, same, long, length-append bytes next)
 
--- And whatever makes it whole is at least as long.
+-- The bytes that complete a cut title are at least as many as are due.
 pub title_least : (bytes next : List ℕ) (header : Header) → IsTitle (bytes ++ next) header
     → title_due bytes ≤ length next
 title_least bytes next header is_title =

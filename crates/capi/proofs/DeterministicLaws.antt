@@ -1,4 +1,4 @@
--- The answers of the check of the deterministic encoding, over the result of `deterministic_len`.
+-- The answers of `cll_deterministic`, by the result of `deterministic_len`.
 use Rattle.std.proofs.Common.{◌≡◌, ℕ, ◌↔◌, ◌∙◌, List, Result, Ok, Err, ap, sym, subst, refl, arith}
 use Rattle.cbor_deterministic.specs.declared.Order.{Order}
 use Rattle.cbor_deterministic.specs.declared.Order.TheVariants.{Bytewise, LengthFirst}
@@ -12,7 +12,7 @@ use Rattle.capi.specs.declared.answer.CllReport.{CllReport}
 use Rattle.capi.specs.Answers.{Reports, code}
 use Rattle.capi.specs.Determining.{Determines, is_refused, named_place, order_code, why_answer}
 
--- A report of numbers that are equal.
+-- A report of equal numbers is the same report.
 pub reports_as : (report : CllReport) (consumed written place said wrote named : ℕ)
     → Reports report said wrote named → said ≡ consumed → wrote ≡ written → named ≡ place
     → Reports report consumed written place
@@ -25,7 +25,7 @@ reports_as report consumed written place said wrote named reports one two three 
   none_spelled = reports.none_spelled;
 }
 
--- An answer that stands for a refusal tells it.
+-- An answer and a report that stand for a refusal satisfy the relation of the call.
 pub refusal_told : (order : Order) (depth offset place : ℕ) (bytes : List ℕ) (why : Why) (answer : CllAnswer)
     (report : CllReport) → HasRefusal order depth bytes why offset → answer ≡ why_answer why
     → place ≡ named_place why offset → Reports report offset 0 place → Determines order depth bytes answer report
@@ -33,7 +33,7 @@ refusal_told order depth offset place bytes why answer report refusal same named
     subst (λ (x : CllAnswer). Determines order depth bytes x report) (sym same)
     (is_refused refusal (reports_as report offset 0 (named_place why offset) offset 0 place reports refl refl named))
 
--- The bytes begin with an item of exactly one length, which is the length that was found.
+-- The bytes begin with an item of exactly one length, which the report names.
 pub item_exactly : (order : Order) (depth found len : ℕ) (bytes : List ℕ) (report : CllReport)
     → ◌≡◌ {A = Result ℕ Refusal} (Ok found) (Ok len) ↔ HasDeterministic order depth bytes len
     → Reports report found 0 0 → HasDeterministic order depth bytes len ↔ (a.Ok ≡ a.Ok) × (report.consumed ≡ len)
@@ -42,7 +42,7 @@ item_exactly order depth found len bytes report exact reports = (
   λ told. exact.0 (ap (λ (n : ℕ). Ok n) (sym reports.consumed_is ∙ told.1)),
 )
 
--- A refusal is that which was told.
+-- The bytes have exactly the refusal that the call returned.
 pub refusal_exactly : (order : Order) (depth offset place : ℕ) (bytes : List ℕ) (why : Why) (refusal : Refusal)
     (answer : CllAnswer) (report : CllReport)
     → ◌≡◌ {A = Result ℕ Refusal} (Err refusal) (Err (record { why = why; place = offset }))
@@ -60,7 +60,7 @@ refusal_exactly order depth offset place bytes why refusal answer report exact s
           (named ∙ ap (λ (r : Refusal). named_place r.why r.place) is),
     )
 
--- An order has a number of its own.
+-- No two orders have the same number.
 pub one_order : (order other : Order) (number : ℕ) → number ≡ order_code order → number ≡ order_code other
     → order ≡ other
 one_order Bytewise Bytewise number one two = refl
@@ -68,7 +68,7 @@ one_order Bytewise LengthFirst number one two = absurd (omega (arith, one, two))
 one_order LengthFirst Bytewise number one two = absurd (omega (arith, one, two))
 one_order LengthFirst LengthFirst number one two = refl
 
--- What is told of a refusal is told by the number of the order and that of the answer.
+-- The same holds by the number of the order and by the number of the answer.
 pub refusal_code : {Reported : Type 0} (keys order : Order) (depth offset number result : ℕ) (bytes : List ℕ) (why : Why)
     (answer : CllAnswer) → number ≡ order_code keys → number ≡ order_code order → result ≡ code answer
     → (HasRefusal order depth bytes why offset → (answer ≡ why_answer why) × Reported)

@@ -1,4 +1,4 @@
--- What is due after whole elements if one more is cut off.
+-- The bytes that are due after whole elements, if the next element is cut off.
 use Rattle.std.proofs.Common.{◌≡◌, ℕ, zero, suc, ◌+◌, ◌-◌, ◌<◌, ◌≤◌, ◌⊎◌, inl, inr, Bool, true, List, [], ◌∷◌, ◌++◌, length}
 use Rattle.std.proofs.Common.{take, drop, refl, sym, ap, subst, ◌∙◌, arith, append_assoc, append-nil, length-append}
 use Rattle.std.specs.List.{AllByRecursion}
@@ -25,13 +25,13 @@ use Rattle.capi.proofs.ElementShapes.{title_item, break_long, zero_item, zero_ti
 
 -- ---- runs
 
--- This many elements, and nothing after them.
+-- The bytes are this many elements.
 record AreElements (strict : Bool) (count : ℕ) (bytes : List ℕ) : Type 0 where
   marks : List Mark
   run : IsRun count bytes marks
   spelled : strict ≡ true → IsStrictSpelling bytes marks []
 
--- An element in its own spelling, if only the shortest is taken.
+-- An element is its own spelling, if only the shortest spelling is taken.
 abbrev IsOwn : Bool → List ℕ → List Mark → Type 0
 IsOwn strict word marks = strict ≡ true → (word ≡ spelling marks) × AllByRecursion IsNoSmallSimple marks
 
@@ -43,7 +43,7 @@ add strict count bytes word marks are element own = record {
   spelled = λ on. spelled_then bytes are.marks word marks (are.spelled on) (own on).0 (own on).1;
 }
 
--- With this many zeros after them they are this many more.
+-- With a number of zeros after them, the elements are that many more.
 add_zeros : (strict : Bool) (count more all : ℕ) (bytes : List ℕ) → count + more ≡ all
     → AreElements strict count bytes → (zeros : List ℕ) × AreElements strict all (bytes ++ zeros)
 add_zeros strict count zero all bytes sum are =
@@ -58,7 +58,7 @@ add_zeros strict count (suc more) all bytes sum are =
     let others = add_zeros strict (suc count) more all (bytes ++ 0 ∷ []) (omega (arith, sum)) one in
     ((0 ∷ []) ++ others.0, subst (AreElements strict all) (append_assoc bytes (0 ∷ []) others.0) others.1)
 
--- The element of a run of one.
+-- A run of one element is an element.
 element_of_one : (count : ℕ) (word : List ℕ) (marks : List Mark) → count ≡ 1 → IsRun count word marks
     → IsElement word marks
 element_of_one count word marks single done = absurd (omega (arith, single))
@@ -71,9 +71,9 @@ break_or : (header : Header) → (header ≡ h.Break) ⊎ (header ≡ h.Break �
 break_or h.Break = inl refl
 break_or header = inr (λ same. absurd cc)
 
--- ---- behind whole elements
+-- ---- after whole elements
 
--- An element begins with these bytes, and ends in what follows them.
+-- An element begins with these bytes, and its other bytes begin `more`.
 record Next (strict : Bool) (before more : List ℕ) : Type 0 where
   next : List ℕ
   rest : List ℕ
@@ -81,7 +81,7 @@ record Next (strict : Bool) (before more : List ℕ) : Type 0 where
   shape : Shape strict (before ++ next)
   is : more ≡ next ++ rest
 
--- An element whose end did not come, and the bytes that came.
+-- An element is cut off after these bytes, and its other bytes begin `more`.
 record Split (before word more rest : List ℕ) : Type 0 where
   next : List ℕ
   some : 0 < length next
@@ -93,7 +93,7 @@ module _ (strict : Bool) (law : StrictLaw strict) (whole : ℕ) (bytes : List �
   whole_elements : AreElements strict whole front.elements
   whole_elements = record { marks = front.marks; run = front.run; spelled = front.spelled }
 
-  -- No element follows the whole ones.
+  -- No element follows the whole elements.
   none_behind : (word rest : List ℕ) (marks : List Mark) → IsElement word marks → IsOwn strict word marks
       → front.rest ≡ word ++ rest → ⊥
   none_behind word rest marks element own is =
@@ -108,7 +108,7 @@ module _ (strict : Bool) (law : StrictLaw strict) (whole : ℕ) (bytes : List �
         spelled = one.spelled;
       })
 
-  -- Nor an item.
+  -- No item follows the whole elements.
   pub no_item : (depth : ℕ) → BeginsWithItem strict depth front.rest → ⊥
   no_item depth item =
       let first = first_of strict law depth item.item item.is_item in
@@ -118,7 +118,7 @@ module _ (strict : Bool) (law : StrictLaw strict) (whole : ℕ) (bytes : List �
       (item.is ∙ ap (λ (z : List ℕ). z ++ item.rest) first.is
       ∙ append_assoc first.elements first.rest item.rest)
 
-  -- So an element that comes first in the rest and more bytes goes on into these bytes.
+  -- An element that begins the rest and more bytes ends within these bytes.
   split : (word more rest : List ℕ) (marks : List Mark) → IsElement word marks → IsOwn strict word marks
       → front.rest ++ more ≡ word ++ rest → Split front.rest word more rest
   split word more rest marks element own is =
@@ -158,7 +158,7 @@ module _ (strict : Bool) (law : StrictLaw strict) (whole : ℕ) (bytes : List �
       }
 
   module _ (due : ℕ) (lacks : ItemLacks strict 1 front.rest due) where
-    -- An item that begins with what is left.
+    -- The bytes that complete an item are at least as many as are due.
     item_least : (next : List ℕ) → IsItem strict 1 (front.rest ++ next) → (1 ≤ due) × (due ≤ length next)
     item_least next is_item =
         lacks.least next (record {
@@ -168,7 +168,7 @@ module _ (strict : Bool) (law : StrictLaw strict) (whole : ℕ) (bytes : List �
           is = sym (append-nil (front.rest ++ next));
         })
 
-    -- Something is due after the beginning of a title.
+    -- Some bytes are due after the beginning of a title.
     title_positive : (next : List ℕ) (header : Header) → 0 < length next → IsTitle (front.rest ++ next) header
         → IsTakenTitle strict (front.rest ++ next) header → IsPlain header → 1 ≤ due
     title_positive next header some is_title taken is_plain =
@@ -210,7 +210,7 @@ module _ (strict : Bool) (law : StrictLaw strict) (whole : ℕ) (bytes : List �
         let counted = ap length o.is in
         (found.0, omega (arith, found.1, counted, length-append o.next o.rest))
 
-    -- Some bytes make the rest an element, and the zeros after it are the other elements.
+    -- Some bytes complete the cut element, and zeros after them are the other elements.
     some_follow : (count : ℕ) → whole < count → 1 ≤ due
         → (more : List ℕ) × BeginsWithElements strict count (bytes ++ more)
     some_follow count fewer positive =
@@ -248,14 +248,14 @@ module _ (strict : Bool) (law : StrictLaw strict) (whole : ℕ) (bytes : List �
       checker = λ positive. subst (λ (z : List ℕ). CheckerLacks strict 1 z due) (sym behind) (lacks.checker positive);
     }
 
--- The bytes after the whole elements.
+-- The bytes after the whole elements are those from their offset on.
 rest_behind : (strict : Bool) (n at : ℕ) (bytes : List ℕ) (front : BeginsWithElements strict n bytes)
     → at ≡ length front.elements → drop at bytes ≡ front.rest
 rest_behind strict n at bytes front ends =
     ap (λ (z : ℕ). drop z bytes) ends ∙ ap (drop (length front.elements)) front.is
     ∙ drop-append_seam front.elements front.rest
 
--- All of it, as the code lends it.
+-- A slice up to the end is all bytes from its offset on.
 lent_is : (at : ℕ) (bytes : List ℕ) → take (length bytes - at) (drop at bytes) ≡ drop at bytes
 lent_is at bytes = take_all (length bytes - at) (drop at bytes) (omega (arith, length-drop at bytes))
 
@@ -267,7 +267,7 @@ none_in_front strict law n at bytes front ends cut item =
     no_item strict law n bytes front cut 1
     (subst (BeginsWithItem strict 1) (lent_is at bytes ∙ rest_behind strict n at bytes front ends) item)
 
--- And the elements lack what an item lacks there.
+-- The elements lack the bytes that an item after the whole elements lacks.
 pub elements_lack : (strict : Bool) → StrictLaw strict → (n count at due : ℕ) (bytes : List ℕ)
     (front : BeginsWithElements strict n bytes) → at ≡ length front.elements → (BeginsWithElements strict (suc n) bytes → ⊥)
     → n < count → ItemLacks strict 1 (take (length bytes - at) (drop at bytes)) due

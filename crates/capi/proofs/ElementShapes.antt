@@ -1,4 +1,4 @@
--- Elements beside items: a string is both, and the title of any other element but a break begins an item.
+-- Elements and items: a string is both, and the title of any other element but a break begins an item.
 use Rattle.std.proofs.Common.{◌≡◌, ℕ, zero, suc, ◌*◌, ◌↔◌, Bool, true, false, List, [], ◌∷◌, ◌++◌, length}
 use Rattle.std.proofs.Common.{Some, None, refl, sym, ap, subst, ◌∙◌, arith, append_assoc, append-nil}
 use Rattle.std.specs.List.{AllByRecursion}
@@ -22,21 +22,21 @@ use Rattle.ciborium_ll.proofs.StepLaws.{add_element}
 use Rattle.ciborium_ll.proofs.NestLaws.{alone_bytes, open_alone}
 use Rattle.cbor_skip.proofs.ItemSteps.{item_of}
 
--- What is known of elements in their shortest spelling, if only these are taken.
+-- The law of elements in their shortest spelling, if a copy takes only these.
 abbrev pub StrictLaw : Bool → Type 0
 StrictLaw strict = strict ≡ true → (count : ℕ) (bytes : List ℕ) (marks : List Mark)
     → IsStrictRun count bytes marks ↔ AreStrictElements count bytes marks
 
--- If any spelling is taken, nothing is asked of the elements.
+-- No law is needed if a copy takes any spelling.
 pub no_law : StrictLaw false
 no_law on count bytes marks = absurd cc
 
--- An element that is taken.
+-- The copy takes the element.
 abbrev IsTakenElement : Bool → List ℕ → List Mark → Type 0
 IsTakenElement true word marks = IsStrictElement word marks
 IsTakenElement false word marks = IsElement word marks
 
--- ---- of an element
+-- ---- an element
 
 -- An element is a title that begins no string, or an item.
 pub data Shape (strict : Bool) (word : List ℕ) : Type 0 where
@@ -88,7 +88,7 @@ strict_shape word marks (parts {title = t} {strings = u} {bodies = bs} kind is_t
     whole_item (item_of true 1 t (u ++ 0xff ∷ []) (kind_header kind None) is_title (open_strict kind t is_title)
     (open_completes true kind u bs (flat_strings kind u bs flat) flat sound))
 
--- One element, and no more.
+-- The bytes are one element.
 record One (word : List ℕ) : Type 0 where
   same : List ℕ
   marks : List Mark
@@ -104,7 +104,7 @@ one_of n word marks single (next {count = m} first (next second rest)) = absurd 
 run_of_one : (word : List ℕ) (marks : List Mark) → IsElement word marks → IsRun 1 word marks
 run_of_one word marks element = add_element 0 [] [] run_done word marks element
 
--- An element that is its own spelling, if only the shortest is taken.
+-- An element that is taken has one of the two shapes.
 pub shape_of : (strict : Bool) → StrictLaw strict → (word : List ℕ) (marks : List Mark) → IsElement word marks
     → (strict ≡ true → (word ≡ spelling marks) × AllByRecursion IsNoSmallSimple marks) → Shape strict word
 shape_of false law word marks element spelled = any_shape word marks element
@@ -114,9 +114,9 @@ shape_of true law word marks element spelled =
     ((law refl 1 word marks).0 (record { run = run_of_one word marks element; same = own.0; meant = own.1 })) in
     subst (Shape true) (sym one.is) (strict_shape one.same one.marks one.element)
 
--- ---- of an item
+-- ---- an item
 
--- The element that comes first, if it is taken.
+-- Bytes that begin with an element that is taken begin with one element.
 taken_front : (strict : Bool) → StrictLaw strict → (word rest bytes : List ℕ) (marks : List Mark)
     → IsTakenElement strict word marks → bytes ≡ word ++ rest → BeginsWithElements strict 1 bytes
 taken_front false law word rest bytes marks element is = record {

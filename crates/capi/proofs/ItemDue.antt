@@ -1,4 +1,4 @@
--- What a checker says of an item that its bytes begin.
+-- The bytes that an item still lacks, by the state of a checker.
 use Rattle.std.proofs.Common.{◌≡◌, ℕ, Bool, List, [], ◌++◌, length, take, drop, sym, ap, subst}
 use Rattle.std.proofs.Common.{◌∙◌, arith, inl, inr, append_assoc, append-nil, length-append}
 use Rattle.std.proofs.lemmas.Bool.{cases_lt}
@@ -13,7 +13,7 @@ use Rattle.cbor_checker.specs.Telling.{Tells, progress_of}
 use Rattle.cbor_skip.specs.ItemFaults.{BeginsWithItem}
 use Rattle.capi.specs.Lacking.{ItemLacks}
 
--- If no item comes first in the bytes, an item that comes first in the bytes and more goes on into what follows.
+-- The bytes end within an item, and its other bytes begin `more`.
 pub record GoesOn (strict : Bool) (depth : ℕ) (bytes more : List ℕ) : Type 0 where
   pub next : List ℕ
   pub rest : List ℕ
@@ -39,7 +39,7 @@ module _ (strict : Bool) (depth : ℕ) (bytes : List ℕ) (cut : BeginsWithItem 
             )
       ]
 
-  -- A checker lacks some.
+  -- If a checker lacks some bytes, the item lacks them.
   pub some_lack : (taken due : ℕ) (spot : Spot) → taken ≡ length bytes → IsFed strict depth (take taken bytes) spot
       → Tells strict depth (take taken bytes) (r.More due) → r.More due ≡ progress_of spot
       → ItemLacks strict depth bytes due
@@ -68,7 +68,7 @@ module _ (strict : Bool) (depth : ℕ) (bytes : List ℕ) (cut : BeginsWithItem 
         };
       }
 
-  -- No item begins so.
+  -- If a checker has met a fault, no bytes complete an item.
   pub none_follow : (taken : ℕ) (fault : Fault) → Tells strict depth (take taken bytes) (r.Fault fault)
       → ItemLacks strict depth bytes 0
   none_follow taken fault never = record {
@@ -82,7 +82,7 @@ module _ (strict : Bool) (depth : ℕ) (bytes : List ℕ) (cut : BeginsWithItem 
     checker = λ positive. absurd (omega (arith, positive));
   }
 
-  -- Nor has one ended.
+  -- No item has ended, since none comes first.
   pub none_ended : (taken len : ℕ) → Tells strict depth (take taken bytes) (r.Ended len) → ⊥
   none_ended taken len tells =
       cut (record {

@@ -1,4 +1,4 @@
--- What the answers of a copier of items say by their numbers.
+-- The answers of a copier of items, by their numbers.
 use Rattle.std.proofs.Common.{◌≡◌, ◌+◌, ◌<◌, ◌≤◌, Bool, ℕ, true, false, List, [], ◌++◌, length, take, refl, sym, ap, subst, ◌∙◌}
 use Rattle.cbor_copier.specs.Spots.{Spot as Elements}
 use Rattle.cbor_item_copier.specs.declared.progress.Progress.{Progress}
@@ -68,7 +68,7 @@ room_room (r.Fault (f.Break place)) is = absurd cc
 room_room (r.Fault (f.Deep place)) is = absurd cc
 room_room r.TooLong is = absurd cc
 
--- What a copier did with a piece, by its report.
+-- The relation of a feed follows from the progress and the report.
 pub feeds : (s : Bool) (d : ℕ) (fed given : List ℕ) (old : Spot) (before : Elements) (bytes out output : List ℕ)
     (taken written number : ℕ) (progress : Progress) (answer : CllAnswer) (report : CllReport) (new : CllItemCopier)
     (item : Spot) (elements : Elements)
@@ -131,7 +131,7 @@ says_end (e.Fault (f.Syntax place)) s d whole output told = told
 says_end (e.Fault (f.Break place)) s d whole output told = told
 says_end (e.Fault (f.Deep place)) s d whole output told = told
 
--- What a copier says of an end, by its report.
+-- The relation of an end follows from the end and the report.
 pub ends : (s : Bool) (d : ℕ) (fed given : List ℕ) (item : Spot) (elements : Elements) (end : End) (number : ℕ)
     (answer : CllAnswer) (report : CllReport) → end ≡ end_of elements.put item → TellsEnd s d fed given end
     → answer ≡ item_end_answer end → number ≡ item_end_number end → Reports report 0 0 number

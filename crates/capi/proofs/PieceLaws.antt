@@ -1,4 +1,4 @@
--- What the answers of a copier say by their numbers.
+-- The answers of a copier, by their numbers.
 use Rattle.std.proofs.Common.{◌≡◌, ◌+◌, ◌<◌, ◌≤◌, ℕ, ◌↔◌, false, List, [], ◌++◌, length, take, refl, sym, ap, subst, ◌∙◌}
 use Rattle.cbor_copier.specs.declared.progress.Progress.{Progress}
 use Rattle.cbor_copier.specs.declared.progress.Progress.TheVariants as r
@@ -55,7 +55,7 @@ room_room r.More is = absurd cc
 room_room (r.Syntax place) is = absurd cc
 room_room r.TooLong is = absurd cc
 
--- What a copier did with a piece, by its report.
+-- The relation of a feed follows from the progress and the report.
 pub feeds : (count : ℕ) (fed given : List ℕ) (old : Spot) (bytes out output : List ℕ) (taken written place : ℕ)
     (progress : Progress) (answer : CllAnswer) (report : CllReport) (new : CllCopier) (spot : Spot)
     → Tells count (fed ++ take taken bytes) (given ++ take written output) progress
@@ -116,7 +116,7 @@ ok_ended e.Short is = absurd cc
 ok_ended e.Room is = absurd cc
 ok_ended (e.Syntax place) is = absurd cc
 
--- What a copier says of an end, by its report.
+-- The relation of an end follows from the end and the report.
 pub ends : (count : ℕ) (fed given : List ℕ) (spot : Spot) (end : End) (place : ℕ) (answer : CllAnswer)
     (report : CllReport) → end ≡ end_of spot.put spot.phase → TellsEnd count fed given end
     → (end ≡ e.Ended) ↔ AreSpelled count fed given

@@ -1,4 +1,4 @@
--- A fresh decoder over a reader that tells its bytes, and a title with which they begin.
+-- A fresh decoder over a reader that tells its bytes, and the title with which they begin.
 use Rattle.std.proofs.Common.{◌≡◌, ℕ, IsTrue, List, Some, length, subst, sym, ap, refl, Bool, false, ◌∙◌, ◌↔◌, arith}
 use Rattle.ciborium_ll.specs.Types.Read.{Ghosts}
 use Rattle.ciborium_ll.specs.Types.Header.{Header}
@@ -16,17 +16,17 @@ use Rattle.capi.specs.Answers.{code}
 use Rattle.capi.specs.Headers.{Says}
 use Rattle.capi.specs.Pulling.{CllPull, BeginsWithTitle}
 
--- If the bytes end inside a title, no title comes first.
+-- Bytes that end within a title do not begin with a title.
 pub front_not_cut : (bytes : List ℕ) → BeginsWithTitle bytes → IsCutTitle bytes → ⊥
 front_not_cut bytes front cut = title_not_cut front.title front.rest front.header front.is_title
     (subst IsCutTitle front.is cut)
 
--- Nor does one if they begin with a byte with which no title begins.
+-- Bytes that begin with a refused byte do not begin with a title.
 pub front_not_refused : (bytes : List ℕ) → BeginsWithTitle bytes → BeginsRefused bytes → ⊥
 front_not_refused bytes front refused =
     title_refused front.title front.rest front.header front.is_title (subst BeginsRefused front.is refused)
 
--- No other answer has the number of `Ok`.
+-- Only the answer `Ok` has the number of `Ok`.
 pub code_ok : (answer : CllAnswer) (result : ℕ) → result ≡ code answer → (result ≡ code a.Ok) ↔ (answer ≡ a.Ok)
 code_ok a.Ok result is = (λ same. refl, λ same. is)
 code_ok a.Short result is = (λ same. absurd (omega (arith, is, same)), λ same. absurd cc)
@@ -41,13 +41,13 @@ code_ok a.Indefinite result is = (λ same. absurd (omega (arith, is, same)), λ 
 code_ok a.KeyOrder result is = (λ same. absurd (omega (arith, is, same)), λ same. absurd cc)
 code_ok a.DuplicateKey result is = (λ same. absurd (omega (arith, is, same)), λ same. absurd cc)
 
--- If the answer is `Ok` exactly under a condition, the number is that of `Ok` exactly then.
+-- If the answer is `Ok` exactly under a condition, the number is that of `Ok` exactly under it.
 pub code_exactly : {Holds : Type 0} (answer : CllAnswer) (result : ℕ) → result ≡ code answer → (answer ≡ a.Ok) ↔ Holds
     → (result ≡ code a.Ok) ↔ Holds
 code_exactly answer result is exact =
     let same = code_ok answer result is in (λ ok. exact.0 (same.0 ok), λ holds. same.1 (exact.1 holds))
 
--- No other answer has the number of `Short`.
+-- Only the answer `Short` has the number of `Short`.
 is_short : (answer : CllAnswer) (result : ℕ) → result ≡ code answer → result ≡ code a.Short → answer ≡ a.Short
 is_short a.Short result is same = refl
 is_short a.Ok result is same = absurd (omega (arith, is, same))
@@ -62,12 +62,12 @@ is_short a.Indefinite result is same = absurd (omega (arith, is, same))
 is_short a.KeyOrder result is same = absurd (omega (arith, is, same))
 is_short a.DuplicateKey result is same = absurd (omega (arith, is, same))
 
--- What holds if the answer is `Short` holds if the number is that of `Short`.
+-- A consequence of the answer `Short` is a consequence of its number.
 pub code_short : {Holds : Type 0} (answer : CllAnswer) (result : ℕ) → result ≡ code answer
     → (answer ≡ a.Short → Holds) → result ≡ code a.Short → Holds
 code_short answer result is holds same = holds (is_short answer result is same)
 
--- `Ok` comes exactly if a title comes first.
+-- The number is that of `Ok` exactly if a title comes first.
 pub pulled_exactly : (bytes : List ℕ) (answer : CllAnswer) (old new : CllHeader) (consumed result : ℕ)
     → result ≡ code answer → CllPull bytes answer old new consumed → (result ≡ code a.Ok) ↔ BeginsWithTitle bytes
 pulled_exactly bytes a.Ok old new consumed result is pulled = (λ same. pulled.0, λ front. is)
@@ -87,7 +87,7 @@ pulled_exactly bytes a.DuplicateKey old new consumed result is pulled = absurd p
 
 module _ {R E : Type 0} (source : Ghosts R E) (strict : Bool) (reader : R) (decoder : Decoder R)
     (fresh : IsFreshAs strict reader 0 decoder) where
-  -- All that the reader has ahead is due.
+  -- All bytes that the reader has ahead are due.
   pub due_ahead : (due : List ℕ) → source.ahead reader ≡ Some due → view source decoder ≡ Some due
   due_ahead due ahead =
       view_none decoder.waiting (source.ahead decoder.reader) fresh.none_waits ∙ ap source.ahead fresh.reader ∙ ahead

@@ -1,4 +1,4 @@
--- What a skip by a fresh decoder says of the bytes ahead.
+-- The result of a skip by a fresh decoder, as a fact of the bytes ahead.
 use Rattle.std.proofs.Common.{◌≡◌, ℕ, ◌+◌, ◌<◌, ◌∙◌, ◌↔◌, IsTrue, IsOk, Bool, false, List, length, Result, Ok, Err}
 use Rattle.std.proofs.Common.{Some, ap, sym, subst, refl, arith}
 use Rattle.ciborium_ll.specs.Types.Read.{Ghosts}
@@ -110,7 +110,7 @@ module _ {R E : Type 0} (source : Ghosts R E) where
       } in
       subst (λ (x : CllAnswer). Skips depth due x report) (sym same) said
 
--- The answer `Ok` stands for the skip that succeeded alone.
+-- The answer is `Ok` exactly if the skip succeeded.
 pub skip_answers_ok : {E : Type 0} (result : Result (Unit {0}) (SkipError E))
     → (skip_answer result ≡ a.Ok) ↔ IsOk result
 skip_answers_ok (Ok done) = (λ same. cc, λ ok. refl)

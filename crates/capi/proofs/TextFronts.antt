@@ -1,4 +1,4 @@
--- The bytes after the longest front of bytes that is text, by the state after the front.
+-- The bytes after the longest front that is UTF-8, by the state after the front.
 use Rattle.std.proofs.Common.{◌≡◌, ◌≢◌, ℕ, List, [], ◌∷◌, ◌++◌, length, drop, refl, sym, ap, subst, ◌∙◌, ◌↔◌}
 use Rattle.std.proofs.Common.{inl, inr, arith, append-nil, append_assoc}
 use Rattle.std.proofs.lemmas.Bool.{cases_lt}
@@ -18,9 +18,9 @@ use Rattle.capi.specs.declared.answer.CllReport.{CllReport}
 use Rattle.capi.specs.Answers.{Reports}
 use Rattle.capi.specs.Texts.{FindsText, IsCutCharacter}
 
--- ---- what is stuck and goes on is one character that is cut off
+-- ---- bytes that no front can take are the beginning of one character
 
--- The first character of a text that begins with the stuck bytes is longer.
+-- The first character of a text that begins with such bytes is longer than they are.
 cut_in : (rest more : List ℕ) (characters : List (List ℕ)) → IsStuck rest → rest ≢ []
     → AllByRecursion IsCharacter characters → rest ++ more ≡ joined characters → IsCutCharacter rest
 cut_in [] more [] stuck some each whole = absurd (some refl)
@@ -48,10 +48,10 @@ pub cut_character : (bytes : List ℕ) → IsStuck bytes → bytes ≢ [] → (m
 cut_character bytes stuck some more text =
     cut_in bytes more text.characters stuck some text.each text.whole
 
--- ---- the front by the state behind it
+-- ---- the front by the state after it
 
 module _ (bytes text rest : List ℕ) (front : IsFront bytes text rest) where
-  -- Between two characters nothing follows the front.
+  -- No bytes follow the front if the state is between two characters.
   pub nothing_behind : after s.Between rest ≡ s.Between → rest ≡ []
   nothing_behind ends = IsStuck-rest bytes text rest front rest [] (sym (append-nil rest)) (text_from rest ends)
 
@@ -65,7 +65,7 @@ module _ (bytes text rest : List ℕ) (front : IsFront bytes text rest) where
         subst (λ (z : List ℕ). Reports report (length z) 0 0) same reports,
       )
 
-  -- Inside a character that character is cut off.
+  -- A character is cut off if the state is inside a character.
   pub finds_cut : (report : CllReport) → after s.Between rest ≢ s.Between → after s.Between rest ≢ s.Damaged
       → Reports report (length text) 0 0 → FindsText bytes a.Short report
   finds_cut report inside goes reports =
@@ -76,7 +76,7 @@ module _ (bytes text rest : List ℕ) (front : IsFront bytes text rest) where
         reports,
       )
 
-  -- If no text goes on, no text begins after the front.
+  -- No text begins after the front if the state is damaged.
   pub finds_damage : (report : CllReport) → after s.Between rest ≡ s.Damaged
       → Reports report (length text) 0 (length text) → FindsText bytes a.Syntax report
   finds_damage report damaged reports = (
@@ -85,9 +85,9 @@ module _ (bytes text rest : List ℕ) (front : IsFront bytes text rest) where
     reports,
   )
 
--- ---- what the answers tell
+-- ---- the answers
 
--- Whatever follows the bytes: all of it is text if what is after their front is text with what follows.
+-- With any bytes after them, the bytes are UTF-8 exactly if the bytes after the front are.
 goes_with : (bytes text rest more : List ℕ) → bytes ≡ text ++ rest → IsCharacters text
     → IsCharacters (bytes ++ more) ↔ IsCharacters (rest ++ more)
 goes_with bytes text rest more parts front =
@@ -97,7 +97,7 @@ goes_with bytes text rest more parts front =
       λ behind. subst IsCharacters (sym same) (IsCharacters-append text (rest ++ more) front behind),
     )
 
--- The same by how many bytes were consumed.
+-- The same holds for the bytes after those that were consumed.
 goes_behind : (bytes text rest : List ℕ) (consumed : ℕ) → bytes ≡ text ++ rest → IsCharacters text
     → consumed ≡ length text
     → (more : List ℕ) → IsCharacters (bytes ++ more) ↔ IsCharacters (drop consumed bytes ++ more)
@@ -129,7 +129,7 @@ found_pieces bytes a.Indefinite report found = absurd found
 found_pieces bytes a.KeyOrder report found = absurd found
 found_pieces bytes a.DuplicateKey report found = absurd found
 
--- `Ok` comes exactly for a text.
+-- The answer is `Ok` exactly if the bytes are UTF-8.
 pub found_exactly : (bytes : List ℕ) (answer : CllAnswer) (report : CllReport) → FindsText bytes answer report
     → (answer ≡ a.Ok) ↔ IsCharacters bytes
 found_exactly bytes a.Ok report found = (λ same. found.0, λ text. refl)

@@ -1,4 +1,4 @@
--- The parts of a title alone tell its meaning.
+-- The parts of a title alone give its header.
 use Rattle.std.proofs.Common.{◌≡◌, ℕ, zero, suc, ◌<◌, ◌+◌, ◌*◌, List, [], ◌∷◌, None, subst, refl, arith}
 use Rattle.std.proofs.Common.{◌∙◌, inl, inr}
 use Rattle.std.specs.Prelude.{if◌then◌else◌, ◌==◌}
@@ -15,15 +15,15 @@ use Rattle.ciborium_ll_grammar.proofs.TitleLaws.{one_title, title_refused}
 use Rattle.capi.specs.declared.header.CllHeader.{CllHeader}
 use Rattle.capi.specs.Headers.{Says, indefinite_of, length_or_none}
 
--- A number that only the major type 7 has otherwise.
+-- The first number for the major type 7, and the second for any other.
 abbrev pub under : ℕ → ℕ → ℕ → ℕ
 under major other n = if major == 7 then other else n
 
--- The kind of a title of a major type, if 7 has this kind.
+-- The kind of a title: its major type, or this kind if the major type is 7.
 abbrev pub kind_under : ℕ → ℕ → ℕ
 kind_under major other = under major other major
 
--- The kind that 7 has for a number of this size.
+-- The kind that the major type 7 has for a number of this size.
 abbrev pub other_kind : Size → ℕ
 other_kind Small = 7
 other_kind One = 7
@@ -31,7 +31,7 @@ other_kind Two = 8
 other_kind Four = 9
 other_kind Eight = 10
 
--- What a number of some size says.
+-- These parts are those of the header of a number of this size.
 says_number : (parts : CllHeader) (major : Major) (size : Size) (n : ℕ)
     → parts.kind ≡ kind_under (major_code major) (other_kind size) → parts.value ≡ n → parts.indefinite ≡ 0
     → Says parts (numbered_header major size n)
@@ -48,11 +48,11 @@ says_number parts Other Two n kind value definite = record { kind = kind; value 
 says_number parts Other Four n kind value definite = record { kind = kind; value = value; indefinite = definite }
 says_number parts Other Eight n kind value definite = record { kind = kind; value = value; indefinite = definite }
 
--- A title is of one header.
+-- A title has only one header.
 one_header : (title : List ℕ) (mine header : Header) → IsTitle title mine → IsTitle title header → mine ≡ header
 one_header title mine header is given = (one_title title title [] [] mine header is given refl).1
 
--- A title with a number of some size.
+-- These parts are those of the header of a title with a number of this size.
 says_numbered : (parts : CllHeader) (major : Major) (size : Size) (n : ℕ) (header : Header) → n < size_limit size
     → IsTitle (numbered_title major size n) header → parts.kind ≡ kind_under (major_code major) (other_kind size)
     → parts.value ≡ n → parts.indefinite ≡ 0 → Says parts header
@@ -72,7 +72,7 @@ named (suc (suc (suc (suc (suc (suc zero)))))) below = (Tag, refl)
 named (suc (suc (suc (suc (suc (suc (suc zero))))))) below = (Other, refl)
 named (suc (suc (suc (suc (suc (suc (suc (suc major)))))))) below = absurd (omega (arith, below))
 
--- The parts of a title with a number.
+-- These parts are those of a title's header, if the major type is below 8.
 pub says_parts : (parts : CllHeader) (major : ℕ) (size : Size) (n : ℕ) (header : Header) → major < 8
     → n < size_limit size → IsTitle ((32 * major + minor_of size n) ∷ affix_of size n) header
     → parts.kind ≡ kind_under major (other_kind size) → parts.value ≡ n → parts.indefinite ≡ 0 → Says parts header
@@ -82,7 +82,7 @@ says_parts parts major size n header below fits title kind value definite =
     (subst (λ (x : ℕ). IsTitle ((32 * x + minor_of size n) ∷ affix_of size n) header) name.1 title)
     (subst (λ (x : ℕ). parts.kind ≡ kind_under x (other_kind size)) name.1 kind) value definite
 
--- A title of minor 31 under a major type.
+-- These parts are those of the header of a title of minor 31.
 says_alone : (parts : CllHeader) (major : Major) (header : Header) → IsTitle (first_byte major 31 ∷ []) header
     → parts.kind ≡ kind_under (major_code major) 11 → parts.value ≡ 0
     → parts.indefinite ≡ (if major_code major == 7 then 0 else 1) → Says parts header
@@ -108,7 +108,7 @@ says_alone parts Other header title kind value form =
     subst (Says parts) (one_header _ h.Break header (alone Other h.Break refl) title)
     (record { kind = kind; value = value; indefinite = form })
 
--- The parts of a title of minor 31.
+-- These parts are those of such a header, if the major type is below 8.
 pub says_open : (parts : CllHeader) (major : ℕ) (header : Header) → major < 8
     → IsTitle ((32 * major + 31) ∷ []) header → parts.kind ≡ kind_under major 11 → parts.value ≡ 0
     → parts.indefinite ≡ (if major == 7 then 0 else 1) → Says parts header
@@ -118,7 +118,7 @@ says_open parts major header below title kind value form =
     (subst (λ (x : ℕ). parts.kind ≡ kind_under x 11) name.1 kind) value
     (subst (λ (x : ℕ). parts.indefinite ≡ (if x == 7 then 0 else 1)) name.1 form)
 
--- Below 7 a major type is no other.
+-- A major type below 7 is not 7.
 not_7 : (major other n : ℕ) → major < 7 → n ≡ under major other n
 not_7 zero other n below = refl
 not_7 (suc zero) other n below = refl
@@ -129,7 +129,7 @@ not_7 (suc (suc (suc (suc (suc zero))))) other n below = refl
 not_7 (suc (suc (suc (suc (suc (suc zero)))))) other n below = refl
 not_7 (suc (suc (suc (suc (suc (suc (suc major))))))) other n below = absurd (omega (arith, below))
 
--- The parts of a title of a major type below 7.
+-- These parts are those of the header of a title of a major type below 7.
 pub says_alike : (parts : CllHeader) (major : ℕ) (minor : Minor) (header : Header) → major < 7 → IsMinor minor
     → IsTitle (parts_bytes major minor) header → parts.kind ≡ major
     → parts.value ≡ length_or_none (minor_number minor) → parts.indefinite ≡ indefinite_of (minor_number minor)

@@ -1,4 +1,4 @@
--- The title of a header in a width, and that there is no other title of that width.
+-- The title of a header in a width. A header has at most one title of a width.
 use Rattle.std.proofs.Common.{◌≡◌, ℕ, suc, ◌%◌, ◌^◌, ◌<◌, ◌≤◌, Bool, true, false, List, [], ◌∷◌, ◌++◌, length, refl}
 use Rattle.std.proofs.Common.{drop}
 use Rattle.std.proofs.Common.{Option, Some, None, sym, ap, subst, ◌∙◌, arith}
@@ -35,7 +35,7 @@ sized Two n = m.Two n
 sized Four n = m.Four n
 sized Eight n = m.Eight n
 
--- A minor that has this many bytes after it, or no minor of this width holds the number.
+-- A minor of this width holds the number, or no minor of this width does.
 abbrev Decided : ℕ → ℕ → Option Minor → Type 0
 Decided width n (Some minor) =
     (size : Size) × (n < size_limit size) × (minor ≡ sized size n) × (length (affix_of size n) ≡ width)
@@ -59,7 +59,7 @@ hold : (P : Option Minor → Type 0) (test : Bool) (minor : Minor) → (test ≡
 hold P true minor first second = first refl
 hold P false minor first second = second refl
 
--- A width in which the number may stand.
+-- A test of the number decides whether a width of this size holds the number.
 at_width : (size : Size) (width n : ℕ) → length (affix_of size n) ≡ width
     → (size_limit size ≤ n → Decided width n None)
     → Decided width n (minor_where (nat_lt n (size_limit size)) (sized size n))
@@ -126,7 +126,7 @@ numbered_bytes major Two n = refl
 numbered_bytes major Four n = refl
 numbered_bytes major Eight n = refl
 
--- A number under a major type, in widths that the header has.
+-- A number under a major type is a title, if each of its widths is one of the header's.
 wide_number : (major : Major) (header : Header) (width n : ℕ) (minor : Option Minor) → Decided width n minor
     → ((size : Size) → n < size_limit size → length (affix_of size n) ≡ width
     → IsTitle (numbered_title major size n) header)
@@ -145,7 +145,7 @@ wide_number major header width n None none gives only = λ wide.
     let has = only wide.title wide.is_title in
     none has.0 has.1 (let counted = sym (ap length has.2) ∙ wide.wide in omega (arith, counted))
 
--- The minor 31.
+-- The title of an indefinite form or of a break has no bytes after its first one.
 wide_open : (major : Major) (header : Header) (width : ℕ) → open_header major ≡ Some header
     → ((title : List ℕ) → IsTitle title header → title ≡ first_byte major 31 ∷ [])
     → Wide header width (open_in (major_code major) width)
@@ -160,21 +160,21 @@ wide_open major header width is only =
     let counted = sym (ap length (only wide.title wide.is_title)) ∙ wide.wide in
     eqb-false width 0 not (omega (arith, counted)))
 
--- A header whose titles have one width.
+-- The titles of the header have only one width.
 wide_only : (header : Header) (width only : ℕ) (found : Option Title) → (width ≡ only → Wide header width found)
     → (WideTitle header width → width ≡ only) → Wide header width (if width == only then found else None)
 wide_only header width only found there must =
     choose (Wide header width) (width == only) found None (λ is. there (eqb-true width only is))
     (λ not wide. eqb-false width only not (must wide))
 
--- A float's title by its width.
+-- The title of a float has the width of its size.
 float_title_of : (size : Size) (header : Header) (width n : ℕ) → WideTitle header width
     → ((title : List ℕ) → IsTitle title header → title ≡ numbered_title Other size n)
     → width ≡ length (affix_of size n)
 float_title_of size header width n wide only =
     let counted = sym (ap length (only wide.title wide.is_title)) ∙ wide.wide in omega (arith, counted)
 
--- A simple value stands in a first byte or in one more.
+-- A simple value stands in the first byte or in one byte after it.
 simple_title : (size : Size) (n : ℕ) → n < size_limit size → length (affix_of size n) < 2
     → IsTitle (numbered_title Other size n) (h.Simple n)
 simple_title Small n fits few = numbered Other Small n fits
@@ -295,13 +295,13 @@ said : (parts : CllHeader) (header : Header) → IsInRange header → Says parts
     → rebuilt parts.kind parts.indefinite parts.value ≡ Some header
 said parts header below says = rw says.kind (rw says.indefinite (rw says.value (rebuilt_of header below)))
 
--- No two headers have the same parts.
+-- Only one header has these parts.
 says_one : (parts : CllHeader) (one other : Header) → IsInRange one → IsInRange other → Says parts one
     → Says parts other → one ≡ other
 says_one parts one other first second mine given =
     let same : Some one ≡ Some other = sym (said parts one first mine) ∙ said parts other second given in cc
 
--- The title of the header that has the parts, or there is none.
+-- A title of the header that has the parts is a title of the parts.
 pub wide_of : (parts : CllHeader) (header : Header) (width : ℕ) (found : Option Title) → IsInRange header
     → Says parts header → Wide header width found → WideOf parts width found
 wide_of parts header width (Some title) below says wide = (header, says, wide)
@@ -312,7 +312,7 @@ wide_of parts header width None below says none = λ other given wide.
 pub none_of : (parts : CllHeader) (width : ℕ) → IsNoHeader parts → WideOf parts width None
 none_of parts width none = λ header says wide. none header (title_in_range wide.title header wide.is_title) says
 
--- ---- what is written
+-- ---- the bytes of a title
 
 pub puts_wide : (parts : CllHeader) (width : ℕ) (title : Title) (old new : List ℕ) (answer : CllAnswer)
     (report : CllReport) → WideOf parts width (Some title) → Puts (title_bytes title) old answer new report
