@@ -130,7 +130,7 @@ module _ {R E W F : Type 0} (source : Reader R E) (sink : Writer W F) (count : �
   module _ (room : ℕ) (steady : IsSteady source old) (told : IsTold source sink false (sides old writer) due [])
       (ready : (n : ℕ) → HasRoom n due room → IsReadyFor false n) (object : length due < 2 ^ 63)
       (start : old.offset ≡ 0) (whole : report.whole ≡ new.offset → report.whole ≡ report.consumed) where
-    -- The copy of one more element stops for want of room, or since the bytes do not begin with one more.
+    -- The count agrees with the answer of the copy.
     counted_to : (result : Result (Unit {0}) (RecodeError E F))
         → CountsCopy source sink count buffer_size (sides old writer) result (sides new writer') report.elements
         report.whole report.spelled

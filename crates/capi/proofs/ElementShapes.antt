@@ -221,7 +221,7 @@ pub first_of : (strict : Bool) → StrictLaw strict → (depth : ℕ) (item : Li
 first_of strict law depth item (more_items {title = t} {rest = r} {header = x} is_title taken completes no_items) =
     item_front strict law t depth r item x is_title taken completes refl
 
--- ---- what completes a title
+-- ---- contents that complete a title
 
 zero_taken : (strict : Bool) → IsTakenTitle strict (0 ∷ []) (h.Positive 0)
 zero_taken true = record { shortest = refl; meant = λ small. small }
