@@ -1,4 +1,4 @@
--- Strings of any form, and what is written for them.
+-- Strings of any form, and the strings that are written for them.
 use Rattle.std.specs.Prelude.{◌≡◌, ℕ, zero, suc, ◌<◌, ◌^◌, List, [], ◌∷◌, ◌++◌, length, Option, Some, None}
 use Rattle.ciborium_ll_text.specs.Text.{joined}
 use Rattle.ciborium_ll_grammar.specs.Title.{IsTitle}
@@ -17,7 +17,8 @@ abbrev pub kind_of : StringKind → Kind
 kind_of k.Bytes = Bytes
 kind_of k.Text = Text
 
--- The bytes begin with a body of this length, which a string of the kind may have.
+-- The bytes begin with a body of this length, which a string of the kind may have. `01 02 03` begins with the body
+-- `01 02` of length 2.
 pub record IsBody (kind : Kind) (len : ℕ) (bytes body rest : List ℕ) : Type 0 where
   pub whole : bytes ≡ body ++ rest
   pub is : length body ≡ len
@@ -27,22 +28,22 @@ pub record IsBody (kind : Kind) (len : ℕ) (bytes body rest : List ℕ) : Type 
 abbrev pub HasNoBody : Kind → ℕ → List ℕ → Type 0
 HasNoBody kind len bytes = (body rest : List ℕ) → IsBody kind len bytes body rest → ⊥
 
--- The bytes are a string whose length is told, with this body.
+-- The bytes are a string of definite length with this body. `42 01 02` and `58 02 01 02` have the body `01 02`.
 pub record IsChunk (kind : Kind) (body bytes : List ℕ) : Type 0 where
   pub title : List ℕ
   pub is_title : IsTitle title (kind_header kind (Some (length body)))
   pub writable : IsWritable kind body
   pub whole : bytes ≡ title ++ body
 
--- What stands at the beginning of the bytes within an open string: a break, a further open or a string whose length is
--- told (RFC 8949, 3.2.3).
+-- The next part of an open string: a break, a further open or a string of definite length (RFC 8949, 3.2.3). In a byte
+-- string `ff`, `5f` and `41 01` are such parts.
 abbrev pub IsStep : Kind → List ℕ → Step → Type 0
 IsStep kind bytes (s.Closed rest) = bytes ≡ 0xff ∷ rest.now
 IsStep kind bytes (s.Opened rest) = InFront (λ title. IsTitle title (kind_header kind None)) bytes rest.now
 IsStep kind bytes (s.Chunk body rest) = InFront (IsChunk kind body.now) bytes rest.now
 
 -- `Closes kind opens bytes`: the bytes begin with strings of the kind and breaks that end that many opens (RFC 8949,
--- 3.2.3).
+-- 3.2.3). In a byte string `41 01 ff` closes one open.
 pub data Closes (kind : Kind) : ℕ → List ℕ → Type 0 where
   all_closed : {bytes : List ℕ} → Closes kind zero bytes
   by_break : {opens : ℕ} {rest : List ℕ} → Closes kind opens rest → Closes kind (suc opens) (0xff ∷ rest)
@@ -51,11 +52,12 @@ pub data Closes (kind : Kind) : ℕ → List ℕ → Type 0 where
   by_open : {opens : ℕ} {title rest : List ℕ} → IsTitle title (kind_header kind None)
       → Closes kind (suc (suc opens)) rest → Closes kind (suc opens) (title ++ rest)
 
--- Nothing that stands within an open string begins the bytes.
+-- No break, further open or string of definite length begins the bytes of an open string.
 abbrev pub HasNoStep : Kind → List ℕ → Type 0
 HasNoStep kind bytes = (opens : ℕ) → Closes kind (suc opens) bytes → ⊥
 
 -- The bytes are strings of the kind and a break, and then this rest. Their bodies are joined after the old bytes.
+-- `41 01 41 02 ff` are the bodies `01` and `02`, joined to `01 02`.
 pub record Gathers (kind : Kind) (bytes rest old new : List ℕ) : Type 0 where
   pub strings : List ℕ
   pub bodies : List (List ℕ)
@@ -72,13 +74,15 @@ FailsGather kind bytes (stop.NoSimple left) = ⊥
 FailsGather kind bytes (stop.Duplicate left) = ⊥
 FailsGather kind bytes stop.Memory = Unit {0}
 
--- The bytes that follow a title of this length are the body, or strings and a break.
+-- The bytes that follow a title of this length are the body, or strings and a break. After `5f` the bytes `41 01 ff`
+-- have the body `01`.
 pub data IsContent (kind : Kind) : Option ℕ → List ℕ → List ℕ → Type 0 where
   told : {body : List ℕ} → IsWritable kind body → IsContent kind (Some (length body)) body body
   until_break : {strings : List ℕ} {bodies : List (List ℕ)} → AreStrings kind strings bodies
       → AreWritable kind bodies → IsContent kind None (strings ++ 0xff ∷ []) (joined bodies)
 
--- The bytes follow a title of this length, and the string is written after a title that has its length.
+-- The bytes follow a title of this length, and the string is written after a title that has its length. After `5f` the
+-- bytes `41 01 ff` are written as `41 01`.
 pub record IsStringTurned (kind : Kind) (len : Option ℕ) (bytes written : List ℕ) : Type 0 where
   pub body : List ℕ
   pub content : IsContent kind len bytes body

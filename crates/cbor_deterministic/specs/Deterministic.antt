@@ -11,7 +11,8 @@ use Rattle.cbor_deterministic.specs.Preferred.{IsPreferredTitle}
 
 mutual
   -- `Completes order depth header rest`: after a title of the header, the rest completes an item (RFC 8949, 3.1 and
-  -- 4.2.1). It is empty, a body of the length in the header, one item after a tag, or that many items or pairs.
+  -- 4.2.1). The rest is empty, a body of the length in the header, one item after a tag, or that many items or pairs.
+  -- After `82` the bytes `01 02` complete an array.
   pub data Completes (order : Order) : ℕ → Header → List ℕ → Type 0 where
     positive : {depth number : ℕ} → Completes order depth (h.Positive number) []
     negative : {depth number : ℕ} → Completes order depth (h.Negative number) []
@@ -28,12 +29,13 @@ mutual
         → Completes order (suc depth) (h.Map (Some count)) bytes
 
   -- `IsDeterministic order depth bytes`: the bytes are one item in its deterministic encoding (RFC 8949, 4.2.1, and
-  -- 4.2.3 for the length-first order). Tags, arrays and maps are nested to the depth at most; strings take no depth.
+  -- 4.2.3 for the length-first order). Tags, arrays and maps are nested to the depth at most; strings take no depth. To
+  -- a depth of 1 `a2 01 02 03 04` is one item. `18 17` is none, since `17` is a shorter title of 23.
   pub data IsDeterministic (order : Order) : ℕ → List ℕ → Type 0 where
     item : {depth : ℕ} {title rest : List ℕ} {header : Header} → IsPreferredTitle title header
         → Completes order depth header rest → IsDeterministic order depth (title ++ rest)
 
-  -- The bytes are this many items in the encoding, joined.
+  -- The bytes are this many items in the encoding, joined. To a depth of 1 `01 82 02 03` are two items.
   pub data AreDeterministic (order : Order) : ℕ → ℕ → List ℕ → Type 0 where
     no_items : {depth : ℕ} → AreDeterministic order depth zero []
     more_items : {depth count : ℕ} {first others : List ℕ} → IsDeterministic order depth first
@@ -41,6 +43,7 @@ mutual
 
   -- `AreSortedPairs order depth count above bytes`: the bytes are `count` pairs of a key and a value (RFC 8949, 4.2.1).
   -- The keys ascend, and each comes after the key `above`. No key is empty, so each comes after the empty list.
+  -- `01 02 03 04` are two pairs, and `03 04 01 02` are none.
   pub data AreSortedPairs (order : Order) : ℕ → ℕ → List ℕ → List ℕ → Type 0 where
     no_pairs : {depth : ℕ} {above : List ℕ} → AreSortedPairs order depth zero above []
     more_pairs : {depth count : ℕ} {above key value others : List ℕ} → IsDeterministic order depth key
@@ -48,7 +51,8 @@ mutual
         → AreSortedPairs order depth count key others
         → AreSortedPairs order depth (suc count) above (key ++ (value ++ others))
 
--- There are at least `len` bytes, and the first `len` are one item in its deterministic encoding.
+-- There are at least `len` bytes, and the first `len` are one item in its deterministic encoding. `01 02` begins with
+-- an item of length 1.
 pub record HasDeterministic (order : Order) (depth : ℕ) (bytes : List ℕ) (len : ℕ) : Type 0 where
   pub enough : len ≤ length bytes
   pub is_item : IsDeterministic order depth (take len bytes)

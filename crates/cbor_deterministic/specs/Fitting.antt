@@ -9,14 +9,15 @@ use Rattle.cbor_deterministic.specs.Values.{End, Item, None, Pair, item_count, p
 use Rattle.cbor_deterministic.specs.Spellings.{Encodes}
 use Rattle.cbor_deterministic.specs.Deterministic.{IsDeterministic}
 
--- No key of the pairs is the same as this key: no value is the same as both (RFC 8949, 5.6).
+-- No key of the pairs is the same as this key: no value is the same as both (RFC 8949, 5.6). 3 is a new key for {1: 2},
+-- and 1 is not.
 abbrev pub IsNewKey : Value → Pairs → Type 0
 IsNewKey key None = Unit {0}
 IsNewKey key (Pair other value pairs) = ((v : Value) → Same key v → Same v other → ⊥) × IsNewKey key pairs
 
 mutual
   -- Each number of the value is in its range, each text is UTF-8, and no two keys of a map are the same (RFC 8949, 3.1,
-  -- 3.3 and 5.6).
+  -- 3.3 and 5.6). A text of the byte `ff` does not fit, and neither does {1: 2, 1: 3}.
   pub data Fits : Value → Type 0 where
     fits_unsigned : {n : ℕ} → n < 2 ^ 64 → Fits (Unsigned n)
     fits_negative : {n : ℕ} → n < 2 ^ 64 → Fits (Negative n)
@@ -39,7 +40,8 @@ mutual
     fits_pair : {key value : Value} {pairs : Pairs} → Fits key → Fits value → IsNewKey key pairs → PairsFit pairs
         → PairsFit (Pair key value pairs)
 
--- Some bytes are the deterministic encoding of a value that is the same as this value.
+-- Some bytes are the deterministic encoding of a value that is the same as this value. {3: 4, 1: 2} has the encoding
+-- `a2 01 02 03 04`.
 pub record HasEncoding (order : Order) (value : Value) : Type 0 where
   pub depth : ℕ
   pub bytes : List ℕ

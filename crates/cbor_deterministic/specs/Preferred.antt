@@ -8,7 +8,7 @@ use Rattle.ciborium_ll_grammar.specs.declared.hdr.Float.TheVariants as f
 use Rattle.ciborium_ll_grammar.specs.Title.{IsTitle, IsStrictTitle}
 use Rattle.cbor_deterministic.specs.Floats.{half, single, double, parts, HasNarrower}
 
--- A smaller width holds the float (RFC 8949, 4.1).
+-- A smaller width holds the float (RFC 8949, 4.1). 1.0 in 32 bits, `3f 80 00 00`, is wide, since 16 bits hold it.
 abbrev pub IsWideFloat : Float → Type 0
 IsWideFloat (f.Half bits) = ⊥
 IsWideFloat (f.Single bits) = HasNarrower half single (parts single bits)
@@ -19,7 +19,7 @@ abbrev pub IsWide : Header → Type 0
 IsWide (h.Float float) = IsWideFloat float
 IsWide header = ⊥
 
--- The header has an indefinite form or is a break (RFC 8949, 3.2).
+-- The header has an indefinite form or is a break (RFC 8949, 3.2). The headers of `5f`, `9f` and `ff` are such headers.
 abbrev pub IsIndefinite : Header → Type 0
 IsIndefinite h.Break = Unit {0}
 IsIndefinite (h.Bytes None) = Unit {0}
@@ -29,7 +29,8 @@ IsIndefinite (h.Map None) = Unit {0}
 IsIndefinite header = ⊥
 
 -- The title of the header in a deterministic encoding (RFC 8949, 4.1 and 4.2.1). It is a strict title, has no
--- indefinite form, and no float that fits a smaller width.
+-- indefinite form, and no float that fits a smaller width. `17` is a preferred title, and `18 17`, `9f` and
+-- `fa 3f 80 00 00` are none.
 pub record IsPreferredTitle (title : List ℕ) (header : Header) : Type 0 where
   pub is_title : IsTitle title header
   pub strict : IsStrictTitle title header

@@ -14,12 +14,12 @@ use Rattle.cbor_deterministic.specs.Preferred.{IsWide, IsIndefinite, IsPreferred
 use Rattle.cbor_deterministic.specs.Deterministic.{IsDeterministic}
 
 -- The title is not the shortest title of its header, or it has a float that fits a smaller width (RFC 8949, 4.1).
+-- `18 17` is longer than `17`.
 abbrev pub IsLonger : List ℕ → Header → Type 0
 IsLonger title header = ¬ (title ≡ shortest_title header) ⊎ IsWide header
 
--- Why the bytes begin with no title of the preferred serialization (RFC 8949, 3, 3.2, 3.3 and 4.1). They end before it
--- or within it, or their first byte begins no title. Otherwise the title is longer, has an indefinite form, or is a
--- break or a simple value from 24 to 31.
+-- Why the bytes begin with no title of the preferred serialization (RFC 8949, 3, 3.2, 3.3 and 4.1). `19 01` is `Cut`,
+-- `1c` is `NoTitle`, `18 17` is `NotShortest`, `9f` is `Indefinite`, and `f8 18` is `NoSimple`.
 pub data FailsTitle : List ℕ → Why → Type 0 where
   cut_title : {bytes : List ℕ} → IsCutTitle bytes → FailsTitle bytes Cut
   no_title : {bytes : List ℕ} → BeginsRefused bytes → FailsTitle bytes NoTitle
@@ -30,7 +30,7 @@ pub data FailsTitle : List ℕ → Why → Type 0 where
   small_simple : {title : List ℕ} {header : Header} (rest : List ℕ) → IsTitle title header → IsSmallSimple header
       → FailsTitle (title ++ rest) NoSimple
 
--- The header is followed by items (RFC 8949, 3.1).
+-- The header is that of a tag, an array or a map (RFC 8949, 3.1).
 abbrev pub IsNest : Header → Type 0
 IsNest (h.Tag number) = Unit {0}
 IsNest (h.Array count) = Unit {0}
@@ -38,13 +38,15 @@ IsNest (h.Map count) = Unit {0}
 IsNest header = ⊥
 
 -- Why a key may not follow the key `above`: it is the same key, or it comes before `above` (RFC 8949, 4.2.1 and 5.6).
+-- After `03` the key `01` is `KeyOrder`, and `03` is `DuplicateKey`.
 pub data FailsOrder (order : Order) : List ℕ → List ℕ → Why → Type 0 where
   duplicate : {key : List ℕ} → FailsOrder order key key DuplicateKey
   out_of_order : {above key : List ℕ} → Precedes order key above → FailsOrder order above key KeyOrder
 
 mutual
   -- `FailsItem order depth bytes why left`: an item to the depth is due at the start of the bytes. From the first place
-  -- at which they can't go on as an item, `left` bytes are left.
+  -- at which they can't go on as an item, `left` bytes are left. To a depth of 1 `82 01 18 17` fails with
+  -- `NotShortest`, and 2 bytes are left.
   pub data FailsItem (order : Order) : ℕ → List ℕ → Why → ℕ → Type 0 where
     at_title : {depth : ℕ} {bytes : List ℕ} {why : Why} → FailsTitle bytes why
         → FailsItem order depth bytes why (length bytes)
@@ -54,7 +56,8 @@ mutual
 
   -- `FailsWithin order depth header at bytes why left`: the bytes follow a title of the header, from which `at` bytes
   -- are left. A body is cut, and the place is the end of the bytes. Or the body is not UTF-8 or no level is left, and
-  -- the place is the title. Otherwise the contents of the nest have a fault.
+  -- the place is the title. Otherwise the contents of the nest have a fault. After `43` the bytes `01 02` fail with
+  -- `Cut`, and no byte is left.
   pub data FailsWithin (order : Order) : ℕ → Header → ℕ → List ℕ → Why → ℕ → Type 0 where
     cut_bytes : {depth len at : ℕ} {bytes : List ℕ} → length bytes < len
         → FailsWithin order depth (h.Bytes (Some len)) at bytes Cut 0
@@ -71,7 +74,8 @@ mutual
     in_map : {depth count at left : ℕ} {bytes : List ℕ} {why : Why} → FailsPairs order depth count [] bytes why left
         → FailsWithin order (suc depth) (h.Map (Some count)) at bytes why left
 
-  -- This many items are due, and the first item or a later item has a fault.
+  -- This many items are due, and the first item or a later item has a fault. Two items fail in `01 18 17` with
+  -- `NotShortest`, and 2 bytes are left.
   pub data FailsItems (order : Order) : ℕ → ℕ → List ℕ → Why → ℕ → Type 0 where
     in_first : {depth count left : ℕ} {bytes : List ℕ} {why : Why} → FailsItem order depth bytes why left
         → FailsItems order depth (suc count) bytes why left
@@ -80,7 +84,7 @@ mutual
         → FailsItems order depth (suc count) (first ++ bytes) why left
 
   -- This many pairs are due, with keys after `above`. The first key has a fault or may not stand there, its value has a
-  -- fault, or a later pair has a fault.
+  -- fault, or a later pair has a fault. Two pairs fail in `03 04 01 02` with `KeyOrder`, and 2 bytes are left.
   pub data FailsPairs (order : Order) : ℕ → ℕ → List ℕ → List ℕ → Why → ℕ → Type 0 where
     in_key : {depth count left : ℕ} {above bytes : List ℕ} {why : Why} → FailsItem order depth bytes why left
         → FailsPairs order depth (suc count) above bytes why left
@@ -95,7 +99,8 @@ mutual
         → FailsPairs order depth (suc count) above (key ++ (value ++ bytes)) why left
 
 -- `HasRefusal order depth bytes why place`: no item in the deterministic encoding stands at the start of the bytes, for
--- this reason. The place is the first offset at which they can't go on as an item.
+-- this reason. The place is the first offset at which they can't go on as an item. To a depth of 1 `82 01 18 17` is
+-- refused with `NotShortest` at 2.
 pub record HasRefusal (order : Order) (depth : ℕ) (bytes : List ℕ) (why : Why) (place : ℕ) : Type 0 where
   pub left : ℕ
   pub sum : place + left ≡ length bytes

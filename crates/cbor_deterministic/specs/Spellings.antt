@@ -18,7 +18,7 @@ use Rattle.cbor_deterministic.specs.Values.{Float as FloatValue}
 mutual
   -- `Follows header value bytes`: after a title of the header the bytes complete a spelling of the value (RFC 8949, 3.1
   -- to 3.3). A string of indefinite form may have more of that form inside. A simple value from 24 to 31 has no
-  -- spelling.
+  -- spelling. After `9f` the bytes `01 ff` complete a spelling of [1].
   pub data Follows : Header → Value → List ℕ → Type 0 where
     follows_positive : {n : ℕ} → Follows (h.Positive n) (Unsigned n) []
     follows_negative : {n : ℕ} → Follows (h.Negative n) (Negative n) []
@@ -42,18 +42,18 @@ mutual
     follows_open_map : {pairs : Pairs} {bytes : List ℕ} → EncodePairs pairs bytes
         → Follows (h.Map None) (Map pairs) (bytes ++ 0xff ∷ [])
 
-  -- The bytes are a spelling of the value (RFC 8949, 3).
+  -- The bytes are a spelling of the value (RFC 8949, 3). `81 01` and `9f 18 01 ff` are spellings of [1].
   pub data Encodes : Value → List ℕ → Type 0 where
     encodes : {title rest : List ℕ} {header : Header} {value : Value} → IsTitle title header
         → Follows header value rest → Encodes value (title ++ rest)
 
-  -- The bytes are spellings of the values, joined.
+  -- The bytes are spellings of the values, joined. `01 18 02` are spellings of 1 and 2.
   pub data EncodeAll : Values → List ℕ → Type 0 where
     encode_end : EncodeAll End []
     encode_item : {value : Value} {values : Values} {bytes others : List ℕ} → Encodes value bytes
         → EncodeAll values others → EncodeAll (Item value values) (bytes ++ others)
 
-  -- The bytes are spellings of the keys and values of the pairs, joined.
+  -- The bytes are spellings of the keys and values of the pairs, joined. `01 18 02` are spellings of the pair 1: 2.
   pub data EncodePairs : Pairs → List ℕ → Type 0 where
     encode_none : EncodePairs NoPair []
     encode_pair : {key value : Value} {pairs : Pairs} {key_bytes value_bytes others : List ℕ} → Encodes key key_bytes

@@ -1,5 +1,5 @@
--- The values that items stand for (RFC 8949, 2), and which values are the same. The pairs of a map have no order. Tags
--- are not interpreted, and an integer and a float are never the same.
+-- The values that items stand for (RFC 8949, 2), and when two values are the same. The pairs of a map have no order.
+-- Tags are not interpreted, and an integer and a float are never the same.
 use Rattle.std.specs.Prelude.{ℕ, zero, suc, List}
 
 mutual
@@ -38,7 +38,8 @@ pair_count (Pair k v ps) = suc (pair_count ps)
 
 mutual
   -- The two values are the same. For maps, each pair of either is a pair of the other (RFC 8949, 5.6). For floats, the
-  -- bits are the same, so 0.0 and -0.0 differ, and so do NaNs of different payloads.
+  -- bits are the same, so 0.0 and -0.0 differ, and so do NaNs of different payloads. {1: 2, 3: 4} and {3: 4, 1: 2} are
+  -- the same.
   pub data Same : Value → Value → Type 0 where
     same_unsigned : {n : ℕ} → Same (Unsigned n) (Unsigned n)
     same_negative : {n : ℕ} → Same (Negative n) (Negative n)

@@ -5,6 +5,7 @@ use Rattle.ciborium_ll_grammar.specs.Elements.{AreWritable}
 use Rattle.ciborium_ll_grammar.specs.Items.{AreTakenStrings}
 
 -- The bytes are strings of the kind, joined. If `strict` is true, their titles are the shortest (RFC 8949, 3.2.3).
+-- `41 01 41 02` are two byte strings.
 pub record HasChunks (strict : Bool) (kind : Kind) (strings : List ℕ) : Type 0 where
   pub bodies : List (List ℕ)
   pub are : AreStrings kind strings bodies

@@ -1,4 +1,4 @@
--- How much of the text is left.
+-- The number of bytes of the text that are left.
 use Rattle.std.specs.Prelude.{ℕ, ◌≤◌, length}
 use Rattle.cbor_encode.specs.declared.cursor.Cursor.{Cursor}
 use Rattle.cbor_encode.specs.declared.cursor.Stop.{Stop}

@@ -6,17 +6,18 @@ use Rattle.cbor_encode.specs.declared.NotationError.{NotationError}
 abbrev pub next_line : ℕ → ℕ → ℕ
 next_line line byte = if byte == 10 then line + 1 else line
 
--- The column after a byte: each character takes one. A byte from 80 to bf is not the first byte of its character.
+-- The column after a byte: each character takes one. A byte from 80 to bf is not the first byte of its character. The
+-- bytes `c3 bc`, which are one character, take one column.
 abbrev pub next_column : ℕ → ℕ → ℕ
 next_column column byte =
     if byte == 10 then 1 else (if nat_lt byte 128 then column + 1 else (if nat_lt byte 192 then column else column + 1))
 
--- The line after these bytes.
+-- The line after these bytes. `61 0a 62` from line 1 leads to line 2.
 abbrev pub line_after : ℕ → List ℕ → ℕ
 line_after line [] = line
 line_after line (byte ∷ bytes) = line_after (next_line line byte) bytes
 
--- The column after these bytes.
+-- The column after these bytes. `61 0a 62` from column 1 leads to column 2.
 abbrev pub column_after : ℕ → List ℕ → ℕ
 column_after column [] = column
 column_after column (byte ∷ bytes) = column_after (next_column column byte) bytes

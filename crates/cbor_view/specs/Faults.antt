@@ -8,7 +8,8 @@ use Rattle.cbor_skip.specs.declared.SkipError.TheVariants as s
 use Rattle.cbor_view.specs.declared.parse.Fault.{Fault}
 use Rattle.cbor_view.specs.declared.parse.Fault.TheVariants.{Short, Syntax, Break, Deep}
 
--- What stops the read of an item: the bytes end too early, or a fault, a break or a nest stands at this offset.
+-- The reason why no item begins the bytes: they end too early, or a fault, a break or a nest stands at this offset. To
+-- a depth of 1 `82 01` is `Short`, `1c` is `Syntax` at 0, and `81 ff` is `Break` at 1.
 abbrev pub HasFault : ℕ → List ℕ → Fault → Type 0
 HasFault depth bytes Short = (fault : HasItemFault false depth bytes) × (fault.answer ≡ EndsShort)
 HasFault depth bytes (Syntax place) = (fault : HasItemFault false depth bytes) × (fault.answer ≡ IsSyntax place)

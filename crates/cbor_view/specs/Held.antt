@@ -1,4 +1,4 @@
--- What an item, and what is left of an array or a map, hold: their bytes, and the levels for them.
+-- The bytes and the levels of an item, and of the rest of an array or a map.
 use Rattle.std.specs.Prelude.{ℕ, List, Option}
 use Rattle.cbor_view.specs.declared.item.Item.{Item}
 use Rattle.cbor_view.specs.declared.nests.Elements.{Elements}
@@ -18,7 +18,7 @@ item_depth item = item.depth
 abbrev pub elements_bytes : Elements → List ℕ
 elements_bytes elements = elements.rest.now
 
--- How many items are left, if the array's title told how many it has.
+-- How many items are left, or none for an indefinite length.
 abbrev pub elements_due : Elements → Option ℕ
 elements_due elements = elements.due
 
@@ -30,7 +30,7 @@ elements_depth elements = elements.depth
 abbrev pub entries_bytes : Entries → List ℕ
 entries_bytes entries = entries.rest.now
 
--- How many pairs are left, if the map's title told how many it has.
+-- How many pairs are left, or none for an indefinite length.
 abbrev pub entries_due : Entries → Option ℕ
 entries_due entries = entries.due
 
@@ -42,6 +42,6 @@ entries_depth entries = entries.depth
 abbrev pub segments_bytes : Segments → List ℕ
 segments_bytes segments = segments.rest.now
 
--- The same of a text string.
+-- The bytes that are left of a text string, as `AreSegments` has them.
 abbrev pub texts_bytes : TextSegments → List ℕ
 texts_bytes segments = segments.rest.now

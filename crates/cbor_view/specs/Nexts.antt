@@ -1,4 +1,4 @@
--- What a call of `next` gives: the first item or pair of those that are left, and leaves the others.
+-- The results of `next`: it gives the first item, pair or segment that is left, and leaves the others.
 use Rattle.std.specs.Prelude.{◌≡◌, ◌+◌, ℕ, false, List, [], ◌++◌, Option, Some, None, MatchOption, IfSome}
 use Rattle.ciborium_ll_grammar.specs.Items.{IsItem}
 use Rattle.ciborium_ll_grammar.specs.Strings.{Kind, Text}
@@ -12,14 +12,14 @@ use Rattle.cbor_view.specs.Held.{item_bytes, item_depth, elements_bytes, element
 use Rattle.cbor_view.specs.Held.{entries_bytes, entries_due, entries_depth, segments_bytes, texts_bytes}
 use Rattle.cbor_view.specs.Segments.{AreSegments, IsFirstSegment}
 
--- One less is left of a count that is told, and none is told if none was.
+-- A count is one less than before, and an indefinite length stays indefinite.
 abbrev pub CountsDown : Option ℕ → Option ℕ → Type 0
 CountsDown (Some old) (Some new) = old ≡ new + 1
 CountsDown (Some old) None = ⊥
 CountsDown None (Some new) = ⊥
 CountsDown None None = Unit {0}
 
--- This item was the first of those left, and the others are left.
+-- The call took the first item, and left the others. It takes `01` of `01 82 02 03`.
 pub record TakesItem (old : Elements) (item : Item) (new : Elements) : Type 0 where
   pub whole : elements_bytes old ≡ item_bytes item ++ elements_bytes new
   pub is_item : IsItem false (elements_depth old) (item_bytes item)
@@ -37,7 +37,7 @@ pub record HasNoItem (old new : Elements) : Type 0 where
 abbrev pub GivesItem : Elements → Option Item → Elements → Type 0
 GivesItem old result new = MatchOption result (HasNoItem old new) (λ item. TakesItem old item new)
 
--- This pair was the first of those left, and the others are left.
+-- The call took the first pair, and left the others. It takes `01` and `02` of `01 02 03 04`.
 pub record TakesPair (old : Entries) (key value : Item) (new : Entries) : Type 0 where
   pub whole : entries_bytes old ≡ item_bytes key ++ (item_bytes value ++ entries_bytes new)
   pub is_key : IsItem false (entries_depth old) (item_bytes key)
@@ -63,7 +63,8 @@ GivesSegment old result new = (kind : Kind) (bodies : List (List ℕ)) → AreSe
     → MatchOption result ((bodies ≡ []) × (new ≡ old))
     (λ body. IsFirstSegment kind bodies body.now (segments_bytes new))
 
--- The same of a text string.
+-- `next` gives the body of the first segment of a text string that is left, or `None` exactly if none is left, and then
+-- changes nothing.
 abbrev pub GivesText : TextSegments → Option (Bor (List ℕ)) → TextSegments → Type 0
 GivesText old result new = (bodies : List (List ℕ)) → AreSegments Text (texts_bytes old) bodies
     → MatchOption result ((bodies ≡ []) × (new ≡ old))
