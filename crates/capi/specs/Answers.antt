@@ -36,7 +36,7 @@ pub record Reports (report : CllReport) (consumed written place : ℕ) : Type 0 
   pub none_whole : report.whole ≡ 0
   pub none_spelled : report.spelled ≡ 0
 
--- The same of a copy or a check, which also counts elements.
+-- The report names the bytes consumed and written, and a place, of a copy or a check that also counts elements.
 pub record ReportsCopy (report : CllReport) (consumed written place : ℕ) : Type 0 where
   pub consumed_is : report.consumed ≡ consumed
   pub written_is : report.written ≡ written

@@ -1,4 +1,4 @@
--- What `cll_strict` does.
+-- The result of `cll_strict`.
 use Rattle.std.specs.Prelude.{◌≡◌, ℕ, true, ◌+◌, List, length}
 use Rattle.ciborium_ll.specs.Faults.{Short, Syntax, BeginsWithElements, HasFault}
 use Rattle.capi.specs.declared.answer.CllAnswer.{CllAnswer}
@@ -6,9 +6,9 @@ use Rattle.capi.specs.declared.answer.CllAnswer.TheVariants as a
 use Rattle.capi.specs.declared.answer.CllReport.{CllReport}
 use Rattle.capi.specs.Answers.{ReportsCopy}
 
--- What `cll_strict` does, by its answer. The bytes begin with `count` elements in their shortest spelling, or with the
--- first fault of a strict read. Nothing is written. If the bytes end too early, the place is a number of bytes
--- (`ElementsLack`).
+-- The result of `cll_strict`, by its answer. The bytes begin with `count` elements in their shortest spelling, or with
+-- the first fault of a strict read. Nothing is written. If the bytes end too early, the place is a number of bytes
+-- (`ElementsLack`). One element `17` is `Ok`, and `18 17` is a `Syntax` at 0.
 abbrev pub Checks : ℕ → List ℕ → CllAnswer → CllReport → Type 0
 Checks count bytes a.Ok report = (front : BeginsWithElements true count bytes) × ReportsCopy report (length front.elements) 0 0
 Checks count bytes a.Short report =

@@ -1,4 +1,4 @@
--- What `cll_recode` does.
+-- The result of `cll_recode`.
 use Rattle.std.specs.Prelude.{◌≡◌, ℕ, false, ◌+◌, ◌<◌, ◌≤◌, ◌⊎◌, List, ◌++◌, drop, length, Result, Ok, Err}
 use Rattle.ciborium_ll.specs.Types.Error.TheVariants as e
 use Rattle.ciborium_ll.specs.Types.RecodeError.{RecodeError}
@@ -11,29 +11,31 @@ use Rattle.capi.specs.declared.answer.CllAnswer.TheVariants as a
 use Rattle.capi.specs.declared.answer.CllReport.{CllReport}
 use Rattle.capi.specs.Answers.{ReportsCopy}
 
--- The room is enough: for the spelling, if the bytes begin with the elements, or for as many bytes as there are.
+-- The room is enough for the spelling, if the bytes begin with the elements, or for as many bytes as there are. For one
+-- element in `18 17 19` it is 1 or more.
 abbrev pub HasRoom : ℕ → List ℕ → ℕ → Type 0
 HasRoom count bytes room =
     ((front : BeginsWithElements false count bytes) × (length (spelling front.marks) ≤ room)) ⊎ (length bytes ≤ room)
 
--- The output begins with the bytes, and after them it is as it was.
+-- The output begins with the bytes, and is as it was after them.
 abbrev pub StandAtStart : List ℕ → List ℕ → List ℕ → Type 0
 StandAtStart bytes old new = new ≡ bytes ++ drop (length bytes) old
 
 -- The input began with `count` elements. All of them were consumed, and their shortest spelling stands in the output.
+-- For one element `18 17` the output begins with `17`.
 abbrev pub OutputsElements : ℕ → List ℕ → List ℕ → List ℕ → CllReport → Type 0
 OutputsElements count bytes old new report =
     (front : BeginsWithElements false count bytes) × StandAtStart (spelling front.marks) old new
     × ReportsCopy report (length front.elements) (length (spelling front.marks)) 0
 
--- The first fault stopped the copy at this place. What was written before the fault stands in the output.
+-- The first fault stopped the copy at this place. The bytes that were written before the fault stand in the output.
 abbrev pub OutputsUpToFault : ℕ → List ℕ → List ℕ → List ℕ → CllReport → Type 0
 OutputsUpToFault count bytes old new report =
     (fault : HasFault false count bytes) × (fault.answer ≡ Syntax report.place) × StandAtStart fault.written old new
     × ReportsCopy report (length fault.before + fault.consumed) (length fault.written) report.place
 
--- What `cll_recode` does with enough room, by its answer. If the bytes do not begin with `count` elements, the first
--- fault stops it. If they end too early, the place is a number of bytes (`ElementsLack`).
+-- The result of `cll_recode` with enough room, by its answer. If the bytes do not begin with `count` elements, the
+-- first fault stops the copy. If they end too early, the place is a number of bytes (`ElementsLack`).
 abbrev pub CopiesInto : ℕ → List ℕ → List ℕ → CllAnswer → List ℕ → CllReport → Type 0
 CopiesInto count bytes old a.Ok new report = OutputsElements count bytes old new report
 CopiesInto count bytes old a.Short new report =
@@ -46,14 +48,14 @@ CopiesInto count bytes old answer new report = ⊥
 abbrev pub buffer_size : ℕ
 buffer_size = 1024
 
--- In this room the copy stops, since the next thing to write does not fit: the shortest title of a header that was
--- read, or a chunk of a body.
+-- The copy stops in this room, since the next thing to write does not fit: the shortest title of a header that was
+-- read, or a chunk of a body. In a room of 1 the title `18 18` stops a copy.
 pub record StopsForRoom (count : ℕ) (bytes : List ℕ) (room : ℕ) : Type 0 where
   pub stop : StopInWriting count buffer_size bytes
   pub fits : length stop.whole ≤ room
   pub lacks : room < length stop.whole + length stop.next
 
--- What `cll_recode` does in any room: the same, or it stops since the next thing to write does not fit.
+-- The result of `cll_recode` in any room: that of `CopiesInto`, or a stop since the next thing to write does not fit.
 abbrev pub CopiesAnyhow : ℕ → List ℕ → List ℕ → CllAnswer → List ℕ → CllReport → Type 0
 CopiesAnyhow count bytes old a.Room new report =
     (stops : StopsForRoom count bytes (length old)) × StandAtStart stops.stop.written old new

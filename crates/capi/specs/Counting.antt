@@ -1,5 +1,4 @@
--- What `cll_recode` and `cll_strict` count: the elements that they did, each an element of the grammar (RFC 7049, 2.1
--- and 2.2).
+-- The elements that `cll_recode` and `cll_strict` count, each an element of the grammar (RFC 7049, 2.1 and 2.2).
 use Rattle.std.specs.Prelude.{◌≡◌, ℕ, suc, true, false, ◌<◌, ◌≤◌, List, length, take, Result, Ok, Err}
 use Rattle.ciborium_ll.specs.Types.Read.{Ghosts as Reader}
 use Rattle.ciborium_ll.specs.Types.Write.{Ghosts as Writer}
@@ -12,8 +11,8 @@ use Rattle.capi.specs.declared.answer.CllAnswer.{CllAnswer}
 use Rattle.capi.specs.declared.answer.CllAnswer.TheVariants as a
 use Rattle.capi.specs.declared.answer.CllReport.{CllReport}
 
--- By the answer of a copy into this room. Either all were done, and the last ends at the end of the copy. Or fewer were
--- done: the spelling of one more has no room, or the bytes do not begin with one more.
+-- The number of elements, by the answer of a copy into this room. Either all were done, and the last ends at the end of
+-- the copy. Or fewer were done: the spelling of one more has no room, or the bytes do not begin with one more.
 abbrev pub CountsTo : ℕ → List ℕ → ℕ → CllAnswer → CllReport → Type 0
 CountsTo count bytes room a.Ok report = (report.elements ≡ count) × (report.whole ≡ report.consumed)
 CountsTo count bytes room a.Room report =
@@ -22,8 +21,9 @@ CountsTo count bytes room a.Room report =
 CountsTo count bytes room answer report =
     (report.elements < count) × (BeginsWithElements false (suc report.elements) bytes → ⊥)
 
--- What `cll_recode` counts. The bytes begin with the elements that were done, up to the offset that is reported. The
--- output begins with their spelling, which has the length that is reported, and was written. No more are done so.
+-- The count of `cll_recode`. The bytes begin with the elements that were done, up to the offset that is reported. The
+-- output begins with their spelling, which has the length that is reported, and was written. For two elements in
+-- `18 17 19` one is done, up to 2, with 1 byte of spelling.
 pub record CountsElements (count : ℕ) (bytes : List ℕ) (room : ℕ) (answer : CllAnswer) (output : List ℕ)
     (report : CllReport) : Type 0 where
   pub front : BeginsWithElements false report.elements bytes
@@ -33,13 +33,13 @@ pub record CountsElements (count : ℕ) (bytes : List ℕ) (room : ℕ) (answer 
   pub written : report.spelled ≤ report.written
   pub counts : CountsTo count bytes room answer report
 
--- `CountsTo` of elements in their shortest spelling. Nothing is written (RFC 7049, 3.9).
+-- The number of elements in their shortest spelling, by the answer of a check (RFC 7049, 3.9).
 abbrev pub CountsStrictTo : ℕ → List ℕ → CllAnswer → CllReport → Type 0
 CountsStrictTo count bytes a.Ok report = (report.elements ≡ count) × (report.whole ≡ report.consumed)
 CountsStrictTo count bytes answer report =
     (report.elements < count) × (BeginsWithElements true (suc report.elements) bytes → ⊥)
 
--- What `cll_strict` counts: the same of elements in their shortest spelling. Nothing is written (RFC 7049, 3.9).
+-- The count of `cll_strict`: that of elements in their shortest spelling, with nothing written (RFC 7049, 3.9).
 pub record CountsStrictly (count : ℕ) (bytes : List ℕ) (answer : CllAnswer) (report : CllReport) : Type 0 where
   pub front : BeginsWithElements true report.elements bytes
   pub ends : report.whole ≡ length front.elements
@@ -47,8 +47,8 @@ pub record CountsStrictly (count : ℕ) (bytes : List ℕ) (answer : CllAnswer) 
   pub counts : CountsStrictTo count bytes answer report
 
 module _ {R E W F : Type 0} (source : Reader R E) (sink : Writer W F) where
-  -- By the result of a copy of elements through a buffer of this size. Either all were copied. Or fewer were, and a
-  -- copy of one more stops so, also a copy of that one alone after them.
+  -- The number of elements, by the result of a copy through a buffer of this size. Either all were copied. Or fewer
+  -- were copied, and a copy of one more stops at the same error, also a copy of that element alone after them.
   abbrev pub EndsCount : ℕ → ℕ → Sides R W → Sides R W → Result (Unit {0}) (RecodeError E F) → Sides R W → ℕ → Type 0
   EndsCount count room old between (Ok done) new elements = (elements ≡ count) × (new ≡ between)
   EndsCount count room old between (Err error) new elements =

@@ -1,4 +1,4 @@
--- What the calls of a checker do. C keeps the checker in memory of its own.
+-- The results of the calls of a checker. C keeps the checker in memory of its own.
 use Rattle.std.specs.Prelude.{◌≡◌, ◌<◌, ◌≤◌, Bool, ℕ, false, List, [], ◌++◌, length, take}
 use Rattle.cbor_checker.specs.declared.phase.Fault.{Fault}
 use Rattle.cbor_checker.specs.declared.phase.Fault.TheVariants as f
@@ -42,27 +42,27 @@ fault_place (f.Syntax place) = place
 fault_place (f.Break place) = place
 fault_place (f.Deep place) = place
 
--- The answer that stands for what `feed` of `cbor_checker` returned.
+-- The answer that stands for the progress that `feed` of `cbor_checker` returns.
 abbrev pub progress_answer : Progress → CllAnswer
 progress_answer (r.Ended len) = a.Ok
 progress_answer (r.More due) = a.Short
 progress_answer (r.Fault fault) = fault_answer fault
 progress_answer r.TooLong = a.TooLong
 
--- The number that comes with it: the length of the item, how many bytes are due, or the place of the fault.
+-- The number of this answer: the length of the item, how many bytes are due, or the place of the fault.
 abbrev pub progress_number : Progress → ℕ
 progress_number (r.Ended len) = len
 progress_number (r.More due) = due
 progress_number (r.Fault fault) = fault_place fault
 progress_number r.TooLong = 0
 
--- The answer that stands for what `end` of `cbor_checker` returned.
+-- The answer that stands for the end that `end` of `cbor_checker` returns.
 abbrev pub end_answer : End → CllAnswer
 end_answer e.Between = a.Ok
 end_answer (e.Short due) = a.Short
 end_answer (e.Fault fault) = fault_answer fault
 
--- The number that comes with it: how many bytes are due, or the place of the fault.
+-- The number of this answer: how many bytes are due, or the place of the fault.
 abbrev pub end_number : End → ℕ
 end_number e.Between = 0
 end_number (e.Short due) = due
@@ -74,8 +74,9 @@ IsAnswer a.TooLong number spot = IsMore (progress_of spot)
 IsAnswer answer number spot =
     (answer ≡ progress_answer (progress_of spot)) × (number ≡ progress_number (progress_of spot))
 
--- What an answer with its number says of all bytes so far. They are one item of this length. Or at least this many more
--- bytes are due. Or no item begins so, with a fault at this place (RFC 7049, 2.1 to 2.4).
+-- The meaning of an answer and its number for all bytes so far. They are one item of this length. Or at least this many
+-- more bytes are due. Or no item begins so, with a fault at this place (RFC 7049, 2.1 to 2.4). After `43 01` the answer
+-- is `Short` with 2.
 abbrev pub SaysOf : Bool → ℕ → List ℕ → CllAnswer → ℕ → Type 0
 SaysOf strict depth whole a.Ok number = Tells strict depth whole (r.Ended number)
 SaysOf strict depth whole a.Short number = Tells strict depth whole (r.More number)
@@ -85,14 +86,14 @@ SaysOf strict depth whole a.TooDeep number = Tells strict depth whole (r.Fault (
 SaysOf strict depth whole a.TooLong number = Tells strict depth whole r.TooLong × (number ≡ 0)
 SaysOf strict depth whole answer number = ⊥
 
--- Whatever the memory of the checker held: no more was taken than there is, and nothing is written.
+-- The call consumed no more bytes than there are, and wrote nothing, whatever the memory of the checker held.
 pub record TakesWithin (bytes : List ℕ) (report : CllReport) : Type 0 where
   pub taken : report.consumed ≤ length bytes
   pub written : report.written ≡ 0
 
--- What `cll_checker_feed` does with a piece, for a checker that has come to the old spot. It takes all bytes if more
--- are due, fewer if no more can be counted, and none if none was due. The answer says what it says of all bytes so far,
--- which have led to the spot of the new checker (RFC 7049, 2.1 to 2.4).
+-- The result of `cll_checker_feed` for a piece, and for a checker that has come to the old spot. The call takes all
+-- bytes if more are due, fewer if no more can be counted, and none if none was due. The answer holds for all bytes so
+-- far, which have led to the spot of the new checker (RFC 7049, 2.1 to 2.4).
 pub record Feeds (strict : Bool) (depth : ℕ) (fed : List ℕ) (old : Spot) (bytes : List ℕ) (answer : CllAnswer) (report : CllReport)
     (new : CllChecker) : Type 0 where
   pub taken : report.consumed ≤ length bytes
@@ -106,8 +107,8 @@ pub record Feeds (strict : Bool) (depth : ℕ) (fed : List ℕ) (old : Spot) (by
   pub answers : IsAnswer answer report.place spot
   pub stays : is_due old.phase ≡ false → (report.consumed ≡ 0) × (spot ≡ old)
 
--- What an answer with its number says if no more bytes come: none came or they are one item, they are cut off, or no
--- item begins so.
+-- The meaning of an answer and its number if no more bytes come: none came or they are one item, they are cut off, or
+-- no item begins so.
 abbrev pub SaysOfEnd : Bool → ℕ → List ℕ → CllAnswer → ℕ → Type 0
 SaysOfEnd strict depth whole a.Ok number = TellsEnd strict depth whole e.Between × (number ≡ 0)
 SaysOfEnd strict depth whole a.Short number = TellsEnd strict depth whole (e.Short number)
@@ -116,7 +117,7 @@ SaysOfEnd strict depth whole a.BreakDue number = TellsEnd strict depth whole (e.
 SaysOfEnd strict depth whole a.TooDeep number = TellsEnd strict depth whole (e.Fault (f.Deep number))
 SaysOfEnd strict depth whole answer number = ⊥
 
--- What `cll_checker_end` does at the spot: the answer and its number are those of the spot (RFC 7049, 2.1 to 2.4).
+-- The result of `cll_checker_end` at the spot: the answer and its number are those of the spot (RFC 7049, 2.1 to 2.4).
 pub record EndsFed (strict : Bool) (depth : ℕ) (fed : List ℕ) (spot : Spot) (answer : CllAnswer) (report : CllReport)
     : Type 0 where
   pub says : SaysOfEnd strict depth fed answer report.place

@@ -6,7 +6,7 @@ use Rattle.ciborium_ll.specs.Types.Float.TheVariants as f
 use Rattle.ciborium_ll.specs.Title.{IsInRange}
 use Rattle.capi.specs.declared.header.CllHeader.{CllHeader}
 
--- The number of a header's kind (RFC 7049, 2.1 to 2.4).
+-- The number of a header's kind (RFC 7049, 2.1 to 2.4). An array has 4.
 abbrev pub kind_number : Header → ℕ
 kind_number (h.Positive n) = 0
 kind_number (h.Negative n) = 1
@@ -26,7 +26,8 @@ abbrev pub length_or_none : Option ℕ → ℕ
 length_or_none (Some len) = len
 length_or_none None = 0
 
--- The number of a header, its length or count, or the bits of its float (RFC 7049, 2.1 to 2.4).
+-- The number of a header, its length or count, or the bits of its float (RFC 7049, 2.1 to 2.4). It is 256 for
+-- `19 01 00`.
 abbrev pub value_of : Header → ℕ
 value_of (h.Positive n) = n
 value_of (h.Negative n) = n
@@ -65,7 +66,8 @@ pub record Says (parts : CllHeader) (header : Header) : Type 0 where
 abbrev pub len_from : ℕ → ℕ → Option ℕ
 len_from form n = if form == 0 then Some n else None
 
--- The header that a kind, a form and a value make, if the kind is one. Of the value it has what the kind holds.
+-- The header that a kind, a form and a value make, if the kind is one. The value is cut to the bits of the kind: kind 7
+-- with value 277 makes the simple value 21.
 abbrev pub rebuilt : ℕ → ℕ → ℕ → Option Header
 rebuilt kind form n =
     if kind == 0 then Some (h.Positive n) else

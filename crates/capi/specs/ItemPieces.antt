@@ -1,4 +1,4 @@
--- What the calls of a copier of items do. C keeps the copier in memory of its own.
+-- The results of the calls of a copier of items. C keeps the copier in memory of its own.
 use Rattle.std.specs.Prelude.{◌≡◌, ◌+◌, ◌<◌, ◌≤◌, Bool, ℕ, true, false, List, [], ◌++◌, length, take}
 use Rattle.cbor_copier.specs.Spots.{Spot as Elements, putting}
 use Rattle.cbor_item_copier.specs.declared.progress.Progress.{Progress}
@@ -27,8 +27,8 @@ pub record IsItemCopier (copier : CllItemCopier) (item : Spot) (elements : Eleme
 abbrev pub IsNoItemCopier : CllItemCopier → Type 0
 IsNoItemCopier copier = (item : Spot) (elements : Elements) → IsItemCopier copier item elements → ⊥
 
--- A copy of an item to the depth got the bytes `fed`, which led to these spots. Of what they put out the caller was
--- given `given`: all of it, except what is pending.
+-- A copy of an item to the depth got the bytes `fed`, which led to these spots. The caller was given `given`, which is
+-- all output except the pending bytes.
 abbrev pub IsItemCopiedTo : Bool → ℕ → List ℕ → List ℕ → Spot → Elements → Type 0
 IsItemCopiedTo strict depth fed given item elements =
     AreFed strict depth fed item (putting [] elements) (given ++ elements.put)
@@ -39,7 +39,7 @@ IsItemSetUp strict depth copier =
     (item : Spot) × (elements : Elements) × IsItemCopier copier item elements
     × IsItemCopiedTo strict depth [] [] item elements
 
--- The answer that stands for what `feed` returned.
+-- The answer that stands for the progress that `feed` returns.
 abbrev pub item_answer : Progress → CllAnswer
 item_answer (r.Ended len) = a.Ok
 item_answer (r.More due) = a.Short
@@ -47,21 +47,21 @@ item_answer r.Room = a.Room
 item_answer (r.Fault fault) = fault_answer fault
 item_answer r.TooLong = a.TooLong
 
--- The number that comes with it: the length of the item, how many bytes are due, or the place of a fault.
+-- The number of this answer: the length of the item, how many bytes are due, or the place of a fault.
 abbrev pub item_number : Progress → ℕ
 item_number (r.Ended len) = len
 item_number (r.More due) = due
 item_number (r.Fault fault) = fault_place fault
 item_number progress = 0
 
--- The answer that stands for what `end` returned.
+-- The answer that stands for the end that `end` returns.
 abbrev pub item_end_answer : End → CllAnswer
 item_end_answer e.Between = a.Ok
 item_end_answer (e.Short due) = a.Short
 item_end_answer e.Room = a.Room
 item_end_answer (e.Fault fault) = fault_answer fault
 
--- The number that comes with it: how many bytes were due, or the place of a fault.
+-- The number of this answer: how many bytes were due, or the place of a fault.
 abbrev pub item_end_number : End → ℕ
 item_end_number (e.Short due) = due
 item_end_number (e.Fault fault) = fault_place fault
@@ -73,9 +73,9 @@ IsItemAnswer a.TooLong number item elements = (elements.put ≡ []) × (is_due i
 IsItemAnswer answer number item elements =
     (answer ≡ item_answer (progress_of elements.put item)) × (number ≡ item_number (progress_of elements.put item))
 
--- What an answer with its number says of all bytes so far and of all that was written. They are one item, of this
--- length, in its shortest spelling. Or at least this many are due, and all that can be written is. Or there is more to
--- write. Or no item begins so, with a fault at this place (RFC 7049, 2.1 to 2.4 and 3.9).
+-- The meaning of an answer and its number for all bytes so far and for all that was written. They are one item, of this
+-- length, in its shortest spelling. Or at least this many bytes are due, and all that can be written is. Or there is
+-- more to write. Or no item begins so, with a fault at this place (RFC 7049, 2.1 to 2.4 and 3.9).
 abbrev pub SaysOfItem : Bool → ℕ → List ℕ → List ℕ → CllAnswer → ℕ → Type 0
 SaysOfItem strict depth whole output a.Ok number = Tells strict depth whole output (r.Ended number)
 SaysOfItem strict depth whole output a.Short number = Tells strict depth whole output (r.More number)
@@ -86,10 +86,10 @@ SaysOfItem strict depth whole output a.TooDeep number = Tells strict depth whole
 SaysOfItem strict depth whole output a.TooLong number = Tells strict depth whole output r.TooLong × (number ≡ 0)
 SaysOfItem strict depth whole output answer number = ⊥
 
--- What `cll_item_copier_feed` does with a piece, for a copier of an item that has come to the old spots. It takes all
--- bytes if more are due, and fewer if no more can be counted. It writes as much as there is room for, if there is more.
--- If nothing was pending, a room of eight bytes more than the piece has is enough. The answer says what it says of all
--- bytes so far and of all that was written, which have led to the spots of the new copier. After an end or a fault
+-- The result of `cll_item_copier_feed` for a piece, and for a copier of an item that has come to the old spots. The
+-- call takes all bytes if more are due, and fewer if no more can be counted. It writes as much as there is room for, if
+-- there is more. If nothing was pending, a room of eight bytes more than the piece has is enough. The answer holds for
+-- all bytes so far and for all that was written, which have led to the spots of the new copier. After an end or a fault
 -- nothing is taken or written.
 pub record FeedsItem (strict : Bool) (depth : ℕ) (fed given : List ℕ) (old : Spot) (before : Elements)
     (bytes out : List ℕ) (answer : CllAnswer) (output : List ℕ) (report : CllReport) (new : CllItemCopier)
@@ -110,7 +110,7 @@ pub record FeedsItem (strict : Bool) (depth : ℕ) (fed given : List ℕ) (old :
   pub stays : is_due old.phase ≡ false → before.put ≡ []
       → (report.consumed ≡ 0) × (report.written ≡ 0) × (item ≡ old) × (elements ≡ before)
 
--- What an answer with its number says if no more bytes come. None came, or they are one item, all of it written. Or
+-- The meaning of an answer and its number if no more bytes come. None came, or they are one item, all of it written. Or
 -- they are cut off, or there is more to write, or no item begins so.
 abbrev pub SaysOfItemEnd : Bool → ℕ → List ℕ → List ℕ → CllAnswer → ℕ → Type 0
 SaysOfItemEnd strict depth whole output a.Ok number = TellsEnd strict depth whole output e.Between × (number ≡ 0)
@@ -121,7 +121,7 @@ SaysOfItemEnd strict depth whole output a.BreakDue number = TellsEnd strict dept
 SaysOfItemEnd strict depth whole output a.TooDeep number = TellsEnd strict depth whole output (e.Fault (f.Deep number))
 SaysOfItemEnd strict depth whole output answer number = ⊥
 
--- What `cll_item_copier_end` does at the spots: the answer and its number are those of the spots.
+-- The result of `cll_item_copier_end` at the spots: the answer and its number are those of the spots.
 pub record EndsItem (strict : Bool) (depth : ℕ) (fed given : List ℕ) (item : Spot) (elements : Elements)
     (answer : CllAnswer) (report : CllReport) : Type 0 where
   pub says : SaysOfItemEnd strict depth fed given answer report.place

@@ -1,4 +1,4 @@
--- How many more bytes are due if `cll_skip`, `cll_recode` and `cll_strict` answer that the bytes end too early.
+-- The number of bytes that are due if `cll_skip`, `cll_recode` and `cll_strict` answer that the bytes end too early.
 use Rattle.std.specs.Prelude.{◌≡◌, ℕ, ◌≤◌, Bool, List, ◌++◌, drop, length}
 use Rattle.ciborium_ll.specs.Faults.{BeginsWithElements}
 use Rattle.cbor_checker.specs.declared.progress.Progress.TheVariants as r
@@ -14,15 +14,17 @@ pub record CheckerLacks (strict : Bool) (depth : ℕ) (bytes : List ℕ) (due : 
   pub is_fed : IsFed strict depth bytes spot
   pub lacks : progress_of spot ≡ r.More due
 
--- All bytes after which the input begins with an item are at least this many, and at least one. 0 says that there are
--- none. Any other number says that there are some, and that a checker lacks this many (RFC 7049, 2.1 to 2.4).
+-- All bytes that complete an item are at least this many, and at least one. 0 says that no bytes do. Any other number
+-- says that some bytes do, and that a checker lacks this many (RFC 7049, 2.1 to 2.4). To a depth of 1, `82 01` lacks 1,
+-- and `1c` has 0.
 pub record ItemLacks (strict : Bool) (depth : ℕ) (bytes : List ℕ) (due : ℕ) : Type 0 where
   pub least : (more : List ℕ) → BeginsWithItem strict depth (bytes ++ more) → (1 ≤ due) × (due ≤ length more)
   pub some : 1 ≤ due → (more : List ℕ) × BeginsWithItem strict depth (bytes ++ more)
   pub checker : 1 ≤ due → CheckerLacks strict depth bytes due
 
--- The same of `count` elements. The whole ones among them end at the offset `whole`, and the bytes after it begin one
--- more. To a checker that is an item: a string, or the title of a nest (RFC 7049, 2.1 and 2.2).
+-- The number of bytes that `count` elements lack, as `ItemLacks` has it. The whole ones among them end at the offset
+-- `whole`, and the bytes after it begin one more. A checker takes that one as an item: a string, or the title of a nest
+-- (RFC 7049, 2.1 and 2.2). Two elements lack 2 after `01 43 01`.
 pub record ElementsLack (strict : Bool) (count : ℕ) (bytes : List ℕ) (whole due : ℕ) : Type 0 where
   pub least : (more : List ℕ) → BeginsWithElements strict count (bytes ++ more) → (1 ≤ due) × (due ≤ length more)
   pub some : 1 ≤ due → (more : List ℕ) × BeginsWithElements strict count (bytes ++ more)

@@ -1,4 +1,4 @@
--- What the calls of a copier do. C keeps the copier in memory of its own.
+-- The results of the calls of a copier. C keeps the copier in memory of its own.
 use Rattle.std.specs.Prelude.{◌≡◌, ◌+◌, ◌<◌, ◌≤◌, ◌↔◌, ℕ, false, List, [], ◌++◌, drop, length, take}
 use Rattle.cbor_copier.specs.declared.progress.Progress.{Progress}
 use Rattle.cbor_copier.specs.declared.progress.Progress.TheVariants as r
@@ -27,7 +27,7 @@ IsNoCopier copier = (spot : Spot) → IsCopier copier spot → ⊥
 abbrev pub IsCopierOf : ℕ → CllCopier → Type 0
 IsCopierOf count copier = (spot : Spot) × IsCopier copier spot × IsCopiedTo count [] [] spot
 
--- The answer that stands for what `feed` of `cbor_copier` returned.
+-- The answer that stands for the progress that `feed` of `cbor_copier` returns.
 abbrev pub progress_answer : Progress → CllAnswer
 progress_answer r.Ended = a.Ok
 progress_answer r.More = a.Short
@@ -35,19 +35,19 @@ progress_answer r.Room = a.Room
 progress_answer (r.Syntax place) = a.Syntax
 progress_answer r.TooLong = a.TooLong
 
--- The place that comes with it, or 0.
+-- The place of this answer, or 0.
 abbrev pub progress_place : Progress → ℕ
 progress_place (r.Syntax place) = place
 progress_place progress = 0
 
--- The answer that stands for what `end` of `cbor_copier` returned.
+-- The answer that stands for the end that `end` of `cbor_copier` returns.
 abbrev pub end_answer : End → CllAnswer
 end_answer e.Ended = a.Ok
 end_answer e.Short = a.Short
 end_answer e.Room = a.Room
 end_answer (e.Syntax place) = a.Syntax
 
--- The place that comes with it, or 0.
+-- The place of this answer, or 0.
 abbrev pub end_place : End → ℕ
 end_place (e.Syntax place) = place
 end_place end = 0
@@ -59,9 +59,10 @@ IsAnswer answer place spot =
     (answer ≡ progress_answer (progress_of spot.put spot.phase))
     × (place ≡ progress_place (progress_of spot.put spot.phase))
 
--- What an answer with its place says of all bytes so far and of all that was written. They are `count` elements, in
--- their shortest spelling. Or more are due, and all that can be written is. Or there is more to write. Or the elements
--- never begin so, with a fault at this place (RFC 7049, 2.1 and 2.2).
+-- The meaning of an answer and its place for all bytes so far and for all that was written. They are `count` elements,
+-- in their shortest spelling. Or more are due, and all that can be written is. Or there is more to write. Or the
+-- elements never begin so, with a fault at this place (RFC 7049, 2.1 and 2.2). For one element `18 17` with `17`
+-- written the answer is `Ok`.
 abbrev pub SaysOf : ℕ → List ℕ → List ℕ → CllAnswer → ℕ → Type 0
 SaysOf count whole output a.Ok place = Tells count whole output r.Ended × (place ≡ 0)
 SaysOf count whole output a.Short place = Tells count whole output r.More × (place ≡ 0)
@@ -70,17 +71,17 @@ SaysOf count whole output a.Syntax place = Tells count whole output (r.Syntax pl
 SaysOf count whole output a.TooLong place = Tells count whole output r.TooLong × (place ≡ 0)
 SaysOf count whole output answer place = ⊥
 
--- Whatever the memory of the copier held: no more was taken and written than there is, and after what was written the
--- output is as it was.
+-- The call consumed and wrote no more bytes than there are, whatever the memory of the copier held. The output is as it
+-- was after the written bytes.
 pub record StaysWithin (bytes out output : List ℕ) (report : CllReport) : Type 0 where
   pub taken : report.consumed ≤ length bytes
   pub written : report.written ≤ length out
   pub kept : drop report.written output ≡ drop report.written out
 
--- What `cll_copier_feed` does with a piece, for a copier that has come to the old spot. It takes all bytes if more are
--- due, and fewer if no more can be counted. It writes as much as there is room for, if there is more. If nothing was
--- pending, a room of eight bytes more than the piece has is enough. The answer says what it says of all bytes so far
--- and of all that was written, which have led to the spot of the new copier. After an end or a fault nothing is taken
+-- The result of `cll_copier_feed` for a piece, and for a copier that has come to the old spot. The call takes all bytes
+-- if more are due, and fewer if no more can be counted. It writes as much as there is room for, if there is more. If
+-- nothing was pending, a room of eight bytes more than the piece has is enough. The answer holds for all bytes so far
+-- and for all that was written, which have led to the spot of the new copier. After an end or a fault nothing is taken
 -- or written (RFC 7049, 2.1 and 2.2).
 pub record FeedsCopied (count : ℕ) (fed given : List ℕ) (old : Spot) (bytes out : List ℕ) (answer : CllAnswer)
     (output : List ℕ) (report : CllReport) (new : CllCopier) : Type 0 where
@@ -97,8 +98,8 @@ pub record FeedsCopied (count : ℕ) (fed given : List ℕ) (old : Spot) (bytes 
   pub stays : is_due old.phase ≡ false → old.put ≡ []
       → (report.consumed ≡ 0) × (report.written ≡ 0) × (spot ≡ old)
 
--- What an answer with its place says if no more bytes come: they are `count` elements, they are cut off, there is more
--- to write, or the elements never begin so.
+-- The meaning of an answer and its place if no more bytes come: they are `count` elements, they are cut off, there is
+-- more to write, or the elements never begin so.
 abbrev pub SaysOfEnd : ℕ → List ℕ → List ℕ → CllAnswer → ℕ → Type 0
 SaysOfEnd count whole output a.Ok place = TellsEnd count whole output e.Ended × (place ≡ 0)
 SaysOfEnd count whole output a.Short place = TellsEnd count whole output e.Short × (place ≡ 0)
@@ -106,8 +107,8 @@ SaysOfEnd count whole output a.Room place = TellsEnd count whole output e.Room �
 SaysOfEnd count whole output a.Syntax place = TellsEnd count whole output (e.Syntax place)
 SaysOfEnd count whole output answer place = ⊥
 
--- What `cll_copier_end` does at the spot. The answer and its place are those of the spot. It is Ok exactly if the bytes
--- are `count` elements and their shortest spelling is written (RFC 7049, 2.1 and 2.2).
+-- The result of `cll_copier_end` at the spot. The answer and its place are those of the spot. The answer is `Ok`
+-- exactly if the bytes are `count` elements and their shortest spelling is written (RFC 7049, 2.1 and 2.2).
 pub record EndsCopied (count : ℕ) (fed given : List ℕ) (spot : Spot) (answer : CllAnswer) (report : CllReport)
     : Type 0 where
   pub says : SaysOfEnd count fed given answer report.place

@@ -1,4 +1,4 @@
--- What `cll_pull` does.
+-- The result of `cll_pull`.
 use Rattle.std.specs.Prelude.{◌≡◌, ℕ, min, List, ◌++◌, length}
 use Rattle.ciborium_ll.specs.Types.Header.{Header}
 use Rattle.ciborium_ll.specs.Title.{IsTitle, IsCutTitle, BeginsRefused}
@@ -7,7 +7,7 @@ use Rattle.capi.specs.declared.answer.CllAnswer.TheVariants as a
 use Rattle.capi.specs.declared.header.CllHeader.{CllHeader}
 use Rattle.capi.specs.Headers.{Says}
 
--- The bytes begin with a title (RFC 7049, 2.1 to 2.3).
+-- The bytes begin with a title (RFC 7049, 2.1 to 2.3). `19 01 00 ff` begins with `19 01 00`.
 pub record BeginsWithTitle (bytes : List ℕ) : Type 0 where
   pub title : List ℕ
   pub header : Header
@@ -15,8 +15,9 @@ pub record BeginsWithTitle (bytes : List ℕ) : Type 0 where
   pub is_title : IsTitle title header
   pub is : bytes ≡ title ++ rest
 
--- What `cll_pull` does, by its answer. It gives the parts of the header of the first title, and consumes the title. If
--- the bytes begin with no title, the parts are as they were, and a first byte was consumed, if there is one.
+-- The result of `cll_pull`, by its answer. The call gives the parts of the header of the first title, and consumes the
+-- title. If the bytes begin with no title, the parts are as they were, and a first byte was consumed, if there is one.
+-- `19 01 00` gives kind 0 and value 256, and 3 bytes are consumed.
 abbrev pub CllPull : List ℕ → CllAnswer → CllHeader → CllHeader → ℕ → Type 0
 CllPull bytes a.Ok old new consumed = (front : BeginsWithTitle bytes) × Says new front.header
     × (consumed ≡ length front.title)

@@ -1,4 +1,4 @@
--- What `cll_push` does.
+-- The result of `cll_push`.
 use Rattle.std.specs.Prelude.{◌≡◌, ℕ, ◌<◌, List, ◌++◌, length, drop}
 use Rattle.ciborium_ll.specs.Types.Header.{Header}
 use Rattle.ciborium_ll.specs.Title.{IsInRange, shortest_title, title_len}
@@ -9,14 +9,14 @@ use Rattle.capi.specs.declared.header.CllHeader.{CllHeader}
 use Rattle.capi.specs.Answers.{Reports}
 use Rattle.capi.specs.Headers.{IsNoHeader, Says}
 
--- The output begins with the bytes, or they do not fit and it is as it was, by the answer.
+-- The output begins with the bytes, or they do not fit and the output is as it was, by the answer.
 abbrev pub Puts : List ℕ → List ℕ → CllAnswer → List ℕ → CllReport → Type 0
 Puts bytes old a.Ok new report = (new ≡ bytes ++ drop (length bytes) old) × Reports report 0 (length bytes) 0
 Puts bytes old a.Room new report = (length old < length bytes) × (new ≡ old) × Reports report 0 0 0
 Puts bytes old answer new report = ⊥
 
--- What `cll_push` does, by its answer. The output begins with the shortest title of the header that has the parts. If
--- the title does not fit, or no header has the parts, the output is as it was.
+-- The result of `cll_push`, by its answer. The output begins with the shortest title of the header that has the parts.
+-- If the title does not fit, or no header has the parts, the output is as it was. Kind 0 and value 256 give `19 01 00`.
 abbrev pub CllPush : CllHeader → List ℕ → CllAnswer → List ℕ → CllReport → Type 0
 CllPush parts old a.Ok new report =
     (header : Header) × Says parts header × IsInRange header

@@ -1,4 +1,4 @@
--- What `cll_skip` does.
+-- The result of `cll_skip`.
 use Rattle.std.specs.Prelude.{◌≡◌, ℕ, ◌+◌, false, List, length, Result, Ok, Err}
 use Rattle.ciborium_ll.specs.Types.Error.TheVariants as e
 use Rattle.ciborium_ll.specs.Faults.{Short, Syntax}
@@ -10,8 +10,9 @@ use Rattle.capi.specs.declared.answer.CllAnswer.TheVariants as a
 use Rattle.capi.specs.declared.answer.CllReport.{CllReport}
 use Rattle.capi.specs.Answers.{Reports}
 
--- What `cll_skip` does, by its answer: it finds the item with which the bytes begin, or a fault that stops the read of
--- it. Nothing is written. If the bytes end too early, the place is a number of bytes (`ItemLacks`).
+-- The result of `cll_skip`, by its answer: the item with which the bytes begin, or a fault that stops the read of it.
+-- Nothing is written. If the bytes end too early, the place is a number of bytes (`ItemLacks`). To a depth of 1, 3
+-- bytes of `82 01 02 03` are consumed, and `81 ff` is `BreakDue` at 1.
 abbrev pub Skips : ℕ → List ℕ → CllAnswer → CllReport → Type 0
 Skips depth bytes a.Ok report = (front : BeginsWithItem false depth bytes) × Reports report (length front.item) 0 0
 Skips depth bytes a.Short report =
@@ -28,7 +29,7 @@ Skips depth bytes a.TooDeep report =
 Skips depth bytes answer report = ⊥
 
 module _ {E : Type 0} where
-  -- The answer that stands for what `skip_item` returned.
+  -- The answer that stands for the result of `skip_item`.
   abbrev pub skip_answer : Result (Unit {0}) (SkipError E) → CllAnswer
   skip_answer (Ok done) = a.Ok
   skip_answer (Err (s.Read (e.Io fault))) = a.Short
@@ -38,7 +39,7 @@ module _ {E : Type 0} where
   skip_answer (Err (s.Break place)) = a.BreakDue
   skip_answer (Err (s.Deep place)) = a.TooDeep
 
-  -- The place that it names, or 0.
+  -- The place that the result names, or 0.
   abbrev pub skip_place : Result (Unit {0}) (SkipError E) → ℕ
   skip_place (Err (s.Read (e.Syntax place))) = place
   skip_place (Err (s.Break place)) = place

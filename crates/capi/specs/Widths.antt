@@ -1,4 +1,4 @@
--- What `cll_push_wide` does.
+-- The result of `cll_push_wide`.
 use Rattle.std.specs.Prelude.{◌≡◌, ℕ, suc, ◌≤◌, ◌^◌, Bool, true, false, List, ◌++◌, length, drop, Option, Some, None}
 use Rattle.std.specs.Prelude.{if◌then◌else◌, nat_lt, ◌==◌}
 use Rattle.ciborium_ll.specs.Types.Header.{Header}
@@ -16,25 +16,27 @@ use Rattle.capi.specs.declared.header.CllHeader.{CllHeader}
 use Rattle.capi.specs.Answers.{Reports}
 use Rattle.capi.specs.Headers.{Says}
 
--- A title of the header that has `width` bytes after its first one (RFC 7049, 2.1).
+-- A title of the header that has `width` bytes after its first one (RFC 7049, 2.1). `19 00 17` is the title of 23 with
+-- a width of 2.
 pub record WideTitle (header : Header) (width : ℕ) : Type 0 where
   pub title : List ℕ
   pub is_title : IsTitle title header
   pub wide : length title ≡ suc width
 
--- This title in its parts, or there is no title of that width.
+-- The title has this width, or the header has no title of this width.
 abbrev pub Wide : Header → ℕ → Option Title → Type 0
 Wide header width (Some title) =
     IsParts title × IsTitle (title_bytes title) header × (length (title_bytes title) ≡ suc width)
 Wide header width None = WideTitle header width → ⊥
 
--- The same of the header that has the parts of C.
+-- The title has this width and a header with the parts of C, or no such header has a title of this width.
 abbrev pub WideOf : CllHeader → ℕ → Option Title → Type 0
 WideOf parts width (Some title) = (header : Header) × Says parts header × Wide header width (Some title)
 WideOf parts width None = (header : Header) → Says parts header → WideTitle header width → ⊥
 
--- What `cll_push_wide` does, by its answer. The output begins with the title of that width. If the title does not fit,
--- or no header with the parts has a title of that width, the output is as it was.
+-- The result of `cll_push_wide`, by its answer. The output begins with the title of that width. If the title does not
+-- fit, or no header with the parts has a title of that width, the output is as it was. The title of 23 in a width of 2
+-- is `19 00 17`.
 abbrev pub PushesWide : CllHeader → ℕ → List ℕ → CllAnswer → List ℕ → CllReport → Type 0
 PushesWide parts width old a.Ok new report =
     (header : Header) × Says parts header × (front : WideTitle header width)
@@ -53,7 +55,7 @@ abbrev pub minor_where : Bool → Minor → Option Minor
 minor_where true minor = Some minor
 minor_where false minor = None
 
--- A number in `width` bytes after the first one, if it fits them.
+-- A number in `width` bytes after the first one, if it fits them. A width of 0 fits 23, and not 24.
 abbrev pub minor_in : ℕ → ℕ → Option Minor
 minor_in width n =
     if width == 0 then minor_where (nat_lt n 24) (m.Small n) else
@@ -71,7 +73,8 @@ with_major major None = None
 abbrev pub numbered_in : ℕ → ℕ → ℕ → Option Title
 numbered_in major width n = with_major major (minor_in width n)
 
--- The title of the minor 31 under a major type, which has no bytes after its first one.
+-- The title of the minor 31 under a major type, which has no bytes after its first one. Under the major type 4 it is
+-- `9f`.
 abbrev pub open_in : ℕ → ℕ → Option Title
 open_in major width = if width == 0 then Some (record { major = major; minor = m.Open }) else None
 
@@ -80,7 +83,8 @@ abbrev pub length_in : ℕ → ℕ → Option ℕ → Option Title
 length_in major width (Some len) = numbered_in major width len
 length_in major width None = open_in major width
 
--- The title of a header in its parts (RFC 7049, 2.1 to 2.3).
+-- The title of a header in its parts (RFC 7049, 2.1 to 2.3). The title of 23 in a width of 1 is `18 17`, and there is
+-- none in a width of 3.
 abbrev pub title_in : Header → ℕ → Option Title
 title_in (h.Positive n) width = numbered_in 0 width n
 title_in (h.Negative n) width = numbered_in 1 width n
