@@ -1,7 +1,5 @@
 // SPDX-License-Identifier: Apache-2.0
 //! The calls that `capi_export` exports for C. Tests use this crate, since a static library is for C alone.
-//!
-//! A contract speaks of a [`CllAnswer`] by its number (`code`).
 #![tactic(auto)]
 
 ghost use Rattle.std.specs.Prelude.{◌≡◌, ◌↔◌, ◌≤◌, ◌<◌, ◌⊎◌, List, ◌++◌, drop, length, Bool, true, false, ℕ};
