@@ -1,5 +1,4 @@
-//! What a checker says of some bytes: how long the item is with which they begin, and how many more are due if they end
-//! too early.
+//! The length of the item with which bytes begin, and how many more are due if they end too early, by a checker.
 
 ghost use Rattle.std.specs.Prelude.{◌≡◌, ◌≤◌, IfSome, false, length};
 ghost use Rattle.cbor_skip.specs.ItemFaults.{BeginsWithItem};

@@ -8,7 +8,7 @@ ghost use Rattle.capi.specs.Headers.{IsNoHeader, Says, indefinite_of, len_from, 
 use ciborium_ll::{Float, Header};
 use ciborium_ll_grammar::hdr::{Minor, Title};
 
-/// What a title means: a kind, a number, and whether it is of the indefinite form.
+/// The meaning of a title: a kind, a number, and whether the form is indefinite.
 #[derive(Clone, Copy, Debug, PartialEq, Eq)]
 #[repr(C)]
 pub struct CllHeader {

@@ -119,7 +119,8 @@ pub extern "C" fn cll_push_wide(
 /// - `Syntax`: no title begins there, its string may not contain the title, or the body of a text is not UTF-8.
 /// - `Room`: the shortest title of a header, or a chunk of a body, does not fit.
 ///
-/// What was written before an error stands in `out`. With `Room` a beginning of what did not fit may follow it.
+/// The bytes written before an error stand in `out`. With `Room` a beginning of the title or chunk that did not fit may
+/// follow them.
 ///
 /// In room for the spelling, or for as many bytes as there are, an error is the first fault. Whether a text that is
 /// damaged and cut off is `Short` or `Syntax` depends on the buffer.

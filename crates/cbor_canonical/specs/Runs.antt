@@ -109,7 +109,7 @@ pub record HasEqualKeys (entries : List Entry) : Type 0 where
   pub same : (other : Entry)
       → (slice_index_or entries at other).key.items ≡ (slice_index_or entries (at + 1) other).key.items
 
--- ---- what does not begin the bytes if a call fails
+-- ---- bytes at which a call fails
 
 -- The bytes that can't begin the input of a call that stops for this reason. They are an item to the depth, a spelling
 -- of a value, or a spelling of a value in which no map has a key twice.

@@ -92,8 +92,8 @@ impl From<Refusal> for CanonicalError {
 /// the bytes.
 ///
 /// [`Order`] has the two orders of keys (RFC 8949, 4.2.1 and 4.2.3). The item may have any spelling: titles of any
-/// width, indefinite lengths, and keys in any order. Tags, arrays and maps are nested at most `depth` levels deep, also
-/// empty ones.
+/// width, indefinite lengths, and keys in any order. Tags, arrays and maps, empty ones too, nest at most `depth` levels
+/// deep.
 ///
 /// A float keeps its value, a zero its sign, and a NaN its sign and payload. No integer is taken for a float, and no
 /// tag is looked into.

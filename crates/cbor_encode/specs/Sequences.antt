@@ -9,6 +9,6 @@ pub record AreSequence (strict : Bool) (depth : ℕ) (bytes : List ℕ) : Type 0
   pub count : ℕ
   pub are : AreItems strict depth count bytes
 
--- Whether the text has an underscore, which is 95. Each mark begins with one.
+-- The result is true if the text has an underscore, which is 95. Each mark begins with one.
 abbrev pub has_underscore : List ℕ → Bool
 has_underscore text = list_any (λ byte. byte == 95) text

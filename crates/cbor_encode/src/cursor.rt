@@ -5,7 +5,7 @@ ghost use Rattle.cbor_encode.specs.Left.{IsWithin, left_of};
 
 use crate::Expected;
 
-/// What was expected, and how many bytes of the text are left from that place on.
+/// The expected part of the notation, and how many bytes of the text are left from its place on.
 #[derive(Clone, Copy, Drop)]
 pub(crate) struct Stop {
     pub(crate) expected: Expected,

@@ -15,7 +15,7 @@ use crate::words::read_word;
 use ciborium_ll_grammar::hdr::Header;
 use std::alloc::Global;
 
-/// What holds for the whole text.
+/// The rules for the whole text.
 #[derive(Clone, Copy)]
 pub(crate) struct Rules {
     pub(crate) alloc: Global,

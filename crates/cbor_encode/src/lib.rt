@@ -29,7 +29,7 @@ use std::alloc::Global;
 /// The greatest depth of tags, arrays, maps and embedded items, in levels.
 pub const MAX_DEPTH: usize = MOST_LEVELS;
 
-/// What the notation needs at a place.
+/// The part of the notation that is due at a place.
 #[derive(Clone, Copy, Debug, PartialEq, Eq)]
 pub enum Expected {
     /// An item.
@@ -79,7 +79,7 @@ pub enum Expected {
 /// Why a text is not encoded.
 #[derive(Clone, Copy, Debug, PartialEq, Eq, Drop)]
 pub struct NotationError {
-    /// What the notation needs there.
+    /// The part of the notation that is due there.
     pub expected: Expected,
     /// The offset of the place, in bytes.
     pub place: usize,

@@ -1,4 +1,4 @@
-//! What stands between the quotes of a string.
+//! The contents between the quotes of a string.
 
 ghost use Rattle.std.specs.Prelude.{◌<◌, ◌≤◌, ◌^◌, IfErr, IfOk, IfSome};
 ghost use Rattle.cbor_encode.specs.Left.{IsWithin, left_of};
