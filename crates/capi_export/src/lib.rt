@@ -3,7 +3,7 @@
 //! call of the same name of `capi`.
 //!
 //! No call takes memory, or calls anything outside of this library except memcpy, memmove and memset. C passes a slice
-//! as a pointer and then a length.
+//! as a pointer and a length.
 //!
 //! Each call answers with the code of a [`CllAnswer`], and most calls fill in a [`CllReport`]. `cll_pull` gives one
 //! number of bytes instead.
@@ -119,8 +119,7 @@ pub extern "C" fn cll_push_wide(
 /// - `Syntax`: no title begins there, its string may not contain the title, or the body of a text is not UTF-8.
 /// - `Room`: the shortest title of a header, or a chunk of a body, does not fit.
 ///
-/// The bytes written before an error stand in `out`. With `Room` a beginning of the title or chunk that did not fit may
-/// follow them.
+/// The bytes written before an error stand in `out`. With `Room` a beginning of the title or chunk may follow.
 ///
 /// In room for the spelling, or for as many bytes as there are, an error is the first fault. Whether a text that is
 /// damaged and cut off is `Short` or `Syntax` depends on the buffer.
@@ -260,8 +259,8 @@ pub extern "C" fn cll_checker_init_strict(checker: &mut CllChecker, depth: u32) 
 }
 
 /// Gives a checker the next bytes of its item. It takes all of them, or those up to the end of the item or to the byte
-/// with a fault. Each later call then takes none, and answers the same. How the caller cuts the bytes into pieces
-/// changes nothing.
+/// with a fault. A later call takes none, and answers the same. How the caller cuts the bytes into pieces changes
+/// nothing.
 ///
 /// # Answers
 ///
