@@ -53,11 +53,10 @@ fn answer_lines(rt: &HostRuntime) -> Result<(), Fault> {
 /// Copies `count` elements from standard input to standard output. It writes output that is ready before it waits for
 /// more input.
 fn copy_elements(rt: &HostRuntime, count: usize) -> Result<(), Fault> {
-    let copy = raw_prompt(rt.reader(), io::writer(rt), count);
-    match (copy.copied, copy.flushed) {
-        (Ok(()), Ok(())) => Ok(()),
-        (Ok(()), Err(_)) => Err(Fault::Write),
-        (Err(error), _) => Err(fault_of_raw(&error)),
+    let (_, _, copied) = raw_prompt(rt.reader(), io::writer(rt), count);
+    match copied {
+        Ok(()) => Ok(()),
+        Err(error) => Err(fault_of_raw(&error)),
     }
 }
 

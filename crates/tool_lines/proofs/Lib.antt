@@ -1,2 +1,3 @@
 mod DepthLaws
+mod PromptLaws
 mod RawLaws

@@ -25,10 +25,6 @@ TellsBehind told most value bytes = (lost : List ℕ) × (rest : List ℕ) × (t
 abbrev pub TellsFront : {T : Type 0} → (T → Option (List ℕ)) → T → List ℕ → Type 0
 TellsFront told value bytes = (front : List ℕ) × (lost : List ℕ) × (told value ≡ Some front) × (bytes ≡ front ++ lost)
 
--- Nothing is said.
-abbrev pub IsAnything : {T : Type 0} → T → List ℕ → Type 0
-IsAnything value bytes = Unit {0}
-
 -- The bytes are told, and are exactly these. If the flush after them failed, they may lack some at the end.
 abbrev pub TellsFlushed : {T F : Type 0} → (T → Option (List ℕ)) → Result (Unit {0}) F → T → List ℕ → Type 0
 TellsFlushed told (Ok done) value bytes = Tells told value bytes

@@ -1,150 +1,118 @@
-//! A copy that writes its output before it waits for more of its input.
+//! A copy that writes what it can of each piece of its input before it reads the next.
 
-ghost use Rattle.std.specs.Prelude.{◌≡◌, [], ℕ, List, Some};
-ghost use Rattle.tool_lines.specs.Raw.{CopiesRaw, IsAnything, TellsBehind};
+ghost use Rattle.std.specs.Prelude.{◌≡◌, ◌<◌, ◌≤◌, ◌++◌, ℕ, List, Some, IsErrOf, IfOk, OnErr, OnOk, length, take};
+ghost use Rattle.std.specs.Io.KnownBytes.{Consumes, IsAtEnd, Keeps};
+ghost use Rattle.ciborium_ll_streams.specs.Streams.{stream_sink};
+ghost use Rattle.tool_lines.specs.declared.raw.TheConstants.{ROOM};
+ghost use Rattle.tool_lines.specs.Prompt.{CopiesPrompt, TellsAll, TellsSome};
 
-use crate::ahead::ReadAhead;
-use crate::copy::BUFFER_SIZE;
-use crate::raw::{BufferedCopy, ROOM, restored_copy, restored_flush};
-use ciborium_ll_decoder::dec::Decoder;
-use ciborium_ll_encoder::enc::Encoder;
-use ciborium_ll_io::io::{Discard, Failures, Write};
-use ciborium_ll_recode::recode::recode;
-use ciborium_ll_streams::{BufferedWriter, FaultKept};
-use std::cell::RefCell;
+use crate::raw::ROOM;
+use cbor_copier::{Copier, Progress};
+use ciborium_ll_decoder::dec::Error;
+use ciborium_ll_io::io::Write;
+use ciborium_ll_recode::recode::RecodeError;
+use ciborium_ll_streams::{ReadFault, StdWriter, WriteFault};
 use std::io;
 
-/// Writes to a buffered writer in a cell, and tells the bytes that it handed on. No clause can speak of a cell.
-#[derive(Drop)]
-struct Shared<'o, 'a, W> {
-    output: &'o RefCell<BufferedWriter<'a, W>>,
-    handed_on: Discard,
-    failures: Failures,
-}
+/// The most bytes that a piece puts out: eight more than the piece has, the first bytes of a title that it ends.
+const MOST_OUT: usize = ROOM + 8;
 
-impl<'o, 'a, W: io::Write> Shared<'o, 'a, W> {
-    /// Makes a writer to the buffered writer in the cell.
-    fn new(output: &'o RefCell<BufferedWriter<'a, W>>) -> Shared<'o, 'a, W>
-        ensures { ⟦<Discard as Write>⟧.written result.handed_on ≡ Some [] }
-    {
-        Shared {
-            output,
-            handed_on: Discard::new(usize::MAX),
-            failures: Failures::new(),
-        }
-    }
-}
-
-impl<'o, 'a, W: io::Write> Write for Shared<'o, 'a, W> {
-    ghost use Rattle.std.specs.Prelude.{None};
-
-    type Error = FaultKept;
-
-    ghost written = { λ w. ⟦<Discard as Write>⟧.written w.handed_on };
-
-    ghost room = { λ _. None };
-
-    ghost failures = { λ w. w.failures.count };
-
-    ghost flushed = { λ _ _. Unit {0} };
-
-    ghost target = { λ _. None };
-
-    /// The error is that of the writer in the cell, which keeps its fault.
-    #[inline(always)]
-    fn write_all(&mut self, data: &[u8]) -> Result<(), FaultKept> {
-        if let Ok(mut output) = self.output.try_borrow_mut()
-            && output.write_all(data).is_ok()
-            && self.handed_on.write_all(data).is_ok()
-        {
-            return Ok(());
-        }
-        self.failures.raise();
-        Err(FaultKept)
-    }
-
-    /// The error is that of the writer in the cell, which keeps its fault.
-    fn flush(&mut self) -> Result<(), FaultKept> {
-        if let Ok(mut output) = self.output.try_borrow_mut()
-            && output.flush().is_ok()
-        {
-            return Ok(());
-        }
-        self.failures.raise();
-        Err(FaultKept)
-    }
-}
-
-/// A reader that flushes the writer in a cell before each read, since a read may have to wait.
-#[derive(Drop)]
-struct Prompt<'o, 'a, R, W> {
-    source: R,
-    output: &'o RefCell<BufferedWriter<'a, W>>,
-}
-
-impl<'o, 'a, R: io::Read, W: io::Write> Prompt<'o, 'a, R, W> {
-    /// Makes a reader of what the source still has.
-    fn new(source: R, output: &'o RefCell<BufferedWriter<'a, W>>) -> Prompt<'o, 'a, R, W>
-        ensures { result.source ≡ source }
-    {
-        Prompt { source, output }
-    }
-
-    /// Returns the source.
-    fn into_inner(self) -> R
-        ensures { result ≡ self.entry.source }
-    {
-        self.source
-    }
-}
-
-impl<'o, 'a, R: io::Read, W: io::Write> io::Read for Prompt<'o, 'a, R, W> {
-    ghost remaining = { λ p. R.remaining p.source };
-
-    fn read(&mut self, buf: &mut [u8]) -> io::Result<usize> {
-        if let Ok(mut output) = self.output.try_borrow_mut() {
-            // The writer keeps back what it cannot write. A later call writes it or tells the fault.
-            let _ = output.flush();
-        }
-        self.source.read(buf)
-    }
-}
-
-/// Copies as [`crate::raw::raw_buffered`] does, and flushes before each read, since a read may have to wait. So output
-/// that is ready can be seen while more of the input is due.
+/// Reads the next piece by one call, and returns the number of bytes that came.
 ///
-/// If a flush before a read fails, the bytes are kept back, and a later write or the last flush tells the fault.
+/// # Errors
 ///
-/// If the reader tells its bytes, each answer says the same of the reads as there. No clause says which bytes the
-/// writer got, since none can speak of the cell that the reader shares.
+/// - `End`: no byte came.
+/// - `Failed`: the call failed.
+fn read_piece<R: io::Read>(reader: &mut R, piece: &mut [u8; ROOM]) -> Result<usize, ReadFault>
+    ensures some { IfOk result (λ count. (0 < count) × (count ≤ ROOM)) }
+    ensures bytes { IfOk result (λ count. Consumes (R.remaining reader.old) (R.remaining reader.new)
+        (take count piece.new)) }
+    ensures keeps { OnErr result (Keeps (R.remaining reader.old) (R.remaining reader.new)) }
+    ensures end { IsErrOf result ReadFault.End → IsAtEnd (R.remaining reader.new) }
+{
+    match reader.read(piece) {
+        Ok(0) => Err(ReadFault::End),
+        Ok(count) => Ok(count),
+        Err(error) => Err(ReadFault::Failed(error)),
+    }
+}
+
+/// Writes bytes, and flushes them. For no bytes it makes no call.
+///
+/// # Errors
+///
+/// The error is that of the write or of the flush. The writer then got a beginning of the bytes, or all of them.
+fn send<W: io::Write>(writer: &mut StdWriter<W>, bytes: &[u8]) -> Result<(), WriteFault>
+    ensures all { (written : List ℕ) → W.contents (stream_sink writer.old) ≡ Some written
+        → OnOk result (TellsAll W.contents written bytes.now (stream_sink writer.new)) }
+    ensures some { (written : List ℕ) → W.contents (stream_sink writer.old) ≡ Some written
+        → OnErr result (TellsSome W.contents written bytes.now (stream_sink writer.new)) }
+{
+    if bytes.is_empty() {
+        return Ok(());
+    }
+    writer.write_all(bytes)?;
+    writer.flush()
+}
+
+/// Copies `count` elements in pieces.
+fn copy_pieces<R: io::Read, W: io::Write>(
+    reader: &mut R,
+    writer: &mut StdWriter<W>,
+    count: usize,
+) -> Result<(), RecodeError<ReadFault, WriteFault>>
+    ensures { (due written : List ℕ) → R.remaining reader.old ≡ Some due
+        → W.contents (stream_sink writer.old) ≡ Some written
+        → CopiesPrompt R.remaining W.contents ROOM count due written result reader.new (stream_sink writer.new) }
+{
+    let mut copier = Copier::new(count);
+    let mut piece = [0; ROOM];
+    let mut out = [0; MOST_OUT];
+    let mut given = 0;
+    let mut pieces = 0;
+    'pieces: while pieces < usize::MAX {
+        let copied = copier.feed(&piece[..given], &mut out);
+        send(writer, &out[..copied.written]).map_err(RecodeError::Write)?;
+        match copied.progress {
+            Progress::Ended => return Ok(()),
+            Progress::Syntax(place) => return Err(RecodeError::Read(Error::Syntax(place))),
+            Progress::TooLong => break 'pieces,
+            Progress::More | Progress::Room => {}
+        }
+        given = read_piece(reader, &mut piece).map_err(|fault| RecodeError::Read(Error::Io(
+            fault,
+        )))?;
+        pieces += 1;
+    }
+    Err(RecodeError::Read(Error::TooLong))
+}
+
+/// Copies `count` elements as raw bytes, each in its shortest spelling, in pieces of at most [`ROOM`] bytes. It returns
+/// the reader and the writer.
+///
+/// The copy writes and flushes all that a piece puts out before it reads the next piece. So a caller sees the output of
+/// all bytes that came, while more of the input is due. The bytes of a piece after the last element are given up.
+///
+/// If both tell their bytes, `Ok` says that the bytes that the copy took are `count` elements. The writer then got
+/// exactly their shortest spelling.
+///
+/// # Errors
+///
+/// - `Read` with `Syntax`: no list of that many elements begins so. The place is that of [`Copier::feed`], and its
+///   output is written.
+/// - `Read` with `Io`: a read failed, or the input ended within the elements. The output of all bytes that came is
+///   written.
+/// - `Read` with `TooLong`: the input is longer than a `usize` counts.
+/// - `Write`: a write or a flush failed. The writer got a beginning of the output.
 pub fn raw_prompt<R: io::Read, W: io::Write>(
-    reader: R,
+    mut reader: R,
     writer: W,
     count: usize,
-) -> BufferedCopy<R, W>
-    ensures { (due : List ℕ) → R.remaining reader ≡ Some due
-        → CopiesRaw (TellsBehind R.remaining ROOM) IsAnything count due [] result.copied result.reader result.writer }
+) -> (R, W, Result<(), RecodeError<ReadFault, WriteFault>>)
+    ensures { (due written : List ℕ) → R.remaining reader ≡ Some due → W.contents writer ≡ Some written
+        → CopiesPrompt R.remaining W.contents ROOM count due written result.2 result.0 result.1 }
 {
-    let mut read_ahead = [0; ROOM];
-    let mut kept_back = [0; ROOM];
-    let mut buffer = [0; BUFFER_SIZE];
-    let output = RefCell::new(BufferedWriter::new(writer, &mut kept_back));
-    let source = Prompt::new(reader, &output);
-    let mut decoder = Decoder::from(ReadAhead::new(source, &mut read_ahead));
-    let mut encoder = Encoder::from(Shared::new(&output));
-    let copied = recode(&mut decoder, &mut encoder, count, &mut buffer);
-    let ReadAhead { reader } = decoder.into_inner();
-    let (source, _, read_fault) = reader.into_parts();
-    let reader = source.into_inner();
-    let _ = encoder.into_inner();
-    let mut sink = output.into_inner();
-    let write_fault = sink.take_fault();
-    let flushed = sink.flush();
-    let (writer, _, flush_fault) = sink.into_parts();
-    BufferedCopy {
-        reader,
-        writer,
-        copied: restored_copy(copied, read_fault, write_fault),
-        flushed: restored_flush(flushed, flush_fault),
-    }
+    let mut writer = StdWriter::new(writer);
+    let copied = copy_pieces(&mut reader, &mut writer, count);
+    (reader, writer.into_inner(), copied)
 }

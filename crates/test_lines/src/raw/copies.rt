@@ -78,7 +78,7 @@ pub enum Way {
     Single,
     // Through buffers.
     Buffered,
-    // As the program does: through buffers, and with a flush before each read.
+    // As the program does: in pieces, each written and flushed before the next read.
     Prompt,
 }
 
@@ -96,9 +96,10 @@ fn copied_of<R, W>(copy: BufferedCopy<R, W>) -> Copied<R, W> {
     }
 }
 
-// Copies elements by single calls. It reports a failure of the flush as the fault of the copy.
-fn copies_singly<R: io::Read, W: io::Write>(source: R, sink: W, count: usize) -> Copied<R, W> {
-    let (source, sink, outcome) = raw(source, sink, count);
+// A copy that reports a failure of the flush as its own fault.
+fn flushed_of<R, W>(
+    (source, sink, outcome): (R, W, Result<(), RecodeError<ReadFault, WriteFault>>),
+) -> Copied<R, W> {
     let (copied, fault) = end_of(outcome);
     Copied {
         copied,
@@ -117,9 +118,9 @@ pub fn copies<R: io::Read, W: io::Write>(
     count: usize,
 ) -> Copied<R, W> {
     match way {
-        Way::Single => copies_singly(source, sink, count),
+        Way::Single => flushed_of(raw(source, sink, count)),
         Way::Buffered => copied_of(raw_buffered(source, sink, count)),
-        Way::Prompt => copied_of(raw_prompt(source, sink, count)),
+        Way::Prompt => flushed_of(raw_prompt(source, sink, count)),
     }
 }
 
@@ -156,12 +157,13 @@ static COPIED: [(&[u8], &[u8], &str); 3] = [
     (&[], &[], "read"),
 ];
 
-// Returns how often a copy flushes its writer: at its end, and in the program's way before each read.
-pub fn due_flushes(way: Way, reads: usize) -> usize {
+// Returns whether a copy flushed its writer as often as it should: once at its end, and in the program's way once for
+// each piece that puts bytes out.
+pub fn are_flushes(way: Way, flushes: usize, reads: usize, written: usize) -> bool {
     if way == Way::Prompt {
-        reads.saturating_add(1)
+        (flushes > 0) == (written > 0) && flushes <= reads
     } else {
-        1
+        flushes == 1
     }
 }
 
@@ -175,7 +177,8 @@ fn is_copied_slowly(alloc: Global, way: Way, count: usize, bytes: &[u8], written
     );
     let is_done = copy.copied == End::Done && copy.flushed == End::Done;
     let is_written = copy.sink.taken.as_slice() == written && copy.source.left.is_empty();
-    is_done && is_written && copy.sink.flushes == due_flushes(way, copy.source.calls)
+    let is_flushed = are_flushes(way, copy.sink.flushes, copy.source.calls, written.len());
+    is_done && is_written && is_flushed
 }
 
 // This test fails for a copy that always answers that its reader failed.
@@ -220,6 +223,11 @@ fn what_follows_is_left(rt: HostRuntime) {
         &rt,
         is_left(rt.alloc(), Way::Buffered, &bytes[..2], 0),
         "both of two",
+    );
+    holds(
+        &rt,
+        is_left(rt.alloc(), Way::Prompt, &bytes, 8),
+        "a piece is read",
     );
 }
 
@@ -270,6 +278,10 @@ fn raw_copies_through_windows(rt: HostRuntime) {
         is_front(rt.alloc(), Way::Buffered, bytes),
         "a buffer that fails",
     );
+    let copy = copies(Way::Prompt, bytes, failing_writer(rt.alloc(), 101), 5_001);
+    let is_cut = copy.copied == End::Write(TIMED_OUT) && copy.sink.taken.len() == 100;
+    let is_cut = is_cut && bytes.starts_with(copy.sink.taken.as_slice());
+    holds(&rt, is_cut, "a piece that fails");
 }
 
 // Makes a writer that takes one byte a call. Its flush may fail.
@@ -283,7 +295,7 @@ fn flushed_writer(alloc: Global, flush_fails: bool) -> PartWriter {
 
 // Returns how a flush ends that has an answer of its own.
 fn flush_end(way: Way, flush_fails: bool) -> End {
-    if flush_fails && way != Way::Single {
+    if flush_fails && way == Way::Buffered {
         End::Write(io::ErrorKind::Other)
     } else {
         End::Done
@@ -304,7 +316,7 @@ fn is_flushed(
     let source = PartReader::new(bytes, 64);
     let copy = copies(way, source, flushed_writer(alloc, flush_fails), count);
     let is_written = copy.sink.taken.as_slice() == written;
-    let is_due = copy.sink.flushes == due_flushes(way, copy.source.calls);
+    let is_due = are_flushes(way, copy.sink.flushes, copy.source.calls, written.len());
     let is_told = copy.flushed == flush_end(way, flush_fails);
     is_written && is_due && is_told && is_word(alloc, &copy.fault, word)
 }
@@ -321,7 +333,7 @@ static FLUSHED: [(usize, &[u8], &[u8], &str, &str); 3] = [
 // beside the end of the copy, or in its place.
 #[test]
 fn copies_flush_once(rt: HostRuntime) {
-    for way in WAYS {
+    for way in [Way::Single, Way::Buffered] {
         for &(count, bytes, want, word, unflushed) in &FLUSHED {
             let is_right = is_flushed(rt.alloc(), way, count, bytes, false, want, word);
             holds(&rt, is_right, word);
@@ -329,6 +341,25 @@ fn copies_flush_once(rt: HostRuntime) {
             let is_right = is_flushed(rt.alloc(), way, count, bytes, true, want, told);
             holds(&rt, is_right, told);
         }
+    }
+}
+
+// The same of copies in pieces. They write the bytes of a body as they come, and tell at once that a flush fails.
+static SENT: [(usize, &[u8], &[u8], &str); 4] = [
+    (1, &[0x42, 1, 2], &[0x42, 1, 2], "ok"),
+    (2, &[0, 0x1f], &[0], "syntax 1"),
+    (2, &[0, 0x43, 1], &[0, 0x43, 1], "read"),
+    (1, &[0x62, 0x61, 0xff], &[0x62, 0x61], "syntax 0"),
+];
+
+#[test]
+fn pieces_are_flushed(rt: HostRuntime) {
+    for &(count, bytes, want, word) in &SENT {
+        let way = Way::Prompt;
+        let is_right = is_flushed(rt.alloc(), way, count, bytes, false, want, word);
+        holds(&rt, is_right, word);
+        let is_right = is_flushed(rt.alloc(), way, count, bytes, true, want, "write");
+        holds(&rt, is_right, "a flush that fails");
     }
 }
 
@@ -358,13 +389,13 @@ fn tells_read(alloc: Global, way: Way, call: usize) -> bool {
     copied == End::Read(TIMED_OUT)
 }
 
-// Returns whether this fault of the writer is reported: by single calls as that of the copy, otherwise as that of the
-// flush.
+// Returns whether this fault of the writer is reported: by a copy through buffers as that of the flush, otherwise as
+// that of the copy.
 fn is_told(way: Way, ends: (End, End), fault: End) -> bool {
-    if way == Way::Single {
-        ends == (fault, End::Done)
-    } else {
+    if way == Way::Buffered {
         ends == (End::Done, fault)
+    } else {
+        ends == (fault, End::Done)
     }
 }
 
@@ -449,7 +480,7 @@ static WATCHED: [(u8, usize); 8] = [
     (0x5f, 2),
     (0x42, 3),
     (0x07, 4),
-    (0x08, 4),
+    (0x08, 5),
     (0xff, 6),
 ];
 

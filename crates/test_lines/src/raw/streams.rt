@@ -1,6 +1,6 @@
 // Copies of raw bytes between streams that move few bytes a call, or fail at one call, beside a plain reading.
 
-use super::copies::{self, End, WAYS, Way, due_flushes, long_elements};
+use super::copies::{self, End, WAYS, Way, are_flushes, long_elements};
 use crate::answers::{MOST, decoded, holds_call};
 use std::alloc::Global;
 use std::io;
@@ -59,11 +59,23 @@ fn end_of_write(kind: Option<io::ErrorKind>) -> End {
     }
 }
 
+// Returns whether the written bytes are those of a plain reading. A copy in pieces writes a body as it comes, so it may
+// have written more of a body that is cut or damaged.
+fn is_written(ended: &Ended, want: &Copied) -> bool {
+    let taken = ended.sink.taken.as_slice();
+    let want = want.output.as_slice();
+    if ended.way == Way::Prompt && ended.copied != End::Done {
+        taken.starts_with(want)
+    } else {
+        taken == want
+    }
+}
+
 // Returns whether the written bytes are those of a plain reading, and were flushed.
 fn is_flushed(ended: &Ended, want: &Copied) -> bool {
-    let is_written = ended.sink.taken.as_slice() == want.output.as_slice();
-    let flushes = due_flushes(ended.way, ended.reads);
-    is_written && ended.sink.flushes == flushes && ended.flushed == End::Done
+    let flushes = ended.sink.flushes;
+    let is_often = are_flushes(ended.way, flushes, ended.reads, ended.sink.taken.len());
+    is_written(ended, want) && is_often && ended.flushed == End::Done
 }
 
 // Returns whether a copy whose reader was interrupted says so, and stops within a title or a body.
@@ -121,7 +133,7 @@ fn is_front(ended: &Ended, want: &Copied, length: usize) -> bool {
 // Returns whether a copy whose writer failed says so. A copy through buffers keeps these few bytes back to the end, so
 // the flush has the fault, and not the copy.
 fn is_unwritten(ended: &Ended, want: &Copied, fault: End) -> bool {
-    if ended.way == Way::Single {
+    if ended.way != Way::Buffered {
         return ended.copied == fault && ended.flushed == End::Done;
     }
     ended.flushed == fault && is_answer(ended.copied, want.fault)
