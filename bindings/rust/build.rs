@@ -1,6 +1,6 @@
 // SPDX-License-Identifier: Apache-2.0
-//! Finds the static library: in the folder that CIBORIUM_LL_LIB_DIR names, where `make` in the folder above puts it, in
-//! the release archive, or where pkg-config says.
+//! Finds the static library. It looks in the folder that CIBORIUM_LL_LIB_DIR names, and in the folder into which `make`
+//! in the folder above puts it. It also looks in the release archive, and in the folder that pkg-config names.
 
 use std::env;
 use std::path::PathBuf;
@@ -19,7 +19,7 @@ fn folder() -> Option<PathBuf> {
         .or_else(installed)
 }
 
-/// The name by which pkg-config finds no version with other calls.
+/// Returns the name by which pkg-config finds no version with other calls.
 fn name_with_interface() -> Option<String> {
     let [major, minor] =
         ["CARGO_PKG_VERSION_MAJOR", "CARGO_PKG_VERSION_MINOR"].map(|name| env::var(name).ok());
@@ -42,7 +42,7 @@ fn installed() -> Option<PathBuf> {
 fn main() {
     println!("cargo:rerun-if-env-changed=CIBORIUM_LL_LIB_DIR");
     println!("cargo:rerun-if-env-changed=DOCS_RS");
-    // There the pages alone are built, and nothing is linked.
+    // On docs.rs the pages alone are built, and nothing is linked.
     if env::var_os("DOCS_RS").is_some() {
         return;
     }

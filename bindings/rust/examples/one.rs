@@ -5,7 +5,7 @@ use ciborium_ll_proved::{Checker, Progress};
 use std::io::Read;
 use std::process::ExitCode;
 
-/// What to print, and the status.
+/// Returns the line to print, and the status.
 fn tell(mut stream: impl Read) -> std::io::Result<(String, u8)> {
     let mut checker = Checker::new(64).expect("a depth of at most 256");
     let (mut data, mut due) = ([0; 4096], 1);

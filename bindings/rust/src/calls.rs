@@ -1,29 +1,29 @@
 // SPDX-License-Identifier: Apache-2.0
-//! The calls over slices. This file alone calls what is not safe by its types: each pointer is that of a slice or of a
-//! value, and none that is written overlaps another one.
+//! The calls over slices. Only this file calls functions that are not safe by their types. Each pointer is that of a
+//! slice or of a value. No pointer that is written overlaps another one.
 
 use crate::sys::{self, cll_checker, cll_copier, cll_header, cll_item_copier, cll_report};
 use crate::{Error, Header};
 use core::str;
 
-/// How many bytes were consumed and written, and how many elements were done.
+/// How many bytes a call consumed and wrote, and how many elements it did.
 #[derive(Clone, Copy, Debug, PartialEq, Eq, Hash)]
 #[non_exhaustive]
 pub struct Copied {
-    /// How many bytes were read.
+    /// How many bytes the call read.
     pub consumed: usize,
-    /// How many bytes stand in front of the output.
+    /// How many bytes the call wrote to the start of the output.
     pub written: usize,
-    /// How many elements were done whole.
+    /// How many elements the call did whole.
     pub elements: u64,
-    /// How many bytes these have.
+    /// How many bytes these elements have.
     pub whole: usize,
-    /// How many of the bytes written are their spelling.
+    /// How many of the written bytes are the spelling of these elements.
     pub spelled: usize,
 }
 
 impl Copied {
-    /// What a report says.
+    /// Returns the numbers of a report.
     fn of(report: &cll_report) -> Copied {
         Copied {
             consumed: report.consumed as usize,
@@ -45,7 +45,8 @@ pub struct Stopped {
     pub copied: Copied,
 }
 
-/// The header of the title in front, and the title's length. Errors name offsets that begin at `offset`.
+/// Reads the title with which the bytes begin. Returns its header and its length. An error counts its offset from
+/// `offset` on.
 pub(crate) fn pull(bytes: &[u8], offset: usize) -> Result<(Header, usize), Error> {
     let (mut parts, mut consumed) = (cll_header::default(), 0);
     // SAFETY: as this file says.
@@ -61,7 +62,7 @@ pub(crate) fn pull(bytes: &[u8], offset: usize) -> Result<(Header, usize), Error
     }
 }
 
-/// Writes the shortest title of a header in front of the output, whole or not at all, and gives its length.
+/// Writes the shortest title of a header to the start of the output, whole or not at all. Returns its length.
 pub(crate) fn push(header: Header, out: &mut [u8]) -> Result<usize, Error> {
     let (parts, mut report) = (header.parts(), cll_report::default());
     // SAFETY: as this file says.
@@ -71,7 +72,7 @@ pub(crate) fn push(header: Header, out: &mut [u8]) -> Result<usize, Error> {
     }
 }
 
-/// The same of the title that has so many bytes behind its first one.
+/// Writes a title as `push` does, but the one that has `width` bytes after its first one.
 pub(crate) fn push_wide(header: Header, width: u32, out: &mut [u8]) -> Result<usize, Error> {
     let (parts, mut report) = (header.parts(), cll_report::default());
     // SAFETY: as this file says.
@@ -81,8 +82,9 @@ pub(crate) fn push_wide(header: Header, width: u32, out: &mut [u8]) -> Result<us
     }
 }
 
-/// Copies so many elements, each in its shortest spelling. An element is a title that begins no string, or a whole
-/// string. As many bytes as are read are always room enough. What was written before an error stands in `out`.
+/// Copies `count` elements, each in its shortest spelling. An element is a title that begins no string, or a whole
+/// string. An output with as many bytes as the call reads is always long enough. After an error `out` holds the bytes
+/// written before it.
 pub fn recode(bytes: &[u8], count: u64, out: &mut [u8]) -> Result<Copied, Stopped> {
     let mut report = cll_report::default();
     let (from, to) = (bytes.as_ptr(), out.as_mut_ptr());
@@ -91,7 +93,7 @@ pub fn recode(bytes: &[u8], count: u64, out: &mut [u8]) -> Result<Copied, Stoppe
     ended(answer, &report)
 }
 
-/// Whether all of a copy or a check was done, and how far it came.
+/// Tells whether a copy or a check did all, and how far it came.
 fn ended(answer: u32, report: &cll_report) -> Result<Copied, Stopped> {
     let copied = Copied::of(report);
     match answer {
@@ -103,8 +105,8 @@ fn ended(answer: u32, report: &cll_report) -> Result<Copied, Stopped> {
     }
 }
 
-/// Whether so many elements stand in front in their one shortest spelling, as [`strict_len`] has it, and how far they
-/// do. Nothing is written.
+/// Checks that the bytes begin with `count` elements in their one shortest spelling, as [`strict_len`] does. Returns
+/// how far they do. The call writes nothing.
 pub fn strict(bytes: &[u8], count: u64) -> Result<Copied, Stopped> {
     let mut report = cll_report::default();
     // SAFETY: as this file says.
@@ -112,8 +114,8 @@ pub fn strict(bytes: &[u8], count: u64) -> Result<Copied, Stopped> {
     ended(answer, &report)
 }
 
-/// The length of so many elements in their one shortest spelling, with no simple value from 24 to 31 and no string of
-/// indefinite length inside another one.
+/// Returns the length of `count` elements in their one shortest spelling, with which the bytes begin. A shortest
+/// spelling has no simple value from 24 to 31. It has no string of indefinite length inside another one.
 pub fn strict_len(bytes: &[u8], count: u64) -> Result<usize, Error> {
     match strict(bytes, count) {
         Ok(checked) => Ok(checked.consumed),
@@ -121,13 +123,13 @@ pub fn strict_len(bytes: &[u8], count: u64) -> Result<usize, Error> {
     }
 }
 
-/// The length of the one item in front, which contains at most so many levels of tags, arrays and maps, and no more
-/// than 256.
+/// Returns the length of the item with which the bytes begin. The item may contain at most `depth` levels of tags,
+/// arrays and maps, and no more than 256.
 pub fn skip_item(bytes: &[u8], depth: u32) -> Result<usize, Error> {
     skip(bytes, depth, 0)
 }
 
-/// The same, with errors that name offsets from `offset` on.
+/// Skips an item as [`skip_item`] does. An error counts its offset from `offset` on.
 pub(crate) fn skip(bytes: &[u8], depth: u32, offset: usize) -> Result<usize, Error> {
     let mut report = cll_report::default();
     // SAFETY: as this file says.
@@ -147,8 +149,8 @@ pub enum Order {
     LengthFirst,
 }
 
-/// The length of the one item that comes first, which is in the deterministic encoding (RFC 8949, 4.2), with the keys of
-/// its maps in this order. It contains at most so many levels, and no more than 256.
+/// Returns the length of the item with which the bytes begin, in the deterministic encoding (RFC 8949, 4.2). The keys
+/// of its maps ascend in this order. The item may contain at most `depth` levels, and no more than 256.
 ///
 /// ```
 /// use ciborium_ll_proved::{deterministic, Error, Order};
@@ -167,32 +169,37 @@ pub fn deterministic(bytes: &[u8], depth: u32, order: Order) -> Result<usize, Er
     }
 }
 
-/// The bytes as text, where all of them are UTF-8. Else the place of the error is the length of their longest front that
-/// is: `Short` where a character is cut off behind it, which more bytes may complete, and `Syntax` where no UTF-8 goes
-/// on.
+/// Returns the bytes as text, if all of them are UTF-8.
+///
+/// # Errors
+///
+/// The place of the error is the length of the longest front of the bytes that is UTF-8.
+///
+/// - `Short` if a character is cut off after the front. More bytes may complete it.
+/// - `Syntax` if no UTF-8 goes on after the front.
 pub fn utf8(bytes: &[u8]) -> Result<&str, Error> {
     let mut report = cll_report::default();
     // SAFETY: as this file says.
     match unsafe { sys::cll_utf8(bytes.as_ptr(), bytes.len(), &mut report) } {
-        // SAFETY: this is answered of UTF-8 alone.
+        // SAFETY: the call answers 0 for UTF-8 alone.
         0 => Ok(unsafe { str::from_utf8_unchecked(bytes) }),
         answer => Err(Error::of(answer, &report, 0)),
     }
 }
 
-/// The longest front of the bytes that is UTF-8, and whether more bytes may complete what stands behind it.
+/// Returns the longest front of the bytes that is UTF-8, and whether more bytes may complete the rest.
 #[cfg(feature = "std")]
 pub(crate) fn utf8_in_front(bytes: &[u8]) -> (&str, bool) {
     let mut report = cll_report::default();
     // SAFETY: as this file says.
     let answer = unsafe { sys::cll_utf8(bytes.as_ptr(), bytes.len(), &mut report) };
     let front = &bytes[..report.consumed as usize];
-    // SAFETY: whatever the answer, so many bytes in front are UTF-8.
+    // SAFETY: whatever the answer is, the first `consumed` bytes are UTF-8.
     (unsafe { str::from_utf8_unchecked(front) }, answer < 2)
 }
 
-/// A checker of an item that contains at most so many levels, to which nothing came. A strict one takes the shortest
-/// spelling alone.
+/// Returns a checker, to which no byte came, of an item that contains at most `depth` levels. A strict one takes the
+/// shortest spelling alone.
 pub(crate) fn new_checker(depth: u32, strict: bool) -> Result<cll_checker, Error> {
     let mut checker = cll_checker { words: [0; 296] };
     let init = if strict {
@@ -207,7 +214,7 @@ pub(crate) fn new_checker(depth: u32, strict: bool) -> Result<cll_checker, Error
     }
 }
 
-/// Gives a checker the next bytes: the answer, and the report.
+/// Gives a checker the next bytes. Returns the answer and the report.
 pub(crate) fn feed(checker: &mut cll_checker, bytes: &[u8]) -> (u32, cll_report) {
     let mut report = cll_report::default();
     // SAFETY: as this file says.
@@ -216,10 +223,10 @@ pub(crate) fn feed(checker: &mut cll_checker, bytes: &[u8]) -> (u32, cll_report)
     (answer, report)
 }
 
-/// A call that says what it means that no more bytes come.
+/// A call that says that no more bytes come.
 type EndCall<T> = unsafe extern "C" fn(*const T, *mut cll_report) -> u32;
 
-/// What it means by this call that no more bytes come: the answer, and the report.
+/// Says by this call that no more bytes come. Returns the answer and the report.
 fn end_by<T>(call: EndCall<T>, kept: &T) -> (u32, cll_report) {
     let mut report = cll_report::default();
     // SAFETY: as this file says.
@@ -227,16 +234,16 @@ fn end_by<T>(call: EndCall<T>, kept: &T) -> (u32, cll_report) {
     (answer, report)
 }
 
-/// What it means that no more bytes come to a checker: the answer, and the report.
+/// Says that no more bytes come to a checker. Returns the answer and the report.
 pub(crate) fn end(checker: &cll_checker) -> (u32, cll_report) {
     end_by(sys::cll_checker_end, checker)
 }
 
-/// A call that gives a copier the next bytes, and room for what they become.
+/// A call that gives a copier the next bytes, and room for their spelling.
 type CopyCall<T> =
     unsafe extern "C" fn(*mut T, *const u8, usize, *mut u8, usize, *mut cll_report) -> u32;
 
-/// Gives a copier by this call the next bytes, and room for what they become: the answer, and the report.
+/// Gives a copier the next bytes by this call, and room for their spelling. Returns the answer and the report.
 fn copy_by<T>(
     call: CopyCall<T>,
     copier: &mut T,
@@ -251,7 +258,7 @@ fn copy_by<T>(
     (answer, report)
 }
 
-/// A copier of so many elements, to which nothing came.
+/// Returns a copier of `count` elements, to which no byte came.
 pub(crate) fn new_copier(count: u64) -> cll_copier {
     let mut copier = cll_copier { words: [0; 9] };
     // SAFETY: as this file says.
@@ -259,7 +266,7 @@ pub(crate) fn new_copier(count: u64) -> cll_copier {
     copier
 }
 
-/// Gives a copier the next bytes, and room for what they become: the answer, and the report.
+/// Gives a copier the next bytes, and room for their spelling. Returns the answer and the report.
 pub(crate) fn feed_copier(
     copier: &mut cll_copier,
     bytes: &[u8],
@@ -268,13 +275,13 @@ pub(crate) fn feed_copier(
     copy_by(sys::cll_copier_feed, copier, bytes, out)
 }
 
-/// What it means that no more bytes come to a copier: the answer, and the report.
+/// Says that no more bytes come to a copier. Returns the answer and the report.
 pub(crate) fn end_copier(copier: &cll_copier) -> (u32, cll_report) {
     end_by(sys::cll_copier_end, copier)
 }
 
-/// A copier of an item that contains at most so many levels, to which nothing came. A strict one takes the shortest
-/// spelling alone.
+/// Returns a copier, to which no byte came, of an item that contains at most `depth` levels. A strict one takes the
+/// shortest spelling alone.
 pub(crate) fn new_item_copier(depth: u32, strict: bool) -> Result<cll_item_copier, Error> {
     let mut copier = cll_item_copier { words: [0; 304] };
     let init = if strict {
@@ -289,7 +296,7 @@ pub(crate) fn new_item_copier(depth: u32, strict: bool) -> Result<cll_item_copie
     }
 }
 
-/// Gives a copier of an item the next bytes, and room for what they become: the answer, and the report.
+/// Gives a copier of an item the next bytes, and room for their spelling. Returns the answer and the report.
 pub(crate) fn feed_item_copier(
     copier: &mut cll_item_copier,
     bytes: &[u8],
@@ -298,7 +305,7 @@ pub(crate) fn feed_item_copier(
     copy_by(sys::cll_item_copier_feed, copier, bytes, out)
 }
 
-/// What it means that no more bytes come to a copier of an item: the answer, and the report.
+/// Says that no more bytes come to a copier of an item. Returns the answer and the report.
 pub(crate) fn end_item_copier(copier: &cll_item_copier) -> (u32, cll_report) {
     end_by(sys::cll_item_copier_end, copier)
 }

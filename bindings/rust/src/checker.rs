@@ -7,9 +7,9 @@ use core::fmt;
 /// How far an item has come.
 #[derive(Clone, Copy, Debug, PartialEq, Eq, Hash)]
 pub enum Progress {
-    /// At least so many bytes more are due.
+    /// At least this many more bytes are due.
     More(usize),
-    /// The item has ended. It has so many bytes.
+    /// The item has ended. It has this many bytes.
     Ended(usize),
 }
 
@@ -18,14 +18,14 @@ pub enum Progress {
 #[non_exhaustive]
 #[must_use = "it says how many bytes were taken, and whether the item has ended"]
 pub struct Feed {
-    /// How many bytes of the piece were taken: all of them, or those up to the end of the item.
+    /// How many bytes of the piece the checker took: all of them, or those up to the end of the item.
     pub taken: usize,
     /// How far the item has come.
     pub progress: Progress,
 }
 
-/// Checks one item whose bytes come in pieces, as out of a socket, however they are cut. It takes no memory but its
-/// own.
+/// Checks one item whose bytes come in pieces, as from a socket. It does not matter how they are cut. A checker takes
+/// no memory but its own.
 ///
 /// ```
 /// use ciborium_ll_proved::{Checker, Progress};
@@ -42,22 +42,32 @@ pub struct Checker {
 }
 
 impl Checker {
-    /// A checker of an item that contains at most so many levels of tags, arrays and maps. `Argument` where that is
-    /// more than 256.
+    /// Returns a checker of an item that contains at most `depth` levels of tags, arrays and maps.
+    ///
+    /// # Errors
+    ///
+    /// - `Argument` if `depth` is above 256.
     pub fn new(depth: u32) -> Result<Checker, Error> {
         let kept = calls::new_checker(depth, false)?;
         Ok(Checker { kept, taken: 0 })
     }
 
-    /// The same of an item in its shortest spelling (RFC 7049, 3.9).
+    /// Returns a checker as `new` does, of an item in its shortest spelling (RFC 7049, 3.9).
+    ///
+    /// # Errors
+    ///
+    /// - `Argument` if `depth` is above 256.
     pub fn strict(depth: u32) -> Result<Checker, Error> {
         let kept = calls::new_checker(depth, true)?;
         Ok(Checker { kept, taken: 0 })
     }
 
-    /// Takes the next bytes: all, but none behind the end of the item. An error comes with the first byte behind which
-    /// no item goes on, and names an offset in the item. Behind both a further call takes nothing, and answers the
-    /// same.
+    /// Takes the next bytes: all of them, or those up to the end of the item. After the end and after an error a
+    /// further call takes nothing, and answers the same.
+    ///
+    /// # Errors
+    ///
+    /// An error comes with the first byte after which no item goes on. It names an offset in the item.
     pub fn feed(&mut self, bytes: &[u8]) -> Result<Feed, Error> {
         let (answer, report) = calls::feed(&mut self.kept, bytes);
         let (taken, place) = (report.consumed as usize, report.place as usize);
@@ -70,21 +80,24 @@ impl Checker {
         Ok(Feed { taken, progress })
     }
 
-    /// How many bytes were taken of all pieces.
+    /// Returns how many bytes of all pieces the checker took.
     #[must_use]
     pub fn taken(&self) -> usize {
         self.taken
     }
 
-    /// Whether the item has ended. Before its first byte, and after an error, it has not.
+    /// Tells whether the item has ended. It has not before its first byte, nor after an error.
     #[must_use]
     pub fn is_ended(&self) -> bool {
         self.taken > 0 && self.end().is_ok()
     }
 
-    /// Says that no more bytes come. All is well if no byte came or the item has ended, which `is_ended` tells apart.
-    /// `Short` says how many bytes came where it is cut off, and how many more were due, and the other errors are those
-    /// of `feed`.
+    /// Says that no more bytes come. It returns `Ok` if no byte came or the item has ended, and `is_ended` tells which.
+    ///
+    /// # Errors
+    ///
+    /// - `Short` if the item is cut off. It says how many bytes came, and how many more were due.
+    /// - Any other error is one of `feed`.
     pub fn end(&self) -> Result<(), Error> {
         match calls::end(&self.kept) {
             (0, _) => Ok(()),

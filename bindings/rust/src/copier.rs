@@ -4,12 +4,12 @@ use crate::sys::{cll_copier, cll_item_copier, cll_report};
 use crate::Error;
 use core::fmt;
 
-/// How far elements, or an item, have come.
+/// How far the elements, or an item, have come.
 #[derive(Clone, Copy, Debug, PartialEq, Eq, Hash)]
 pub enum Copying {
-    /// More bytes are due, and all is written that can be before they come.
+    /// More bytes are due. The copier wrote all that it can write before they come.
     More,
-    /// There is more to write, and no room for it: what was not taken has to be given again.
+    /// There is more to write, and no room for it. The caller has to give the bytes that were not taken again.
     Room,
     /// All elements have come, or the item has ended, and all is written.
     Ended,
@@ -20,16 +20,16 @@ pub enum Copying {
 #[non_exhaustive]
 #[must_use = "it says how many bytes were taken and written, and whether that is all"]
 pub struct Fed {
-    /// How many bytes of the piece were taken.
+    /// How many bytes of the piece the copier took.
     pub taken: usize,
-    /// How many bytes were written.
+    /// How many bytes the copier wrote.
     pub written: usize,
     /// How far the elements have come.
     pub progress: Copying,
 }
 
 impl Fed {
-    /// What a copier answered.
+    /// Returns the answer of a copier.
     fn of(answer: u32, report: &cll_report) -> Result<Fed, Error> {
         let progress = match answer {
             0 => Copying::Ended,
@@ -45,8 +45,8 @@ impl Fed {
     }
 }
 
-/// Copies elements whose bytes come in pieces to their shortest spelling, however they are cut and how long the outputs
-/// are. It takes no memory but its own.
+/// Copies elements whose bytes come in pieces to their shortest spelling. It does not matter how the bytes are cut and
+/// how long the outputs are. A copier takes no memory but its own.
 ///
 /// ```
 /// use ciborium_ll_proved::{Copier, Copying};
@@ -66,7 +66,7 @@ pub struct Copier {
 }
 
 impl Copier {
-    /// A copier of so many elements.
+    /// Returns a copier of `count` elements.
     pub fn new(count: u64) -> Copier {
         Copier {
             kept: calls::new_copier(count),
@@ -74,29 +74,37 @@ impl Copier {
         }
     }
 
-    /// Takes the next bytes, and writes in front of the output as much as can be written of all so far. An error comes
-    /// with the first byte behind which no such elements go on, and names an offset in all of them. Behind the end and
-    /// behind an error a further call takes and writes nothing, and answers the same.
+    /// Takes the next bytes, and writes to the start of the output as much as it can write of all bytes so far. After
+    /// the end and after an error a further call takes and writes nothing, and answers the same.
+    ///
+    /// # Errors
+    ///
+    /// An error comes with the first byte after which no such elements go on. It names an offset in all of them.
     pub fn feed(&mut self, bytes: &[u8], out: &mut [u8]) -> Result<Fed, Error> {
         let (answer, report) = calls::feed_copier(&mut self.kept, bytes, out);
         self.taken += report.consumed as usize;
         Fed::of(answer, &report)
     }
 
-    /// How many bytes were taken of all pieces.
+    /// Returns how many bytes of all pieces the copier took.
     #[must_use]
     pub fn taken(&self) -> usize {
         self.taken
     }
 
-    /// Whether all elements have come and are written. Of no elements that is so before the first byte.
+    /// Tells whether all elements have come and are written. A copier of no elements has ended before the first byte.
     #[must_use]
     pub fn is_ended(&self) -> bool {
         self.end().is_ok()
     }
 
-    /// Says that no more bytes come. All is well where all elements have come and are written. `Short` says how many
-    /// bytes came where they are cut off, `Room` that there is more to write, and the other errors are those of `feed`.
+    /// Says that no more bytes come. It returns `Ok` if all elements have come and are written.
+    ///
+    /// # Errors
+    ///
+    /// - `Short` if the elements are cut off. It says how many bytes came.
+    /// - `Room` if there is more to write.
+    /// - Any other error is one of `feed`.
     pub fn end(&self) -> Result<(), Error> {
         match calls::end_copier(&self.kept) {
             (0, _) => Ok(()),
@@ -109,8 +117,8 @@ impl Copier {
     }
 }
 
-/// Copies one item whose bytes come in pieces to its shortest spelling, and ends where the item ends. It takes no memory
-/// but its own.
+/// Copies one item whose bytes come in pieces to its shortest spelling, and ends with the item. A copier takes no
+/// memory but its own.
 ///
 /// ```
 /// use ciborium_ll_proved::{Copying, ItemCopier};
@@ -130,44 +138,60 @@ pub struct ItemCopier {
 }
 
 impl ItemCopier {
-    /// A copier of an item that contains at most so many levels of tags, arrays and maps. `Argument` where that is more
-    /// than 256.
+    /// Returns a copier of an item that contains at most `depth` levels of tags, arrays and maps.
+    ///
+    /// # Errors
+    ///
+    /// - `Argument` if `depth` is above 256.
     pub fn new(depth: u32) -> Result<ItemCopier, Error> {
         let kept = calls::new_item_copier(depth, false)?;
         Ok(ItemCopier { kept, taken: 0 })
     }
 
-    /// The same of an item that is in its shortest spelling (RFC 7049, 3.9).
+    /// Returns a copier as `new` does, of an item that is in its shortest spelling (RFC 7049, 3.9).
+    ///
+    /// # Errors
+    ///
+    /// - `Argument` if `depth` is above 256.
     pub fn strict(depth: u32) -> Result<ItemCopier, Error> {
         let kept = calls::new_item_copier(depth, true)?;
         Ok(ItemCopier { kept, taken: 0 })
     }
 
-    /// Takes the next bytes, none behind the end of the item, and writes in front of the output as much as can be
-    /// written of all so far. An error comes with the first byte behind which no item goes on, of which nothing is
-    /// written, and names an offset in the item. Behind the end and behind an error a further call takes and writes
-    /// nothing, and answers the same.
+    /// Takes the next bytes up to the end of the item. It writes to the start of the output as much as it can write of
+    /// all bytes so far. After the end and after an error a further call takes and writes nothing, and answers the
+    /// same.
+    ///
+    /// # Errors
+    ///
+    /// An error comes with the first byte after which no item goes on. The call writes nothing of that byte. The error
+    /// names an offset in the item.
     pub fn feed(&mut self, bytes: &[u8], out: &mut [u8]) -> Result<Fed, Error> {
         let (answer, report) = calls::feed_item_copier(&mut self.kept, bytes, out);
         self.taken += report.consumed as usize;
         Fed::of(answer, &report)
     }
 
-    /// How many bytes were taken of all pieces.
+    /// Returns how many bytes of all pieces the copier took.
     #[must_use]
     pub fn taken(&self) -> usize {
         self.taken
     }
 
-    /// Whether the item has ended and is written. Before its first byte, and after an error, it has not.
+    /// Tells whether the item has ended and is written. It has not before its first byte, nor after an error.
     #[must_use]
     pub fn is_ended(&self) -> bool {
         self.taken > 0 && self.end().is_ok()
     }
 
-    /// Says that no more bytes come. All is well if no byte came, or the item has ended and is written, which `is_ended`
-    /// tells apart. `Short` says how many bytes came where it is cut off, and how many more were due, `Room` that there is
-    /// more to write, and the other errors are those of `feed`.
+    /// Says that no more bytes come. It returns `Ok` if no byte came, or if the item has ended and is written.
+    /// `is_ended` tells which.
+    ///
+    /// # Errors
+    ///
+    /// - `Short` if the item is cut off. It says how many bytes came, and how many more were due.
+    /// - `Room` if there is more to write.
+    /// - Any other error is one of `feed`.
     pub fn end(&self) -> Result<(), Error> {
         match calls::end_item_copier(&self.kept) {
             (0, _) => Ok(()),

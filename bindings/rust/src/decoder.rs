@@ -3,7 +3,7 @@ use crate::calls::{pull, skip, utf8};
 use crate::{Error, Header};
 use core::str;
 
-/// Gives the headers of a slice, one after the other. A call that fails leaves it where it was.
+/// Gives the headers of a slice, one after the other. A call that fails does not move the decoder.
 #[derive(Clone, Debug)]
 pub struct Decoder<'a> {
     bytes: &'a [u8],
@@ -23,7 +23,7 @@ impl<'a> From<&'a [u8]> for Decoder<'a> {
 }
 
 impl<'a> Decoder<'a> {
-    /// The next header.
+    /// Returns the next header.
     pub fn pull(&mut self) -> Result<Header, Error> {
         let (header, length) = pull(self.rest(), self.offset)?;
         self.last = Some((header, self.offset));
@@ -31,11 +31,12 @@ impl<'a> Decoder<'a> {
         Ok(header)
     }
 
-    /// Gives back the header that was pulled last, which is then pulled again.
+    /// Gives back the header that was pulled last. The next `pull` returns it again.
     ///
     /// # Panics
     ///
-    /// It panics where that is another header, or is gone: given back, or with its string or an item behind it taken.
+    /// It panics if another header was pulled last, or if the header is gone. It is gone after it was given back, and
+    /// after its string or an item after it was taken.
     pub fn push(&mut self, header: Header) {
         match self.last.take() {
             Some((last, start)) if last == header => self.offset = start,
@@ -43,31 +44,35 @@ impl<'a> Decoder<'a> {
         }
     }
 
-    /// How many bytes were taken so far.
+    /// Returns how many bytes were taken so far.
     #[must_use]
     pub fn offset(&self) -> usize {
         self.offset
     }
 
-    /// The bytes that were not taken.
+    /// Returns the bytes that were not taken.
     #[must_use]
     pub fn rest(&self) -> &'a [u8] {
         &self.bytes[self.offset..]
     }
 
-    /// Takes the byte string whose header, with that length, was pulled last, and gives its segments. They have been
-    /// read, so the error comes here. It is `Argument` where another header was pulled last.
+    /// Takes the byte string whose header, with that length, was pulled last. Returns its segments. The call has read
+    /// them, so an error in them comes here.
+    ///
+    /// # Errors
+    ///
+    /// - `Argument` if another header was pulled last.
     pub fn bytes(&mut self, length: Option<usize>) -> Result<Segments<'a, [u8]>, Error> {
         self.string(Header::Bytes(length), length, Some)
     }
 
-    /// The same of a text string. Each segment is UTF-8 by itself.
+    /// Takes a text string as `bytes` takes a byte string. Each segment is UTF-8 by itself.
     pub fn text(&mut self, length: Option<usize>) -> Result<Segments<'a, str>, Error> {
         self.string(Header::Text(length), length, |body| utf8(body).ok())
     }
 
-    /// Takes the next item, with all that it contains, and gives its bytes. Tags, arrays and maps may nest so many
-    /// levels deep, and at most 256.
+    /// Takes the next item, with all that it contains, and returns its bytes. Tags, arrays and maps may nest at most
+    /// `depth` levels deep, and at most 256.
     pub fn skip_item(&mut self, depth: u32) -> Result<&'a [u8], Error> {
         let item = &self.rest()[..skip(self.rest(), depth, self.offset)?];
         self.last = None;
@@ -75,7 +80,7 @@ impl<'a> Decoder<'a> {
         Ok(item)
     }
 
-    /// Takes the string whose header was just pulled.
+    /// Takes the string whose header was pulled last.
     fn string<T: ?Sized>(
         &mut self,
         header: Header,
@@ -87,7 +92,7 @@ impl<'a> Decoder<'a> {
             _ => return Err(Error::Argument),
         };
         let behind = self.rest();
-        // The body of a definite length is read once. If it is not there, or is none, a skip says why.
+        // The call reads the body of a definite length once. If the body is missing, or is not UTF-8, a skip says why.
         if let Some(body) = length.and_then(|length| behind.get(..length)) {
             if let Some(whole) = body_of(body) {
                 self.last = None;
@@ -109,13 +114,13 @@ impl<'a> Decoder<'a> {
     }
 }
 
-/// The segments of a string: the one body of a definite length, or those within an indefinite one.
+/// The segments of a string: the one body of a definite length, or those inside an indefinite one.
 #[derive(Debug)]
 #[must_use = "the segments come one by one"]
 pub struct Segments<'a, T: ?Sized> {
     /// The one body of a definite length.
     whole: Option<&'a T>,
-    /// What is left of another string, which has been read whole.
+    /// The rest of another string, which has been read whole.
     string: &'a [u8],
 }
 
@@ -126,7 +131,7 @@ impl<T: ?Sized> Clone for Segments<'_, T> {
 }
 
 impl<'a, T: ?Sized> Segments<'a, T> {
-    /// The body of the next title that has one.
+    /// Returns the body of the next title that has one.
     fn body(&mut self) -> Option<&'a [u8]> {
         loop {
             let (header, length) = pull(self.string, 0).ok()?;

@@ -2,7 +2,7 @@
 use crate::calls::{push, push_wide};
 use crate::{Error, Header};
 
-/// Writes headers and strings into a slice. The one error is `Room`, but for `push_wide`.
+/// Writes headers and strings into a slice. The only error is `Room`, except for `push_wide`.
 #[derive(Debug)]
 pub struct Encoder<'a> {
     out: &'a mut [u8],
@@ -22,9 +22,13 @@ impl<'a> Encoder<'a> {
         Ok(())
     }
 
-    /// Writes the title of a header that has so many bytes behind its first one: 0, 1, 2, 4 or 8, as its kind has them.
-    /// So a length may get its place before it is known. The error is `Argument` where no title of that width has the
-    /// header.
+    /// Writes the title of a header that has `width` bytes after its first one. A width is 0, 1, 2, 4 or 8, as the
+    /// header's kind has them. So a program may reserve the place of a length before it knows the length.
+    ///
+    /// # Errors
+    ///
+    /// - `Argument` if the header has no title of that width.
+    /// - `Room` if the title does not fit.
     pub fn push_wide(&mut self, header: Header, width: u32) -> Result<(), Error> {
         self.length += push_wide(header, width, &mut self.out[self.length..])?;
         Ok(())
@@ -40,8 +44,8 @@ impl<'a> Encoder<'a> {
         Ok(())
     }
 
-    /// Writes a byte string: in one, or in pieces where it is longer than the limit `segment`, of which 0 counts as 1.
-    /// After an error a beginning stands there.
+    /// Writes a byte string in one piece, or in pieces if it is longer than the limit `segment`. A limit of 0 counts as
+    /// 1. After an error the output holds a beginning of the string.
     pub fn bytes(&mut self, value: &[u8], segment: Option<usize>) -> Result<(), Error> {
         let limit = segment.unwrap_or(usize::MAX).max(1);
         if value.len() <= limit {
@@ -54,7 +58,8 @@ impl<'a> Encoder<'a> {
         self.push(Header::Break)
     }
 
-    /// The same of a text string, in pieces of whole characters. A limit below 4 counts as 4, so that each fits.
+    /// Writes a text string as `bytes` writes a byte string, in pieces of whole characters. A limit below 4 counts as
+    /// 4, so that each character fits.
     pub fn text(&mut self, value: &str, segment: Option<usize>) -> Result<(), Error> {
         let limit = segment.unwrap_or(usize::MAX).max(4);
         if value.len() <= limit {
@@ -70,20 +75,20 @@ impl<'a> Encoder<'a> {
         self.push(Header::Break)
     }
 
-    /// What was written so far.
+    /// Returns the bytes written so far.
     #[must_use]
     pub fn written(&self) -> &[u8] {
         &self.out[..self.length]
     }
 
-    /// A header and the body behind it.
+    /// Writes a header and the body after it.
     fn piece(&mut self, header: Header, body: &[u8]) -> Result<(), Error> {
         self.push(header)?;
         self.write_all(body)
     }
 }
 
-/// The longest front of a text that has no more than so many bytes, at least 4, and what stands behind it.
+/// Splits a text after its longest front of at most `limit` bytes. The limit is at least 4.
 pub(crate) fn split_at_most(text: &str, limit: usize) -> (&str, &str) {
     let most = limit.min(text.len());
     let end = (0..=most)

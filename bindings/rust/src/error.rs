@@ -3,40 +3,40 @@ use crate::calls::Stopped;
 use crate::sys::cll_report;
 use core::fmt;
 
-/// Why a call failed. The numbers are offsets in the bytes, but for what is due.
+/// Why a call failed. Each number is an offset in the bytes, except `due`.
 #[derive(Clone, Copy, Debug, PartialEq, Eq, Hash)]
 #[non_exhaustive]
 pub enum Error {
     /// The bytes end too early.
     Short {
-        /// There the read stopped.
+        /// The offset at which the read stopped.
         place: usize,
-        /// How many bytes more `recode`, `strict`, `skip_item`, a checker and a copier of an item need at least, or 0
-        /// where nothing that may follow makes it good. It is 0 of other calls.
+        /// How many more bytes `recode`, `strict`, `skip_item`, a checker and a copier of an item need at least. It is
+        /// 0 if no bytes that may follow complete the input, and for other calls.
         due: usize,
     },
-    /// There stands no CBOR, or of `utf8` no UTF-8, that could stand there.
+    /// At this offset stands no CBOR, or for `utf8` no UTF-8, that may stand there.
     Syntax(usize),
     /// The output is full.
     Room,
-    /// There a break stands where an item is due.
+    /// At this offset a break stands in place of an item.
     BreakDue(usize),
-    /// There a tag, an array or a map stands deeper than was allowed.
+    /// At this offset a tag, an array or a map stands deeper than the caller allows.
     TooDeep(usize),
-    /// An argument is out of its range, and nothing was done.
+    /// An argument is out of its range, and the call did nothing.
     Argument,
-    /// There stands a longer title than need be, or a float that a smaller width has.
+    /// At this offset stands a longer title than need be, or a float that fits a smaller width.
     NotShortest(usize),
-    /// There stands the title of an indefinite form, or a break.
+    /// At this offset stands the title of an indefinite form, or a break.
     Indefinite(usize),
-    /// There stands a key that comes before the key of the pair before it.
+    /// At this offset stands a key that comes before the key of the pair before it.
     KeyOrder(usize),
-    /// There stands the same key as that of the pair before it.
+    /// At this offset stands the same key as that of the pair before it.
     DuplicateKey(usize),
 }
 
 impl Error {
-    /// The error of an answer that is none of success, over bytes that begin at an offset.
+    /// Returns the error of an answer other than success, over bytes that begin at an offset.
     pub(crate) fn of(answer: u32, report: &cll_report, offset: usize) -> Error {
         let place = offset + report.place as usize;
         match answer {
@@ -52,12 +52,12 @@ impl Error {
             9 => Error::Indefinite(place),
             10 => Error::KeyOrder(place),
             11 => Error::DuplicateKey(place),
-            // Number 4 is never answered of bytes in memory.
+            // The library never answers 4 for bytes in memory.
             _ => Error::Argument,
         }
     }
 
-    /// The name of the answer.
+    /// Returns the name of the answer.
     #[must_use]
     pub fn name(&self) -> &'static str {
         match self {
@@ -74,7 +74,7 @@ impl Error {
         }
     }
 
-    /// The offset that it names, if it names one.
+    /// Returns the offset that the error names, if it names one.
     #[must_use]
     pub fn place(&self) -> Option<usize> {
         match *self {
@@ -90,7 +90,7 @@ impl Error {
         }
     }
 
-    /// How many bytes more are due at least, which is 0 of all but `Short`.
+    /// Returns how many more bytes are due at least. It is 0 for each error but `Short`.
     #[must_use]
     pub fn due(&self) -> usize {
         match *self {

@@ -4,11 +4,11 @@ use crate::sys::cll_header;
 /// A float, in its raw bits and its own width.
 #[derive(Clone, Copy, Debug, PartialEq, Eq, Hash)]
 pub enum Float {
-    /// Of 16 bits.
+    /// A float of 16 bits.
     Half(u16),
-    /// Of 32 bits.
+    /// A float of 32 bits.
     Single(u32),
-    /// Of 64 bits.
+    /// A float of 64 bits.
     Double(u64),
 }
 
@@ -17,7 +17,7 @@ pub enum Float {
 pub enum Header {
     /// The number itself.
     Positive(u64),
-    /// Of the number n: -1 - n.
+    /// The number -1 - n.
     Negative(u64),
     /// A float.
     Float(Float),
@@ -38,7 +38,7 @@ pub enum Header {
 }
 
 impl Header {
-    /// The header of parts that `cll_pull` gave.
+    /// Returns the header of parts that `cll_pull` gave.
     pub(crate) fn of(parts: &cll_header) -> Header {
         let value = parts.value;
         let length = (parts.indefinite == 0).then_some(value as usize);
@@ -58,7 +58,7 @@ impl Header {
         }
     }
 
-    /// The header in the parts by which C knows it.
+    /// Returns the header in the parts that the calls for C use.
     pub(crate) fn parts(self) -> cll_header {
         let with = |kind, value| cll_header {
             value,

@@ -3,32 +3,32 @@ use crate::calls::{pull, skip, utf8};
 use crate::{Error, Header};
 use core::iter::FusedIterator;
 
-/// A header, and where its title stands.
+/// A header, and the place of its title.
 #[derive(Clone, Copy, Debug, PartialEq, Eq, Hash)]
 #[non_exhaustive]
 pub struct Title<'a> {
     /// What the title means.
     pub header: Header,
-    /// Where it starts.
+    /// The offset at which the title starts.
     pub start: usize,
-    /// Where it ends.
+    /// The offset at which the title ends.
     pub end: usize,
-    /// Of a string of a definite length what stands behind the title.
+    /// The body of a string of a definite length, which follows the title.
     pub body: Option<&'a [u8]>,
-    /// The same as a text, if it is one.
+    /// The body as text, if it is the body of a text.
     text: Option<&'a str>,
 }
 
 impl<'a> Title<'a> {
-    /// The body of a text of a definite length.
+    /// Returns the body of a text of a definite length.
     #[must_use]
     pub fn text(&self) -> Option<&'a str> {
         self.text
     }
 }
 
-/// Goes over the titles of a slice, up to its end. An error is the last one. A string of a definite length is read whole,
-/// and that of a text is UTF-8. Nothing is said of how the titles nest.
+/// Goes over the titles of a slice, up to its end. An error is the last answer. The iterator reads a string of a
+/// definite length whole, and the body of a text is UTF-8. It says nothing about how the titles nest.
 ///
 /// ```
 /// use ciborium_ll_proved::{headers, Error, Header};
@@ -50,12 +50,12 @@ pub fn headers(bytes: &[u8]) -> Headers<'_> {
 #[must_use = "the titles come one by one"]
 pub struct Headers<'a> {
     bytes: &'a [u8],
-    /// How many of the bytes were taken. Behind an error these are all.
+    /// How many of the bytes were taken. After an error it is all of them.
     offset: usize,
 }
 
 impl<'a> Headers<'a> {
-    /// The title in front of what is left.
+    /// Reads the title that comes next.
     fn read(&mut self) -> Result<Title<'a>, Error> {
         let (start, rest) = (self.offset, &self.bytes[self.offset..]);
         let (header, length) = pull(rest, start)?;
@@ -74,7 +74,7 @@ impl<'a> Headers<'a> {
             if is_text {
                 title.text = body.and_then(|body| utf8(body).ok());
             }
-            // If the body is not there, or is none, a skip says why. A string has no levels.
+            // If the body is missing, or is not UTF-8, a skip says why. A string has no levels.
             if body.is_none() || is_text && title.text.is_none() {
                 skip(rest, 0, start)?;
             }

@@ -1,9 +1,9 @@
 // SPDX-License-Identifier: Apache-2.0
-//! CBOR (RFC 7049, 2.1 to 2.4) out of slices and into slices, one header at a time, by a library whose every answer is
-//! proved.
+//! Reads CBOR (RFC 7049, 2.1 to 2.4) out of slices and writes it into slices, one header at a time. Every answer of the
+//! library is proved.
 //!
-//! The names are those of the crate `ciborium-ll` where they mean the same. Nothing here takes memory. Without the feature
-//! `std`, which is on by default, the crate needs `core` alone.
+//! Items that mean the same as in the crate `ciborium-ll` have its names. Nothing here takes memory. Without the
+//! feature `std`, which is on by default, the crate needs `core` alone.
 //!
 //! [`stream`] has the names of `ciborium-ll` over any reader and writer of `std`.
 //!

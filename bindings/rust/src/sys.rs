@@ -1,6 +1,6 @@
 // SPDX-License-Identifier: Apache-2.0
-//! The calls for C, as `ciborium_ll.h` has them. A pointer to bytes may be null where their length is 0, and no other
-//! one. What a call writes must not overlap anything else that it is given.
+//! The calls for C, as `ciborium_ll.h` has them. A pointer to bytes may be null if their length is 0. No other pointer
+//! may be null. The memory that a call writes must not overlap anything else that the caller gives it.
 #![allow(non_camel_case_types)]
 
 /// What a title means: its kind by number, its value, and whether it is of the indefinite form.
@@ -11,7 +11,7 @@ pub struct cll_header {
     pub value: u64,
     /// The kind, from 0 to 11.
     pub kind: u8,
-    /// 1 for the indefinite form, else 0.
+    /// 1 for the indefinite form, and 0 otherwise.
     pub indefinite: u8,
 }
 
@@ -23,17 +23,17 @@ pub struct cll_report {
     pub consumed: u64,
     /// How many bytes were written.
     pub written: u64,
-    /// The offset that the answer names, if it names one, else 0.
+    /// The offset that the answer names, if it names one, and 0 otherwise.
     pub place: u64,
-    /// Of a copy and of a strict check how many elements were done whole, else 0.
+    /// How many elements a copy or a strict check did whole. It is 0 for other calls.
     pub elements: u64,
-    /// Of both the offset behind the last of them, else 0.
+    /// The offset after the last of these elements. It is 0 for other calls.
     pub whole: u64,
-    /// Of a copy how many of the bytes written are their spelling, else 0.
+    /// How many of the bytes that a copy wrote are the spelling of these elements. It is 0 for other calls.
     pub spelled: u64,
 }
 
-/// A checker of one item whose bytes come in pieces. What stands in it is the library's, and zeros are none.
+/// A checker of one item whose bytes come in pieces. Its contents are the library's, and zeros are no checker.
 #[repr(C)]
 #[derive(Clone, Copy, Debug)]
 pub struct cll_checker {
@@ -41,7 +41,7 @@ pub struct cll_checker {
     pub words: [u64; 296],
 }
 
-/// A copier of elements whose bytes come in pieces. What stands in it is the library's, and zeros are none.
+/// A copier of elements whose bytes come in pieces. Its contents are the library's, and zeros are no copier.
 #[repr(C)]
 #[derive(Clone, Copy, Debug)]
 pub struct cll_copier {
@@ -49,7 +49,7 @@ pub struct cll_copier {
     pub words: [u64; 9],
 }
 
-/// A copier of one item whose bytes come in pieces. What stands in it is the library's, and zeros are none.
+/// A copier of one item whose bytes come in pieces. Its contents are the library's, and zeros are no copier.
 #[repr(C)]
 #[derive(Clone, Copy, Debug)]
 pub struct cll_item_copier {

@@ -25,7 +25,7 @@ fn hex_of(bytes: &[u8]) -> String {
     }
 }
 
-/// The title that is written of a header, into so much room.
+/// Returns the title that `push` writes for a header, into `room` bytes.
 fn title_of(header: Header, room: usize) -> Result<String, Error> {
     let mut out = vec![0; room];
     let mut encoder = Encoder::from(&mut out[..]);
@@ -33,7 +33,7 @@ fn title_of(header: Header, room: usize) -> Result<String, Error> {
     Ok(hex_of(encoder.written()))
 }
 
-/// A header as it stands in the table.
+/// Returns a header as the table shows it.
 fn told(header: Header) -> String {
     let long = |name, length: Option<usize>| match length {
         Some(length) => format!("{name}/{length}"),
@@ -55,7 +55,7 @@ fn told(header: Header) -> String {
     }
 }
 
-/// A header of the table. This crate has no type for those that no title has.
+/// Returns a header of the table. This crate has no type for headers that have no title.
 fn header_of(text: &str) -> Option<Header> {
     let (kind, value) = text.split_once('/')?;
     let length = value.parse().ok();
@@ -71,7 +71,7 @@ fn header_of(text: &str) -> Option<Header> {
     }
 }
 
-/// The title of so many bytes behind its first one that is written of a header.
+/// Returns the title with `width` bytes after its first one that `push_wide` writes for a header.
 fn wide_title_of(header: Header, width: u32) -> Result<String, Error> {
     let mut out = [0; 9];
     let mut encoder = Encoder::from(&mut out[..]);
@@ -79,7 +79,7 @@ fn wide_title_of(header: Header, width: u32) -> Result<String, Error> {
     Ok(hex_of(encoder.written()))
 }
 
-/// How many bytes a call consumes, and what it makes.
+/// Returns how many bytes a call consumes, and what it makes.
 fn made(call: &str, number: u64, given: &str) -> Result<(usize, String), Error> {
     let data = if given.contains('/') {
         Vec::new()
@@ -123,7 +123,7 @@ fn made(call: &str, number: u64, given: &str) -> Result<(usize, String), Error> 
     }
 }
 
-/// What a checker says that gets the bytes one by one, as it stands in the table.
+/// Gives a checker the bytes one by one. Returns its answer as the table shows it.
 fn fed(depth: u32, data: &[u8], strict: bool) -> String {
     let made = if strict {
         Checker::strict(depth)
@@ -162,7 +162,7 @@ fn fed(depth: u32, data: &[u8], strict: bool) -> String {
     }
 }
 
-/// What a copier makes that gets the bytes one by one, with room for one, as it stands in the table.
+/// Gives a copier the bytes one by one, with room for one each. Returns its answer as the table shows it.
 fn copied(count: u64, data: &[u8]) -> String {
     let (mut copier, mut out, mut made) = (Copier::new(count), [0; 1], Vec::new());
     let got = loop {

@@ -1,5 +1,5 @@
 // SPDX-License-Identifier: Apache-2.0
-//! The names of `ciborium-ll` over readers and writers.
+//! Tries the names of `ciborium-ll` over readers and writers.
 #![cfg(feature = "std")]
 
 use ciborium_ll_proved::stream::{simple, tag, Decoder, Encoder, Error, Header};
@@ -15,14 +15,15 @@ impl Read for ByOne<'_> {
     }
 }
 
-/// The title that an encoder writes of a header.
+/// Returns the title that an encoder writes for a header.
 fn title_of(header: Header) -> Vec<u8> {
     let mut out = Vec::new();
     Encoder::from(&mut out).push(header).unwrap();
     out
 }
 
-/// The chunks of a text whose title is in front, in a buffer of so many bytes, and the place of the fault that ends it.
+/// Returns the chunks of the text whose title comes first, by a buffer of `room` bytes, and the place of the fault that
+/// ends it.
 fn chunks_of(bytes: &[u8], room: usize) -> (Vec<String>, Option<usize>) {
     let mut decoder = Decoder::from(ByOne(bytes));
     let length = match decoder.pull().unwrap() {
@@ -117,7 +118,8 @@ fn texts_come_in_chunks_of_characters() {
 
 #[test]
 fn a_text_that_is_none_is_a_fault_of_its_segment() {
-    // Behind a segment of one byte stands one that is no UTF-8, that is cut within a character, and that is none.
+    // After a segment of one byte comes one that is not UTF-8, one that is cut inside a character, or one that is no
+    // text.
     for bytes in [
         &b"\x7f\x61a\x62\xc3\x28"[..],
         b"\x7f\x61a\x61\xc3\x61a",
@@ -200,7 +202,7 @@ fn each_half_comes_back() {
     for bits in 0..=u16::MAX {
         let [high, low] = bits.to_be_bytes();
         let header = Decoder::from(&[0xf9, high, low][..]).pull().unwrap();
-        // One that is no number becomes quiet.
+        // A half that is not a number becomes quiet.
         let none = bits & 0x7c00 == 0x7c00 && bits & 0x3ff != 0;
         let high = if none { high | 2 } else { high };
         assert_eq!(title_of(header), [0xf9, high, low]);

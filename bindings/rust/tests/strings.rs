@@ -1,9 +1,9 @@
 // SPDX-License-Identifier: Apache-2.0
-//! Strings out of a decoder and into an encoder, and headers that are given back.
+//! Tries strings out of a decoder and into an encoder, and headers that are given back.
 
 use ciborium_ll_proved::{utf8, Decoder, Encoder, Error, Header};
 
-/// What an encoder writes.
+/// Returns the bytes that an encoder writes.
 fn written(write: impl Fn(&mut Encoder<'_>) -> Result<(), Error>) -> Vec<u8> {
     let mut out = [0; 64];
     let mut encoder = Encoder::from(&mut out[..]);
@@ -93,7 +93,7 @@ fn a_full_output_keeps_what_was_written() {
 #[test]
 fn text_is_what_std_takes_for_it() {
     for number in 0..=u16::MAX {
-        // With a whole character in front, and one that is begun behind.
+        // The two bytes follow a whole character, or a character that is begun follows them.
         let [first, second] = number.to_be_bytes();
         for bytes in [
             &[0xc3, 0xa9, first, second][..],

@@ -1,5 +1,5 @@
 // SPDX-License-Identifier: Apache-2.0
-//! What the types say of themselves, whether an item has ended, and the iterator over titles.
+//! Tries how the types show themselves, whether an item has ended, and the iterator over titles.
 
 use ciborium_ll_proved::{
     deterministic, headers, recode, skip_item, Checker, Copier, Error, Header, ItemCopier, Order,

@@ -1,10 +1,10 @@
-//! The same bytes through the proved crate and through `ciborium-ll`: headers, titles and strings have to be the same, out
-//! of slices and out of readers.
+//! Puts the same bytes through the proved crate and through `ciborium-ll`. Headers, titles and strings have to be the
+//! same, out of slices and out of readers.
 
 use ciborium_ll as original;
 use ciborium_ll_proved::{stream, Decoder, Encoder, Error, Float, Header};
 
-/// What the table of rows gives to its calls, and all of up to two bytes.
+/// Returns the bytes that the table of rows gives to its calls, and all lists of one byte and of two.
 fn inputs() -> Vec<Vec<u8>> {
     let table = include_str!("../../../tests/rows").lines();
     let mut inputs: Vec<Vec<u8>> = table
@@ -25,7 +25,7 @@ fn bytes_of(hex: &str) -> Option<Vec<u8>> {
         .collect()
 }
 
-/// A float as the original has it: a double.
+/// Returns a float as the original has it: a double.
 fn double_of(float: Float) -> f64 {
     match float {
         Float::Half(bits) => {
@@ -47,7 +47,7 @@ fn double_of(float: Float) -> f64 {
     }
 }
 
-/// A header as the original has it.
+/// Returns a header as the original has it.
 fn original_of(header: Header) -> original::Header {
     match header {
         Header::Positive(n) => original::Header::Positive(n),
@@ -63,7 +63,8 @@ fn original_of(header: Header) -> original::Header {
     }
 }
 
-/// Whether two headers of the original are the same. Floats are, where they are the same bits or both no number.
+/// Tells whether two headers of the original are the same. Two floats are the same if their bits are, or if neither is
+/// a number.
 fn same(a: original::Header, b: original::Header) -> bool {
     match (a, b) {
         (original::Header::Float(a), original::Header::Float(b)) => {
@@ -73,7 +74,8 @@ fn same(a: original::Header, b: original::Header) -> bool {
     }
 }
 
-/// What a fault of the original is here: it has the place of a syntax error, and stops elsewhere.
+/// Returns the error here for an error of the original: a syntax error with its place, or a read that ends at the
+/// offset.
 fn fault<T>(error: original::Error<T>, offset: usize) -> Error {
     match error {
         original::Error::Syntax(place) => Error::Syntax(place),
@@ -110,7 +112,8 @@ fn headers_are_the_same() {
     }
 }
 
-/// The title that both write of a header. The original writes a float in the least width, which need not be its own.
+/// Checks that both write the same title for a header. The original writes a float in the least width, which need not
+/// be its own.
 fn titles_are_the_same(ours: Header, theirs: original::Header) {
     if let Header::Float(_) = ours {
         return;
@@ -122,7 +125,8 @@ fn titles_are_the_same(ours: Header, theirs: original::Header) {
     assert_eq!(encoder.written(), title);
 }
 
-/// The segments of the string in front, by the original, or whether it is a syntax error that ends them.
+/// Returns the segments of the string that comes first, by the original. Otherwise it tells whether a syntax error ends
+/// them.
 macro_rules! segments_by_original {
     ($bytes:expr, $string:ident, $length:expr) => {{
         let mut decoder = original::Decoder::from($bytes);
@@ -177,7 +181,7 @@ fn strings_are_the_same() {
     }
 }
 
-/// The header of a stream as the original has it.
+/// Returns the header of a stream as the original has it.
 fn original_of_stream(header: stream::Header) -> original::Header {
     match header {
         stream::Header::Positive(n) => original::Header::Positive(n),
@@ -193,7 +197,7 @@ fn original_of_stream(header: stream::Header) -> original::Header {
     }
 }
 
-/// The title that both write of a header, floats too.
+/// Checks that both write the same title for a header, floats too.
 fn titles_of_streams_are_the_same(ours: stream::Header, theirs: original::Header) {
     let (mut a, mut b) = (Vec::new(), Vec::new());
     stream::Encoder::from(&mut a).push(ours).unwrap();
@@ -236,7 +240,8 @@ fn headers_of_streams_are_the_same() {
     }
 }
 
-/// The segments of the string in front, by a decoder over a reader, or whether it is a syntax error that ends them.
+/// Returns the segments of the string that comes first, by a decoder over a reader. Otherwise it tells whether a syntax
+/// error ends them.
 macro_rules! segments_by_stream {
     ($bytes:expr, $string:ident, $length:expr, $room:expr) => {{
         let mut decoder = stream::Decoder::from($bytes);

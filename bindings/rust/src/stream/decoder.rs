@@ -4,7 +4,7 @@ use super::{Bytes, Error, Header, Segments, Text};
 use crate::calls;
 use std::io::{self, Read};
 
-/// Gives the headers that a reader has, one after the other.
+/// Gives the headers in the bytes of a reader, one after the other.
 #[derive(Debug)]
 pub struct Decoder<R> {
     reader: R,
@@ -24,12 +24,12 @@ impl<R: Read> From<R> for Decoder<R> {
 }
 
 impl<R: Read> Decoder<R> {
-    /// The next header.
+    /// Returns the next header.
     ///
     /// # Errors
     ///
     /// - `Io` if the reader fails, or its bytes end before a title or inside it.
-    /// - `Syntax` for a first byte with which no title begins.
+    /// - `Syntax` if no title begins with the first byte.
     pub fn pull(&mut self) -> Result<Header, Error<io::Error>> {
         if let Some(header) = self.given_back.take() {
             self.offset = self.offset.wrapping_add(length_of(header));
@@ -37,7 +37,7 @@ impl<R: Read> Decoder<R> {
         }
         let (start, mut title) = (self.offset, [0; 9]);
         self.read_exact(&mut title[..1])?;
-        // How many bytes stand behind the first one.
+        // How many bytes follow the first one.
         let width = match title[0] & 31 {
             more @ 24..=27 => 1 << (more - 24),
             _ => 0,
@@ -49,7 +49,7 @@ impl<R: Read> Decoder<R> {
         }
     }
 
-    /// Gives back a header, which is then the next one. The offset goes back by the length of its shortest title.
+    /// Gives back a header, which `pull` then returns next. The offset goes back by the length of its shortest title.
     ///
     /// # Panics
     ///
@@ -72,18 +72,18 @@ impl<R: Read> Decoder<R> {
         Ok(())
     }
 
-    /// How many bytes were read so far.
+    /// Returns how many bytes were read so far.
     pub fn offset(&mut self) -> usize {
         self.offset
     }
 
-    /// The segments of the byte string whose header, with that length, was pulled last.
+    /// Returns the segments of the byte string whose header, with that length, was pulled last.
     pub fn bytes(&mut self, length: Option<usize>) -> Segments<'_, R, Bytes> {
         self.push(Header::Bytes(length));
         Segments::of(self)
     }
 
-    /// The same of a text string. Each segment is UTF-8 by itself.
+    /// Returns the segments of a text string as `bytes` does. Each segment is UTF-8 by itself.
     pub fn text(&mut self, length: Option<usize>) -> Segments<'_, R, Text> {
         self.push(Header::Text(length));
         Segments::of(self)

@@ -25,12 +25,13 @@ impl<W: Write> Encoder<W> {
         self.0.write_all(bytes)
     }
 
-    /// Hands on what the writer holds back.
+    /// Hands on the bytes that the writer holds back.
     pub fn flush(&mut self) -> io::Result<()> {
         self.0.flush()
     }
 
-    /// Writes a byte string: in one, or in pieces if it is longer than the limit `segment`, of which 0 counts as 1.
+    /// Writes a byte string in one piece, or in pieces if it is longer than the limit `segment`. A limit of 0 counts as
+    /// 1.
     pub fn bytes(&mut self, value: &[u8], segment: impl Into<Option<usize>>) -> io::Result<()> {
         let limit = segment.into().unwrap_or(usize::MAX).max(1);
         if value.len() <= limit {
@@ -43,7 +44,8 @@ impl<W: Write> Encoder<W> {
         self.push(Header::Break)
     }
 
-    /// The same of a text string, in pieces of whole characters. A limit below 4 counts as 4, so that each fits.
+    /// Writes a text string as `bytes` writes a byte string, in pieces of whole characters. A limit below 4 counts as
+    /// 4, so that each character fits.
     pub fn text(&mut self, value: &str, segment: impl Into<Option<usize>>) -> io::Result<()> {
         let limit = segment.into().unwrap_or(usize::MAX).max(4);
         if value.len() <= limit {
@@ -59,7 +61,7 @@ impl<W: Write> Encoder<W> {
         self.push(Header::Break)
     }
 
-    /// A header and the body behind it.
+    /// Writes a header and the body after it.
     fn piece(&mut self, header: Header, body: &[u8]) -> io::Result<()> {
         self.push(header)?;
         self.0.write_all(body)

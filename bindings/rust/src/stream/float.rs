@@ -1,15 +1,15 @@
 // SPDX-License-Identifier: Apache-2.0
-//! Floats of three widths as numbers, and back into the least width that keeps them.
+//! Turns floats of three widths into numbers, and numbers into floats of the least width that keeps them.
 
 use crate::Float;
 
-/// The bits of a double that stand for its exponent if it is an infinity, or no number.
+/// The bits of a double's exponent, if the double is an infinity or not a number.
 const EXPONENT: u64 = 0x7ff0 << 48;
 
-/// The bit that tells a number which is none, and raises no signal.
+/// The bit of a double that is not a number, and raises no signal.
 const QUIET: u64 = 0x0008 << 48;
 
-/// A float as a number. One that is no number becomes quiet.
+/// Returns a float as a number. A float that is not a number becomes quiet.
 pub(super) fn number_of(float: Float) -> f64 {
     match float {
         Float::Half(bits) => number_of_half(bits),
@@ -30,7 +30,7 @@ fn number_of_half(bits: u16) -> f64 {
     f64::from_bits(sign | size)
 }
 
-/// The float of the least width that gives this number back, bit for bit.
+/// Returns the float of the least width that gives this number back, bit for bit.
 pub(super) fn float_of(number: f64) -> Float {
     if let Some(bits) = half_of(number) {
         return Float::Half(bits);
@@ -43,7 +43,7 @@ pub(super) fn float_of(number: f64) -> Float {
     }
 }
 
-/// The half that gives this number back, if there is one.
+/// Returns the half that gives this number back, if there is one.
 fn half_of(number: f64) -> Option<u16> {
     let bits = number.to_bits();
     let (sign, exponent) = (
@@ -54,7 +54,7 @@ fn half_of(number: f64) -> Option<u16> {
     let size = match exponent {
         1024 => 0x7c00 | fraction >> 42,
         -14..=15 => ((exponent + 15) as u64) << 10 | fraction >> 42,
-        // Below the least number with a leading one, the bits are a count of the least half.
+        // Below the least half with a leading one, the bits are a count of the least half.
         -24..=-15 => (1 << 52 | fraction) >> (28 - exponent),
         _ => 0,
     };

@@ -6,7 +6,7 @@ use super::float::{float_of, number_of};
 pub enum Header {
     /// The number itself.
     Positive(u64),
-    /// Of the number n: -1 - n.
+    /// The number -1 - n.
     Negative(u64),
     /// A float of any width.
     Float(f64),
@@ -44,7 +44,7 @@ impl From<crate::Header> for Header {
 }
 
 impl From<Header> for crate::Header {
-    /// A float gets the least width that keeps it.
+    /// Gives a float the least width that keeps it.
     fn from(header: Header) -> Self {
         match header {
             Header::Positive(n) => crate::Header::Positive(n),
@@ -61,14 +61,14 @@ impl From<Header> for crate::Header {
     }
 }
 
-/// The shortest title of a header, and how many bytes it has.
+/// Returns the shortest title of a header, and its length.
 pub(super) fn title_of(header: Header) -> ([u8; 9], usize) {
     let mut title = [0; 9];
     let length = crate::calls::push(header.into(), &mut title);
     (title, length.expect("a title has at most nine bytes"))
 }
 
-/// How many bytes the shortest title of a header has.
+/// Returns the length of the shortest title of a header.
 pub(super) fn length_of(header: Header) -> usize {
     let value = match header {
         Header::Positive(n) | Header::Negative(n) | Header::Tag(n) => n,

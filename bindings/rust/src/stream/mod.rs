@@ -1,9 +1,11 @@
 // SPDX-License-Identifier: Apache-2.0
 //! The names of the crate `ciborium-ll`, over any [`Read`] and [`Write`] of `std`.
 //!
-//! What a program calls there is here under the same name, so another `use` is the one change. Floats are numbers, and
-//! strings come in chunks of a buffer. What differs: the errors of a reader and a writer are those of `std::io`, and text
-//! that is no UTF-8 is a fault of the chunk in which it goes wrong.
+//! A program calls the same names here as there, so another `use` is the one change. Floats are numbers, and strings
+//! come in chunks of a buffer.
+//!
+//! Two things differ. The errors of a reader and a writer are those of `std::io`. A text that is not UTF-8 is a fault
+//! of the chunk in which it goes wrong.
 //!
 //! ```
 //! use ciborium_ll_proved::stream::{Decoder, Encoder, Header};
@@ -57,11 +59,11 @@ pub mod simple {
     pub const UNDEFINED: u8 = 23;
 }
 
-/// The tags of numbers that an integer of CBOR does not hold (RFC 7049, 2.4.2).
+/// The tags of numbers that do not fit into an integer of CBOR (RFC 7049, 2.4.2).
 pub mod tag {
-    /// A positive one.
+    /// A positive number.
     pub const BIGPOS: u64 = 2;
-    /// A negative one.
+    /// A negative number.
     pub const BIGNEG: u64 = 3;
 }
 
@@ -70,8 +72,7 @@ pub mod tag {
 pub enum Error<T> {
     /// The reader failed, or its bytes end too early.
     Io(T),
-    /// At this offset begins a title that is none, or that could not stand there, or the title of a text that is no
-    /// UTF-8.
+    /// At this offset begins no title, or a title that may not stand there, or the title of a text that is not UTF-8.
     Syntax(usize),
 }
 

@@ -5,7 +5,7 @@ use std::io::{self, Read};
 use std::marker::PhantomData;
 
 mod sealed {
-    /// What a chunk becomes: the value, and how many bytes at its end are kept for the next one. `None` is a fault.
+    /// Turns a chunk into its value, and tells how many bytes at its end are kept for the next one. `None` is a fault.
     pub trait Chunks {
         type Item: ?Sized;
         fn length_in(header: super::Header) -> Option<Option<usize>>;
@@ -58,7 +58,7 @@ impl sealed::Chunks for Text {
     }
 }
 
-/// The segments of a string: the one of a definite length, or those within an indefinite one.
+/// The segments of a string: the one of a definite length, or those inside an indefinite one.
 #[derive(Debug)]
 #[must_use = "the segments are read one by one"]
 pub struct Segments<'r, R, K> {
@@ -79,12 +79,12 @@ impl<'r, R: Read, K: Kind> Segments<'r, R, K> {
         }
     }
 
-    /// The next segment, or `None` after the last one. The one before has to be read whole.
+    /// Returns the next segment, or `None` after the last one. The caller has to read the one before whole.
     ///
     /// # Errors
     ///
     /// - `Io` if the reader fails, or its bytes end too early.
-    /// - `Syntax` for a title that is none, or that may not stand within the string.
+    /// - `Syntax` if no title begins there, or the string may not contain the title.
     pub fn pull(&mut self) -> Result<Option<Segment<'_, R, K>>, Error<io::Error>> {
         while !self.ended {
             let offset = self.decoder.offset();
@@ -117,28 +117,29 @@ impl<'r, R: Read, K: Kind> Segments<'r, R, K> {
 #[must_use = "the chunks are read one by one"]
 pub struct Segment<'r, R, K> {
     decoder: &'r mut Decoder<R>,
-    /// Where its title starts.
+    /// The offset at which its title starts.
     offset: usize,
     /// How many of its bytes were not read.
     left: usize,
-    /// Bytes that begin a character, and how many there are. They stand in front of the next chunk.
+    /// Bytes that begin a character, and how many there are. The next chunk begins with them.
     kept: ([u8; 3], usize),
     kind: PhantomData<K>,
 }
 
 impl<'r, R: Read, K: Kind> Segment<'r, R, K> {
-    /// How many bytes no chunk has given yet.
+    /// Returns how many bytes no chunk has given yet.
     #[must_use]
     pub fn left(&self) -> usize {
         self.left + self.kept.1
     }
 
-    /// The next chunk, in front of the buffer, or `None` after the last one. A text needs a buffer of 4 bytes to get on.
+    /// Reads the next chunk into the start of the buffer. Returns it, or `None` after the last one. A text needs a
+    /// buffer of 4 bytes to get on.
     ///
     /// # Errors
     ///
     /// - `Io` if the reader fails, or its bytes end too early.
-    /// - `Syntax`, with the offset of the segment's title, for a text that is no UTF-8.
+    /// - `Syntax`, with the offset of the segment's title, if a text is not UTF-8.
     pub fn pull<'a>(
         &mut self,
         buffer: &'a mut [u8],
@@ -157,7 +158,7 @@ impl<'r, R: Read, K: Kind> Segment<'r, R, K> {
         chunk[..front].copy_from_slice(&kept[..front]);
         self.decoder.read_exact(&mut chunk[front..])?;
         self.left -= size - front;
-        // Without a new byte all that was kept is kept.
+        // If no new byte came, all kept bytes stay.
         let chunk: &'a [u8] = if size > count { chunk } else { &[] };
         let (value, more) = K::of(chunk).ok_or(Error::Syntax(self.offset))?;
         if size > count {
