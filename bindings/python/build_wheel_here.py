@@ -1,8 +1,8 @@
 # SPDX-License-Identifier: Apache-2.0
 """Makes the wheel and the source archive, with Python's own library alone.
 
-A wheel has the package's files, the shared library and what names them; `library` says which library that is. The source
-archive has none, and one has to be there where a wheel is built from it.
+A wheel has the package's files, the shared library and what names them; `library` says which library that is. The
+source archive has no library, so a library has to be there if a wheel is built from the archive.
 """
 import ast
 import base64
@@ -27,16 +27,16 @@ SOURCES = ("README.md", "pyproject.toml", "build_wheel_here.py", *(f"ciborium_ll
            "tests/test_package.py", "tests/test_rows.py")
 NAME = "libciborium_ll.so"
 
-# Kinds of sections, and of an entry of the first, in the format ELF.
+# The numbers of kinds of sections, and of the kind of an entry of the dynamic section, in the format ELF.
 DYNAMIC, VERSIONS_NEEDED, NEEDED = 6, 0x6FFFFFFE, 1
 
-# The names that tags of old had, by the version of glibc.
+# Older tags have these names, by the version of glibc.
 OLD_TAGS = {(2, 5): "manylinux1", (2, 12): "manylinux2010", (2, 17): "manylinux2014"}
 
 
 @functools.lru_cache(maxsize=None)
 def project():
-    """The strings and the lists of strings of pyproject.toml, by table and key.
+    """Returns the strings and the lists of strings of pyproject.toml, by table and key.
 
     Both are spelled as in Python, so a Python that has no module for TOML reads them. A table in braces has one key.
     """
@@ -57,7 +57,7 @@ def version():
 
 
 def installed():
-    """The library that pkg-config finds with the calls of this version, if there is one."""
+    """Returns the library that pkg-config finds with the calls of this version, if there is one."""
     major, minor, _ = version().split(".")
     name = f"ciborium_ll-{major}.{minor}" if major == "0" else f"ciborium_ll-{major}"
     try:
@@ -70,7 +70,7 @@ def installed():
 
 @functools.lru_cache(maxsize=None)
 def library():
-    """The shared library: that of CIBORIUM_LL_LIBRARY, of a release archive, of `make`, or that is installed."""
+    """Returns the shared library: of CIBORIUM_LL_LIBRARY, of a release archive, of `make`, or an installed one."""
     named = os.environ.get("CIBORIUM_LL_LIBRARY")
     near = (HERE.parent / "lib" / NAME, HERE.parent / "out" / NAME)
     found = Path(named) if named else next((at for at in near if at.exists()), None) or installed()
@@ -87,12 +87,12 @@ def library():
 
 
 def licence():
-    """The licence, of a source archive, of a release archive or of the repository."""
+    """Returns the licence of a source archive, of a release archive or of the repository."""
     return next(at for at in (folder / "LICENSE" for folder in (HERE, *HERE.parents)) if at.exists())
 
 
 def metadata():
-    """What an index reads, in the version that all of its tools know."""
+    """Returns the metadata that an index reads, in the version that all of its tools know."""
     of = project()["project"]
     lines = ["Metadata-Version: 2.1", f"Name: {of['name']}", f"Version: {version()}", f"Summary: {of['description']}",
              f"Keywords: {','.join(of['keywords'])}", f"License: {of['license']['text']}",
@@ -103,7 +103,7 @@ def metadata():
 
 
 def needed(data):
-    """What a shared library needs: the names of libraries, and the versions of their symbols."""
+    """Returns the names of the libraries that a shared library needs, and the versions of their symbols."""
     at, = struct.unpack_from("<Q", data, 0x28)
     size, count = struct.unpack_from("<HH", data, 0x3A)
     sections = [struct.unpack_from("<IIQQQQII", data, at + size * index) for index in range(count)]
@@ -131,7 +131,7 @@ def needed(data):
 
 
 def tags():
-    """The systems that the library runs on: with a glibc that has its symbols, if it needs nothing more."""
+    """Returns the systems that the library runs on: those whose glibc has its symbols, if it needs nothing more."""
     libraries, versions = needed(library().read_bytes())
     of_glibc = [re.fullmatch(r"GLIBC_(\d+)\.(\d+)[.\d]*", name) for name in versions]
     plain = re.sub(r"[-.]", "_", sysconfig.get_platform())
@@ -144,7 +144,7 @@ def tags():
 
 
 def write_wheel(folder, files):
-    """Writes a wheel with these files, by their names in it, and gives its name."""
+    """Writes a wheel with these files, by their names in it, and returns its name."""
     info = f"ciborium_ll-{version()}.dist-info"
     made = "".join(f"Tag: {tag}\n" for tag in tags())
     files = {**files, f"{info}/METADATA": metadata(), f"{info}/LICENSE": licence().read_bytes(),
@@ -157,7 +157,7 @@ def write_wheel(folder, files):
     name = f"ciborium_ll-{version()}-py3-none-{'.'.join(tag.split('-')[2] for tag in tags())}.whl"
     with zipfile.ZipFile(Path(folder, name), "w") as wheel:
         for path, data in files.items():
-            # With one time for all, so that the same files make the same wheel.
+            # All files get one time, so that the same files make the same wheel.
             entry = zipfile.ZipInfo(path)
             entry.external_attr = (0o100755 if path.endswith(".so") else 0o100644) << 16
             wheel.writestr(entry, data, zipfile.ZIP_DEFLATED)
@@ -170,7 +170,7 @@ def build_wheel(wheel_directory, config_settings=None, metadata_directory=None):
 
 
 def build_editable(wheel_directory, config_settings=None, metadata_directory=None):
-    """A wheel that leads to the package where it stands, and to the library."""
+    """Writes a wheel that leads to the package in this folder, and to the library."""
     return write_wheel(wheel_directory, {
         "ciborium_ll.pth": f"{HERE}\n".encode(),
         "_ciborium_ll_library.py": f"# The library of the package in {HERE}.\nLIBRARY = {str(library())!r}\n".encode()})

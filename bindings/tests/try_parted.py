@@ -1,10 +1,10 @@
 #!/usr/bin/env python3
-"""Tries bindings/python/examples/parted.py over a cluster of two processes: with a worker that dies, with faults and
+"""Tries bindings/python/examples/parted.py over a cluster of two processes, with a worker that dies, with faults and
 with an index.
 
 usage: try_parted.py FOLDER
 
-FOLDER is made. The folder of the example is in the path of Python, also for the workers.
+The program makes FOLDER. The folder of the example is in the path of Python, also for the workers.
 """
 import contextlib
 import io
@@ -16,14 +16,14 @@ import ciborium_ll
 import parted
 from dask.distributed import Client
 
-# An item of an array of a number in a long spelling and a string of 1,024 bytes, and its shortest spelling.
+# An item, and its shortest spelling. It is an array of a number in a long spelling and a string of 1,024 bytes.
 ITEM = b"\x82\x19\x00\x02\x59\x04\x00" + b"x" * 1024
 SHORTEST = b"\x82\x02" + ITEM[4:]
 COUNT = 3000
 
 
 def dies_once(part, copies):
-    """The work of a worker that dies over the second part, which another one has then."""
+    """Works as a worker that dies at the second part. Another worker then gets that part."""
     died = f"{part.name}.died"
     if part.start > 0 and not os.path.exists(died):
         with open(died, "x"):
@@ -32,7 +32,7 @@ def dies_once(part, copies):
 
 
 def said(client, path, out=None):
-    """What is said of a path, a line each, and whether there is no fault."""
+    """Returns the lines printed for a path, and whether there is no fault."""
     lines = io.StringIO()
     with contextlib.redirect_stdout(lines):
         whole = parted.go(client, path, out)

@@ -1,9 +1,9 @@
 # SPDX-License-Identifier: Apache-2.0
-"""CBOR (RFC 7049, 2.1 to 2.4) in memory, one header at a time, by a library whose every answer is proved.
+"""Reads and writes CBOR (RFC 7049, 2.1 to 2.4) in memory, one header at a time. Every answer of the library is proved.
 
-Bytes are read where they lie, out of any object with the buffer protocol: ``bytes``, ``bytearray``, ``memoryview``,
-``mmap``, ``array`` and others. No other thread may change them while a call reads them. A call that fails raises an
-``Error`` with a name and a place.
+A call reads the bytes of any object with the buffer protocol in place: ``bytes``, ``bytearray``, ``memoryview``,
+``mmap``, ``array`` and others. No other thread may change the bytes while a call reads them. A call that fails raises
+an ``Error`` with a name and a place.
 
 A sequence of items may be empty, so ``end()`` of a ``Checker`` to which no byte came raises nothing. ``ended`` tells
 whether the item has ended.
@@ -21,15 +21,15 @@ __all__ = ["Kind", "Header", "Title", "Recoded", "Error", "ShortError", "CborSyn
            "Short", "Syntax", "Room", "BreakDue", "TooDeep", "Argument", "Order", "Progress", "Checker", "Copied",
            "Copier", "ItemCopier", "pull", "push", "recode", "strict", "skip", "deterministic", "utf8", "headers"]
 
-# What has the buffer protocol. Python has a name for it from 3.12 on.
+# An object with the buffer protocol. Python has a name for it from 3.12 on.
 _Bytes = getattr(collections.abc, "Buffer", Union[bytes, bytearray, memoryview, mmap.mmap, array.array])
 
-# The versions of the library that have the calls of this package begin so.
+# The versions of the library that have the calls of this package begin with this.
 _INTERFACE = "0.1"
 
 
 class Kind(enum.IntEnum):
-    """What a title begins, or is."""
+    """The kind of a title, by what the title begins or is."""
 
     POSITIVE = 0
     NEGATIVE = 1
@@ -48,7 +48,8 @@ class Kind(enum.IntEnum):
 class Order(enum.IntEnum):
     """The order of the keys of a map, by their encodings.
 
-    By their bytes (RFC 8949, 4.2.1), or the shorter one first, and keys of the same length by their bytes (4.2.3).
+    ``BYTEWISE`` is by their bytes (RFC 8949, 4.2.1). With ``LENGTH_FIRST`` the shorter one comes first, and keys of the
+    same length go by their bytes (4.2.3).
     """
 
     BYTEWISE = 0
@@ -58,8 +59,8 @@ class Order(enum.IntEnum):
 class Header(NamedTuple):
     """What a title means.
 
-    ``value`` is the number; of NEGATIVE the number is -1 - value; the length in bytes, the count of items or of pairs,
-    or a float's raw bits. It is ``None`` for an indefinite form, and 0 for a break.
+    ``value`` is the number, the length in bytes, the count of items or of pairs, or a float's raw bits. NEGATIVE means
+    the number -1 - value. ``value`` is ``None`` for an indefinite form, and 0 for a break.
     """
 
     kind: Kind
@@ -67,7 +68,7 @@ class Header(NamedTuple):
 
 
 class Title(NamedTuple):
-    """A header, where its title starts and ends, and of a string of a definite length the body."""
+    """A header, the offsets at which its title starts and ends, and the body of a string of a definite length."""
 
     header: Header
     start: int
@@ -76,7 +77,7 @@ class Title(NamedTuple):
 
 
 class Recoded(NamedTuple):
-    """Elements in their shortest spelling, and how many bytes they were read from."""
+    """Elements in their shortest spelling, and how many bytes the call read for them."""
 
     data: bytes
     consumed: int
@@ -85,8 +86,8 @@ class Recoded(NamedTuple):
 class Progress(NamedTuple):
     """How far an item has come.
 
-    How many bytes were taken of a piece, how long the item is, or ``None`` if it has not ended, and how many bytes more
-    are due at least, which is 0 if it has.
+    ``consumed`` is how many bytes of a piece were taken. ``length`` is the length of the item, or ``None`` if it has
+    not ended. ``due`` is how many more bytes are due at least, and 0 if the item has ended.
     """
 
     consumed: int
@@ -95,14 +96,15 @@ class Progress(NamedTuple):
 
     @property
     def ended(self) -> bool:
-        """Whether the item has ended."""
+        """Tells whether the item has ended."""
         return self.length is not None
 
 
 class Copied(NamedTuple):
-    """What elements have become of which a copier got a piece.
+    """The answer of a copier to a piece of elements.
 
-    What can be written of them so far, how many bytes were taken of the piece, and whether all elements have come.
+    ``data`` is all that can be written of the elements so far, and that no answer had before. ``consumed`` is how many
+    bytes of the piece were taken. ``ended`` tells whether all elements have come.
     """
 
     data: bytes
@@ -113,12 +115,15 @@ class Copied(NamedTuple):
 class Error(ValueError):
     """Why a call failed.
 
-    ``name`` names the answer, and ``place`` is the offset that it names, in all of the bytes; of ``short`` it is where
-    the read stopped. ``consumed`` and ``written`` say how far the call came; ``elements`` how many elements ``recode``
-    and ``strict`` did whole, ``whole`` how many bytes these have, and ``spelled`` how many of the bytes that ``recode``
-    wrote are their spelling. Of a ``Copier`` ``data`` is what it wrote. ``due`` is of ``short`` how many bytes more
-    ``recode``, ``strict``, ``skip``, a ``Checker`` and an ``ItemCopier`` need at least, or 0 where nothing that may
-    follow makes it good; else it is 0.
+    ``name`` names the answer. ``place`` is the offset that the answer names, in all of the bytes. With ``short`` it is
+    the offset at which the read stopped.
+
+    ``consumed`` and ``written`` say how far the call came. ``elements`` is how many elements ``recode`` and ``strict``
+    did whole. ``whole`` is how many bytes these elements have. ``spelled`` is how many of the bytes that ``recode``
+    wrote are their spelling. ``data`` is the bytes that a ``Copier`` wrote.
+
+    ``due`` is how many more bytes ``recode``, ``strict``, ``skip``, a ``Checker`` and an ``ItemCopier`` need at least
+    with ``short``. It is 0 if no bytes that may follow complete the input, and with any other answer.
     """
 
     name: str = "error"
@@ -146,37 +151,37 @@ class ShortError(Error):
 
 
 class CborSyntaxError(Error):
-    """At the place stands no CBOR, or of ``utf8`` no UTF-8, that could stand there."""
+    """At the place stands no CBOR, or for ``utf8`` no UTF-8, that may stand there."""
 
     name = "syntax"
 
 
 class RoomError(Error):
-    """There is no room for what is to be written."""
+    """The next thing to write has no room."""
 
     name = "room"
 
 
 class BreakDueError(Error):
-    """At the place a break stands where an item is due."""
+    """At the place a break stands in place of an item."""
 
     name = "break_due"
 
 
 class TooDeepError(Error):
-    """At the place a tag, an array or a map stands deeper than was allowed."""
+    """At the place a tag, an array or a map stands deeper than the caller allows."""
 
     name = "too_deep"
 
 
 class ArgumentError(Error):
-    """An argument is out of its range, and nothing was done."""
+    """An argument is out of its range, and the call did nothing."""
 
     name = "argument"
 
 
 class NotShortestError(Error):
-    """At the place stands a longer title than need be, or a float that a smaller width has."""
+    """At the place stands a longer title than need be, or a float that fits a smaller width."""
 
     name = "not_shortest"
 
@@ -199,13 +204,13 @@ class DuplicateKeyError(Error):
     name = "duplicate_key"
 
 
-# Shorter names of the same.
+# Shorter names for the same errors.
 Short, Syntax, Room, BreakDue, TooDeep, Argument = (
     ShortError, CborSyntaxError, RoomError, BreakDueError, TooDeepError, ArgumentError)
 
 _STRINGS = (Kind.BYTES, Kind.TEXT)
 
-# By the answers' numbers. Number 4 is never answered of bytes in memory.
+# The errors by the numbers of the answers. The library never answers 4 for bytes in memory.
 _ERRORS: Dict[int, Type[Error]] = {1: ShortError, 2: CborSyntaxError, 3: RoomError, 5: BreakDueError, 6: TooDeepError,
                                    7: ArgumentError, 8: NotShortestError, 9: IndefiniteError, 10: KeyOrderError,
                                    11: DuplicateKeyError}
@@ -241,9 +246,10 @@ class _Buffer(ctypes.Structure):
 
 
 def _named() -> str:
-    """The library's file: of CIBORIUM_LL_LIBRARY, of the wheel, of an editable install, or that stands near the source.
+    """Returns the library's file, or the name by which the system finds it.
 
-    Otherwise it is the name by which the system finds it.
+    The file is the one that CIBORIUM_LL_LIBRARY names, that of the wheel, that of an editable install, or the one near
+    the source. Otherwise it is the name.
     """
     here = os.path.dirname(os.path.abspath(__file__))
     inside = os.path.join(here, "libciborium_ll.so")
@@ -322,18 +328,18 @@ _RELEASE.restype = None
 
 
 class _Memory:
-    """Where the bytes of an object behind an offset are, and how many. They stay there within a ``with`` block."""
+    """The address and the length of an object's bytes from an offset on. They stay there within a ``with`` block."""
 
     __slots__ = ("buffer", "at", "length")
 
     def __init__(self, data, offset):
         self.buffer = _Buffer()
-        # Raises a TypeError of its own where there is no such memory.
+        # Raises a TypeError of its own if there is no such memory.
         _GET(data, self.buffer, 0)
         if not 0 <= offset <= self.buffer.len:
             _RELEASE(self.buffer)
             raise IndexError(f"the offset {offset} is not within {self.buffer.len} bytes")
-        # Null where there are no bytes, which the calls take.
+        # The address may be null if there are no bytes. The calls take that.
         self.at = (self.buffer.buf or 0) + offset
         self.length = self.buffer.len - offset
 
@@ -345,7 +351,7 @@ class _Memory:
 
 
 def _held(number: int, bits: int, what: str) -> int:
-    """The number, if it has so many bits: else ctypes would drop some of them."""
+    """Returns the number if it has that many bits. Otherwise ctypes would drop some of them."""
     if not 0 <= number < 1 << bits:
         raise OverflowError(f"{what} has to be from 0 to 2**{bits} - 1")
     return number
@@ -360,28 +366,28 @@ def _check(answer, report, offset=0):
 
 
 def _pulled(at, length, offset):
-    """The header of the title there, and the title's length."""
+    """Returns the header of the title there, and the title's length."""
     header, consumed = _Header(), ctypes.c_size_t()
     _check(_CALLS.cll_pull(at, length, header, consumed), _Report(consumed=consumed.value), offset)
     return Header(Kind(header.kind), None if header.indefinite else header.value), consumed.value
 
 
 def _skipped(at, length, depth, offset):
-    """The length of the item there."""
+    """Returns the length of the item there."""
     report = _Report()
     _check(_CALLS.cll_skip(at, length, depth, report), report, offset)
     return report.consumed
 
 
 def pull(data: _Bytes, offset: int = 0) -> Title:
-    """The title at the offset, of which no body is read."""
+    """Returns the title at the offset. It reads no body."""
     with _Memory(data, offset) as (at, length):
         header, consumed = _pulled(at, length, offset)
     return Title(header, offset, offset + consumed, None)
 
 
 def push(header: Header, width: Optional[int] = None) -> bytes:
-    """The shortest title of a header, or the one that has so many bytes behind its first one: 0, 1, 2, 4 or 8."""
+    """Returns the shortest title of a header, or the one with ``width`` bytes after its first one: 0, 1, 2, 4 or 8."""
     value = 0 if header.value is None else _held(header.value, 64, "the value")
     parts, report = _Header(value, _held(header.kind, 8, "the kind"), header.value is None), _Report()
     out = ctypes.create_string_buffer(9)
@@ -395,13 +401,13 @@ def push(header: Header, width: Optional[int] = None) -> bytes:
 
 
 def recode(data: _Bytes, count: int = 1, offset: int = 0) -> Recoded:
-    """So many elements in their shortest spelling.
+    """Copies ``count`` elements to their shortest spelling.
 
     An element is a title that begins no string, or a whole string.
     """
     report = _Report()
     with _Memory(data, offset) as (at, length):
-        # No spelling is longer than what it is read from.
+        # No spelling is longer than its elements are in the input.
         out = bytearray(length + 1)
         there = ctypes.addressof(ctypes.c_char.from_buffer(out))
         _check(_CALLS.cll_recode(at, length, _held(count, 64, "the count"), there, length, report), report, offset)
@@ -409,7 +415,7 @@ def recode(data: _Bytes, count: int = 1, offset: int = 0) -> Recoded:
 
 
 def strict(data: _Bytes, count: int = 1, offset: int = 0) -> int:
-    """The length of so many elements in their one shortest spelling."""
+    """Returns the length of ``count`` elements in their one shortest spelling."""
     report = _Report()
     with _Memory(data, offset) as (at, length):
         _check(_CALLS.cll_strict(at, length, _held(count, 64, "the count"), report), report, offset)
@@ -417,15 +423,15 @@ def strict(data: _Bytes, count: int = 1, offset: int = 0) -> int:
 
 
 def skip(data: _Bytes, depth: int = 256, offset: int = 0) -> int:
-    """The length of the item at the offset, which contains at most so many levels, and no more than 256."""
+    """Returns the length of the item at the offset. It contains at most ``depth`` levels, and no more than 256."""
     with _Memory(data, offset) as (at, length):
         return _skipped(at, length, _held(depth, 32, "the depth"), offset)
 
 
 def deterministic(data: _Bytes, depth: int = 64, order: Order = Order.BYTEWISE, offset: int = 0) -> int:
-    """The length of the item at the offset, which is in the deterministic encoding (RFC 8949, 4.2).
+    """Returns the length of the item at the offset, which is in the deterministic encoding (RFC 8949, 4.2).
 
-    The keys of its maps ascend in this order. It contains at most so many levels, and no more than 256.
+    The keys of its maps ascend in this order. The item contains at most ``depth`` levels, and no more than 256.
     """
     report = _Report()
     with _Memory(data, offset) as (at, length):
@@ -435,10 +441,13 @@ def deterministic(data: _Bytes, depth: int = 64, order: Order = Order.BYTEWISE, 
 
 
 def utf8(data: _Bytes, offset: int = 0) -> int:
-    """The length of the bytes from the offset on, where all of them are UTF-8.
+    """Returns the length of the bytes from the offset on, if all of them are UTF-8.
 
-    Else the place of the error is the end of their longest front that is: ``ShortError`` where a character is cut off
-    there, which more bytes may complete, and ``CborSyntaxError`` where no UTF-8 goes on.
+    Otherwise the place of the error is the end of the longest front of the bytes that is UTF-8.
+
+    Raises:
+        ShortError: a character is cut off after the front, and more bytes may complete it.
+        CborSyntaxError: no UTF-8 goes on after the front.
     """
     report = _Report()
     with _Memory(data, offset) as (at, length):
@@ -447,7 +456,7 @@ def utf8(data: _Bytes, offset: int = 0) -> int:
 
 
 def _view(data: _Bytes) -> memoryview:
-    """The bytes of an object as a view. If its items have a format that no view can be cast from, they are copied."""
+    """Returns the bytes of an object as a view. It copies them if no view can be cast from the format of its items."""
     view = memoryview(data)
     try:
         return view.cast("B")
@@ -456,10 +465,10 @@ def _view(data: _Bytes) -> memoryview:
 
 
 def headers(data: _Bytes, offset: int = 0) -> Iterator[Title]:
-    """Each title from the offset on, up to the end of the bytes.
+    """Gives each title from the offset on, up to the end of the bytes.
 
-    A string of a definite length is read whole, and its body is a view of the bytes; that of a text is UTF-8. Nothing
-    is said of how the titles nest. Up to its end the iterator holds the bytes where they are.
+    The iterator reads a string of a definite length whole, and its body is a view of the bytes. The body of a text is
+    UTF-8. The iterator says nothing about how the titles nest. It holds the bytes in place up to its end.
     """
     view = _view(data)
     with _Memory(view, offset) as (at, length):
@@ -475,7 +484,7 @@ def headers(data: _Bytes, offset: int = 0) -> Iterator[Title]:
 
 
 class _Fed:
-    """What takes bytes in pieces: how many it took, and its state, which a copy of it has for itself."""
+    """Takes bytes in pieces. It has how many bytes it took, and a state. A copy of it has a state for itself."""
 
     __slots__ = ("consumed", "_kept")
     _END: ClassVar[Any]
@@ -485,14 +494,20 @@ class _Fed:
 
     @property
     def ended(self) -> bool:
-        """Whether all that was asked for has come. An item has not ended before its first byte, nor after an error."""
+        """Tells whether all that the caller asked for has come.
+
+        An item has not ended before its first byte, nor after an error.
+        """
         return (self.consumed > 0 or self._MAY_BE_EMPTY) and self._answer()[0] == 0
 
     def end(self) -> None:
         """Says that no more bytes come.
 
-        It raises ``ShortError`` if the item is cut off, with how many bytes came as the place, and the error that
-        ``feed`` raised, if it did. If no byte came or the item has ended it raises nothing, and ``ended`` tells which.
+        If no byte came or the item has ended, it raises nothing, and ``ended`` tells which.
+
+        Raises:
+            ShortError: the item is cut off. The place is how many bytes came.
+            Error: the error that ``feed`` raised, if it raised one.
         """
         answer, report = self._answer()
         if answer == 1:
@@ -518,11 +533,11 @@ class _Fed:
 
 
 class Checker(_Fed):
-    """Checks one item whose bytes come in pieces, as out of a socket, however they are cut.
+    """Checks one item whose bytes come in pieces, as from a socket.
 
-    The item contains at most ``depth`` levels, and no more than 256. Where ``shortest`` is true it is taken in its
-    shortest spelling alone. ``consumed`` is how many bytes were taken of all pieces, and ``ended`` whether the item has
-    ended. A copy goes on by itself.
+    It does not matter how the bytes are cut. The item contains at most ``depth`` levels, and no more than 256. If
+    ``shortest`` is true, the checker takes the shortest spelling alone. ``consumed`` is how many bytes of all pieces
+    the checker took. ``ended`` tells whether the item has ended. A copy of a checker goes on by itself.
     """
 
     __slots__ = ()
@@ -534,10 +549,12 @@ class Checker(_Fed):
         _check(init(self._kept, _held(depth, 32, "the depth")), _Report())
 
     def feed(self, data: _Bytes, offset: int = 0) -> Progress:
-        """Takes the bytes from the offset on: all of them, but none behind the end of the item.
+        """Takes the bytes from the offset on: all of them, or those up to the end of the item.
 
-        An error comes with the first byte behind which no item goes on, and names an offset in the item. Behind the end
-        and behind an error nothing more is taken, and the answer stays.
+        After the end and after an error a further call takes nothing, and the answer stays.
+
+        Raises:
+            Error: it comes with the first byte after which no item goes on. It names an offset in the item.
         """
         report = _Report()
         with _Memory(data, offset) as (at, length):
@@ -550,10 +567,11 @@ class Checker(_Fed):
 
 
 class Copier(_Fed):
-    """Copies so many elements whose bytes come in pieces to their shortest spelling, however they are cut.
+    """Copies ``count`` elements whose bytes come in pieces to their shortest spelling.
 
-    ``consumed`` is how many bytes were taken of all pieces, and ``ended`` whether all elements have come. Of no elements
-    that is so at once. A copy goes on by itself.
+    It does not matter how the bytes are cut. ``consumed`` is how many bytes of all pieces the copier took. ``ended``
+    tells whether all elements have come. A copier of no elements has ended at once. A copy of a copier goes on by
+    itself.
     """
 
     __slots__ = ()
@@ -566,11 +584,14 @@ class Copier(_Fed):
         _check(_CALLS.cll_copier_init(self._kept, _held(count, 64, "the count")), _Report())
 
     def feed(self, data: _Bytes, offset: int = 0) -> Copied:
-        """Takes the bytes from the offset on: all of them, but none behind the end of the elements.
+        """Takes the bytes from the offset on: all of them, or those up to the end of the elements.
 
-        It gives what can be written of all bytes so far, and was not given before. An error comes with the first byte
-        behind which no such elements go on, and names an offset in all of them; what these bytes became in front of it
-        stands in its ``data``. Behind the end and behind an error nothing more is taken, and the answer stays.
+        It returns all that can be written of the bytes so far, and that no call returned before. After the end and
+        after an error a further call takes nothing, and the answer stays.
+
+        Raises:
+            Error: it comes with the first byte after which no such elements go on. It names an offset in all of them.
+                Its ``data`` is the copy of these bytes before that byte.
         """
         report, out, answer, taken = _Report(), bytearray(), 3, 0
         with _Memory(data, offset) as (at, length):
@@ -587,11 +608,11 @@ class Copier(_Fed):
 
 
 class ItemCopier(Copier):
-    """Copies one item whose bytes come in pieces to its shortest spelling, and ends where the item ends.
+    """Copies one item whose bytes come in pieces to its shortest spelling, and ends with the item.
 
-    The item contains at most ``depth`` levels, and no more than 256. Where ``shortest`` is true it is taken in its
-    shortest spelling alone. All else is as of a ``Copier``, of the item's elements: an error comes with the first byte
-    behind which no item goes on. If no byte came the item has not ended, but ``end`` raises nothing.
+    The item contains at most ``depth`` levels, and no more than 256. If ``shortest`` is true, the copier takes the
+    shortest spelling alone. In all other ways it is as a ``Copier`` of the item's elements. An error comes with the
+    first byte after which no item goes on. If no byte came the item has not ended, but ``end`` raises nothing.
     """
 
     __slots__ = ()

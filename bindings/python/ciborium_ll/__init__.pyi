@@ -2,7 +2,7 @@
 from enum import IntEnum
 from typing import Any, Dict, Iterator, NamedTuple, Optional, Tuple, TypeVar
 
-# Whatever has the buffer protocol: `bytes`, `bytearray`, `memoryview`, `mmap`, `array` and others.
+# Any object with the buffer protocol: `bytes`, `bytearray`, `memoryview`, `mmap`, `array` and others.
 from _typeshed import ReadableBuffer as _Bytes
 
 __all__ = ["Kind", "Header", "Title", "Recoded", "Error", "ShortError", "CborSyntaxError", "RoomError", "BreakDueError",

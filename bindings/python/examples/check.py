@@ -1,6 +1,6 @@
 #!/usr/bin/env python3
 # SPDX-License-Identifier: Apache-2.0
-"""Says of CBOR in hexadecimal what its first title is, how far its first item reaches, and its shortest spelling.
+"""Prints the first title of CBOR in hexadecimal, how far its first item reaches, and its shortest spelling.
 
 usage: check.py LIBRARY HEX
 
@@ -22,7 +22,7 @@ class Report(ctypes.Structure):
 
 
 def library(name):
-    """The library, with the types of its calls."""
+    """Returns the library, with the types of its calls."""
     calls = ctypes.CDLL(name)
     size, report = ctypes.c_size_t, ctypes.POINTER(Report)
     calls.cll_pull.argtypes = [ctypes.c_char_p, size, ctypes.POINTER(Header), ctypes.POINTER(size)]

@@ -15,7 +15,7 @@ import ciborium_ll
 
 
 def digest(item):
-    """The hash of an item. An ``Error`` says why bytes are not one in the deterministic encoding."""
+    """Returns the hash of an item. An ``Error`` says why the bytes are no item in the deterministic encoding."""
     length = ciborium_ll.deterministic(item)
     if length != len(item):
         raise ValueError(f"more at {length}")

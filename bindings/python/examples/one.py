@@ -14,7 +14,7 @@ import ciborium_ll
 
 
 def tell(stream):
-    """Prints what the bytes of a stream are, and gives the status."""
+    """Prints whether the bytes of a stream are one item, and returns the status."""
     checker, due = ciborium_ll.Checker(64), 1
     try:
         while data := stream.read(4096):

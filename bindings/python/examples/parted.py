@@ -5,17 +5,17 @@
 usage: parted.py WORKERS check PATH
        parted.py WORKERS copy PATH OUT
 
-WORKERS is a number, for so many processes on this machine, or the address of a scheduler, as tcp://HOST:8786. PATH is a
+WORKERS is a number of processes to start on this machine, or the address of a scheduler, as tcp://HOST:8786. PATH is a
 file, which is a sequence of items, or a folder of such files. OUT is then a file or a folder too. Each worker reads the
 files by the same names, and has the package ciborium_ll.
 
-A sequence is cut into parts at offsets where items end, and each worker takes parts. A part is whole items if the ones
-before it are, so together they answer what one walk over all of the file does. The offsets are found by one walk, and
-that is the whole check; they may come from `FILE.index` too, a line each, and if they are wrong that is a fault of a
-part. A part that a worker had as it died is done again by another one.
+The program cuts a sequence into parts at the ends of items, and each worker takes parts. A part is whole items if the
+parts before it are. So together the workers answer as one walk over the whole file does. One walk finds the offsets of
+the cuts, and that walk is the whole check. The offsets may also come from `FILE.index`, one in each line. If they are
+wrong, a part has a fault. If a worker dies, another one does its part again.
 
-For each file a line says how many items it has, or its first fault, with the offset. The status is 0 if there is none,
-and otherwise 1.
+For each file a line says how many items it has, or its first fault, with the offset. The status is 0 if no file has a
+fault, and 1 otherwise.
 """
 import collections
 import logging
@@ -27,7 +27,7 @@ import ciborium_ll
 from dask.distributed import Client, LocalCluster
 
 DEPTH = 256
-# About as many bytes does a part have.
+# A part has about this many bytes.
 PART = 1 << 20
 
 Part = collections.namedtuple("Part", "name start end")
@@ -35,7 +35,7 @@ Answer = collections.namedtuple("Answer", "items data fault place")
 
 
 def work(part, copies):
-    """What a worker does: checks that a part is whole items, or copies them. An offset counts from the file's start."""
+    """Checks in a worker that a part is whole items, or copies them. Offsets count from the start of the file."""
     with open(part.name, "rb") as file:
         file.seek(part.start)
         data = file.read(part.end - part.start)
@@ -43,18 +43,18 @@ def work(part, copies):
     fault = place = None
     try:
         while at < len(data):
-            # An item that goes on behind the part is cut there.
+            # The part cuts an item that goes on after its end.
             at += ciborium_ll.skip(data, DEPTH, at)
             items += 1
     except ciborium_ll.Error as error:
         fault, place = error.name, part.start + error.place
-    # All elements of the whole items in front.
+    # Copies all elements of the whole items before the fault.
     out = ciborium_ll.Copier(2**64 - 1).feed(data[:at]).data if copies else b""
     return Answer(items, out, fault, place)
 
 
 def cuts_of(name, size):
-    """Offsets at which a file is cut: of its index, or where items end, up to the first that is none."""
+    """Gives the offsets at which a file is cut: those of its index, or ends of items up to the first fault."""
     if os.path.exists(f"{name}.index"):
         with open(f"{name}.index") as lines:
             yield from map(int, lines)
@@ -72,7 +72,7 @@ def cuts_of(name, size):
 
 
 def parts_of(name):
-    """The parts of a file, in order. An empty one has none."""
+    """Gives the parts of a file, in order. An empty file has none."""
     size, start = os.path.getsize(name), 0
     for cut in cuts_of(name, size) if size > PART else ():
         if start < cut < size:
@@ -83,7 +83,10 @@ def parts_of(name):
 
 
 def answers(client, parts, copies):
-    """What the workers answer, in the order of the parts. No more parts are on their way than keep the workers busy."""
+    """Gives the answers of the workers, in the order of the parts.
+
+    No more parts are on their way than keep the workers busy.
+    """
     ahead = collections.deque()
     for part in parts:
         ahead.append(client.submit(work, part, copies, pure=False))
@@ -94,7 +97,7 @@ def answers(client, parts, copies):
 
 
 def go_over(client, name, out=None):
-    """Checks a file, or copies it, and says what it is. It gives whether there was no fault."""
+    """Checks a file, or copies it, and prints a line about it. It returns whether there was no fault."""
     items = 0
     for answer in answers(client, parts_of(name), out is not None):
         items += answer.items
@@ -108,7 +111,7 @@ def go_over(client, name, out=None):
 
 
 def files_of(path, out):
-    """Pairs of a file and of where its copy goes."""
+    """Returns pairs of a file and of the file for its copy."""
     if not os.path.isdir(path):
         return [(path, out)]
     names = sorted(name for name in os.listdir(path) if not name.endswith(".index"))
@@ -116,7 +119,7 @@ def files_of(path, out):
 
 
 def go(client, path, out=None):
-    """All files of a path. It gives whether none had a fault."""
+    """Checks or copies all files of a path. It returns whether none had a fault."""
     whole = True
     if out is not None and os.path.isdir(path):
         os.makedirs(out, exist_ok=True)
@@ -127,7 +130,7 @@ def go(client, path, out=None):
 
 
 def local_cluster(count):
-    """So many processes on this machine, with one thread each."""
+    """Starts ``count`` processes on this machine, with one thread each."""
     return LocalCluster(count, threads_per_worker=1, dashboard_address=None, silence_logs=logging.CRITICAL)
 
 

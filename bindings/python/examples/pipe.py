@@ -4,9 +4,10 @@
 
 usage: producer | pipe.py
 
-It says the same as pipe.c. Each item that has ended is a line `item LENGTH`, as soon as its last byte came. A fault is
-the last line, with its offset in the item, and so is `short DUE` where the bytes end within an item: at least so many
-more were due. The status is 0 where they end between items, and else 1. Standard input has to be a pipe or a socket.
+It prints the same as pipe.c. Each item that has ended is a line `item LENGTH`, as soon as its last byte came. A fault
+is the last line, with its offset in the item. If the bytes end inside an item, the last line is `short DUE`: at least
+that many more bytes were due. The status is 0 if the bytes end between items, and 1 otherwise. Standard input has to be
+a pipe or a socket.
 """
 import asyncio
 import sys
@@ -18,12 +19,12 @@ NAMES = {"break_due": "break", "too_deep": "deep"}
 
 
 async def check(stream):
-    """Says of each item of a stream that it has ended, and returns whether all of them had when the stream did."""
+    """Prints each item of a stream as it ends. It returns whether all of them had ended when the stream did."""
     checker, due = ciborium_ll.Checker(DEPTH), 0
     try:
         while data := await stream.read(4096):
             start = 0
-            # A piece may hold several items, and end within one.
+            # A piece may hold several items, and end inside one.
             while start < len(data):
                 progress = checker.feed(data, start)
                 start, due = start + progress.consumed, progress.due

@@ -1,5 +1,5 @@
 # SPDX-License-Identifier: Apache-2.0
-"""What the table of rows can't say: which bytes are taken, where errors are, and what the iterator gives."""
+"""Tries facts that the table of rows can't say: the bytes that a call takes, the places of errors, and the iterator."""
 import array
 import ast
 import contextlib
@@ -23,7 +23,7 @@ SOURCE = Path(__file__).resolve().parents[1]
 
 
 def struct_of(numbers):
-    """The bytes of numbers of four bytes each."""
+    """Returns the bytes of numbers of four bytes each."""
     return b"".join(number.to_bytes(4, "little") for number in numbers)
 
 
@@ -37,7 +37,7 @@ class Bytes(unittest.TestCase):
                 self.assertEqual(ciborium_ll.recode(data, 1).data, b"\xa1")
 
     def test_memory_of_any_format_is_taken(self):
-        # As bytes 61 00 00 02 and 19 00 00 05.
+        # In bytes they are 61 00 00 02 and 19 00 00 05.
         numbers = [0x02000061, 0x05000019]
         plain = struct_of(numbers)
         wide = array.array("I", numbers), (ctypes.c_uint32 * 2)(*numbers), memoryview(plain).cast("I", (2, 1))
@@ -59,7 +59,7 @@ class Bytes(unittest.TestCase):
                      ciborium_ll.deterministic):
             self.assertRaises(Error, call, data)
             self.assertRaises(IndexError, call, data, offset=2)
-        # A loan that is left would refuse this.
+        # A buffer that was not released would refuse this.
         data += MAP
 
     def test_no_bytes(self):
@@ -78,7 +78,7 @@ class Stub(unittest.TestCase):
         self.others = [target.id for it in stub.body if isinstance(it, ast.Assign) for target in it.targets]
 
     def same_types(self, call, there):
-        """The types of a stub's call and those that it has at run time."""
+        """Returns the types of a call in the stub, and the types that it has at run time."""
         told = typing.get_type_hints(there)
         parameters = [*call.args.args, *call.args.kwonlyargs]
         self.assertEqual([it.arg for it in parameters], list(inspect.signature(there).parameters))

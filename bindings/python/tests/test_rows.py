@@ -6,13 +6,13 @@ from pathlib import Path
 import ciborium_ll
 from ciborium_ll import Header, Kind, Order
 
-# The table stands beside the package in the repository, and beside this file in a source archive.
+# The table is in the parent folder of the package in the repository, and in this folder in a source archive.
 HERE = Path(__file__).resolve()
 TABLE = next(at for at in (HERE.with_name("rows"), HERE.parents[2] / "tests" / "rows") if at.exists())
 
 
 def told(header):
-    """A header as it stands in the table."""
+    """Returns a header as the table shows it."""
     return f"{header.kind.name.lower()}/{'*' if header.value is None else header.value}"
 
 
@@ -22,7 +22,7 @@ def header_of(text):
 
 
 def made(call, number, given):
-    """How many bytes a call consumes, and what it makes."""
+    """Returns how many bytes a call consumes, and what it makes."""
     data = b"" if given == "-" or call in ("push", "wide") else bytes.fromhex(given)
     if call == "pull":
         title = ciborium_ll.pull(data)
@@ -43,7 +43,7 @@ def made(call, number, given):
 
 
 def fed(depth, data, shortest):
-    """What a checker says that gets the bytes one by one, as it stands in the table."""
+    """Gives a checker the bytes one by one, and returns its answer as the table shows it."""
     taken = 0
     try:
         checker = ciborium_ll.Checker(depth, shortest=shortest)
@@ -60,7 +60,7 @@ def fed(depth, data, shortest):
 
 
 def copied(count, data):
-    """What a copier makes of bytes that come one by one, as it stands in the table."""
+    """Gives a copier the bytes one by one, and returns its copy as the table shows it."""
     copier, out = ciborium_ll.Copier(count), b""
     try:
         got = copier.feed(b"")
@@ -96,7 +96,8 @@ class Rows(unittest.TestCase):
                     got = ("ok", *made(call, number == "-" or int(number), given))
                 except ciborium_ll.Error as error:
                     got = (error.name, error.consumed, error.place)
-                    # Behind what was written stands how many bytes more are due, or that alone.
+                    # After the bytes written stands how many more bytes are due. If nothing was written, that number
+                    # stands alone.
                     out, cut, due = want.rpartition("due/")
                     out = (out if cut else want).strip("-/")
                     self.assertEqual((error.written, error.due), (len(out) // 2, int(due) if cut else 0))
