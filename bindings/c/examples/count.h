@@ -5,7 +5,7 @@
 
 #include <stdint.h>
 
-/* Reads a number in digits. It tells whether that is one that 64 bits hold. */
+/* Reads a number in digits. Tells whether it is one that fits into 64 bits. */
 static inline int read_count(const char *text, uint64_t *count)
 {
     *count = 0;

@@ -4,8 +4,8 @@
  *
  * usage: normalize COUNT IN OUT
  *
- * The status is 0 where all of them were there, 1 after a fault, which is named on standard error, and 2 where the
- * arguments or the files are at fault. What was written before a fault stands in OUT.
+ * The status is 0 if all of them were there. It is 1 after a fault, which standard error names. It is 2 if the
+ * arguments or the files are at fault. After a fault OUT holds the bytes written before it.
  */
 #include <stdio.h>
 #include <stdlib.h>
@@ -13,7 +13,7 @@
 #include "ciborium_ll.h"
 #include "count.h"
 
-/* Reads a whole file, of which it gives the length. It gives null where that fails. */
+/* Reads a whole file, and gives its length. Returns null if that fails. */
 static uint8_t *read_all(const char *name, size_t *len)
 {
     FILE *file = fopen(name, "rb");
@@ -43,7 +43,7 @@ static uint8_t *read_all(const char *name, size_t *len)
     return NULL;
 }
 
-/* Writes a whole file. It tells whether that failed. */
+/* Writes a whole file. Tells whether that failed. */
 static int write_all(const char *name, const uint8_t *data, size_t len)
 {
     FILE *file = fopen(name, "wb");
@@ -63,7 +63,7 @@ int main(int argc, char **argv)
 
     size_t len;
     uint8_t *data = read_all(argv[2], &len);
-    /* No spelling is longer than what it is read from. */
+    /* No spelling is longer than its elements are in the input. */
     uint8_t *out = data != NULL ? (uint8_t *)malloc(len + 1) : NULL;
     if (out == NULL) {
         fprintf(stderr, "normalize: %s can't be read\n", argv[2]);

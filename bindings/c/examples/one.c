@@ -15,7 +15,7 @@
 
 enum { DEPTH = 64 };
 
-/* Prints a word and a number, and gives the status. */
+/* Prints a word and a number, and returns the status. */
 static int tell(const char *word, uint64_t number, int status)
 {
     printf("%s %llu\n", word, (unsigned long long)number);

@@ -4,9 +4,9 @@
  *
  * usage: producer | pipe
  *
- * Each item that has ended is a line `item LENGTH`. A fault is the last line: `syntax PLACE`, `break PLACE` or
- * `deep PLACE`, with the offset in its item. Where the bytes end within an item that is `short DUE`, with at least how
- * many bytes were due. The status is 0 where they end between items, 1 after a fault or within an item, and 2 where a
+ * Each item that has ended is a line `item LENGTH`. A fault is the last line, with the offset in its item: `syntax
+ * PLACE`, `break PLACE` or `deep PLACE`. If the bytes end inside an item, the last line is `short DUE`: at least DUE
+ * more bytes were due. The status is 0 if the bytes end between items, 1 after a fault or inside an item, and 2 if a
  * read fails.
  */
 #define _POSIX_C_SOURCE 200112L
@@ -18,7 +18,7 @@
 
 enum { DEPTH = 64 };
 
-/* Says what was answered, and gives the status. */
+/* Prints the answer, and returns the status. */
 static int tell(uint32_t answer, uint64_t place)
 {
     const char *name = answer == CLL_SHORT ? "short"
@@ -30,7 +30,7 @@ static int tell(uint32_t answer, uint64_t place)
     return 1;
 }
 
-/* Gives a checker the bytes, which may hold several items and end within one. 0 while there is no fault. */
+/* Gives a checker the bytes, which may hold several items and end inside one. Returns 0 while there is no fault. */
 static int take(cll_checker *checker, const uint8_t *data, size_t len)
 {
     while (len > 0) {

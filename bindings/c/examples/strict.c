@@ -1,11 +1,11 @@
 /* SPDX-License-Identifier: Apache-2.0 */
 /*
- * Tells whether hexadecimal bytes begin with COUNT elements of CBOR in their one shortest spelling, as whoever checks a
- * message that was signed as bytes has to know.
+ * Tells whether hexadecimal bytes begin with COUNT elements of CBOR in their one shortest spelling. A program has to
+ * know that if it checks a message that was signed as bytes.
  *
  * usage: strict COUNT HEX
  *
- * The status is 0 where they do, and their length is printed; 1 where they don't, and 2 for other arguments.
+ * The status is 0 if they do, and the program prints their length. It is 1 if they do not, and 2 for other arguments.
  */
 #include <stdio.h>
 #include <string.h>
@@ -13,7 +13,7 @@
 #include "ciborium_ll.h"
 #include "count.h"
 
-/* The value of a hexadecimal digit, or 16. */
+/* Returns the value of a hexadecimal digit, or 16. */
 static unsigned digit(char c)
 {
     static const char digits[] = "0123456789abcdef";

@@ -1,7 +1,7 @@
 /*
- * Tries what titles.c does not: each call without bytes, where null stands for them; a copy into each room that is too
- * small; the places of faults; texts that are damaged and cut off; and what the header itself defines. It says which
- * row went wrong, and then ends with the status 1. It is C99, and C++.
+ * Tries the facts that titles.c does not try. It makes each call without bytes and with null, and a copy into each room
+ * that is too small. It tries the places of faults, texts that are damaged and cut off, and the definitions of the
+ * header itself. It says which row went wrong, and then ends with the status 1. It is C99, and C++.
  */
 #include <stdio.h>
 #include <string.h>
@@ -13,13 +13,13 @@ enum { SPACE = 4096 };
 static uint8_t space[SPACE];
 static cll_report report;
 
-/* Whether a call answered so, and reported these numbers. */
+/* Tells whether a call gave this answer, and reported these numbers. */
 static int told(uint32_t answer, uint32_t want, uint64_t consumed, uint64_t written, uint64_t place)
 {
     return answer == want && report.consumed == consumed && report.written == written && report.place == place;
 }
 
-/* Null is taken where there are no bytes, as a vector without elements has it. */
+/* A call takes null if there are no bytes, as a vector without elements has it. */
 static int takes_null(void)
 {
     static const uint8_t one[] = {0x05};
@@ -39,7 +39,7 @@ static int takes_null(void)
         && told(cll_utf8(NULL, 0, &report), CLL_OK, 0, 0, 0);
 }
 
-/* A checker takes null where there are no bytes. Nothing was due but an item, and an end is none within one. */
+/* A checker takes null if there are no bytes. Only an item is due, and an end there is no end inside an item. */
 static int checks_null(void)
 {
     cll_checker checker;
@@ -48,7 +48,7 @@ static int checks_null(void)
         && told(cll_checker_end(&checker, &report), CLL_OK, 0, 0, 0);
 }
 
-/* A copier takes null where there are no bytes. Of no elements nothing is due. */
+/* A copier takes null if there are no bytes. Nothing is due for no elements. */
 static int copies_null(void)
 {
     static const uint8_t one[] = {0x05};
@@ -64,7 +64,7 @@ static int copies_null(void)
         && told(cll_copier_end(&copier, &report), CLL_OK, 0, 0, 0);
 }
 
-/* A copier of an item takes null too. Nothing came, and that is no end within an item. */
+/* A copier of an item takes null too. Nothing came, so an end there is no end inside an item. */
 static int copies_item_null(void)
 {
     static const uint8_t one[] = {0x05, 0x06};
@@ -80,8 +80,8 @@ static int copies_item_null(void)
 }
 
 /*
- * One byte of a copier of an item is another one, each in turn, and none stands there at all: nothing is taken or
- * written that is not there.
+ * Replaces one byte of a copier of an item by another one, each in turn, and tries memory with no copier. The call
+ * reads and writes nothing outside of its memory.
  */
 static int survives_damaged_item_copiers(void)
 {
@@ -108,7 +108,10 @@ static int survives_damaged_item_copiers(void)
     return 1;
 }
 
-/* Memory with no copier in it, of a checker too: what stands there stays, and nothing is written. */
+/*
+ * Tries memory that holds no copier, and memory that holds a checker. The memory stays as it was, and the call writes
+ * nothing.
+ */
 static int refuses_copiers(void)
 {
     static cll_copier copier, old;
@@ -128,7 +131,9 @@ static int refuses_copiers(void)
     return 1;
 }
 
-/* One byte of a copier is another one, each in turn: nothing is taken or written that is not there. */
+/*
+ * Replaces one byte of a copier by another one, each in turn. The call reads and writes nothing outside of its memory.
+ */
 static int survives_damaged_copiers(void)
 {
     static const uint8_t begun[] = {0x19, 0x03, 0xe8, 0x7f, 0x7f, 0x63, 0xe6};
@@ -156,10 +161,10 @@ static int survives_damaged_copiers(void)
     return 1;
 }
 
-/* What a checker has to find of bytes: the answer, how many it takes of them, and the place. */
+/* A checker's answer for some bytes: the answer, how many of the bytes it takes, and the place. */
 struct finding { const uint8_t *data; size_t len; uint32_t depth, answer; uint64_t taken, place; };
 
-/* Whether a checker finds so of bytes that are cut into three pieces, and still behind them. */
+/* Tells whether a checker answers so for bytes that are cut into three pieces, and also after them. */
 static int finds_so(const struct finding *want, size_t first, size_t second)
 {
     const size_t ends[] = {first, second, want->len, want->len};
@@ -183,7 +188,7 @@ static int finds_so(const struct finding *want, size_t first, size_t second)
     return told(cll_checker_end(&checker, &report), answer, 0, 0, answer == CLL_OK ? 0 : want->place);
 }
 
-/* Each cut of bytes into three pieces changes no answer. */
+/* No cut of bytes into three pieces changes an answer. */
 static int checks_pieces(void)
 {
     static const uint8_t whole[] = {0xbf, 0x61, 0x61, 0x82, 0x19, 0x03, 0xe8, 0x5f, 0x42, 0x01, 0x02, 0xff,
@@ -207,7 +212,7 @@ static int checks_pieces(void)
     return 1;
 }
 
-/* A checker has its own memory and nothing around it, also where all levels are in use. */
+/* A checker writes its own memory and nothing around it, also if all levels are in use. */
 static int keeps_inside(void)
 {
     static struct { uint8_t before[64]; cll_checker checker; uint8_t behind[64]; } at;
@@ -228,7 +233,7 @@ static int keeps_inside(void)
     return 1;
 }
 
-/* Memory with no checker in it, and a depth that none has. What stands there stays. */
+/* Tries memory that holds no checker, and depths out of range. The memory stays as it was. */
 static int refuses_memory(void)
 {
     static cll_checker checker, old;
@@ -245,13 +250,16 @@ static int refuses_memory(void)
     return 1;
 }
 
-/* One byte of a checker is another one, each in turn: it is answered by a number that a call has, and nothing else. */
+/*
+ * Replaces one byte of a checker by another one, each in turn. The call gives an answer that a call has, and does
+ * nothing besides.
+ */
 static int survives_damage(void)
 {
     static const uint8_t begun[] = {0xbf, 0x61, 0x61, 0x9f, 0x7f, 0x63, 0xe6};
     static const uint8_t more[] = {0xb0, 0xb4, 0xff, 0xff, 0x9f, 0x19};
     static const uint8_t others[] = {0x00, 0x01, 0x02, 0x07, 0x08, 0x09, 0x7f, 0x80, 0xff};
-    static cll_checker good; /* Where more nests are counted than there are, memory is read that no call wrote. */
+    static cll_checker good; /* A call that counts too many nests reads memory that no call wrote. */
     if (cll_checker_init(&good, 16) != CLL_OK
         || !told(cll_checker_feed(&good, begun, sizeof begun, &report), CLL_SHORT, sizeof begun, 0, 2))
         return 0;
@@ -268,7 +276,7 @@ static int survives_damage(void)
     return 1;
 }
 
-/* In less room than a copy takes it is answered that there is too little, and what is written begins the copy. */
+/* A copy into too little room answers so, and the bytes it writes begin the copy. */
 static int lacks_room(void)
 {
     static const uint8_t data[] = {0x5f, 0x5f, 0x58, 0x01, 0x01, 0xff, 0xff, 0x19, 0x00, 0x18, 0x62, 0xc3, 0xa9};
@@ -287,7 +295,9 @@ static int lacks_room(void)
         && memcmp(space, copy, sizeof copy) == 0;
 }
 
-/* The place of a body that is no text, behind the shortest title and a longer one, by itself and behind an open. */
+/*
+ * Tries the place of a body that is not UTF-8, after the shortest title and a longer one, by itself and after an open.
+ */
 static int names_places(void)
 {
     static const uint8_t alone[] = {0x62, 0x61, 0xff}, longer[] = {0x78, 0x02, 0x61, 0xff};
@@ -302,8 +312,8 @@ static int names_places(void)
 }
 
 /*
- * A text of 3000 bytes goes wrong at its eleventh. It is found out once 1024 bytes of it are there. Before that nothing
- * that may follow makes it good.
+ * A text of 3000 bytes goes wrong at its eleventh byte. The call finds that out once 1024 bytes of the text are there.
+ * Before that no bytes that may follow complete it.
  */
 static int cuts_damaged_text(void)
 {
@@ -320,7 +330,7 @@ static int cuts_damaged_text(void)
     return 1;
 }
 
-/* A title in each width is read as the same header again, and in no other width is one written. */
+/* A title in each width is read as the same header again. No title is written in any other width. */
 static int writes_widths(void)
 {
     static const cll_header headers[] = {
@@ -328,7 +338,7 @@ static int writes_widths(void)
         {UINT64_MAX, CLL_MAP, 0}, {0, CLL_MAP, 1}, {1, CLL_TAG, 0}, {23, CLL_SIMPLE, 0}, {24, CLL_SIMPLE, 0},
         {1, CLL_HALF, 0}, {1, CLL_SINGLE, 0}, {1, CLL_DOUBLE, 0}, {0, CLL_BREAK, 0},
     };
-    /* Which widths each of them has: the bit of each is set. */
+    /* The widths of each header, with one bit for each width. */
     static const unsigned widths[] = {
         0x117, 0x116, 0x116, 0x114, 0x110, 0x100, 0x001, 0x117, 0x003, 0x002, 0x004, 0x010, 0x100, 0x001,
     };
@@ -352,12 +362,12 @@ static int writes_widths(void)
 }
 
 /*
- * A text in pieces of each length: what is behind a front stands in front of the next piece. In the place of each byte
- * one that is in no UTF-8 ends the front where its character begins.
+ * Takes a text in pieces of each length. The bytes after a front are put before the next piece. Each byte in turn is
+ * replaced by a byte that no UTF-8 has, and the front ends where the character of that byte begins.
  */
 static int joins_pieces(void)
 {
-    /* "A\u2262\u0391." of RFC 3629, 7, five times, with U+233B4 behind each. */
+    /* "A\u2262\u0391." of RFC 3629, 7, five times, with U+233B4 after each. */
     static const uint8_t part[] = {0x41, 0xe2, 0x89, 0xa2, 0xce, 0x91, 0x2e, 0xf0, 0xa3, 0x8e, 0xb4};
     static const unsigned begins[] = {0, 1, 1, 1, 4, 4, 6, 7, 7, 7, 7};
     enum { PART = sizeof part, TEXT = 5 * PART };
@@ -385,7 +395,7 @@ static int joins_pieces(void)
     return 1;
 }
 
-/* Each answer has a text of its own, and so has what is none. */
+/* Each answer has a text of its own, and so has a number that is no answer. */
 static int tells_answers(void)
 {
     for (uint32_t one = CLL_OK; one <= CLL_DUPLICATE_KEY + 1u; one++) {
@@ -399,7 +409,7 @@ static int tells_answers(void)
     return strcmp(cll_strerror(99), cll_strerror(CLL_DUPLICATE_KEY + 1u)) == 0;
 }
 
-/* Whether the memory of one call overlaps that of another, or its input its output. */
+/* Tells whether one memory overlaps another, as of two calls or of a call's input and output. */
 static int finds_overlaps(void)
 {
     return cll_overlap(space, 4, space, 4) && cll_overlap(space, 4, space + 3, 4) && cll_overlap(space + 3, 4, space, 4)
@@ -409,8 +419,8 @@ static int finds_overlaps(void)
 }
 
 /*
- * How many elements are there, or fit, and where the last of them and its spelling end: of a copy, and of a strict
- * check.
+ * Counts the elements that are there, or fit, and finds the end of the last one and of its spelling. It does so for a
+ * copy and for a strict check.
  */
 static int counts_elements(void)
 {
@@ -451,7 +461,7 @@ static int counts_elements(void)
         && report.spelled == 0;
 }
 
-/* How many bytes more are due: of a copy, of a strict check and of a skip. 0 is behind what nothing makes good. */
+/* Tells how many more bytes are due, for a copy, a strict check and a skip. It is 0 if no bytes complete the input. */
 static int tells_what_is_due(void)
 {
     static const struct {
@@ -462,12 +472,12 @@ static int tells_what_is_due(void)
         {{0}, 0, 1, 1, 1},                                  /* an item or an element */
         {{0x82, 0x05}, 2, 1, 1, 1},                         /* another one */
         {{0x82, 0x1b, 0x01}, 3, 7, 7, 7},                   /* the rest of a number */
-        {{0x81, 0x9a, 0x00, 0x01}, 4, 2, 2, 2},             /* of the title of a nest */
-        {{0x81, 0x5a, 0, 1, 0, 0, 0x61}, 7, 65535, 65535, 65535}, /* of a body */
-        {{0x81, 0x7f, 0x63, 0xe6}, 4, 2, 2, 2},             /* of a text within an open */
+        {{0x81, 0x9a, 0x00, 0x01}, 4, 2, 2, 2},             /* the rest of the title of a nest */
+        {{0x81, 0x5a, 0, 1, 0, 0, 0x61}, 7, 65535, 65535, 65535}, /* the rest of a body */
+        {{0x81, 0x7f, 0x63, 0xe6}, 4, 2, 2, 2},             /* the rest of a text inside an open */
         {{0x81, 0x7f, 0x61, 0x61}, 4, 1, 1, 1},             /* a piece or a break */
         {{0x81, 0x19, 0x00}, 3, 1, 0, 1},                   /* a title that is longer than it need be */
-        {{0x81, 0x5f, 0x19, 0x01}, 4, 0, 0, 0},             /* a number within a string */
+        {{0x81, 0x5f, 0x19, 0x01}, 4, 0, 0, 0},             /* a number inside a string */
         {{0x81, 0x81, 0x81, 0xd9}, 4, 2, 2, 0},             /* a tag for which no level is left */
     };
     for (size_t i = 0; i < sizeof rows / sizeof *rows; i++) {
@@ -481,7 +491,7 @@ static int tells_what_is_due(void)
     return 1;
 }
 
-/* The deterministic encoding, in both orders of keys, and the places of what is none. */
+/* Checks the deterministic encoding, in both orders of keys, and the places of faults. */
 static int checks_deterministic(void)
 {
     static const struct {

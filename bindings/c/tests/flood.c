@@ -1,16 +1,16 @@
 /*
- * Feeds a checker one item of 1 GiB and a byte, in pieces of 1 to 65,536 bytes, each of which ends at a guard page. The
- * memory must not grow with it. Then the same item is skipped as a whole: for that its pages stand in a row, where all
- * but the first ones and the last ones are the same.
+ * Feeds a checker one item of 1 GiB and a byte, in pieces of 1 to 65,536 bytes. Each piece ends at a guard page. The
+ * memory must not grow with the item. Then the program skips the same item as a whole. The pages of the item stand in a
+ * row for that, and all but the first and the last ones are the same.
  *
- * Two copiers get an item of a sixteenth of these bytes, with room for 1 to 65,536, which ends at a guard page too.
- * What they write is that of the blocks that the item is made of, by cll_recode.
+ * Two copiers get an item of a sixteenth of these bytes, with room for 1 to 65,536 bytes, which ends at a guard page
+ * too. Their copy is that of the blocks of the item, by cll_recode.
  *
  * usage: flood [all]
  *
  * `all` gives the copiers the whole item, which takes a minute and more.
  *
- * It prints how many pieces there were. It says what went wrong, and then ends with the status 1.
+ * It prints how many pieces there were. If anything goes wrong, it says so, and then ends with the status 1.
  */
 #define _DEFAULT_SOURCE
 #include <sys/resource.h>
@@ -19,7 +19,7 @@
 
 enum { BLOCK = 1 << 20, BLOCKS = 1 << 10, LONGEST = 1 << 16, GROWTH = 1024 };
 
-/* The item is an open, so many blocks, the last of which ends with a break, and has so many bytes. */
+/* The item is an open and `parts` blocks, and has `whole` bytes. The last block ends with a break. */
 static uint64_t parts = BLOCKS, whole = 1 + (uint64_t)BLOCKS * BLOCK;
 
 static uint8_t blocks[2][BLOCK];
@@ -31,7 +31,7 @@ static cll_copier copier;
 static cll_item_copier item_copier;
 static cll_report report;
 
-/* A string that fills so many bytes. A text has characters of each length. */
+/* Writes a string that fills `room` bytes. A text has characters of each length. */
 static void fill(uint8_t *data, size_t room, int is_text)
 {
     const size_t len = room - 5;
@@ -44,7 +44,7 @@ static void fill(uint8_t *data, size_t room, int is_text)
     memset(data + 5 + at, 'a', len - at);
 }
 
-/* Items that fill a block up to its end: short ones, and strings that are longer than a piece, few of them texts. */
+/* Fills a block up to its end with items: short ones, and strings longer than a piece. Few of the strings are texts. */
 static void fill_block(uint8_t *data, size_t room)
 {
     static struct item item;
@@ -79,7 +79,7 @@ static const uint8_t *piece(uint64_t from, size_t len)
     return at;
 }
 
-/* A length: as often one from 1 to 16 as one from 4,097 to 65,536. */
+/* Returns a length. One from 1 to 16 is as likely as one from 4,097 to 65,536. */
 static size_t length(void) { return 1 + (size_t)below(UINT64_C(1) << below(17)); }
 
 static long peak(void)
@@ -98,7 +98,7 @@ static int says(uint32_t answer, uint32_t want, uint64_t consumed, uint64_t plac
     return 0;
 }
 
-/* Feeds all but the last byte, and returns how many pieces that took, or 0. */
+/* Feeds all bytes but the last one. Returns how many pieces that took, or 0. */
 static unsigned long flows(void)
 {
     unsigned long pieces = 0;
@@ -117,7 +117,7 @@ static unsigned long flows(void)
     return pieces;
 }
 
-/* The item ends with a break, and not with another byte. */
+/* The item ends with a break, and with no other byte. */
 static int has_an_end(void)
 {
     static const uint8_t last[] = {0xff, 0x05}, none[] = {0x1c}, text[] = {0x62, 0xc3, 0x28};
@@ -128,7 +128,7 @@ static int has_an_end(void)
         && says(cll_checker_feed(&copies[1], text, sizeof text, &report), CLL_SYNTAX, 3, whole - 1);
 }
 
-/* The item with all its bytes in a row, and a guard page behind it. Its memory is that of two blocks. */
+/* Returns the item with all its bytes in a row, and a guard page after it. It takes the memory of two blocks. */
 static const uint8_t *in_a_row(void)
 {
     const size_t page = (size_t)sysconf(_SC_PAGESIZE);
@@ -149,7 +149,10 @@ static const uint8_t *in_a_row(void)
     return row.start + page - 1;
 }
 
-/* Makes the shortest spelling of the elements in the blocks, and tells how many the item has, or 0. A break is one. */
+/*
+ * Makes the shortest spelling of the elements in the blocks. Returns how many elements the item has, or 0. A break is
+ * one.
+ */
 static uint64_t copies_blocks(void)
 {
     uint64_t elements = 1;
@@ -162,10 +165,10 @@ static uint64_t copies_blocks(void)
     return elements;
 }
 
-/* How many bytes the copy of the item has. */
+/* Returns how many bytes the copy of the item has. */
 static uint64_t copy_len(void) { return 1 + (parts - 1) * copied[0] + copied[1]; }
 
-/* Whether the bytes are those of the copy from this offset on. */
+/* Tells whether the bytes are those of the copy from this offset on. */
 static int is_copy(const uint8_t *data, size_t len, uint64_t from)
 {
     const uint64_t last = copy_len() - copied[1];
@@ -184,7 +187,7 @@ static int is_copy(const uint8_t *data, size_t len, uint64_t from)
     return 1;
 }
 
-/* A piece for a copier of so many elements, or for one of an item. */
+/* Gives a piece to the copier of elements, or to the copier of an item. */
 static uint32_t fed_copier(int is_item, const uint8_t *data, size_t len, uint8_t *out, size_t room)
 {
     return is_item ? cll_item_copier_feed(&item_copier, data, len, out, room, &report)
@@ -217,7 +220,7 @@ static int copies_all(int is_item)
     return 0;
 }
 
-/* Copies an item of so many blocks by both. */
+/* Copies an item of `count` blocks by both copiers. */
 static int copies_items(uint64_t count)
 {
     parts = count;

@@ -1,6 +1,6 @@
 /*
- * For pieces.c and flood.c: memory with a guard page in front of it and one behind, numbers from a seed, and random
- * items of CBOR. Of each offset in an item is known how many bytes are surely due there, by how the item was made.
+ * For pieces.c and flood.c: memory with a guard page before it and one after it, numbers from a seed, and random items
+ * of CBOR. The way in which an item was made says how many bytes are surely due at each of its offsets.
  */
 #include <stdint.h>
 #include <stdio.h>
@@ -11,7 +11,7 @@
 
 #include "ciborium_ll.h"
 
-/* Memory in whole pages. Whoever reads or writes in front of it or behind it is ended by the system. */
+/* Memory in whole pages. The system ends a program that reads or writes before it or after it. */
 struct guarded { uint8_t *start, *end; };
 
 static struct guarded guard(size_t room)
@@ -28,7 +28,7 @@ static struct guarded guard(size_t room)
     return made;
 }
 
-/* The next number from a seed (SplitMix64). */
+/* Returns the next number from a seed (SplitMix64). */
 static uint64_t seed = 1;
 
 static uint64_t any(void)
@@ -39,15 +39,15 @@ static uint64_t any(void)
     return mixed ^ (mixed >> 31);
 }
 
-/* A number below a bound that is not 0. */
+/* Returns a number below a bound that is not 0. */
 static uint64_t below(uint64_t bound) { return any() % bound; }
 
 enum { MOST = 1 << 13, TALLEST = 16 };
 
-/* Whether items are made in their shortest spelling. */
+/* Tells whether items are made in their shortest spelling. */
 static int shortest;
 
-/* An item: its bytes, how many bytes are due in front of each of them, and how many levels it has. */
+/* An item: its bytes, how many bytes are due before each of them, and how many levels it has. */
 struct item {
     uint8_t data[MOST];
     uint32_t due[MOST];
@@ -64,7 +64,7 @@ static void byte(struct item *item, unsigned value, size_t due)
     item->len++;
 }
 
-/* A title with so many bytes behind its first one. */
+/* Adds a title with `width` bytes after its first one. */
 static void title(struct item *item, unsigned major, uint64_t value, unsigned width)
 {
     static const unsigned minors[] = {0, 24, 25, 0, 26, 0, 0, 0, 27};
@@ -73,7 +73,7 @@ static void title(struct item *item, unsigned major, uint64_t value, unsigned wi
         byte(item, (unsigned)(value >> 8 * (left - 1)) & 0xff, left);
 }
 
-/* Any title of a number: the shortest one or a longer one. */
+/* Adds any title of a number: the shortest one or a longer one. */
 static void number(struct item *item, unsigned major, uint64_t value)
 {
     static const unsigned widths[] = {0, 1, 2, 4, 8};
@@ -95,7 +95,7 @@ static size_t character(uint8_t *bytes)
     return len;
 }
 
-/* A string whose length its title tells. */
+/* Adds a string whose title tells its length. */
 static void body(struct item *item, int is_text, size_t room)
 {
     uint8_t bytes[MOST];
@@ -107,7 +107,7 @@ static void body(struct item *item, int is_text, size_t room)
         byte(item, bytes[at], len - at);
 }
 
-/* A string in pieces. An open may stand within another one, but not in the shortest spelling. */
+/* Adds a string in pieces. An open may stand inside another one, but not in the shortest spelling. */
 static void string(struct item *item, int is_text, size_t room)
 {
     unsigned opens = 1;
@@ -126,7 +126,7 @@ static void string(struct item *item, int is_text, size_t room)
     }
 }
 
-/* A number, a simple value, a float or a string. */
+/* Adds a number, a simple value, a float or a string. */
 static void leaf(struct item *item, size_t room)
 {
     switch (below(9)) {
@@ -154,7 +154,7 @@ static void leaf(struct item *item, size_t room)
 
 static void append(struct item *item, unsigned level, size_t room);
 
-/* A tag, an array or a map, at a level from 1 on. */
+/* Adds a tag, an array or a map, at a level from 1 on. */
 static void nest(struct item *item, unsigned level, size_t room)
 {
     const unsigned major = 4 + (unsigned)below(3);
@@ -177,7 +177,7 @@ static void nest(struct item *item, unsigned level, size_t room)
         byte(item, 0xff, 1);
 }
 
-/* Another item, with so many levels around it. */
+/* Adds another item, with `level` levels around it. */
 static void append(struct item *item, unsigned level, size_t room)
 {
     if (level < TALLEST && room > 8 && below(5) < 3)
@@ -186,7 +186,7 @@ static void append(struct item *item, unsigned level, size_t room)
         leaf(item, room);
 }
 
-/* A new item. Now and then it is a long one. One that has no room is given up for another one. */
+/* Makes a new item, now and then a long one. It gives up an item that has no room, and makes another one. */
 static void make(struct item *item)
 {
     do {

@@ -1,34 +1,35 @@
 /*
  * Feeds a checker, and a strict one, random items, whole and damaged, random bytes, and all lists of one and of two
- * bytes: each front of them at once and then the rest, byte by byte, and in random pieces. Each piece ends at a guard
- * page, and so does the checker, or it begins behind one.
+ * bytes. It feeds each front of them at once and then the rest, byte by byte, and in random pieces. Each piece ends at
+ * a guard page. The checker ends at a guard page too, or begins after one.
  *
- * A copier gets the same bytes, in random pieces and with random rooms, each of which ends at a guard page: what it
- * makes is what cll_recode makes of them, and goes on from what that has written where they are faulty or cut. A copier
- * of an item gets them too, and finds what a checker does, and writes what a copier does of all but a byte at fault.
+ * A copier gets the same bytes, in random pieces and with random rooms. Each piece and each room ends at a guard page.
+ * The copier makes the copy that cll_recode makes of the bytes. If they are faulty or cut, the copy goes on from the
+ * bytes that cll_recode wrote. A copier of an item gets them too. It finds the faults that a checker finds. It writes
+ * the bytes that a copier writes of all bytes but the one at fault.
  *
- * What has to be answered comes from calls over the whole front, cll_skip, cll_strict and cll_recode, whose answers are
- * proved. Where they say that the bytes end too early, more is due just where some bytes behind them make an item: so
- * such bytes are looked for, and skipped. How many bytes are due at least is known of an item by how it was made: a
- * checker says just that, and so do the calls over a front.
+ * The right answers come from calls over the whole front: cll_skip, cll_strict and cll_recode, whose answers are
+ * proved. If they say that the bytes end too early, more is due exactly if some bytes after them make an item. So the
+ * program looks for such bytes, and skips the item. The way in which an item was made says how many bytes are due at
+ * least. A checker says exactly that number, and so do the calls over a front.
  *
  * usage: pieces [ITEMS [SEED]]
  *
- * With a number of items the lists are left out. It prints how many fronts had which answer. It says which bytes went
- * wrong, and then ends with the status 1.
+ * With a number of items it leaves out the lists. It prints how many fronts had which answer. If bytes go wrong, it
+ * prints them, and ends with the status 1.
  */
 #define _DEFAULT_SOURCE
 #include "items.h"
 
 enum { ITEMS = 3000, PLENTY = 4096, MORE = 1024, ROUNDS = 3 };
 
-/* What is found of a front: the answer, how many bytes are taken, and the place. */
+/* A finding for a front: the answer, how many bytes were taken, and the place. */
 struct finding { uint32_t answer; uint64_t taken, place; };
 
-/* A front to which bytes are added: what is answered, and how many bytes are due. */
+/* A front to which bytes are added, with the answer for it, and how many bytes are due. */
 struct front { uint8_t data[PLENTY + MORE]; size_t len; uint32_t answer; uint64_t due; };
 
-/* What a copier makes of bytes: what is found of them, and what is written. */
+/* A copier's copy of some bytes: the finding for them, and the bytes written. */
 struct copy { struct finding found; uint8_t data[MOST]; size_t written; };
 
 static struct guarded input, output, checkers, copiers, item_copiers, reports;
@@ -41,13 +42,13 @@ static unsigned long answers[CLL_ARGUMENT + 1], completed, copies_made, items_ma
 /* Whether the checker is a strict one. */
 static int strict;
 
-/* A copy of bytes that ends right at the guard page. Of no bytes it is the page's first address. */
+/* Copies bytes so that they end right at the guard page. No bytes are at the page's first address. */
 static const uint8_t *at_end(const struct guarded *memory, const uint8_t *data, size_t len)
 {
     return len > 0 ? (const uint8_t *)memcpy(memory->end - len, data, len) : memory->end;
 }
 
-/* Puts the checker to the other side of its memory, as it is: it points nowhere. */
+/* Moves the checker to the other side of its memory, as it is. It holds no pointer. */
 static void move(void)
 {
     uint8_t *other = (uint8_t *)checker == checkers.start ? checkers.end - sizeof *checker : checkers.start;
@@ -60,7 +61,7 @@ static void begin(uint32_t depth)
         exit(2);
 }
 
-/* Feeds a piece, which ends at the guard page, and adds to what was found before it. */
+/* Feeds a piece, which ends at the guard page, and adds to the finding so far. */
 static void feed(struct finding *found, const uint8_t *data, size_t len)
 {
     found->answer = cll_checker_feed(checker, at_end(&input, data, len), len, report);
@@ -73,7 +74,7 @@ static int same(const struct finding *one, const struct finding *other)
     return one->answer == other->answer && one->taken == other->taken && one->place == other->place;
 }
 
-/* What is found of a front that is fed at once. */
+/* Returns the finding for a front that is fed at once. */
 static struct finding at_once(const uint8_t *data, size_t len, uint32_t depth)
 {
     struct finding found = {CLL_ARGUMENT, 0, 0};
@@ -82,7 +83,7 @@ static struct finding at_once(const uint8_t *data, size_t len, uint32_t depth)
     return found;
 }
 
-/* Whether a checker says so of the end of the bytes. */
+/* Tells whether a checker says so at the end of the bytes. */
 static int ends(const struct finding *found, size_t len)
 {
     const uint32_t want = len == 0 ? CLL_OK : found->answer;
@@ -91,7 +92,7 @@ static int ends(const struct finding *found, size_t len)
         && report->place == (want == CLL_OK ? 0 : found->place);
 }
 
-/* What a skip finds of a front: the length of its item, or the fault, or that it ends too early. */
+/* Returns a skip's finding for a front: the length of its item, or the fault, or that it ends too early. */
 static struct finding skipped(const uint8_t *data, size_t len, uint32_t depth)
 {
     struct finding found;
@@ -101,7 +102,7 @@ static struct finding skipped(const uint8_t *data, size_t len, uint32_t depth)
     return found;
 }
 
-/* The same of an item in its shortest spelling: of two faults the one in front is found. */
+/* Returns the same for an item in its shortest spelling. It finds the first of two faults. */
 static struct finding skipped_strictly(const uint8_t *data, size_t len, uint32_t depth)
 {
     struct finding found = skipped(data, len, depth);
@@ -117,7 +118,7 @@ static struct finding skipped_strictly(const uint8_t *data, size_t len, uint32_t
     return found;
 }
 
-/* Whether a skip of the front says the same, or that it ends too early. */
+/* Tells whether a skip of the front says the same, or that it ends too early. */
 static int skips(const struct finding *found, const uint8_t *data, size_t len, uint32_t depth)
 {
     const struct finding want = strict ? skipped_strictly(data, len, depth) : skipped(data, len, depth);
@@ -125,7 +126,7 @@ static int skips(const struct finding *found, const uint8_t *data, size_t len, u
     case CLL_OK:
         return same(found, &want);
     case CLL_SHORT:
-        /* Of any spelling as many bytes are due as a checker says, and none where it has found a fault. */
+        /* In any spelling a skip says as many due bytes as a checker, and 0 if the checker has found a fault. */
         return found->answer != CLL_OK
             && (strict || want.place == (found->answer == CLL_SHORT ? found->place : 0));
     default:
@@ -134,8 +135,8 @@ static int skips(const struct finding *found, const uint8_t *data, size_t len, u
 }
 
 /*
- * Whether a copy of all elements says the same: an item has only whole elements, and what a copy writes of them is an
- * item again. A fault in a title or a text is that of the copy, unless the bytes end too early for it.
+ * Tells whether a copy of all elements says the same. An item has only whole elements, and a copy of them is an item
+ * again. A fault in a title or a text is also that of the copy, unless the bytes end too early for it.
  */
 static int copies(const struct finding *found, const uint8_t *data, size_t len, uint32_t depth)
 {
@@ -157,7 +158,10 @@ static int copies(const struct finding *found, const uint8_t *data, size_t len, 
     return same(&again, &want);
 }
 
-/* Feeds so many bytes of one value behind a front, and says whether the checker goes on or ends. If not, none came. */
+/*
+ * Feeds `count` bytes of one value after a front. Tells whether the checker then goes on or ends. Otherwise the checker
+ * stays as it was.
+ */
 static int goes_on(struct front *front, uint8_t value, size_t count)
 {
     const cll_checker was = *checker;
@@ -174,7 +178,7 @@ static int goes_on(struct front *front, uint8_t value, size_t count)
     return 1;
 }
 
-/* The same for one byte, of any value with which it does. Those that go on a character are first. */
+/* Does the same for one byte of any value with which that works. It tries bytes that go on a character first. */
 static int finds_byte(struct front *front)
 {
     static const uint8_t first[] = {0x80, 0x90, 0xa0, 0xff};
@@ -190,10 +194,10 @@ static int finds_byte(struct front *front)
 }
 
 /*
- * Whether some bytes behind a front make an item of it, as a skip of all of them says. Where that takes too many it is
- * not tried out. More of the front is due.
+ * Tells whether some bytes after a front make an item of it, as a skip of all of them says. More of the front is due.
+ * If that takes too many bytes, it does not try them.
  *
- * What is open is ended. What is counted is filled with zeros, first one and then more at a time.
+ * It ends each open title. It fills each counted one with zeros, first with one and then with more at a time.
  */
 static int completes(const uint8_t *data, size_t len, uint32_t depth)
 {
@@ -222,7 +226,7 @@ static int completes(const uint8_t *data, size_t len, uint32_t depth)
     return skips(&found, front.data, front.len, depth);
 }
 
-/* Whether pieces of random lengths lead to what is found of each front. The checker moves between them. */
+/* Tells whether pieces of random lengths lead to the finding for each front. The checker moves between them. */
 static int in_pieces(const struct finding *want, const uint8_t *data, size_t len, uint32_t depth, size_t longest)
 {
     struct finding found = {CLL_ARGUMENT, 0, 0};
@@ -240,7 +244,7 @@ static int in_pieces(const struct finding *want, const uint8_t *data, size_t len
     return ends(&want[len], len);
 }
 
-/* Whether each front is found to be what it is, and all of it where the rest comes behind it. */
+/* Tells whether each front has its right finding, and all bytes have theirs if the rest comes after the front. */
 static int in_two(struct finding *want, const uint8_t *data, size_t len, uint32_t depth)
 {
     const struct finding all = at_once(data, len, depth);
@@ -259,7 +263,7 @@ static int in_two(struct finding *want, const uint8_t *data, size_t len, uint32_
     return copies(&all, data, len, depth);
 }
 
-/* Feeds a copier a piece with so much room, and adds to what it made before. Then it moves. */
+/* Feeds a copier a piece with `room` bytes of room, and adds to its copy so far. Then it moves the copier. */
 static void feed_copier(struct copy *copy, const uint8_t *data, size_t len, size_t room)
 {
     uint8_t *out = output.end - room;
@@ -272,7 +276,7 @@ static void feed_copier(struct copy *copy, const uint8_t *data, size_t len, size
     copier = (cll_copier *)memmove(other, copier, sizeof *copier);
 }
 
-/* What a copier makes of bytes in pieces and rooms of at most so many, and whether it says the same of their end. */
+/* Copies bytes in pieces and rooms of at most `longest` bytes. Tells whether the copier says the same at their end. */
 static int copied(struct copy *copy, const uint8_t *data, size_t len, uint64_t count, size_t longest)
 {
     memset(copy, 0, sizeof *copy);
@@ -288,7 +292,9 @@ static int copied(struct copy *copy, const uint8_t *data, size_t len, uint64_t c
         && report->place == copy->found.place;
 }
 
-/* Feeds a copier of an item a piece with so much room, and adds to what it made before. Then it moves. */
+/*
+ * Feeds a copier of an item a piece with `room` bytes of room, and adds to its copy so far. Then it moves the copier.
+ */
 static void feed_item_copier(struct copy *copy, const uint8_t *data, size_t len, size_t room)
 {
     uint8_t *out = output.end - room;
@@ -302,7 +308,7 @@ static void feed_item_copier(struct copy *copy, const uint8_t *data, size_t len,
     item_copier = (cll_item_copier *)memmove(other, item_copier, sizeof *item_copier);
 }
 
-/* What a copier of an item makes of bytes so, and whether it says the same of their end, but for that of no bytes. */
+/* Does the same by a copier of an item, and tells whether it says the same at the end. No bytes end with CLL_OK. */
 static int item_copied(struct copy *copy, const uint8_t *data, size_t len, uint32_t depth, size_t longest)
 {
     memset(copy, 0, sizeof *copy);
@@ -319,7 +325,7 @@ static int item_copied(struct copy *copy, const uint8_t *data, size_t len, uint3
         && (copy->found.taken == 0 ? end == CLL_OK : end == copy->found.answer);
 }
 
-/* Whether the copy is that of the calls over all bytes, which has written so many of `want`. */
+/* Tells whether the copy is that of the calls over all bytes, which wrote `written` bytes of `want`. */
 static int is_copy(const struct copy *copy, const struct finding *found, const uint8_t *want, size_t written)
 {
     if (written > copy->written || memcmp(copy->data, want, written) != 0)
@@ -334,7 +340,7 @@ static int is_copy(const struct copy *copy, const struct finding *found, const u
     }
 }
 
-/* Whether a copier makes of bytes what the calls over all of them do, however both are cut. */
+/* Tells whether a copier makes the same copy as the calls over all bytes, however both are cut. */
 static int copies_on(const uint8_t *data, size_t len)
 {
     static struct copy once, pieces;
@@ -360,8 +366,8 @@ static int copies_on(const uint8_t *data, size_t len)
 }
 
 /*
- * Whether a copier of an item finds what a checker finds, and writes what a copier of any number of elements writes of
- * all bytes but the one at fault, however both are cut.
+ * Tells whether a copier of an item finds the same as a checker, however both are cut. It also tells whether it writes
+ * the copy that a copier of any number of elements writes of all bytes but the one at fault.
  */
 static int copies_item(const struct finding *found, const uint8_t *data, size_t len, uint32_t depth)
 {
@@ -395,7 +401,7 @@ static int holds(const uint8_t *data, size_t len, uint32_t depth)
     return copies_item(&want[len], data, len, depth) && (strict || copies_on(data, len));
 }
 
-/* Whether the calls over the front of an item say that so many bytes are due behind it. */
+/* Tells whether the calls over the front of an item say that `due` bytes are due after it. */
 static int lacks(const struct item *item, size_t len, uint64_t due)
 {
     const uint8_t *data = at_end(&input, item->data, len);
@@ -405,7 +411,7 @@ static int lacks(const struct item *item, size_t len, uint64_t due)
     return !strict || (cll_strict(data, len, UINT64_MAX, report) == CLL_SHORT && report->place == due);
 }
 
-/* Whether as many bytes are due in front of each byte of an item as were, when it was made. */
+/* Tells whether as many bytes are due before each byte of an item as were due while it was made. */
 static int tells_due(const struct item *item)
 {
     struct finding found = {CLL_ARGUMENT, 0, 0};
@@ -446,7 +452,7 @@ static void damage(struct item *item)
     }
 }
 
-/* Says which bytes went wrong. */
+/* Prints the bytes that went wrong. */
 static int fails(const uint8_t *data, size_t len, uint32_t depth)
 {
     fprintf(stderr, "pieces: %sto a depth of %lu: ", strict ? "strictly, " : "", (unsigned long)depth);
@@ -456,7 +462,7 @@ static int fails(const uint8_t *data, size_t len, uint32_t depth)
     return 1;
 }
 
-/* A random item: as it is, with a level too few, and damaged, with another item behind it. */
+/* Tries a random item: as it is, with one level too few, and damaged, with another item after it. */
 static int tries_item(struct item *item)
 {
     static struct item next;
@@ -478,7 +484,7 @@ static int tries_item(struct item *item)
     return holds(item->data, item->len, item->levels) ? 0 : fails(item->data, item->len, item->levels);
 }
 
-/* Bytes of which each is any, or most of them begin an item. */
+/* Tries bytes of any value, or most of which begin an item. */
 static int tries_bytes(void)
 {
     uint8_t data[32];
@@ -489,7 +495,7 @@ static int tries_bytes(void)
     return holds(data, len, depth) ? 0 : fails(data, len, depth);
 }
 
-/* Each list of one byte and of two. */
+/* Tries each list of one byte and of two. */
 static int tries_lists(void)
 {
     for (unsigned first = 0; first < 256; first++) {

@@ -1,11 +1,11 @@
 /*
- * Prints how many bytes of the stack each call uses, one line NAME BYTES for each: of cll_skip for some depths, each
- * filled with nests of two kinds down to a text and to a byte string of indefinite length; and of cll_deterministic for
- * the same depths, filled with tags, arrays or maps down to texts, a byte string and a float. A line NAME/short is of
- * bytes that end too early, in one of the ways in which they can.
+ * Prints how many bytes of the stack each call uses, with one line NAME BYTES for each. It calls cll_skip for some
+ * depths, each filled with nests of two kinds, down to a text and to a byte string of indefinite length. It calls
+ * cll_deterministic for the same depths, filled with tags, arrays or maps down to texts, a byte string and a float. A
+ * line NAME/short is for bytes that end too early, in one of the ways in which they can.
  *
- * A call runs on a stack of its own, which was filled before with one value. What it changed is what it used. What a
- * call of nothing uses is taken off.
+ * A call runs on a stack of its own, filled with one value before. The bytes that the call changed are the bytes that
+ * it used. The program takes off the use of a call that does nothing.
  */
 #define _XOPEN_SOURCE 600
 #include <stdio.h>
@@ -56,10 +56,10 @@ static void item_copier_feed(void)
 }
 static void item_copier_end(void) { answer = cll_item_copier_end(&item_copier, &report); }
 
-/* Of a text with its title in front, which is no UTF-8. */
+/* Calls it for a text that is not UTF-8, with its title before it. */
 static void no_utf8(void) { answer = cll_utf8(data, len, &report) == CLL_SYNTAX ? CLL_OK : CLL_ARGUMENT; }
 
-/* Without the last byte, so that the bytes end too early. */
+/* Calls it without the last byte, so that the bytes end too early. */
 static uint32_t cut(uint32_t got) { return got == CLL_SHORT ? CLL_OK : CLL_ARGUMENT; }
 static void recode_cut(void) { answer = cut(cll_recode(data, len - 1, 1, out, sizeof out, &report)); }
 static void strict_cut(void) { answer = cut(cll_strict(data, len - 1, 1, &report)); }
@@ -69,7 +69,7 @@ static void deterministic_cut(void)
 }
 static void skip_cut(void) { answer = cut(cll_skip(data, len - 1, depth, &report)); }
 
-/* Of bytes that end too early as they are. */
+/* Calls it for bytes that end too early as they are. */
 static void recode_short(void) { answer = cut(cll_recode(data, len, UINT64_MAX, out, sizeof out, &report)); }
 static void strict_short(void) { answer = cut(cll_strict(data, len, UINT64_MAX, &report)); }
 static void skip_short(void) { answer = cut(cll_skip(data, len, depth, &report)); }
@@ -83,7 +83,7 @@ static void item_copier_short(void)
 }
 static void item_copier_cut(void) { answer = len == 0 ? CLL_OK : cut(cll_item_copier_end(&item_copier, &report)); }
 
-/* How many bytes of a stack a call changed. It has to answer CLL_OK. */
+/* Returns how many bytes of a stack a call changed. The call has to answer CLL_OK. */
 static size_t used(void (*call)(void))
 {
     static uint8_t stack[STACK];
@@ -105,7 +105,7 @@ static size_t used(void (*call)(void))
     return sizeof stack - untouched;
 }
 
-/* A text of 1000 characters of three bytes each. */
+/* Makes a text of 1000 characters of three bytes each. */
 static void make_text(void)
 {
     static const uint8_t title[TITLE] = {0x79, 0x0b, 0xb8}, character[] = {0xe6, 0xb0, 0xb4};
@@ -115,8 +115,9 @@ static void make_text(void)
 }
 
 /*
- * So many nests within one another, with a text and a byte string in the innermost one. Each is an array of indefinite
- * length, or an array of two, in which another item follows the nest: behind the last one a call has not to come back.
+ * Makes `levels` nests inside one another, with a text and a byte string in the innermost one. Each is an array of
+ * indefinite length, or an array of two, in which another item follows the nest. So no call has to come back after the
+ * last nest.
  */
 static void make_nests(int is_open, unsigned levels)
 {
@@ -130,7 +131,7 @@ static void make_nests(int is_open, unsigned levels)
 }
 
 /*
- * So many nests within one another: tags, arrays, maps with the next one as a key, or maps with it as a value.
+ * Makes `levels` nests inside one another: tags, arrays, maps with the next nest as a key, or maps with it as a value.
  * In the innermost one are a short text, a byte string, a float and a text of 99 bytes.
  */
 static void make_definite_nests(int kind, unsigned levels)
@@ -156,7 +157,10 @@ static void make_definite_nests(int kind, unsigned levels)
     depth = levels;
 }
 
-/* What each call uses of bytes that end too early: before a title, within one, within a body, a character or a nest. */
+/*
+ * Prints the use of each call for bytes that end too early: before a title, or inside a title, a body, a character or a
+ * nest.
+ */
 static void use_short(size_t plain)
 {
     static const struct { const char *name; void (*call)(void); } calls[] = {
@@ -167,17 +171,17 @@ static void use_short(size_t plain)
     };
     static const struct { uint8_t bytes[6]; size_t len; } rows[] = {
         {{0}, 0},                               /* before a title */
-        {{0x19, 0x03}, 2},                      /* within a title */
-        {{0x5b, 0, 0}, 3},                      /* within that of a string */
+        {{0x19, 0x03}, 2},                      /* inside a title */
+        {{0x5b, 0, 0}, 3},                      /* inside the title of a string */
         {{0x42}, 1},                            /* before a body */
-        {{0x43, 1}, 2},                         /* within a body */
-        {{0x63, 0xe6, 0xb0}, 3},                /* within a character */
+        {{0x43, 1}, 2},                         /* inside a body */
+        {{0x63, 0xe6, 0xb0}, 3},                /* inside a character */
         {{0x5f}, 1},                            /* before a segment */
-        {{0x5f, 0x58}, 2},                      /* within the title of one */
+        {{0x5f, 0x58}, 2},                      /* inside the title of one */
         {{0x5f, 0x41}, 2},                      /* before the body of one */
-        {{0x7f, 0x62, 0xc3}, 3},                /* within a character of one */
+        {{0x7f, 0x62, 0xc3}, 3},                /* inside a character of one */
         {{0x7f, 0x61, 'a'}, 3},                 /* before the next one */
-        {{0x82, 0x81, 0x18}, 3},                /* within nests */
+        {{0x82, 0x81, 0x18}, 3},                /* inside nests */
         {{0xbf, 0x61, 'a', 0xc1, 0x5f, 0x41}, 6},
     };
     for (size_t i = 0; i < sizeof rows / sizeof *rows; i++) {

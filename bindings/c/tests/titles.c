@@ -1,6 +1,6 @@
 /*
- * Reads each title of a table, cut at each place too, and writes its header, also into a byte less than that takes.
- * It says which row went wrong, and then ends with the status 1.
+ * Reads each title of a table, cut at each place too, and writes its header, also into a byte less than it needs. If a
+ * row goes wrong, it says so, and then ends with the status 1.
  */
 #include <stdio.h>
 #include <string.h>

@@ -1,5 +1,5 @@
 // SPDX-License-Identifier: Apache-2.0
-// Prints the titles of an item, and where one is not in its shortest spelling.
+// Prints the titles of an item, and the offset of one that is not in its shortest spelling.
 #include <ciborium_ll.hpp>
 #include <iostream>
 #include <vector>

@@ -13,7 +13,7 @@
 
 namespace {
 
-/* Prints a word and a number, and gives the status. */
+/* Prints a word and a number, and returns the status. */
 int tell(const char *word, std::uint64_t number, int status)
 {
     std::cout << word << ' ' << number << '\n';
