@@ -12,7 +12,7 @@
 
 #include "table.h"
 
-/* What a call made: as it stands in a row. */
+/* Shows the bytes that a call made as a row has them. */
 static const char *shown(char *text, const uint8_t *bytes, uint64_t len)
 {
     char *end = text;
@@ -21,7 +21,7 @@ static const char *shown(char *text, const uint8_t *bytes, uint64_t len)
     return len > 0 ? text : "-";
 }
 
-/* A header and the shortest title that cll_push writes of it. */
+/* Shows a header and the shortest title that cll_push writes for it. */
 static const char *told(char *text, const cll_header *header)
 {
     uint8_t title[9];
@@ -35,7 +35,7 @@ static const char *told(char *text, const cll_header *header)
     return text;
 }
 
-/* Gives a checker the bytes one by one, and makes how long the item is, or how many bytes more are due. */
+/* Gives a checker the bytes one by one, and shows how long the item is, or how many more bytes are due. */
 static uint32_t fed(char *text, const uint8_t *data, size_t len, uint32_t depth, int strict, cll_report *report)
 {
     cll_checker checker;
@@ -44,7 +44,7 @@ static uint32_t fed(char *text, const uint8_t *data, size_t len, uint32_t depth,
     int same;
     memset(&checker, 0, sizeof checker);
     made = strict ? cll_checker_init_strict(&checker, depth) : cll_checker_init(&checker, depth);
-    /* Memory in which none was set up is answered by CLL_ARGUMENT too. */
+    /* A call answers CLL_ARGUMENT also for memory that holds no checker. */
     answer = cll_checker_feed(&checker, data, 0, report);
     same = answer == (made == CLL_OK ? CLL_SHORT : made);
     for (size_t i = 0; i < len; i++) {
@@ -56,7 +56,10 @@ static uint32_t fed(char *text, const uint8_t *data, size_t len, uint32_t depth,
     else
         strcpy(text, "-");
     same &= taken == 0 || cll_checker_end(&checker, report) == answer;
-    /* No bytes change nothing, and their answer says whether the item has ended: after no byte at all it has not. */
+    /*
+     * A feed of no bytes changes nothing, and its answer says whether the item has ended. Before the first byte it has
+     * not.
+     */
     same &= cll_checker_feed(&checker, NULL, 0, report) == answer;
     if (!same)
         strcpy(text, "another answer");
@@ -66,7 +69,7 @@ static uint32_t fed(char *text, const uint8_t *data, size_t len, uint32_t depth,
     return answer;
 }
 
-/* Gives a copier the bytes one by one, with room for one each, and makes what it wrote. */
+/* Gives a copier the bytes one by one, with room for one each, and shows the bytes that it wrote. */
 static uint32_t copied(char *text, const uint8_t *data, size_t len, uint64_t count, cll_report *report)
 {
     cll_copier copier;
@@ -90,7 +93,7 @@ static uint32_t copied(char *text, const uint8_t *data, size_t len, uint64_t cou
     return answer;
 }
 
-/* Behind what a call made how many bytes more are due, where it answers that the bytes end too early. */
+/* Adds how many more bytes are due to what a call made, if the call answers that the bytes end too early. */
 static const char *with_due(char *text, const char *made, int alone, uint32_t answer, const cll_report *report)
 {
     if (answer != CLL_SHORT)
@@ -103,7 +106,7 @@ static const char *with_due(char *text, const char *made, int alone, uint32_t an
 
 static int holds(const struct row *row)
 {
-    /* Of just as many bytes as there are, so that a sanitizer sees each one beyond. */
+    /* The memory has one byte more than the row, so a sanitizer sees each access beyond that byte. */
     uint8_t *data = (uint8_t *)malloc(row->len + 1), *out = (uint8_t *)malloc(ROOM);
     char text[3 * ROOM];
     const char *made = "-";

@@ -1,5 +1,5 @@
 /*
- * Holds the header for C++ against the table of rows, and tries what a table can't say.
+ * Holds the header for C++ against the table of rows, and tries facts that a table can't say.
  *
  * usage: rows TABLE
  */
@@ -29,7 +29,7 @@ std::string shown(cll::input bytes)
     return text.empty() ? "-" : text;
 }
 
-/* A header and the shortest title that is written of it. */
+/* Shows a header and the shortest title that is written for it. */
 std::string told(const cll::header &header)
 {
     std::array<std::uint8_t, 9> title;
@@ -38,14 +38,14 @@ std::string told(const cll::header &header)
         + (header.value ? std::to_string(*header.value) : "*") + '/' + shown({title.data(), length.value()});
 }
 
-/* How many bytes more are due, where the bytes end too early. */
+/* Shows how many more bytes are due, if the bytes end too early. */
 template <typename T>
 std::string due(const cll::result<T> &got)
 {
     return !got && got.fault().code == cll::answer::too_short ? "due/" + std::to_string(got.fault().due) : "";
 }
 
-/* Whether a call came out as a row says. */
+/* Tells whether a call answered as a row says. */
 template <typename T>
 bool fits(const row &row, const cll::result<T> &got, std::uint64_t consumed, const std::string &made)
 {
@@ -147,7 +147,7 @@ bool has_values()
         && &bad.error() == &bad.fault();
 }
 
-/* Whether a title that was found has such a header, stands there, and has such a body, or none. */
+/* Tells whether a title was found with this header, in this place, and with this body or none. */
 bool is_found(const cll::result<cll::located> &got, const cll::header &header, std::size_t start, std::size_t end,
     std::optional<std::string_view> body)
 {
@@ -156,7 +156,7 @@ bool is_found(const cll::result<cll::located> &got, const cll::header &header, s
         && (!body || std::string_view(reinterpret_cast<const char *>(got->body->data()), got->body->size()) == *body);
 }
 
-/* All titles of some bytes, with the bodies of strings of a definite length, and the fault that ends them. */
+/* Goes over all titles of some bytes, with the bodies of strings of a definite length, and the fault that ends them. */
 bool goes_over()
 {
     const auto bytes = "\x9f\x0a\x63\xe2\x81\x8c\x5f\x41\x01\xff\xff"sv;
@@ -198,7 +198,7 @@ bool throws()
     return false;
 }
 
-/* A copy that has no room goes on after the whole elements, and their spelling. */
+/* A copy that has no room goes on after the whole elements and their spelling. */
 bool goes_on()
 {
     std::array<std::uint8_t, 4> out;
@@ -209,7 +209,7 @@ bool goes_on()
         && full.spelled == 1 && rest && rest->written == 2 && shown({out.data(), 3}) == "05417a";
 }
 
-/* A reader goes over a map with a string and an array, and stays where a call fails. */
+/* A reader goes over a map with a string and an array. A call that fails does not move it. */
 bool reads()
 {
     const std::vector<std::uint8_t> data = {0xa1, 0x61, 'a', 0x82, 0x01, 0x02, 0x1c};
@@ -225,7 +225,7 @@ bool reads()
         && reader.at_end();
 }
 
-/* A text in pieces of two bytes: what is behind a front stands in front of the next piece. */
+/* Takes a text in pieces of two bytes. The bytes after a front are put before the next piece. */
 bool joins()
 {
     const std::string_view text = "A\xe2\x89\xa2\xce\x91.\xf0\xa3\x8e\xb4";
@@ -243,7 +243,7 @@ bool joins()
     return fronts == text.size() && rest.empty() && cll::utf8({}).value() == 0;
 }
 
-/* An item in two pieces, with another one behind it: a copy of a checker goes on by itself, and a fault stays. */
+/* Checks an item in two pieces, with another one after it. A copy of a checker goes on by itself, and a fault stays. */
 bool checks()
 {
     cll::checker checker(1);
@@ -259,7 +259,10 @@ bool checks()
         && cll::checker(257).feed({}).fault().code == cll::answer::argument && !cll::checker().end();
 }
 
-/* Elements in two pieces: what has no room comes later, a copy of a copier goes on by itself, and a fault stays. */
+/*
+ * Copies elements in two pieces. Bytes that have no room come later, a copy of a copier goes on by itself, and a fault
+ * stays.
+ */
 bool copies_on()
 {
     std::array<std::uint8_t, 4> out;
@@ -280,7 +283,7 @@ bool copies_on()
         && copy.end()->place == 3 && cll::copier(1).end()->code == cll::answer::too_short && !cll::copier(0).end();
 }
 
-/* An item in two pieces: it ends where the item does, and of the byte with which a fault comes nothing is written. */
+/* Copies an item in two pieces. It ends with the item, and writes nothing of the byte with which a fault comes. */
 bool copies_item()
 {
     std::array<std::uint8_t, 4> out;
@@ -303,7 +306,7 @@ bool copies_item()
         && cll::item_copier(257).feed({}, out).fault().code == cll::answer::argument && !cll::item_copier().end();
 }
 
-/* Spans of what has no bytes, and of other bytes than numbers. */
+/* Takes spans of objects that have no bytes, and of bytes of another type than numbers. */
 bool spans()
 {
     const std::vector<std::uint8_t> none;

@@ -11,7 +11,7 @@ static const char *const kind_names[] = {"positive", "negative", "bytes", "text"
 static const char *const answer_names[] = {"ok", "short", "syntax", "room", "too_long", "break_due", "too_deep",
     "argument", "not_shortest", "indefinite", "key_order", "duplicate_key"};
 
-/* A row. What was given stands in `bytes`, or of a push in `header`. */
+/* A row. The given bytes stand in `bytes`, and the given header of a push in `header`. */
 struct row {
     char call[16];
     uint64_t number;
@@ -24,7 +24,7 @@ struct row {
     char made[3 * ROOM];
 };
 
-/* The number of a name in a list, or the list's length. */
+/* Returns the number of a name in a list, or the length of the list. */
 static uint32_t place_of(const char *name, const char *const *names, uint32_t count)
 {
     uint32_t at = 0;
@@ -55,7 +55,7 @@ static int parse(const char *line, struct row *row)
     return 1;
 }
 
-/* Tries each row of a file, and says how many there are. The status is 1 where one doesn't hold. */
+/* Tries each row of a file, and says how many there are. The status is 1 if one does not hold. */
 static int go_through(const char *name, int (*holds)(const struct row *))
 {
     FILE *file = fopen(name, "r");
