@@ -1,6 +1,8 @@
-/* Stands before the C library's memory, and refuses growths of the program that it is loaded into.
+/*
+ * Stands before the memory calls of the C library, and refuses growths of the program that it is loaded into.
  *
- * REFUSED=N refuses the Nth growth alone, and REFUSED=N+ that one and all behind it. They are counted from 1 on. */
+ * REFUSED=N refuses the Nth growth alone, and REFUSED=N+ refuses that one and all after it. They are counted from 1 on.
+ */
 #include <stddef.h>
 #include <stdlib.h>
 #include <string.h>

@@ -1,6 +1,6 @@
-"""The definitions in crates/*/specs and the lemmas in crates/*/proofs, for `reference`, `theorem` and
-verify/prover/lemma: which there are, what they say, on which others they rest, and under which path a crate above names
-them.
+"""Reads the definitions in crates/*/specs and the lemmas in crates/*/proofs, for `reference`, `theorem` and
+verify/prover/lemma. It tells which there are, their text, the definitions on which they rest, and the path by which a
+crate above names them.
 
 A definition rests on another one if its text, without comments, names that or one of its cases.
 """
@@ -22,15 +22,17 @@ class Definition:
         self.has_cases = bool(re.search(r"\bdata ", found[1]))
 
     def first_lines(self):
-        """Its first line, with those below it that stand deeper: what a lemma says, the type of a function, or all of a
-        record and of cases."""
+        """Returns its first line, with the deeper lines below it.
+
+        That is the statement of a lemma, the type of a function, or all of a record and of cases.
+        """
         for at, line in enumerate(self.code):
             if at and len(line) - len(line.lstrip()) <= self.indent or line.strip().startswith("unfolding "):
                 return self.code[:at]
         return self.code
 
     def statement(self):
-        """What it says, on one line, with the arguments of the modules around it."""
+        """Returns its statement, on one line, with the arguments of the modules around it."""
         said = " ".join(" ".join(re.sub(r"(^| )--.*", "", line) for line in self.first_lines()).split())
         start = START.match(said)
         lines = [[line.strip() for line in block if not line.strip().startswith("--")] for block in self.blocks]
@@ -41,8 +43,10 @@ class Definition:
 
 
 class File:
-    """A file of definitions or lemmas: its crate and name, the comment at its top, its definitions by their names, and
-    of each name that it imports or hands on the library and the name there."""
+    """A file of definitions or lemmas: its crate and name, the comment at its top, and its definitions by their names.
+
+    For each name that it imports or hands on it has the library and the name there.
+    """
 
     def __init__(self, path, text=None):
         _, self.crate, self.kind, name = path.split("/")
@@ -66,8 +70,8 @@ class File:
                     self.cases[case] = definition.name
 
     def read(self, lines):
-        """Takes the definitions out of lines. A comment belongs to what follows it. One that interrupts a definition is
-        a part of that."""
+        """Takes the definitions out of lines. A comment belongs to the definition after it. If it interrupts a
+        definition, it is a part of that definition."""
         comment, blocks, group, current, at = [], [], None, None, 0
         while at < len(lines):
             line, bare = lines[at], lines[at].strip()
@@ -102,26 +106,29 @@ class File:
                 comment = []
 
     def named(self, word):
-        """The name of the definition of this file that the word is of."""
+        """Returns the name of the definition of this file to which the word belongs."""
         return word if word in self.definitions else self.cases.get(word)
 
     def words(self, name):
-        """What a definition names: each word that this file has or imports, by the library and the name there."""
+        """Gives the names in a definition: each word that this file has or imports, by the library and the name
+        there."""
         for word in sorted(words_of("\n".join(self.definitions[name].code))):
             if word in self.uses or self.named(word):
                 yield self.uses.get(word, (self.library, word))
 
 
 def shown(definition, before=(), comment=(), is_stated=False):
-    """The lines of a definition as the sources have them, after the first lines of the modules around it, or of a lemma
-    what it states. The modules that were shown with the one before are left out."""
+    """Returns the lines of a definition as the sources have them, or the statement of a lemma.
+
+    The first lines of the modules around it come first, without the modules that were shown with the one before.
+    """
     modules = [line for block in definition.blocks if block not in before for line in block]
     code = definition.first_lines() if is_stated and definition.is_lemma else definition.code
     return [*modules, *comment, *code]
 
 
 def imports(pattern, text):
-    """The names that the lines of some form bring in, with the library that each is of and its name there."""
+    """Returns the names that the lines of some form bring in, with the library and the name there of each."""
     found = {}
     for library, names in re.findall(pattern, text, re.M):
         for name in re.split(r",\s*", names.strip().rstrip(",")):
@@ -130,20 +137,23 @@ def imports(pattern, text):
 
 
 def words_of(text):
-    """The words of a text of definitions or contracts, without its comments, each once and in their order."""
+    """Returns the words of a text of definitions or contracts, without its comments, each once and in their order."""
     text = re.sub(r"--.*", "", text)
     return list(dict.fromkeys(re.findall(r"[^\s(){}\[\],.;:|]+", text)))
 
 
 def read_files(kind="specs"):
-    """All files of definitions, or of lemmas, by their libraries."""
+    """Returns all files of definitions, or of lemmas, by their libraries."""
     files = [File(path) for path in sorted(glob.glob(f"crates/*/{kind}/*.antt"))]
     return {file.library: file for file in files}
 
 
 def public_paths(kind):
-    """The path by which a crate above names a file, by its library: that of a crate that hands it on, if one does, and
-    otherwise its own. A file that its crate keeps to itself has none."""
+    """Returns the path by which a crate above names a file, by its library.
+
+    It is the path of a crate that hands the file on, if one does, and otherwise its own. A file that its crate keeps to
+    itself has no path.
+    """
     own, handed_on = {}, {}
     for path in sorted(glob.glob(f"crates/*/{kind}/Lib.antt")):
         crate = path.split("/")[1]
@@ -157,8 +167,10 @@ def public_paths(kind):
 
 
 def public_names(files, paths):
-    """The path by which a crate above names a definition, by its library and its name. A path of `ciborium_ll` is the
-    first choice, also if another file of it hands the name on."""
+    """Returns the path by which a crate above names a definition, by its library and its name.
+
+    A path of `ciborium_ll` is the first choice, also if another file of it hands the name on.
+    """
     found = {}
     for library, file in files.items():
         names = {name: (library, name) for name, definition in file.definitions.items() if definition.is_public}
@@ -171,14 +183,14 @@ def public_names(files, paths):
 
 
 def origin(files, library, word):
-    """The library and the name there of what a library hands on, or has itself."""
+    """Returns the library and the name there of a name that a library hands on, or has itself."""
     while library in files and word in files[library].hands_on:
         library, word = files[library].hands_on[word]
     return library, word
 
 
 def needed(files, start):
-    """The definitions that some words need, each given by its library and its name, by the files that have them."""
+    """Returns the definitions that some words need, each given by its library and its name, by their files."""
     found, todo = {}, list(start)
     while todo:
         library, word = origin(files, *todo.pop())

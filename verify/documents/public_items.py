@@ -1,4 +1,4 @@
-"""The public items in crates/*/src, for `reference`: signatures, comments and contracts, by their modules."""
+"""Reads the public items in crates/*/src, for `reference`: signatures, comments and contracts, by their modules."""
 import os
 import re
 
@@ -6,9 +6,11 @@ from definitions import imports
 
 
 class Item:
-    """A public item, with what belongs to it: its functions by the header of their impl, and its impls of traits. It
-    knows what is said of it for contracts alone, each with what the names in it are in that file, and what the names in
-    its own clauses are."""
+    """A public item, with its functions by the header of their impl, and its impls of traits.
+
+    It has the clauses that it has for contracts alone, each with the meanings of the names in it in that file. It also
+    has the meanings of the names in its own clauses.
+    """
 
     def __init__(self, name, docs, code, clauses=()):
         self.name, self.docs, self.code, self.clauses = name, docs, code, list(clauses)
@@ -16,7 +18,7 @@ class Item:
 
 
 class Module:
-    """A file of code: what it declares in itself and below, and the paths that it hands on by `pub use`."""
+    """A file of code: its own declarations and those below it, and the paths that it hands on by `pub use`."""
 
     def __init__(self, path, public):
         self.path, self.public = path, public
@@ -29,17 +31,17 @@ def read_text(path):
 
 
 def text_of(lines, indent):
-    """Lines without an indent."""
+    """Returns lines without an indent."""
     return [line[indent:] if line[:indent].isspace() else line for line in lines]
 
 
 def take_comments(lines):
-    """The text of the comments of some lines."""
+    """Returns the text of the comments of some lines."""
     return [re.sub(r"^ *//[/!] ?", "", line) for line in lines]
 
 
 def take_until(lines, at, ends):
-    """The lines up to the first that ends so, and the place behind it."""
+    """Returns the lines up to the first one that ends so, and the place after it."""
     start = at
     while not ends(lines[at]):
         at += 1
@@ -47,7 +49,7 @@ def take_until(lines, at, ends):
 
 
 def take_statement(lines, at):
-    """The lines up to a semicolon that stands in no braces, and the place behind it."""
+    """Returns the lines up to a semicolon that stands in no braces, and the place after it."""
     start, depth = at, 0
     while True:
         depth += lines[at].count("{") - lines[at].count("}")
@@ -57,12 +59,12 @@ def take_statement(lines, at):
 
 
 def take_body(lines, at, indent):
-    """The place behind the brace that closes what stands with this indent."""
+    """Returns the place after the brace that closes the block with this indent."""
     return take_until(lines, at, lambda line: line == " " * indent + "}")[1]
 
 
 def take_function(lines, at, indent):
-    """The signature of a function, its clauses, and the place behind it."""
+    """Returns the signature of a function, its clauses, and the place after it."""
     pad, signature, clauses = " " * indent, [], []
     part = signature
     while True:
@@ -83,7 +85,7 @@ def take_function(lines, at, indent):
 
 
 def take_members(lines, public):
-    """The functions in the lines of a trait or an impl, and all else that they say but for `ghost use`."""
+    """Returns the functions in the lines of a trait or an impl, and all other statements except `ghost use`."""
     functions, rest, docs, at = [], [], [], 0
     while at < len(lines):
         line = lines[at]
@@ -107,7 +109,7 @@ def take_members(lines, public):
 
 
 def take_parts(lines, kind):
-    """The variants of an enum, or the public fields of a struct, with their comments."""
+    """Returns the variants of an enum, or the public fields of a struct, with their comments."""
     parts, docs, at = [], [], 0
     while at < len(lines):
         line = lines[at]
@@ -127,7 +129,7 @@ def take_parts(lines, kind):
 
 
 def read_code(path, file, public=True, text=None):
-    """The module of a file, with those below it. The text is that of the file if none is given."""
+    """Returns the module of a file, with those below it. The text is that of the file if none is given."""
     module = Module(path, public)
     text = read_text(file) if text is None else text
     lines = text.split("\n")
@@ -179,7 +181,7 @@ def read_code(path, file, public=True, text=None):
 
 
 def take_item(lines, at, docs):
-    """A public item, and the place behind it. Of a private field nothing is said but that there is one."""
+    """Returns a public item, and the place after it. For private fields it only says that there are some."""
     line = lines[at]
     kind, name = re.match(r'pub (?:const (?=fn)|extern "C" )*(\w+) (\w+)', line).groups()
     if kind == "fn":
@@ -202,14 +204,14 @@ def take_item(lines, at, docs):
 
 
 def all_modules(module):
-    """A module and those below it."""
+    """Gives a module and those below it."""
     yield module
     for below in module.modules:
         yield from all_modules(below)
 
 
 def type_of(header):
-    """The name of the type that an impl is of."""
+    """Returns the name of the type to which an impl belongs."""
     at, depth = 4, 0
     while at < len(header) and (depth or header[at] != " "):
         depth += {"<": 1, ">": -1}.get(header[at], 0) if header[at - 1:at + 1] != "->" else 0
@@ -227,7 +229,7 @@ def bind_impls(crate):
     for module in all_modules(crate):
         for header, docs, body in module.impls:
             found = types.get(type_of(header), [])
-            # Where the crate has two of the name, it is the one of the same file.
+            # If the crate has two types of the name, the impl belongs to the one of the same file.
             for home, item in sorted(found, key=lambda pair: pair[0] is not module)[:1]:
                 functions, rest = take_members(body, " for " not in header)
                 own = [clause for function in functions for clause in function.clauses]
@@ -238,6 +240,6 @@ def bind_impls(crate):
                     item.impls.append((header, docs, functions, rest))
                 elif functions:
                     (item.members if home is module else away[item]).append((header, functions))
-    # What stands in other files than its type comes behind.
+    # Impls in other files than their type come last.
     for item, members in away.items():
         item.members += members

@@ -1,10 +1,10 @@
-//! What the programs that hold others against each other have in common.
+//! The common parts of the programs that hold others against each other.
 
 use std::io;
 use std::process::ExitCode;
 
-/// Does what the arguments of the program with this name ask for. It says how the program is used where they ask for
-/// nothing, with the status 2. The status is 0 where the outcome is `true`, and else 1.
+/// Does the work that the arguments of the program with this name ask for. If they ask for nothing, it says how the
+/// program is used, with the status 2. The status is 0 if the outcome is `true`, and 1 otherwise.
 pub fn status_of<A>(
     name: &str,
     usage: &str,

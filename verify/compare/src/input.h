@@ -1,10 +1,10 @@
-/* What the programs in C that are compared share. */
+/* The programs in C that are compared share this. */
 #include <stddef.h>
 #include <stdint.h>
 #include <stdio.h>
 #include <stdlib.h>
 
-/* Reads standard input whole. It gives NULL where there is no memory. */
+/* Reads standard input whole. Returns NULL if there is no memory. */
 static uint8_t *input(size_t *size) {
     size_t room = 1 << 20;
     uint8_t *bytes = malloc(room);

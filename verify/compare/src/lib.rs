@@ -1,5 +1,5 @@
-//! What the programs of this folder share: words of hexadecimal digits, titles, requests, random numbers, and what a
-//! program does with its arguments.
+//! The programs of this folder share this: words of hexadecimal digits, titles, requests, random numbers, and the
+//! reading of a program's arguments.
 
 pub mod command;
 pub mod random;

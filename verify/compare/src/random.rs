@@ -30,7 +30,7 @@ impl Random {
         self.below(count) == 0
     }
 
-    /// One of the items, of which there is at least one.
+    /// Returns one of the items. There has to be at least one.
     pub fn pick<T: Copy>(&mut self, items: &[T]) -> T {
         items[self.below(items.len())]
     }

@@ -1,27 +1,27 @@
-//! What a line asks for.
+//! The requests of lines.
 
 use crate::word::bytes_of;
 
 /// The greatest size of a buffer that a line may ask for.
 const MOST_SIZE: usize = 65_536;
 
-/// What a line asks for.
+/// The request of a line.
 #[derive(Debug, PartialEq)]
 pub enum Request {
     /// `heads HEX`: the headers of the titles that the bytes spell.
     Heads(Vec<u8>),
-    /// `chunks SIZE HEX`: the string in front, read through a buffer of this size.
+    /// `chunks SIZE HEX`: the string that comes first, read through a buffer of this size.
     Chunks(usize, Vec<u8>),
     /// `bytes LIMIT HEX`: the spelling of a byte string.
     Bytes(Option<usize>, Vec<u8>),
     /// `text LIMIT HEX`: the spelling of a text string.
     Text(Option<usize>, Vec<u8>),
-    /// `recode COUNT HEX`: a copy of the elements in front.
+    /// `recode COUNT HEX`: a copy of the elements that come first.
     Recode(usize, Vec<u8>),
 }
 
 impl Request {
-    /// Reads a line, given without its line feed. It is `None` where the line is no request.
+    /// Reads a line, given without its line feed. It is `None` if the line is no request.
     pub fn parse(line: &[u8]) -> Option<Request> {
         let words: Vec<&str> = std::str::from_utf8(line).ok()?.split(' ').collect();
         match words[..] {

@@ -3,7 +3,7 @@
 /// The word for no bytes.
 const NO_BYTES: &str = "-";
 
-/// The bytes of a word: `-` for none, else two hexadecimal digits of either case for each.
+/// Returns the bytes of a word: `-` for none, and otherwise two hexadecimal digits of either case for each.
 pub fn bytes_of(word: &str) -> Option<Vec<u8>> {
     if word == NO_BYTES {
         return Some(Vec::new());
@@ -28,7 +28,7 @@ fn digit_of(digit: u8) -> Option<u8> {
     }
 }
 
-/// The word that stands for bytes: `-` for none, else two lower case hexadecimal digits for each.
+/// Returns the word that stands for bytes: `-` for none, and otherwise two lower case hexadecimal digits for each.
 pub fn word_of(bytes: &[u8]) -> String {
     if bytes.is_empty() {
         return NO_BYTES.to_string();

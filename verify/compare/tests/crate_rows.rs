@@ -1,4 +1,4 @@
-//! What `docs/DIFFERENCES.md` says of the Rust crate, where no line of the program shows it.
+//! Tries the statements of `docs/DIFFERENCES.md` on the Rust crate that no line of the program shows.
 
 use ciborium_io::Read as _;
 use ciborium_ll::{Decoder, Encoder, Error, Header};

@@ -3,10 +3,11 @@
  *
  * usage: calls pull|recode|skip|feed|whole|copy|each SIZE COUNT ROUNDS
  *
- * It reads standard input whole, pulls the titles in it so many times, or brings the items in it to their shortest
- * spelling, or skips them one by one, or feeds them to a checker in pieces of SIZE bytes, and prints the sum that the
- * same work over libcbor prints. `whole` skips them one by one too, and prints the sum that `feed` does. `copy` and
- * `each` feed them in pieces to a copier of elements and to one of items, and print the sum that `recode` does.
+ * It reads standard input whole, and does a work on it ROUNDS times. `pull` pulls the titles in it. `recode` brings the
+ * items in it to their shortest spelling. `skip` skips them one by one. `feed` feeds them to a checker in pieces of
+ * SIZE bytes. It prints the sum that the same work over libcbor prints. `whole` skips the items one by one too, and
+ * prints the sum that `feed` does. `copy` and `each` feed them in pieces to a copier of elements and to one of items,
+ * and print the sum that `recode` does.
  */
 #include <ciborium_ll.h>
 #include <inttypes.h>
@@ -16,7 +17,7 @@
 
 #include "../input.h"
 
-/* Numbers without a sign are added, and 1 for each other title. */
+/* Adds the numbers without a sign, and 1 for each other title. */
 static uint64_t titles(const uint8_t *bytes, size_t size) {
     uint64_t sum = 0;
     size_t offset = 0;
@@ -32,13 +33,13 @@ static uint64_t titles(const uint8_t *bytes, size_t size) {
     return sum;
 }
 
-/* How many bytes are written. No more elements than bytes are there, so the copy ends where the bytes do. */
+/* Returns how many bytes are written. There are no more elements than bytes, so the copy ends with the bytes. */
 static uint64_t copied(const uint8_t *bytes, size_t size, uint8_t *out) {
     cll_report report;
     return cll_recode(bytes, size, size, out, size, &report) == CLL_ARGUMENT ? 0 : report.written;
 }
 
-/* How many items are skipped. */
+/* Returns how many items are skipped. */
 static uint64_t items(const uint8_t *bytes, size_t size) {
     uint64_t count = 0;
     size_t offset = 0;
@@ -50,15 +51,14 @@ static uint64_t items(const uint8_t *bytes, size_t size) {
     return count;
 }
 
-/* Where the piece ends in which the offset is, of so many bytes in pieces of so many: where the last one did, or behind
- * one piece more. */
+/* Returns the end of the piece in which the offset is. It is the end of the last piece, or one piece more. */
 static size_t piece_end(size_t offset, size_t end, size_t size, size_t piece) {
     if (offset < end)
         return end;
     return size - end < piece ? size : end + piece;
 }
 
-/* How many bytes the items have that end, where the bytes come in pieces of so many. */
+/* Returns how many bytes the items have that end, if the bytes come in pieces of `piece` bytes. */
 static uint64_t fed(const uint8_t *bytes, size_t size, size_t piece) {
     size_t offset = 0, end = 0, ended = 0;
     cll_checker checker;
@@ -80,7 +80,7 @@ static uint64_t fed(const uint8_t *bytes, size_t size, size_t piece) {
     return ended;
 }
 
-/* How many bytes a copier writes of what comes in pieces of so many. */
+/* Returns how many bytes a copier writes of bytes that come in pieces of `piece` bytes. */
 static uint64_t copied_in_pieces(const uint8_t *bytes, size_t size, size_t piece, uint8_t *out) {
     size_t offset = 0, end = 0, written = 0;
     cll_copier copier;
@@ -99,7 +99,7 @@ static uint64_t copied_in_pieces(const uint8_t *bytes, size_t size, size_t piece
     return written;
 }
 
-/* The same of a copier for each item. */
+/* Does the same by a copier for each item. */
 static uint64_t each_copied(const uint8_t *bytes, size_t size, size_t piece, uint8_t *out) {
     size_t offset = 0, end = 0, written = 0;
     cll_item_copier copier;
@@ -122,7 +122,7 @@ static uint64_t each_copied(const uint8_t *bytes, size_t size, size_t piece, uin
     return written;
 }
 
-/* How many bytes the items have, which are skipped where they are. */
+/* Returns how many bytes the items have, which are skipped in place. */
 static uint64_t skipped(const uint8_t *bytes, size_t size) {
     size_t offset = 0;
     cll_report report;
@@ -131,7 +131,7 @@ static uint64_t skipped(const uint8_t *bytes, size_t size) {
     return offset;
 }
 
-/* What a work adds to the sum, which its name tells by its first letter. */
+/* Adds the part of a work to the sum. The first letter of its name tells the work. */
 static uint64_t worked(char work, const uint8_t *bytes, size_t size, size_t piece, uint8_t *out) {
     switch (work) {
     case 'p':

@@ -8,7 +8,7 @@ use crate::tally::{Difference, Tally};
 use compare::request::Request;
 use std::io;
 
-/// At how many bytes a batch is handed to both sides.
+/// Both sides get a batch once it has this many bytes.
 const BATCH_SIZE: usize = 4 << 20;
 
 /// Collects lines, and compares the answers to them.
@@ -116,7 +116,7 @@ pub fn judge_line(line: &[u8], ours: &[u8], theirs: &[u8]) -> Verdict {
     })
 }
 
-/// The difference of a batch whose answers can't be told apart, or that ended with a fault.
+/// Returns the difference of a batch whose answers cannot be told apart, or that ended with a fault.
 fn unparted(lines: &[Vec<u8>], ours: &Outcome, theirs: &Outcome) -> Difference {
     let told = |side: &Outcome| {
         let status = side.status;

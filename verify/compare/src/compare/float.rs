@@ -44,8 +44,8 @@ impl Float {
         self.bits.to_be_bytes()[8 - self.width..].to_vec()
     }
 
-    /// The float that the crate writes after it read this one: the narrowest that gives the same double. A NaN that was
-    /// read from less than a double is a quiet one.
+    /// Returns the float that the crate writes after it read this one: the narrowest that gives the same double. A NaN
+    /// that was read from less than a double becomes a quiet one.
     pub fn narrowed(self) -> Float {
         let double = self.widened();
         for width in [2, 4] {
@@ -91,7 +91,7 @@ fn scaled(number: u64, exponent: i64) -> u64 {
     ((exponent + i64::from(highest) + 1023) as u64) << 52 | fraction
 }
 
-/// The bits of the float of 2 or 4 bytes that has the value of this double, where there is one.
+/// Returns the bits of the float of 2 or 4 bytes that has the value of this double, if there is one.
 fn narrow(double: u64, width: usize) -> Option<u64> {
     let layout = layout_of(width);
     let shift = DOUBLE_FRACTION - layout.fraction;
@@ -120,7 +120,7 @@ fn narrow(double: u64, width: usize) -> Option<u64> {
     shifted(fraction | 1 << 52, shift).map(|fraction| sign | fraction)
 }
 
-/// The number without its low bits, where these are all 0.
+/// Returns the number without its low bits, if these are all 0.
 fn shifted(number: u64, shift: u32) -> Option<u64> {
     let high = number.checked_shr(shift)?;
     if high << shift == number {

@@ -2,10 +2,10 @@
 
 use compare::random::Random;
 
-/// How deep arrays and maps stand within each other, at most.
+/// Arrays and maps nest at most this deep.
 const MOST_DEPTH: usize = 4;
 
-/// Bytes that are likely to change what the bytes around them mean.
+/// Bytes that are likely to change the meaning of the bytes around them.
 const TELLING_BYTES: [u8; 16] = [
     0x00, 0x18, 0x1b, 0x1c, 0x1f, 0x5f, 0x7f, 0x61, 0x78, 0x9f, 0xc3, 0xe2, 0xed, 0xf0, 0xfb, 0xff,
 ];
@@ -26,7 +26,7 @@ const CHARACTERS: [char; 12] = [
     '\u{10ffff}',
 ];
 
-/// Bits of doubles that fit into less, or just do not.
+/// Bits of doubles that fit into less, or barely do not.
 const DOUBLES: [u64; 10] = [
     0,
     0x8000_0000_0000_0000,
@@ -85,7 +85,7 @@ fn title(random: &mut Random, major: u8, number: u64, bytes: &mut Vec<u8>) {
     bytes.extend_from_slice(&number.to_be_bytes()[8 - (1 << (width - 1))..]);
 }
 
-/// A length of a string: most are short, and some lie near a length at which something changes.
+/// Returns a length of a string: most are short, and some lie near a length at which something changes.
 fn length(random: &mut Random) -> usize {
     match random.below(12) {
         0 => 60 + random.below(10),
@@ -122,7 +122,7 @@ fn definite(random: &mut Random, major: u8, bytes: &mut Vec<u8>) {
     bytes.extend(body);
 }
 
-/// Adds a string of either form. Those of indefinite length may have others within.
+/// Adds a string of either form. One of indefinite length may have others inside it.
 pub fn string(random: &mut Random, major: u8, bytes: &mut Vec<u8>) {
     if !random.one_in(3) {
         return definite(random, major, bytes);

@@ -35,7 +35,7 @@ const LINE_BYTES: &[u8] = b"  0019afAFgx*-+\t\r\xff\xc3headschunkstextbytesrecod
 /// Makes a random line of one kind.
 type MakeLine = fn(&mut Random) -> Vec<u8>;
 
-/// Compares the answers to so many random lines: as many of each kind as its share.
+/// Compares the answers to `count` random lines: each kind has its share of them.
 pub fn compare(
     comparison: &mut Comparison<'_>,
     random: &mut Random,
@@ -58,7 +58,7 @@ pub fn compare(
     comparison.finish()
 }
 
-/// A few items, of which some are damaged.
+/// Returns a few items, some of them damaged.
 fn some_items(random: &mut Random) -> Vec<u8> {
     let mut bytes = Vec::new();
     for _ in 0..=random.below(3) {
@@ -89,7 +89,7 @@ fn bytes(random: &mut Random) -> Vec<u8> {
     format!("bytes {} {}", random.pick(&LIMITS), word_of(&bytes)).into_bytes()
 }
 
-/// A line `text`, of which some are no text.
+/// Returns a line `text`. Some of these are no text.
 fn text(random: &mut Random) -> Vec<u8> {
     let length = random.below(300);
     let mut bytes = items::text(random, length).into_bytes();
@@ -110,7 +110,7 @@ fn recode(random: &mut Random) -> Vec<u8> {
 fn damaged(random: &mut Random) -> Vec<u8> {
     let mut line = random.pick(&[heads, chunks, bytes, text, recode] as &[MakeLine])(random);
     for _ in 0..=random.below(2) {
-        // Most damage lies in the words in front of the digits.
+        // Most damage lies in the words before the digits.
         let most = if random.one_in(3) {
             line.len()
         } else {

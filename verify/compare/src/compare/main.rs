@@ -1,7 +1,7 @@
 //! Holds the program of this repository against one that makes the same answers by the Rust crate.
 //!
-//! It feeds both the same inputs and compares every answer byte for byte. A difference counts as explained only where
-//! a named rule gives exactly both answers. Any other ends the comparison with status 1.
+//! It feeds both the same inputs and compares every answer byte for byte. A difference counts as explained only if a
+//! named rule gives exactly both answers. Any other ends the comparison with status 1.
 
 mod batch;
 mod exhaustive;
@@ -40,7 +40,7 @@ struct Asked {
     is_planted: bool,
 }
 
-/// What the words behind the program's name ask for.
+/// Reads the words after the program's name.
 fn asked(mut words: impl Iterator<Item = String>) -> Option<Asked> {
     let (ours, original) = (words.next()?, words.next()?);
     let mut asked = Asked {
@@ -65,7 +65,7 @@ fn asked(mut words: impl Iterator<Item = String>) -> Option<Asked> {
     Some(asked)
 }
 
-/// A seed where none is given.
+/// Returns a seed if none is given.
 fn seed_of_the_clock() -> u64 {
     let since = SystemTime::now().duration_since(UNIX_EPOCH);
     since.map_or(0, |since| since.as_millis() as u64)

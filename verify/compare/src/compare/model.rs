@@ -1,8 +1,8 @@
-//! What a line is answered, by a plain reading of its bytes, with the ways of either side.
+//! Answers a line by a plain reading of its bytes, with the ways of either side.
 //!
-//! It says whether our answer is what the input gives, and whether the ways that are known to differ give exactly the
-//! other one. It looks at the input alone. It shares no code with ours, and with the other side only how the words of a
-//! line are read and printed.
+//! It says whether our answer is the answer that the input gives, and whether the ways that are known to differ give
+//! exactly the other answer. It looks at the input alone. It shares no code with ours. With the other side it shares
+//! only how the words of a line are read and printed.
 
 use crate::float::Float;
 use compare::request::Request;
@@ -13,12 +13,12 @@ use std::fmt::Write;
 /// How many bytes of a string are copied at a time, at most, by both sides.
 const COPY_SIZE: usize = 64;
 
-/// In which ways the original does what our program does not.
+/// The ways in which the original differs from our program.
 #[derive(Clone, Copy, Default)]
 pub struct Ways {
     /// A float is a double, and is written in the narrowest width.
     pub narrows_floats: bool,
-    /// Bytes of a cut character stay kept behind a chunk that has no cut character at its end.
+    /// Bytes of a cut character stay kept after a chunk that has no cut character at its end.
     pub keeps_stale_bytes: bool,
 }
 
@@ -27,7 +27,7 @@ pub struct Ways {
 pub enum Fault {
     /// The bytes at this offset can't stand there.
     Syntax(usize),
-    /// Bytes are missing behind this offset.
+    /// Bytes are missing after this offset.
     Short(usize),
     /// The buffer is too small for the next character.
     Stuck,
@@ -53,7 +53,8 @@ pub fn answer(request: &Request, ways: Ways) -> String {
     }
 }
 
-/// The spelling of a string in pieces of at most so many bytes, which end where they may.
+/// Returns the spelling of a string in pieces of at most `limit` bytes. `may_end` tells the offsets at which a piece
+/// may end.
 fn spelled(major: u8, value: &[u8], limit: usize, may_end: impl Fn(usize) -> bool) -> Vec<u8> {
     let mut spelling = Vec::new();
     let mut add = |piece: &[u8]| {
@@ -104,7 +105,7 @@ impl Title {
         self.major == 2 || self.major == 3
     }
 
-    /// The float that this is, as it is told on.
+    /// Returns the float that this is, as the side hands it on.
     fn float(&self, ways: Ways) -> Option<Float> {
         if self.major != 7 || !(25..=27).contains(&self.minor) {
             return None;
@@ -138,7 +139,7 @@ impl<'a> Source<'a> {
         Source { bytes, offset: 0 }
     }
 
-    /// The next bytes, so many. None are taken where there are fewer.
+    /// Returns the next `count` bytes. It takes none if there are fewer.
     fn take(&mut self, count: usize) -> Result<&'a [u8], Fault> {
         let rest = &self.bytes[self.offset..];
         let taken = rest.get(..count).ok_or(Fault::Short(self.offset))?;
@@ -207,7 +208,7 @@ fn name_of(title: &Title, ways: Ways) -> String {
     format!("{name} {}", title.number)
 }
 
-/// How an answer tells a fault.
+/// Returns a fault as an answer tells it.
 fn ending(fault: Fault) -> String {
     match fault {
         Fault::Syntax(place) => format!("syntax {place}"),
@@ -226,7 +227,7 @@ enum Part<'a> {
     End,
 }
 
-/// The body of a segment, as far as it is not handed out.
+/// The body of a segment, as far as no chunk has given it.
 struct Body {
     place: usize,
     unread: u64,
@@ -261,7 +262,7 @@ impl Body {
         self.front([&self.kept, read].concat(), ways).map(Some)
     }
 
-    /// The front of a chunk that is text. A short rest is kept.
+    /// Returns the front of a chunk that is text. It keeps a short rest.
     fn front(&mut self, mut chunk: Vec<u8>, ways: Ways) -> Result<Vec<u8>, Fault> {
         let front = match std::str::from_utf8(&chunk) {
             Ok(_) if ways.keeps_stale_bytes => return Ok(chunk),
@@ -277,7 +278,7 @@ impl Body {
     }
 }
 
-/// Reads a string behind its title, through a buffer of this size.
+/// Reads a string after its title, through a buffer of this size.
 fn string(
     source: &mut Source<'_>,
     title: &Title,
@@ -367,7 +368,7 @@ fn recoded(count: usize, bytes: &[u8], ways: Ways) -> String {
     format!("{} {last}\n", word_of(&output))
 }
 
-/// Copies so many elements: what is written, and the offset behind them or the fault.
+/// Copies `count` elements. Returns the bytes written, and the offset after the elements or the fault.
 pub fn copy(count: usize, bytes: &[u8], ways: Ways) -> (Vec<u8>, Result<usize, Fault>) {
     let mut source = Source::new(bytes);
     let mut output = Vec::new();
@@ -409,7 +410,7 @@ mod tests {
     use compare::request::Request;
 use compare::title::shortest;
 
-    /// What our program is to answer, worked by hand.
+    /// The answers of our program, worked by hand.
     const ROWS: [(&str, &str); 13] = [
         ("heads 001c", "0 positive 0\nsyntax 1\n"),
         ("heads f97e00f818", "0 half 7e00\n3 simple 24\nend 5\n"),

@@ -3,7 +3,7 @@
 /// The words with which lines begin that do not end the answer to `chunks`.
 const INNER_WORDS: [&[u8]; 3] = [b"segment ", b"chunk ", b"stop\n"];
 
-/// The answers to these lines, in order. It is `None` where the output has not one answer to each.
+/// Returns the answers to these lines, in order. It is `None` if the output has not one answer to each.
 pub fn part<'a>(lines: &[Vec<u8>], output: &'a [u8]) -> Option<Vec<&'a [u8]>> {
     let mut rest = output;
     let mut answers = Vec::with_capacity(lines.len());
@@ -20,7 +20,7 @@ pub fn part<'a>(lines: &[Vec<u8>], output: &'a [u8]) -> Option<Vec<&'a [u8]>> {
     }
 }
 
-/// The length of the answer to a line, in front of the rest of the output.
+/// Returns the length of the answer to a line, with which the rest of the output begins.
 fn answer_length(line: &[u8], rest: &[u8]) -> Option<usize> {
     let mut length = 0;
     loop {
@@ -32,7 +32,7 @@ fn answer_length(line: &[u8], rest: &[u8]) -> Option<usize> {
     }
 }
 
-/// Whether the answer to a line goes on behind the output line that stands in front.
+/// Tells whether the answer to a line goes on after the first line of the output.
 fn goes_on(line: &[u8], output: &[u8]) -> bool {
     if line.starts_with(b"heads ") {
         return output[0].is_ascii_digit();

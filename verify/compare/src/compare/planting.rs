@@ -8,7 +8,7 @@ use crate::vectors;
 use compare::random::Random;
 use std::io;
 
-/// How many damaged answers were judged, and how many of them were taken for right.
+/// How many damaged answers were judged, and how many of them passed as right.
 #[derive(Default)]
 pub struct Planted {
     /// How many answers were damaged.
@@ -17,7 +17,7 @@ pub struct Planted {
     pub missed: u64,
 }
 
-/// Damages one of our answers after the other, each in one byte, and judges it beside the original's.
+/// Damages our answers one after the other, each in one byte, and judges each beside the original's.
 pub fn plant(sides: &Sides, random: &mut Random) -> io::Result<Planted> {
     let mut planted = Planted::default();
     for (_, lines) in vectors::lines() {

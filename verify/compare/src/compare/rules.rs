@@ -1,15 +1,15 @@
-//! The differences that are known, each with a rule that says where it explains two answers.
+//! The known differences, each with a rule that says when it explains two answers.
 
 use crate::model::Ways;
 use std::borrow::Borrow;
 
-/// A difference that is known.
+/// A known difference.
 #[derive(Clone, Copy, Debug, PartialEq, Eq, PartialOrd, Ord)]
 pub enum Rule {
-    /// The crate's floats are doubles, written in the narrowest width; ours keep their width and bits.
+    /// The crate's floats are doubles, written in the narrowest width. Ours keep their width and bits.
     FloatWidth,
-    /// In the crate's version 0.2.0 the bytes of a character that a chunk's end has cut stay kept, although the next
-    /// chunk handed them out. They are then put in front of the bytes that follow, or are a fault at the end.
+    /// In the crate's version 0.2.0 a chunk's end may cut a character. Its bytes stay kept, although the next chunk
+    /// handed them out. They are then put before the bytes that follow, or are a fault at the end.
     StaleText,
 }
 
@@ -33,21 +33,22 @@ const SETS: [&[Rule]; 3] = [
     &[Rule::FloatWidth, Rule::StaleText],
 ];
 
-/// What two answers to the same input are.
+/// The verdict on two answers to the same input.
 #[derive(Clone, Copy, Debug, PartialEq)]
 pub enum Verdict {
     /// They are the same.
     Equal,
-    /// They are just what these rules make of the input.
+    /// They are exactly the answers that these rules give for the input.
     Explained(&'static [Rule]),
-    /// No rule gives them, or ours is not what the input gives.
+    /// No rule gives them, or ours is not the answer that the input gives.
     Unexplained,
 }
 
-/// Judges two answers. `predict` tells what the input gives with some of the original's ways, where that is known.
+/// Judges two answers. `predict` tells the answer that the input gives with some of the original's ways, if that is
+/// known.
 ///
-/// Ours has to be what the input gives without any of these ways, also where both answers are the same. Rules explain
-/// a difference only where the original's is what the input gives with just their ways.
+/// Ours has to be the answer that the input gives without any of these ways, also if both answers are the same. Rules
+/// explain a difference only if the original's answer is the one that the input gives with exactly their ways.
 pub fn judge<T, P>(ours: &T, theirs: &T, predict: impl Fn(Ways) -> Option<P>) -> Verdict
 where
     T: PartialEq + ?Sized,

@@ -1,4 +1,4 @@
-//! The two programs, and what they answer.
+//! The two programs, and their answers.
 
 use compare::command::failed;
 use std::io::{self, Read, Write};
@@ -10,14 +10,14 @@ use std::time::Duration;
 /// How long one run of a program may take. A run of a batch takes a second or so.
 const PATIENCE: Duration = Duration::from_secs(300);
 
-/// What a run of a program gave.
+/// The outcome of a run of a program.
 #[derive(Clone, Debug, PartialEq)]
 pub struct Outcome {
-    /// The status, or `None` where it was ended by a signal.
+    /// The status, or `None` if a signal ended it.
     pub status: Option<i32>,
-    /// What was on standard output.
+    /// The bytes on standard output.
     pub output: Vec<u8>,
-    /// What was on standard error.
+    /// The bytes on standard error.
     pub errors: Vec<u8>,
 }
 
@@ -41,7 +41,7 @@ impl Sides {
     }
 }
 
-/// Runs a program on an input. The error is `TimedOut` where it did not end in time; it is then ended.
+/// Runs a program on an input. If it does not end in time, the call ends it, and the error is `TimedOut`.
 fn run(program: &str, arguments: &[&str], input: &[u8]) -> io::Result<Outcome> {
     let mut child = Command::new(program)
         .args(arguments)
@@ -57,7 +57,7 @@ fn run(program: &str, arguments: &[&str], input: &[u8]) -> io::Result<Outcome> {
     })
 }
 
-/// What a running program answers, and how it ends.
+/// Returns the answer of a running program, and its end.
 fn collect(mut child: Child, program: &str) -> io::Result<Outcome> {
     let output = reading(child.stdout.take());
     let errors = reading(child.stderr.take());
@@ -88,7 +88,7 @@ fn reading<R: Read + Send + 'static>(pipe: Option<R>) -> mpsc::Receiver<io::Resu
             Some(mut pipe) => pipe.read_to_end(&mut bytes).map(|_| bytes),
             None => Ok(bytes),
         };
-        // Nobody waits any more where the time was over.
+        // If the time was over, nobody waits any more.
         let _ = sender.send(read);
     });
     receiver

@@ -9,7 +9,7 @@ use compare::random::Random;
 use compare::word::word_of;
 use std::io;
 
-/// Compares so many copies of random streams: statuses, what was written, and what was said of a fault.
+/// Compares `count` copies of random streams: the statuses, the bytes written, and the messages on a fault.
 pub fn compare(
     sides: &Sides,
     tally: &mut Tally,
@@ -32,7 +32,7 @@ pub fn compare(
     Ok(())
 }
 
-/// A random stream, and how many elements of it are copied.
+/// Returns a random stream, and how many elements of it are copied.
 fn stream(random: &mut Random) -> (usize, Vec<u8>) {
     let items = 1 << random.below(12);
     let mut stream = Vec::new();
@@ -55,7 +55,7 @@ fn stream(random: &mut Random) -> (usize, Vec<u8>) {
     (elements, stream)
 }
 
-/// What a copy ends with, by a plain reading of the stream.
+/// Returns the end of a copy, by a plain reading of the stream.
 fn predicted(elements: usize, stream: &[u8], ways: Ways) -> Outcome {
     let (output, outcome) = model::copy(elements, stream, ways);
     let (status, errors) = match outcome {
@@ -70,7 +70,7 @@ fn predicted(elements: usize, stream: &[u8], ways: Ways) -> Outcome {
     }
 }
 
-/// How an outcome is printed.
+/// Returns an outcome as it is printed.
 fn told(outcome: &Outcome) -> String {
     let errors = String::from_utf8_lossy(&outcome.errors);
     let length = outcome.output.len();

@@ -1,9 +1,9 @@
-//! Counts of what was compared, and the report.
+//! Counts of the comparisons, and the report.
 
 use crate::rules::{Rule, Verdict};
 use std::collections::BTreeMap;
 
-/// How many differences that no rule explains are printed.
+/// The report prints at most this many differences that no rule explains.
 const MOST_PRINTED: usize = 10;
 
 /// The greatest length at which an input or an answer is printed.

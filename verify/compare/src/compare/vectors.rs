@@ -92,7 +92,7 @@ const EXAMPLES: [&str; 82] = [
 
 /// Titles that are longer than needed, floats that fit into less, and strings of every odd form.
 const OWN: [&str; 60] = [
-    // Titles that are longer than needed, with and without a body behind.
+    // Titles that are longer than needed, with and without a body after them.
     "1805",
     "190005",
     "1a00000005",
@@ -257,7 +257,7 @@ fn inputs() -> Vec<Vec<u8>> {
     inputs
 }
 
-/// Texts whose characters are cut where a copy's buffer of 64 bytes ends, or just before and behind.
+/// Returns texts whose characters are cut at the end of a copy's buffer of 64 bytes, or right before and after it.
 fn around_the_buffer() -> Vec<Vec<u8>> {
     let mut inputs = Vec::new();
     for character in ["é", "€", "😀"] {

@@ -1,4 +1,4 @@
-//! Inputs of any size, and what they are answered.
+//! Inputs of any size, and their answers.
 
 /// A kind of input.
 #[derive(Clone, Copy)]
@@ -11,15 +11,15 @@ pub enum Kind {
     RawString,
     /// A raw copy of numbers of one byte each.
     RawNumbers,
-    /// A raw copy of a string of bytes that has opens within opens.
+    /// A raw copy of a string of bytes that has opens inside opens.
     RawOpens,
 }
 
-/// What the peak of the memory may be.
+/// The bound for the peak of the memory.
 pub enum Memory {
     /// The same, whatever the size.
     Constant,
-    /// So many times the size of the input, at most.
+    /// At most this many times the size of the input.
     TimesTheInput(u64),
 }
 
@@ -44,8 +44,8 @@ impl Kind {
         }
     }
 
-    /// What the peak of the memory may be. A line, its bytes and what they are copied to are held at once, and the
-    /// answer as it grows.
+    /// Returns the bound for the peak of the memory. The program holds a line, its bytes and their copy at once, and
+    /// the answer as it grows.
     pub fn memory(self) -> Memory {
         match self {
             Kind::LongLine => Memory::TimesTheInput(5),
@@ -54,7 +54,7 @@ impl Kind {
     }
 }
 
-/// An input, and what it is answered.
+/// An input, and its answer.
 pub struct Input {
     /// The arguments of the program.
     pub arguments: Vec<String>,
@@ -65,7 +65,7 @@ pub struct Input {
 }
 
 impl Input {
-    /// An input of a kind, with about so many bytes.
+    /// Returns an input of a kind, with about `size` bytes.
     pub fn new(kind: Kind, size: usize) -> Input {
         match kind {
             Kind::LongLine => long_line(size),
@@ -87,7 +87,7 @@ impl Input {
     }
 }
 
-/// A byte string in its shortest spelling, with a body of about so many bytes.
+/// Returns a byte string in its shortest spelling, with a body of about `size` bytes.
 fn string(size: usize) -> Vec<u8> {
     let body = vec![7; size];
     [&[0x5a], &(body.len() as u32).to_be_bytes()[..], &body].concat()
@@ -102,7 +102,7 @@ fn raw(count: usize, bytes: Vec<u8>) -> Input {
     }
 }
 
-/// One line, of about so many bytes.
+/// Returns one line of about `size` bytes.
 fn long_line(size: usize) -> Input {
     let digits: String = string(size / 2)
         .iter()

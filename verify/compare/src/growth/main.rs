@@ -1,7 +1,8 @@
-//! How the time and the memory of our program grow with its input, as a table.
+//! Measures how the time and the memory of our program grow with its input, and prints a table.
 //!
-//! Each kind of input comes in three sizes, each twice the one before. The answer is compared with what it has to be,
-//! and the memory with what it may be: of copies and of short lines the same at each size, of a long line a multiple.
+//! Each kind of input comes in three sizes, each twice the one before. The program compares the answer with the right
+//! one, and the memory with its bound. The bound is the same at each size for copies and short lines, and a multiple
+//! for a long line.
 
 mod inputs;
 
@@ -16,17 +17,17 @@ use std::time::{Duration, Instant};
 /// How the program is used.
 const USAGE: &str = "OURS [--quick]";
 
-/// By how many KiB the peak of a copy may differ from size to size.
+/// The peak of a copy may differ by this many KiB from size to size.
 const SLACK: u64 = 256;
 
 /// What the arguments ask for.
 struct Asked {
     ours: String,
-    /// By how much each input is smaller than in the full table.
+    /// Each input is this many times smaller than in the full table.
     shrink: usize,
 }
 
-/// What the words behind the program's name ask for.
+/// Reads the words after the program's name.
 fn asked(mut words: impl Iterator<Item = String>) -> Option<Asked> {
     let ours = words.next()?;
     let shrink = match words.next().as_deref() {
@@ -42,7 +43,7 @@ fn main() -> ExitCode {
     status_of("growth", USAGE, asked, measure_all)
 }
 
-/// What one run took.
+/// The measures of one run.
 struct Taken {
     time: Duration,
     /// The most memory that it had, in KiB.
@@ -80,7 +81,7 @@ fn measure_all(asked: &Asked) -> io::Result<bool> {
     Ok(is_right)
 }
 
-/// Runs the program on an input, and compares what it writes with what it has to write.
+/// Runs the program on an input, and compares its output with the right one.
 fn run(program: &str, input: &Input) -> io::Result<Taken> {
     let start = Instant::now();
     let mut child = Command::new(program)
@@ -111,14 +112,14 @@ fn run(program: &str, input: &Input) -> io::Result<Taken> {
     Ok(Taken { time, peak })
 }
 
-/// Writes an input, and looks at the peak of the memory before its last byte, where the program waits for that. A
+/// Writes an input, and looks at the peak of the memory before its last byte, while the program waits for that byte. A
 /// program that ended before it read all closes the pipe, and its answer is then another one.
 fn write_all(pipe: &mut ChildStdin, bytes: &[u8], process: u32) -> u64 {
     let (front, last) = bytes.split_at(bytes.len().saturating_sub(1));
     if pipe.write_all(front).is_err() {
         return 0;
     }
-    // Nothing is left to read but the last byte once it sleeps. It is waited for no longer than a second.
+    // Once the program sleeps, only the last byte is left to read. The call waits for that no longer than a second.
     for _ in 0..500 {
         if told(process, "State:").as_deref() == Some("S") {
             break;
@@ -131,7 +132,7 @@ fn write_all(pipe: &mut ChildStdin, bytes: &[u8], process: u32) -> u64 {
     peak
 }
 
-/// Looks at the peak of the memory until the program has ended. What it was in the last two milliseconds is not seen.
+/// Looks at the peak of the memory until the program has ended. It does not see the last two milliseconds.
 fn watch(child: &mut Child) -> io::Result<u64> {
     let mut peak = 0;
     while child.try_wait()?.is_none() {
@@ -141,7 +142,7 @@ fn watch(child: &mut Child) -> io::Result<u64> {
     Ok(peak)
 }
 
-/// The most memory that a process had so far, in KiB, or 0 where it has ended.
+/// Returns the most memory that a process had so far, in KiB, or 0 if it has ended.
 fn peak_of(process: u32) -> u64 {
     told(process, "VmHWM:")
         .and_then(|word| word.parse().ok())

@@ -3,9 +3,9 @@
  *
  * usage: libcbor pull|recode|skip|feed SIZE COUNT ROUNDS
  *
- * It reads standard input whole, pulls the titles in it so many times, or loads the items in it and writes them or
- * drops them, and prints the sum that the bench and `calls` print. For `feed` the bytes come in pieces of SIZE: what
- * needs more data is kept in front of the next piece.
+ * It reads standard input whole. It pulls the titles in it ROUNDS times, or loads the items in it and writes them or
+ * drops them. It prints the sum that the bench and `calls` print. For `feed` the bytes come in pieces of SIZE, and
+ * bytes that need more data are kept before the next piece.
  */
 #include <cbor.h>
 #include <inttypes.h>
@@ -15,7 +15,7 @@
 
 #include "../input.h"
 
-/* The context of each call is the sum. A number without a sign is added, and 1 for each other title. */
+/* The context of each call is the sum. A call adds a number without a sign, and 1 for each other title. */
 static void add_8(void *sum, uint8_t number) { *(uint64_t *)sum += number; }
 static void add_16(void *sum, uint16_t number) { *(uint64_t *)sum += number; }
 static void add_32(void *sum, uint32_t number) { *(uint64_t *)sum += number; }
@@ -45,7 +45,10 @@ static void add_titles(const unsigned char *bytes, size_t size, const struct cbo
     }
 }
 
-/* Loads each item, and writes it where there is an output: how many bytes that takes, else how many items there are. */
+/*
+ * Loads each item, and writes it if there is an output. Returns how many bytes that takes, or otherwise how many items
+ * there are.
+ */
 static uint64_t items(const unsigned char *bytes, size_t size, unsigned char *out) {
     uint64_t sum = 0;
     size_t offset = 0;
@@ -61,7 +64,7 @@ static uint64_t items(const unsigned char *bytes, size_t size, unsigned char *ou
     return sum;
 }
 
-/* How many bytes the titles and strings have, where the bytes come in pieces of so many. */
+/* Returns how many bytes the titles and strings have, if the bytes come in pieces of `piece` bytes. */
 static uint64_t fed(const unsigned char *bytes, size_t size, size_t piece, unsigned char *kept) {
     size_t length = 0, ended = 0;
     for (size_t offset = 0; offset < size; offset += piece) {

@@ -1,7 +1,7 @@
-//! The works of this repository's bench, done by the calls of the Rust crate, and the least that a program has to do
-//! for some of them.
+//! Works of this repository's bench, done by the calls of the Rust crate. For some of them it also does the least that
+//! a program has to do.
 //!
-//! Each gives the sum that the bench's gives, so that both can be held against each other.
+//! Each gives the same sum as in the bench, so that both can be held against each other.
 
 use crate::copy::recode;
 use crate::string::{read_bytes, read_text, Parts, Stop};
@@ -26,7 +26,7 @@ pub struct Task<'a> {
 }
 
 impl Task<'_> {
-    /// Does the work so many times, and gives the sum of what each round gave, if there is such a work.
+    /// Does the work `rounds` times. Returns the sum of the results of all rounds, if there is such a work.
     pub fn rounds_over(&self, input: &[u8]) -> Option<u64> {
         let mut space = [0; MOST_SIZE];
         let buffer = &mut space[..self.size.clamp(4, MOST_SIZE)];
@@ -86,7 +86,7 @@ fn pushed(input: &[u8], output: &mut [u8], before: u64) -> u64 {
     sum
 }
 
-/// Adds how many bytes the elements have, where they were copied.
+/// Adds how many bytes the elements have, if they were copied.
 #[inline(never)]
 fn recoded(
     input: &[u8],
@@ -119,7 +119,7 @@ impl Parts for Dropped {
     }
 }
 
-/// Adds how many bytes the string in front has, where it was read to its end.
+/// Adds how many bytes the string that comes first has, if it was read to its end.
 #[inline(never)]
 fn skipped(input: &[u8], buffer: &mut [u8], before: u64) -> u64 {
     let mut decoder = Decoder::from(input);
@@ -134,7 +134,7 @@ fn skipped(input: &[u8], buffer: &mut [u8], before: u64) -> u64 {
     }
 }
 
-/// Adds how many bytes the items have, where all of them were skipped.
+/// Adds how many bytes the items have, if all of them were skipped.
 #[inline(never)]
 fn items_skipped(input: &[u8], count: usize, buffer: &mut [u8], before: u64) -> u64 {
     let mut decoder = Decoder::from(input);
@@ -152,7 +152,7 @@ fn skip_item(decoder: &mut Decoder<&[u8]>, depth: usize, buffer: &mut [u8]) -> O
     skip_behind(decoder, header, depth, buffer)
 }
 
-/// Skips what belongs to an item behind its header.
+/// Skips the parts of an item after its header.
 fn skip_behind(
     decoder: &mut Decoder<&[u8]>,
     header: Header,
@@ -170,7 +170,7 @@ fn skip_behind(
     }
 }
 
-/// Skips so many groups of so many items, or those in front of a break where their number is not known.
+/// Skips `groups` groups of `size` items each. If their number is not known, it skips those before a break.
 fn skip_items(
     decoder: &mut Decoder<&[u8]>,
     groups: Option<usize>,

@@ -6,8 +6,8 @@ use ciborium_ll::{Decoder, Encoder, Header};
 use compare::word::word_of;
 use std::fmt;
 
-/// How many bytes of a string a raw copy and a line copy at a time, at most. It is that of our program, since what was
-/// written before a fault depends on it.
+/// A raw copy and a line copy at most this many bytes of a string at a time. Our program has the same number, since the
+/// bytes written before a fault depend on it.
 const BUFFER_SIZE: usize = 64;
 
 /// Why a copy of raw bytes failed, printed as one line.
@@ -55,7 +55,7 @@ fn write_header<W: Write>(encoder: &mut Encoder<W>, header: Header) -> Result<()
     encoder.push(header).map_err(|_| Stop::Write)
 }
 
-/// Copies so many elements. An element is a header that begins no string, or a whole string.
+/// Copies `count` elements. An element is a header that begins no string, or a whole string.
 pub fn recode<R: Read, W: Write>(
     decoder: &mut Decoder<R>,
     encoder: &mut Encoder<W>,
@@ -82,7 +82,7 @@ pub fn recode<R: Read, W: Write>(
     Ok(())
 }
 
-/// Writes what stands in front of the segments: the open of a string of indefinite length.
+/// Writes the open of a string of indefinite length, which comes before its segments.
 fn open<W: Write>(
     encoder: &mut Encoder<W>,
     length: Option<usize>,
@@ -107,7 +107,7 @@ fn copy_string<W: Write>(
     }
 }
 
-/// Answers `recode`: what the copy wrote, and what is left of the bytes or why the copy stopped.
+/// Answers `recode`: the bytes that the copy wrote, and the bytes that are left, or why the copy stopped.
 pub fn answer(count: usize, bytes: &[u8]) -> String {
     let mut rest = bytes;
     let mut output = Vec::new();
@@ -124,7 +124,7 @@ pub fn answer(count: usize, bytes: &[u8]) -> String {
     }
 }
 
-/// Copies so many elements from a reader to a writer, and flushes the writer after a fault too.
+/// Copies `count` elements from a reader to a writer, and flushes the writer after a fault too.
 pub fn raw<R: std::io::Read, W: std::io::Write>(
     reader: R,
     mut writer: W,

@@ -1,10 +1,10 @@
-//! Headers, one behind the other.
+//! Headers, one after the other.
 
 use ciborium_ll::{Decoder, Encoder, Error, Header};
 use compare::word::digits_of;
 use std::fmt::Write;
 
-/// Answers `heads`: a line for each title, and one for what ended them.
+/// Answers `heads`: a line for each title, and one for the end.
 pub fn answer(bytes: &[u8]) -> String {
     let mut answer = String::new();
     let mut decoder = Decoder::from(bytes);
@@ -23,7 +23,7 @@ pub fn answer(bytes: &[u8]) -> String {
     }
 }
 
-/// The name of a header, and its value where it has one.
+/// Returns the name of a header, and its value if it has one.
 fn name_of(header: Header) -> String {
     match header {
         Header::Positive(n) => format!("positive {n}"),

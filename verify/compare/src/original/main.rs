@@ -1,8 +1,8 @@
 //! The lines and the raw copy of this repository's program, answered by the calls of the Rust crate.
 //!
 //! It reads lines from standard input and answers each on standard output. With the arguments `recode COUNT` it copies
-//! so many elements from standard input to standard output. It is the program that `compare` holds ours against. With
-//! the arguments `WORK SIZE COUNT ROUNDS` it does a work of the bench over standard input.
+//! COUNT elements from standard input to standard output. `compare` holds ours against this program. With the arguments
+//! `WORK SIZE COUNT ROUNDS` it does a work of the bench over standard input.
 
 mod bench;
 mod copy;

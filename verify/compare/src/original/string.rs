@@ -13,7 +13,7 @@ pub enum Stop {
     Short,
     /// The buffer is too small for the next character.
     Stuck,
-    /// What was read can't be written.
+    /// The answer cannot be written.
     Write,
 }
 
@@ -38,8 +38,8 @@ pub trait Parts {
     fn end(&mut self) -> Result<(), Stop>;
 }
 
-/// Defines a function that reads a whole string of one kind, behind its header. The crate gives no name to what the
-/// two kinds have in common.
+/// Defines a function that reads a whole string of one kind, after its header. The crate has no name for the common
+/// part of the two kinds.
 macro_rules! define_reader {
     ($name:ident, $kind:ident, $comment:literal) => {
         #[doc = $comment]
@@ -90,7 +90,7 @@ impl Parts for Printed {
     }
 }
 
-/// Answers `chunks`: a line for each segment, chunk and end of a segment, and one for what ended the string.
+/// Answers `chunks`: a line for each segment, chunk and end of a segment, and one for the end of the string.
 pub fn answer(size: usize, bytes: &[u8]) -> String {
     let mut buffer = vec![0; size];
     let mut decoder = Decoder::from(bytes);

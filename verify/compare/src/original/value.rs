@@ -10,7 +10,7 @@ pub fn bytes(limit: Option<usize>, value: &[u8]) -> String {
     answer_of(written.is_ok(), &spelling)
 }
 
-/// Answers `text`: the spelling of a text string under a limit, where the bytes are text.
+/// Answers `text`: the spelling of a text string under a limit, if the bytes are text.
 pub fn text(limit: Option<usize>, value: &[u8]) -> String {
     let value = match std::str::from_utf8(value) {
         Ok(value) => value,

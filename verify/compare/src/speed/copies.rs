@@ -6,7 +6,7 @@ use crate::Asked;
 use compare::command::failed;
 use std::io;
 
-/// By how much shorter the streams are whose instructions are counted.
+/// The streams whose instructions are counted are this many times shorter.
 const SHORTER: usize = 32;
 
 /// Measures the copies of all streams, and prints the table.

@@ -1,4 +1,4 @@
-//! The calls of the library in memory, beside the same of another one.
+//! Measures the calls of the library in memory, beside the same calls of another one.
 
 use crate::measure::{best_times, ratio, speed, Input, Origin, Run};
 use crate::streams::{self, Stream};
@@ -11,28 +11,28 @@ const SIZE: usize = 1 << 20;
 
 /// A row of the table.
 struct Row {
-    /// What is done.
+    /// The work, as the table names it.
     name: &'static str,
-    /// What the bench calls it.
+    /// The name of the work in the bench.
     work: &'static str,
     /// The size of a buffer, or the limit of segments.
     size: usize,
     /// The bytes.
     stream: fn(usize) -> Stream,
-    /// How often it is done for each megabyte that was asked for.
+    /// How often the work is done for each megabyte that the arguments ask for.
     times: usize,
-    /// What it stands beside.
+    /// The works beside it.
     beside: Beside,
 }
 
-/// What a work stands beside.
+/// The other work beside a work of ours.
 #[derive(Clone, Copy)]
 enum Beside {
     /// The same work by the Rust crate.
     Crate,
     /// The same work by libcbor.
     Libcbor,
-    /// The same, where ours is done by the static library, from C too.
+    /// The same work by libcbor, from C. Ours is done by the static library, from C too.
     LibcborFromC,
     /// The same items in one piece, skipped from C, as ours are fed from C.
     Whole,
@@ -56,12 +56,12 @@ impl Row {
     }
 }
 
-/// A row of titles, of which many are done.
+/// A row of titles. Many of them are done.
 const fn titles(name: &'static str, work: &'static str, stream: fn(usize) -> Stream) -> Row {
     Row { name, work, size: 64, stream, times: 2, beside: Beside::Crate }
 }
 
-/// A row of items that come in pieces of so many bytes.
+/// A row of items that come in pieces of `size` bytes.
 const fn pieces(
     name: &'static str,
     size: usize,
@@ -224,7 +224,7 @@ fn measure_row(asked: &Asked, row: &Row) -> io::Result<()> {
     Ok(())
 }
 
-/// The words behind a program's name.
+/// The words after a program's name.
 fn arguments(work: &str, size: usize, stream: &Stream, rounds: usize) -> Vec<String> {
     let numbers = [size, stream.count, rounds].map(|number| number.to_string());
     [work.to_string()].into_iter().chain(numbers).collect()

@@ -26,11 +26,11 @@ struct Asked {
     rounds: usize,
     has_copies: bool,
     has_library: bool,
-    /// What stands in the name of each row of the second table.
+    /// The text that the name of each row of the second table has.
     rows: String,
 }
 
-/// What the words behind the program's name ask for.
+/// Reads the words after the program's name.
 fn asked(mut words: impl Iterator<Item = String>) -> Option<Asked> {
     let mut asked = Asked {
         ours: words.next()?,

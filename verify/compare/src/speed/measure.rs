@@ -35,7 +35,7 @@ impl<'a> Input<'a> {
     }
 }
 
-/// Where a program's input comes from.
+/// The source of a program's input.
 #[derive(Clone, Copy)]
 pub enum Origin {
     /// From a file.
@@ -48,19 +48,19 @@ pub enum Origin {
 pub struct Run<'a> {
     /// The path of the program.
     pub program: &'a str,
-    /// The words behind its name.
+    /// The words after its name.
     pub arguments: Vec<String>,
 }
 
 impl Run<'_> {
-    /// What the program writes.
+    /// Returns the output of the program.
     pub fn output(&self, input: &Input) -> io::Result<Vec<u8>> {
         let mut command = Command::new(self.program);
         let outcome = command.args(&self.arguments).stdin(input.file()?).output()?;
         self.checked(outcome).map(|outcome| outcome.stdout)
     }
 
-    /// The outcome of the program, where it succeeded.
+    /// Returns the outcome of the program, if it succeeded.
     fn checked(&self, outcome: Output) -> io::Result<Output> {
         if outcome.status.success() {
             return Ok(outcome);
@@ -70,7 +70,7 @@ impl Run<'_> {
         Err(failed(&format!("{program} {arguments:?}: {errors}")))
     }
 
-    /// The seconds that a processor worked for the program itself, and not for the system. What is written goes
+    /// Returns the seconds that a processor worked for the program itself, and not for the system. The output goes
     /// nowhere. A shell tells the time, to the millisecond.
     pub fn user_time(&self, input: &Input, origin: Origin) -> io::Result<f64> {
         let mut command = Command::new("bash");
@@ -117,7 +117,7 @@ impl Run<'_> {
     }
 }
 
-/// The least seconds of two programs that run by turns, so many rounds.
+/// Returns the least seconds of two programs that run by turns, `rounds` times.
 pub fn best_times(
     sides: &[Run; 2],
     input: &Input,

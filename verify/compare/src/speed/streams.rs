@@ -35,10 +35,10 @@ impl Stream {
     }
 }
 
-/// How many times as long as the others a stream is that has no more than one body. It takes less time.
+/// A stream that has no more than one body is this many times as long as the others. It takes less time.
 const BODY: usize = 8;
 
-/// All streams that are copied, each of about so many bytes, or some times as many where it is one body.
+/// Returns all streams that are copied, each of about `size` bytes. A stream that is one body has some times as many.
 pub fn all(size: usize) -> Vec<Stream> {
     vec![
         titles(size),
@@ -55,12 +55,12 @@ pub fn titles(size: usize) -> Stream {
     titles_of("titles alone", size, |_| true)
 }
 
-/// Such titles without the tags that libcbor refuses: those below 24 to which it knew no meaning.
+/// Returns such titles without the tags that libcbor refuses: those below 24 whose meaning it did not know.
 pub fn assigned_titles(size: usize) -> Stream {
     titles_of("titles that libcbor takes", size, |tag| !(6..=20).contains(&tag))
 }
 
-/// Such titles with the tags that are taken.
+/// Returns such titles with the tags that are taken.
 fn titles_of(name: &'static str, size: usize, is_taken: fn(u64) -> bool) -> Stream {
     let mut stream = Stream::new(name, size);
     let mut random = Random::new(1);
@@ -79,11 +79,11 @@ pub fn byte_string(size: usize) -> Stream {
     one_string("one large byte string", 2, b"\x00\x7f\x80\xff", size)
 }
 
-/// What an ASCII text repeats.
+/// The bytes that an ASCII text repeats.
 const ASCII: &str = "The quick brown fox jumps over the lazy dog and runs far away.\n ";
 
-/// What a multibyte text repeats. With the spaces behind it no character lies across a multiple of 64 bytes, where
-/// version 0.2.0 of the crate refuses a text.
+/// The bytes that a multibyte text repeats. With the spaces after it no character lies across a multiple of 64 bytes.
+/// There version 0.2.0 of the crate refuses a text.
 const MULTIBYTE: &str = "Größe, été, 😀😀 und Žlutý kůň; ещё съешь же этих булок";
 
 /// One text of ASCII.
@@ -105,12 +105,13 @@ pub fn plain_text(size: usize) -> Stream {
     }
 }
 
-/// What documents have: small maps with short texts as keys, numbers, short strings, halves and simple values.
+/// Returns maps as documents have them: small ones, with short texts as keys, numbers, short strings, halves and simple
+/// values.
 pub fn mixed(size: usize) -> Stream {
     mixed_maps(size).0
 }
 
-/// The same bytes, of which the maps are counted.
+/// Returns the same bytes, but counts the maps.
 pub fn mixed_items(size: usize) -> Stream {
     let (stream, count) = mixed_maps(size);
     Stream { count, ..stream }
@@ -132,7 +133,8 @@ fn mixed_maps(size: usize) -> (Stream, usize) {
     (stream, maps)
 }
 
-/// Arrays of three, each of two numbers and another such array, eight levels deep. The outermost are counted.
+/// Returns arrays of three, each of two numbers and another such array, eight levels deep. It counts the outermost
+/// ones.
 pub fn nested_items(size: usize) -> Stream {
     let mut stream = Stream::new("arrays of numbers within arrays", size);
     let mut random = Random::new(5);
@@ -209,7 +211,7 @@ fn string_in_pieces(name: &'static str, major: u8, size: usize) -> Stream {
     stream
 }
 
-/// Adds a string of indefinite length, in so many pieces of at most 15 bytes.
+/// Adds a string of indefinite length, in `pieces` pieces of at most 15 bytes.
 fn indefinite_string(stream: &mut Stream, random: &mut Random, major: u8, pieces: usize) {
     stream.bytes.push(major << 5 | 31);
     let count = stream.count;
