@@ -1,13 +1,13 @@
 /* SPDX-License-Identifier: Apache-2.0 */
 /*
- * Tells whether standard input is one whole item of CBOR and nothing more, as a program has to know before it signs or
- * stores an item.
+ * Tells whether standard input is one whole item of CBOR and nothing more. A program has to know that before it signs
+ * or stores an item.
  *
  * usage: one < FILE
  *
- * It prints `item LENGTH` with the status 0. Otherwise the status is 1, and it prints one of these: `short DUE` if the
- * item has not ended, with at least how many bytes are due, `more LENGTH` if bytes follow an item of that length, and
- * `fault PLACE`, with an offset. The status is 2 if a read fails.
+ * It prints `item LENGTH` with the status 0. Otherwise the status is 1, and it prints one of three lines. `short DUE`
+ * says that the item has not ended, and that at least DUE bytes are due. `more LENGTH` says that bytes follow an item
+ * of that length. `fault PLACE` says the offset of a fault. The status is 2 if a read fails.
  */
 #include <stdio.h>
 

@@ -363,7 +363,7 @@ static int writes_widths(void)
 
 /*
  * Takes a text in pieces of each length. The bytes after a front are put before the next piece. Each byte in turn is
- * replaced by a byte that no UTF-8 has, and the front ends where the character of that byte begins.
+ * replaced by a byte that no UTF-8 has, and the front ends before the character of that byte.
  */
 static int joins_pieces(void)
 {
@@ -476,7 +476,7 @@ static int tells_what_is_due(void)
         {{0x81, 0x5a, 0, 1, 0, 0, 0x61}, 7, 65535, 65535, 65535}, /* the rest of a body */
         {{0x81, 0x7f, 0x63, 0xe6}, 4, 2, 2, 2},             /* the rest of a text inside an open */
         {{0x81, 0x7f, 0x61, 0x61}, 4, 1, 1, 1},             /* a piece or a break */
-        {{0x81, 0x19, 0x00}, 3, 1, 0, 1},                   /* a title that is longer than it need be */
+        {{0x81, 0x19, 0x00}, 3, 1, 0, 1},                   /* a title that is longer than need be */
         {{0x81, 0x5f, 0x19, 0x01}, 4, 0, 0, 0},             /* a number inside a string */
         {{0x81, 0x81, 0x81, 0xd9}, 4, 2, 2, 0},             /* a tag for which no level is left */
     };

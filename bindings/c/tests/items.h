@@ -81,7 +81,7 @@ static void number(struct item *item, unsigned major, uint64_t value)
     title(item, major, value, widths[shortest || below(3) > 0 ? least : least + below(5 - least)]);
 }
 
-/* A character of each length, as it stands in UTF-8. */
+/* Writes a character of each length in UTF-8. */
 static size_t character(uint8_t *bytes)
 {
     static const uint32_t bounds[] = {0, 0x80, 0x800, 0x10000, 0x110000};

@@ -39,7 +39,7 @@ static cll_item_copier *item_copier;
 static cll_report *report;
 static unsigned long answers[CLL_ARGUMENT + 1], completed, copies_made, items_made, fronts;
 
-/* Whether the checker is a strict one. */
+/* Tells whether the checker is a strict one. */
 static int strict;
 
 /* Copies bytes so that they end right at the guard page. No bytes are at the page's first address. */
@@ -484,7 +484,7 @@ static int tries_item(struct item *item)
     return holds(item->data, item->len, item->levels) ? 0 : fails(item->data, item->len, item->levels);
 }
 
-/* Tries bytes of any value, or most of which begin an item. */
+/* Tries bytes of any value, or bytes that mostly begin an item. */
 static int tries_bytes(void)
 {
     uint8_t data[32];

@@ -1,7 +1,7 @@
 // SPDX-License-Identifier: Apache-2.0
 /*
- * Tells whether standard input is one whole item of CBOR and nothing more, as a program has to know before it signs or
- * stores an item. It prints what one.c prints, and has its status.
+ * Tells whether standard input is one whole item of CBOR and nothing more. A program has to know that before it signs
+ * or stores an item. It prints the same as one.c, and has its status.
  *
  * usage: one < FILE
  */

@@ -181,7 +181,7 @@ class ArgumentError(Error):
 
 
 class NotShortestError(Error):
-    """At the place stands a longer title than need be, or a float that fits a smaller width."""
+    """At the place stands a title that is longer than need be, or a float that fits a smaller width."""
 
     name = "not_shortest"
 
@@ -277,7 +277,7 @@ def _version_of(calls: ctypes.CDLL) -> str:
 
 
 def _library() -> ctypes.CDLL:
-    """The library's calls. An ImportError says what is missing."""
+    """Returns the library's calls. An ImportError says what is missing."""
     name = _named()
     try:
         calls = ctypes.CDLL(name)
@@ -488,7 +488,7 @@ class _Fed:
 
     __slots__ = ("consumed", "_kept")
     _END: ClassVar[Any]
-    # Whether it may have ended before a byte came.
+    # Tells whether it may have ended before a byte came.
     _MAY_BE_EMPTY: ClassVar[bool] = False
     consumed: int
 

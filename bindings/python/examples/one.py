@@ -6,7 +6,7 @@ A program has to know that before it signs or stores an item.
 
 usage: one.py < FILE
 
-It prints what one.c prints, and has its status.
+It prints the same as one.c, and has its status.
 """
 import sys
 

@@ -1,6 +1,6 @@
 // SPDX-License-Identifier: Apache-2.0
-//! Tells whether standard input is one whole item of CBOR and nothing more, as a program has to know before it signs or
-//! stores an item. It prints what `bindings/c/examples/one.c` of the repository prints, and has its status.
+//! Tells whether standard input is one whole item of CBOR and nothing more. A program has to know that before it signs
+//! or stores an item. It prints the same as `bindings/c/examples/one.c` of the repository, and has its status.
 use ciborium_ll_proved::{Checker, Progress};
 use std::io::Read;
 use std::process::ExitCode;

@@ -25,7 +25,7 @@ pub enum Error {
     TooDeep(usize),
     /// An argument is out of its range, and the call did nothing.
     Argument,
-    /// At this offset stands a longer title than need be, or a float that fits a smaller width.
+    /// At this offset stands a title that is longer than need be, or a float that fits a smaller width.
     NotShortest(usize),
     /// At this offset stands the title of an indefinite form, or a break.
     Indefinite(usize),

@@ -23,7 +23,7 @@ fn segments_of_bytes() {
 
 #[test]
 fn segments_of_text() {
-    // The title is longer than it need be.
+    // The title is longer than need be.
     let mut decoder = Decoder::from("\u{78}\u{2}é\u{60}".as_bytes());
     assert_eq!(decoder.pull(), Ok(Header::Text(Some(2))));
     assert!(decoder.text(Some(2)).unwrap().eq(["é"]));

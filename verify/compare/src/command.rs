@@ -28,7 +28,7 @@ pub fn status_of<A>(
     }
 }
 
-/// An error of a program's own.
+/// Returns an error of a program's own.
 pub fn failed(what: &str) -> io::Error {
     io::Error::new(io::ErrorKind::Other, what.to_string())
 }

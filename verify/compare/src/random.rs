@@ -6,12 +6,12 @@ pub struct Random {
 }
 
 impl Random {
-    /// The sequence of this seed.
+    /// Returns the sequence of this seed.
     pub fn new(seed: u64) -> Random {
         Random { state: seed }
     }
 
-    /// The next number of 64 bits. The mixing is that of the generator known as SplitMix64.
+    /// Returns the next number of 64 bits. The mixing is that of the generator known as SplitMix64.
     pub fn number(&mut self) -> u64 {
         self.state = self.state.wrapping_add(0x9e37_79b9_7f4a_7c15);
         let mut mixed = self.state;
@@ -20,12 +20,12 @@ impl Random {
         mixed ^ (mixed >> 31)
     }
 
-    /// A number below `bound`, which is not 0.
+    /// Returns a number below `bound`, which is not 0.
     pub fn below(&mut self, bound: usize) -> usize {
         (self.number() % bound as u64) as usize
     }
 
-    /// Whether one of `count` equal chances came.
+    /// Tells whether one of `count` equal chances came.
     pub fn one_in(&mut self, count: usize) -> bool {
         self.below(count) == 0
     }

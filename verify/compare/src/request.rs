@@ -35,7 +35,7 @@ impl Request {
     }
 }
 
-/// The number that a word spells: with no leading zero, and at most 4,294,967,295.
+/// Returns the number that a word spells: with no leading zero, and at most 4,294,967,295.
 pub fn number_of(word: &str) -> Option<usize> {
     let is_decimal = word.bytes().all(|byte| byte.is_ascii_digit());
     if !is_decimal || (word.len() > 1 && word.starts_with('0')) {
@@ -44,12 +44,12 @@ pub fn number_of(word: &str) -> Option<usize> {
     word.parse::<u32>().ok().map(|number| number as usize)
 }
 
-/// The size of a buffer that a word spells.
+/// Returns the size of a buffer that a word spells.
 fn size_of(word: &str) -> Option<usize> {
     number_of(word).filter(|size| *size <= MOST_SIZE)
 }
 
-/// The limit that a word spells: a number, or `*` for none.
+/// Returns the limit that a word spells: a number, or `*` for none.
 fn limit_of(word: &str) -> Option<Option<usize>> {
     if word == "*" {
         return Some(None);

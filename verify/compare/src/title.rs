@@ -1,6 +1,6 @@
 //! Titles, by the standard's table (RFC 7049, 2.1).
 
-/// The shortest title of a number.
+/// Returns the shortest title of a number.
 pub fn shortest(major: u8, number: u64) -> Vec<u8> {
     let bytes = number.to_be_bytes();
     let (minor, width) = match number {

@@ -18,7 +18,7 @@ pub fn bytes_of(word: &str) -> Option<Vec<u8>> {
         .collect()
 }
 
-/// The value of a hexadecimal digit of either case.
+/// Returns the value of a hexadecimal digit of either case.
 fn digit_of(digit: u8) -> Option<u8> {
     match digit {
         b'0'..=b'9' => Some(digit - b'0'),
@@ -36,7 +36,7 @@ pub fn word_of(bytes: &[u8]) -> String {
     digits_of(bytes)
 }
 
-/// Two lower case hexadecimal digits for each byte.
+/// Returns two lower case hexadecimal digits for each byte.
 pub fn digits_of(bytes: &[u8]) -> String {
     const DIGITS: &[u8; 16] = b"0123456789abcdef";
     let mut word = String::with_capacity(bytes.len() * 2);

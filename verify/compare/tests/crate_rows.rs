@@ -4,7 +4,7 @@ use ciborium_io::Read as _;
 use ciborium_ll::{Decoder, Encoder, Error, Header};
 use std::io::{self, Read};
 
-/// The bytes that the crate writes for the first header that it reads.
+/// Returns the bytes that the crate writes for the first header that it reads.
 fn rewritten(bytes: &[u8]) -> Vec<u8> {
     let mut output = Vec::new();
     let header = Decoder::from(bytes).pull().unwrap();

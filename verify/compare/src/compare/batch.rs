@@ -23,7 +23,7 @@ pub struct Comparison<'a> {
 }
 
 impl<'a> Comparison<'a> {
-    /// A comparison of these sides that counts in this tally.
+    /// Returns a comparison of these sides that counts in this tally.
     pub fn new(sides: &'a Sides, tally: &'a mut Tally) -> Comparison<'a> {
         Comparison {
             sides,
@@ -76,7 +76,7 @@ impl<'a> Comparison<'a> {
     }
 }
 
-/// The lines as one input.
+/// Returns the lines as one input.
 pub fn joined(lines: &[Vec<u8>]) -> Vec<u8> {
     let mut input = lines.join(&b'\n');
     input.push(b'\n');
@@ -131,7 +131,7 @@ fn unparted(lines: &[Vec<u8>], ours: &Outcome, theirs: &Outcome) -> Difference {
     }
 }
 
-/// A difference as it is printed.
+/// Returns a difference as it is printed.
 fn difference(line: &[u8], ours: &[u8], theirs: &[u8]) -> Difference {
     Difference {
         input: String::from_utf8_lossy(line).into_owned(),

@@ -39,7 +39,7 @@ pub fn compare(comparison: &mut Comparison<'_>) -> io::Result<()> {
     comparison.finish()
 }
 
-/// The words of all inputs of up to two bytes.
+/// Returns the words of all inputs of up to two bytes.
 fn words() -> Vec<String> {
     let mut words = vec![word_of(&[])];
     for first in 0..=255 {

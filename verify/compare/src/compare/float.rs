@@ -20,7 +20,7 @@ struct Layout {
 /// How many bits the fraction of a double has.
 const DOUBLE_FRACTION: u32 = 52;
 
-/// The layout of a width of 2, 4 or 8 bytes.
+/// Returns the layout of a width of 2, 4 or 8 bytes.
 fn layout_of(width: usize) -> Layout {
     match width {
         2 => Layout {
@@ -39,7 +39,7 @@ fn layout_of(width: usize) -> Layout {
 }
 
 impl Float {
-    /// The bytes of the bits, the most significant one first.
+    /// Returns the bytes of the bits, the most significant one first.
     pub fn bytes(self) -> Vec<u8> {
         self.bits.to_be_bytes()[8 - self.width..].to_vec()
     }
@@ -59,7 +59,7 @@ impl Float {
         }
     }
 
-    /// The bits of the double of the same value.
+    /// Returns the bits of the double of the same value.
     fn widened(self) -> u64 {
         if self.width == 8 {
             return self.bits;
@@ -81,7 +81,8 @@ impl Float {
     }
 }
 
-/// The bits of the double `number * 2^exponent`, whose number is below 2^52 and whose value is a normal double or 0.
+/// Returns the bits of the double `number * 2^exponent`, whose number is below 2^52 and whose value is a normal double
+/// or 0.
 fn scaled(number: u64, exponent: i64) -> u64 {
     if number == 0 {
         return 0;

@@ -96,7 +96,7 @@ fn length(random: &mut Random) -> usize {
     }
 }
 
-/// Text of about this length.
+/// Returns text of about this length.
 pub fn text(random: &mut Random, length: usize) -> String {
     let is_plain = random.one_in(3);
     let mut text = String::new();

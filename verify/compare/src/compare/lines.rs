@@ -68,12 +68,12 @@ fn some_items(random: &mut Random) -> Vec<u8> {
     bytes
 }
 
-/// A line `heads` of items.
+/// Returns a line `heads` of items.
 fn heads(random: &mut Random) -> Vec<u8> {
     format!("heads {}", word_of(&some_items(random))).into_bytes()
 }
 
-/// A line `chunks` of a string.
+/// Returns a line `chunks` of a string.
 fn chunks(random: &mut Random) -> Vec<u8> {
     let mut bytes = Vec::new();
     let major = random.pick(&[2, 3, 3]);
@@ -82,7 +82,7 @@ fn chunks(random: &mut Random) -> Vec<u8> {
     format!("chunks {} {}", random.pick(&SIZES), word_of(&bytes)).into_bytes()
 }
 
-/// A line `bytes`.
+/// Returns a line `bytes`.
 fn bytes(random: &mut Random) -> Vec<u8> {
     let length = random.below(300);
     let bytes: Vec<u8> = (0..length).map(|_| random.number() as u8).collect();
@@ -99,14 +99,14 @@ fn text(random: &mut Random) -> Vec<u8> {
     format!("text {} {}", random.pick(&LIMITS), word_of(&bytes)).into_bytes()
 }
 
-/// A line `recode` of items.
+/// Returns a line `recode` of items.
 fn recode(random: &mut Random) -> Vec<u8> {
     let bytes = some_items(random);
     let count = random.pick(&[0, 1, 1, 2, 3, 4, 5, 8, 4_294_967_295_u64]);
     format!("recode {count} {}", word_of(&bytes)).into_bytes()
 }
 
-/// A line of any kind that is damaged as a line. It may still be one.
+/// Returns a line of any kind that is damaged as a line. It may still be one.
 fn damaged(random: &mut Random) -> Vec<u8> {
     let mut line = random.pick(&[heads, chunks, bytes, text, recode] as &[MakeLine])(random);
     for _ in 0..=random.below(2) {

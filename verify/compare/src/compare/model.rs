@@ -1,8 +1,8 @@
 //! Answers a line by a plain reading of its bytes, with the ways of either side.
 //!
-//! It says whether our answer is the answer that the input gives, and whether the ways that are known to differ give
-//! exactly the other answer. It looks at the input alone. It shares no code with ours. With the other side it shares
-//! only how the words of a line are read and printed.
+//! It says whether our answer is the answer that the input gives. It also says whether the ways that are known to
+//! differ give exactly the other answer. It looks at the input alone. It shares no code with ours. With the other side
+//! it shares only how the words of a line are read and printed.
 
 use crate::float::Float;
 use compare::request::Request;
@@ -33,7 +33,7 @@ pub enum Fault {
     Stuck,
 }
 
-/// The answer to a request, with its line feeds.
+/// Returns the answer to a request, with its line feeds.
 pub fn answer(request: &Request, ways: Ways) -> String {
     match request {
         Request::Heads(bytes) => heads(bytes, ways),
@@ -90,17 +90,17 @@ struct Title {
 }
 
 impl Title {
-    /// Whether this is the indefinite form.
+    /// Tells whether this is the indefinite form.
     fn is_open(&self) -> bool {
         self.minor == 31
     }
 
-    /// Whether this is the break.
+    /// Tells whether this is the break.
     fn is_break(&self) -> bool {
         self.major == 7 && self.minor == 31
     }
 
-    /// Whether a string of bytes or of text begins here.
+    /// Tells whether a string of bytes or of text begins here.
     fn is_string(&self) -> bool {
         self.major == 2 || self.major == 3
     }
@@ -121,7 +121,7 @@ impl Title {
         })
     }
 
-    /// The shortest spelling.
+    /// Returns the shortest spelling.
     fn shortest(&self, ways: Ways) -> Vec<u8> {
         if let Some(float) = self.float(ways) {
             let minor = 24 + float.width.trailing_zeros() as u8;
@@ -147,7 +147,7 @@ impl<'a> Source<'a> {
         Ok(taken)
     }
 
-    /// The next title.
+    /// Returns the next title.
     fn title(&mut self) -> Result<Title, Fault> {
         let place = self.offset;
         let first = self.take(1)?[0];
@@ -171,7 +171,7 @@ impl<'a> Source<'a> {
     }
 }
 
-/// The answer to `heads`.
+/// Returns the answer to `heads`.
 fn heads(bytes: &[u8], ways: Ways) -> String {
     let mut source = Source::new(bytes);
     let mut answer = String::new();
@@ -189,7 +189,7 @@ fn heads(bytes: &[u8], ways: Ways) -> String {
     }
 }
 
-/// The name of a title, and its value.
+/// Returns the name of a title, and its value.
 fn name_of(title: &Title, ways: Ways) -> String {
     const NAMES: [&str; 8] = [
         "positive", "negative", "bytes", "text", "array", "map", "tag", "simple",
@@ -236,7 +236,7 @@ struct Body {
 }
 
 impl Body {
-    /// The next chunk through a buffer of this size.
+    /// Returns the next chunk through a buffer of this size.
     fn chunk(
         &mut self,
         source: &mut Source<'_>,
@@ -329,7 +329,7 @@ fn body(
     tell(Part::End)
 }
 
-/// The answer to `chunks`.
+/// Returns the answer to `chunks`.
 fn chunks(size: usize, bytes: &[u8], ways: Ways) -> String {
     let mut source = Source::new(bytes);
     let title = match source.title() {
@@ -358,7 +358,7 @@ fn chunks(size: usize, bytes: &[u8], ways: Ways) -> String {
     }
 }
 
-/// The answer to `recode`.
+/// Returns the answer to `recode`.
 fn recoded(count: usize, bytes: &[u8], ways: Ways) -> String {
     let (output, outcome) = copy(count, bytes, ways);
     let last = match outcome {

@@ -14,7 +14,7 @@ pub enum Rule {
 }
 
 impl Rule {
-    /// The rule's name in the report.
+    /// Returns the rule's name in the report.
     pub fn name(self) -> &'static str {
         match self {
             Rule::FloatWidth => "float-width",
@@ -68,7 +68,7 @@ where
     Verdict::Unexplained
 }
 
-/// The ways of the original that these rules stand for.
+/// Returns the ways of the original that these rules stand for.
 fn ways_of(rules: &[Rule]) -> Ways {
     Ways {
         narrows_floats: rules.contains(&Rule::FloatWidth),

@@ -36,7 +36,7 @@ impl Difference {
     }
 }
 
-/// The text on one line, and not too long.
+/// Returns the text on one line, and not too long.
 fn shortened(text: &str) -> String {
     let line = text.trim_end().replace('\n', " / ");
     match line.char_indices().nth(MOST_LENGTH) {
@@ -97,12 +97,12 @@ impl Tally {
         self.unexplained.truncate(MOST_PRINTED);
     }
 
-    /// How many answers were compared.
+    /// Returns how many answers were compared.
     pub fn compared(&self) -> u64 {
         self.kinds.values().map(|counts| counts.compared).sum()
     }
 
-    /// How many differences no rule explains.
+    /// Returns how many differences no rule explains.
     pub fn unexplained(&self) -> u64 {
         self.kinds.values().map(|counts| counts.unexplained).sum()
     }

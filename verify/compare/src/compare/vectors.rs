@@ -238,7 +238,7 @@ const BEGINNINGS: [(&str, &[&str]); 5] = [
     ),
 ];
 
-/// All inputs of the table, whole.
+/// Returns all inputs of the table, whole.
 fn inputs() -> Vec<Vec<u8>> {
     let mut inputs: Vec<Vec<u8>> = EXAMPLES
         .iter()
@@ -272,7 +272,7 @@ fn around_the_buffer() -> Vec<Vec<u8>> {
     inputs
 }
 
-/// The lines of each kind: each input, cut at every place.
+/// Returns the lines of each kind: each input, cut at every place.
 pub fn lines() -> Vec<(&'static str, Vec<Vec<u8>>)> {
     let words: Vec<String> = inputs()
         .iter()

@@ -33,7 +33,7 @@ pub const ALL: [Kind; 5] = [
 ];
 
 impl Kind {
-    /// The name in the table.
+    /// Returns the name in the table.
     pub fn name(self) -> &'static str {
         match self {
             Kind::LongLine => "one line",
@@ -58,9 +58,9 @@ impl Kind {
 pub struct Input {
     /// The arguments of the program.
     pub arguments: Vec<String>,
-    /// What is on standard input.
+    /// The bytes on standard input.
     pub bytes: Vec<u8>,
-    /// What has to be on standard output.
+    /// The bytes that have to be on standard output.
     pub answer: Vec<u8>,
 }
 
@@ -93,7 +93,7 @@ fn string(size: usize) -> Vec<u8> {
     [&[0x5a], &(body.len() as u32).to_be_bytes()[..], &body].concat()
 }
 
-/// A copy of elements in their shortest spelling.
+/// Returns a copy of elements in their shortest spelling.
 fn raw(count: usize, bytes: Vec<u8>) -> Input {
     Input {
         arguments: vec!["recode".to_string(), count.to_string()],

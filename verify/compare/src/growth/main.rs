@@ -149,7 +149,7 @@ fn peak_of(process: u32) -> u64 {
         .unwrap_or(0)
 }
 
-/// The first word that the system tells of a process under this name.
+/// Returns the first word that the system tells of a process under this name.
 fn told(process: u32, name: &str) -> Option<String> {
     let status = fs::read_to_string(format!("/proc/{process}/status")).ok()?;
     let words = status.lines().find_map(|line| line.strip_prefix(name))?;

@@ -204,8 +204,8 @@ fn written(text: &str, limit: usize, output: &mut [u8], before: u64) -> u64 {
     }
 }
 
-/// The least for `pull`: one branch for each title, by its length, with no answer but the sum. The input has titles
-/// alone, and the last one is whole.
+/// Does the least for `pull`: one branch for each title, by its length, with no answer but the sum. The input has
+/// titles alone, and the last one is whole.
 #[inline(never)]
 fn walked(input: &[u8], before: u64) -> u64 {
     let mut rest = input;
@@ -229,7 +229,7 @@ fn walked(input: &[u8], before: u64) -> u64 {
     sum
 }
 
-/// The least for `recode`: a copy of the memory.
+/// Does the least for `recode`: a copy of the memory.
 #[inline(never)]
 fn copied(input: &[u8], output: &mut [u8], before: u64) -> u64 {
     output[..input.len()].copy_from_slice(input);

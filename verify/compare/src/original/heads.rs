@@ -39,7 +39,7 @@ fn name_of(header: Header) -> String {
     }
 }
 
-/// A length, or `*` for the indefinite form.
+/// Returns a length, or `*` for the indefinite form.
 fn length_of(length: Option<usize>) -> String {
     match length {
         Some(length) => length.to_string(),
@@ -47,7 +47,7 @@ fn length_of(length: Option<usize>) -> String {
     }
 }
 
-/// A float in the width in which the crate writes it. The header holds no width: it is one of a double.
+/// Returns a float in the width in which the crate writes it. The header holds no width: it is one of a double.
 fn float_of(header: Header) -> String {
     let mut title = Vec::new();
     let written = Encoder::from(&mut title).push(header);

@@ -22,7 +22,7 @@ pub fn answer<R: BufRead, W: Write>(mut reader: R, mut writer: W) -> io::Result<
     }
 }
 
-/// The answer to a line. A panic of the crate answers `panic`, which our program never does.
+/// Returns the answer to a line. A panic of the crate answers `panic`, which our program never does.
 fn answer_of(line: &[u8]) -> String {
     let request = match Request::parse(line) {
         Some(request) => request,

@@ -28,13 +28,13 @@ impl<E> From<Error<E>> for Stop {
 
 /// Takes the parts of a string as they are read.
 pub trait Parts {
-    /// A segment of this length begins.
+    /// Takes the beginning of a segment of this length.
     fn segment(&mut self, length: usize) -> Result<(), Stop>;
 
-    /// A chunk of the segment was read.
+    /// Takes a chunk of the segment that was read.
     fn chunk(&mut self, chunk: &[u8]) -> Result<(), Stop>;
 
-    /// The segment has ended.
+    /// Takes the end of the segment.
     fn end(&mut self) -> Result<(), Stop>;
 }
 

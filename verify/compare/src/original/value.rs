@@ -21,7 +21,7 @@ pub fn text(limit: Option<usize>, value: &[u8]) -> String {
     answer_of(written.is_ok(), &spelling)
 }
 
-/// The line of a spelling.
+/// Returns the line of a spelling.
 fn answer_of(is_written: bool, spelling: &[u8]) -> String {
     if is_written {
         word_of(spelling) + "\n"

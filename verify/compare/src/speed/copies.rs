@@ -52,7 +52,7 @@ fn check(sides: &[Run; 2], stream: &Stream, input: &Input) -> io::Result<()> {
     Ok(())
 }
 
-/// The ratio of the instructions for this stream.
+/// Returns the ratio of the instructions for this stream.
 fn counted(asked: &Asked, stream: &Stream) -> io::Result<String> {
     let input = Input::new(&stream.bytes)?;
     let [ours, original] = sides(asked, stream);

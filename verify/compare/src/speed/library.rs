@@ -56,12 +56,12 @@ impl Row {
     }
 }
 
-/// A row of titles. Many of them are done.
+/// Returns a row of titles. The work is done for many of them.
 const fn titles(name: &'static str, work: &'static str, stream: fn(usize) -> Stream) -> Row {
     Row { name, work, size: 64, stream, times: 2, beside: Beside::Crate }
 }
 
-/// A row of items that come in pieces of `size` bytes.
+/// Returns a row of items that come in pieces of `size` bytes.
 const fn pieces(
     name: &'static str,
     size: usize,
@@ -71,7 +71,7 @@ const fn pieces(
     Row { name, work: "feed", size, stream, times: 2, beside }
 }
 
-/// A row of bytes that come in pieces of 1,460 and are copied.
+/// Returns a row of bytes that come in pieces of 1,460 and are copied.
 const fn copies(
     name: &'static str,
     work: &'static str,
@@ -81,7 +81,7 @@ const fn copies(
     Row { name, work, size: 1460, stream, times, beside: Beside::WholeCopy }
 }
 
-/// A row of large bodies, which take less time.
+/// Returns a row of large bodies, which take less time.
 const fn bodies(
     name: &'static str,
     work: &'static str,
@@ -91,7 +91,7 @@ const fn bodies(
     Row { name, work, size, stream, times: 8, beside: Beside::Crate }
 }
 
-/// A row of large bodies that take so little time that many more are done.
+/// Returns a row of large bodies that take so little time that many more are done.
 const fn quick(
     name: &'static str,
     work: &'static str,
@@ -100,7 +100,7 @@ const fn quick(
     Row { name, work, size: 4096, stream, times: 128, beside: Beside::Crate }
 }
 
-/// A row of a strict decoder, beside the same work by another one. Each title of the stream is its shortest.
+/// Returns a row of a strict decoder, beside the same work by another one. Each title of the stream is its shortest.
 const fn strict(
     name: &'static str,
     work: &'static str,
@@ -224,7 +224,7 @@ fn measure_row(asked: &Asked, row: &Row) -> io::Result<()> {
     Ok(())
 }
 
-/// The words after a program's name.
+/// Returns the words after a program's name.
 fn arguments(work: &str, size: usize, stream: &Stream, rounds: usize) -> Vec<String> {
     let numbers = [size, stream.count, rounds].map(|number| number.to_string());
     [work.to_string()].into_iter().chain(numbers).collect()
@@ -241,7 +241,7 @@ fn check(row: &Row, stream: &Stream, sides: &[Run; 2], input: &Input) -> io::Res
     Err(failed(&format!("{name} over {over}: the sums are {sums:?}")))
 }
 
-/// The instructions of one round, by two runs that differ by it.
+/// Returns the instructions of one round, by two runs that differ by it.
 fn instructions_between(once: &Run, twice: &Run, input: &Input) -> io::Result<Option<f64>> {
     let counts = (once.instructions(input)?, twice.instructions(input)?);
     Ok(match counts {

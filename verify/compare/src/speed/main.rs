@@ -1,4 +1,4 @@
-//! How fast this repository's program and library are beside others, as two tables.
+//! Measures how fast this repository's program and library are beside others, and prints two tables.
 //!
 //! The programs run by turns, and the least user time of several rounds counts for each.
 

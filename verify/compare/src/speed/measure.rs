@@ -1,4 +1,4 @@
-//! How long a program takes for its input.
+//! Measures how long a program takes for its input.
 
 use compare::command::failed;
 use std::fs::{self, File};
@@ -29,7 +29,7 @@ impl<'a> Input<'a> {
         Ok(Input { bytes, path })
     }
 
-    /// The file.
+    /// Returns the file.
     fn file(&self) -> io::Result<File> {
         File::open(&self.path)
     }
@@ -98,7 +98,7 @@ impl Run<'_> {
         time.ok_or_else(|| failed("the shell tells no time"))
     }
 
-    /// How many instructions the program took, the system's not counted, if valgrind is there.
+    /// Returns how many instructions the program took, the system's not counted, if valgrind is there.
     pub fn instructions(&self, input: &Input) -> io::Result<Option<f64>> {
         let mut command = Command::new("valgrind");
         command
@@ -134,7 +134,7 @@ pub fn best_times(
     Ok(best.map(|time| time.max(0.001)))
 }
 
-/// A ratio for a table, or `-` for none.
+/// Returns a ratio for a table, or `-` for none.
 pub fn ratio(ours: Option<f64>, other: Option<f64>) -> String {
     match (ours, other) {
         (Some(ours), Some(other)) => format!("{:.2}", other / ours),
@@ -142,7 +142,7 @@ pub fn ratio(ours: Option<f64>, other: Option<f64>) -> String {
     }
 }
 
-/// The speed for a table, in MB/s.
+/// Returns the speed for a table, in MB/s.
 pub fn speed(bytes: usize, time: f64) -> String {
     format!("{:.0}", bytes as f64 / 1e6 / time)
 }

@@ -14,7 +14,7 @@ pub struct Stream {
 }
 
 impl Stream {
-    /// A stream without elements.
+    /// Returns a stream without elements.
     fn new(name: &'static str, size: usize) -> Stream {
         Stream {
             name,
@@ -50,7 +50,7 @@ pub fn all(size: usize) -> Vec<Stream> {
     ]
 }
 
-/// Numbers, tags, and titles of arrays and maps, with affixes of all widths.
+/// Returns numbers, tags, and titles of arrays and maps, with affixes of all widths.
 pub fn titles(size: usize) -> Stream {
     titles_of("titles alone", size, |_| true)
 }
@@ -74,7 +74,7 @@ fn titles_of(name: &'static str, size: usize, is_taken: fn(u64) -> bool) -> Stre
     stream
 }
 
-/// One byte string.
+/// Returns one byte string.
 pub fn byte_string(size: usize) -> Stream {
     one_string("one large byte string", 2, b"\x00\x7f\x80\xff", size)
 }
@@ -86,17 +86,17 @@ const ASCII: &str = "The quick brown fox jumps over the lazy dog and runs far aw
 /// There version 0.2.0 of the crate refuses a text.
 const MULTIBYTE: &str = "Größe, été, 😀😀 und Žlutý kůň; ещё съешь же этих булок";
 
-/// One text of ASCII.
+/// Returns one text of ASCII.
 pub fn ascii_text(size: usize) -> Stream {
     one_string("one large ASCII text", 3, ASCII.as_bytes(), size)
 }
 
-/// One text with characters of one, two and four bytes.
+/// Returns one text with characters of one, two and four bytes.
 pub fn multibyte_text(size: usize) -> Stream {
     one_string("one large multibyte text", 3, MULTIBYTE.as_bytes(), size)
 }
 
-/// A text with characters of one, two and four bytes, without a title.
+/// Returns a text with characters of one, two and four bytes, without a title.
 pub fn plain_text(size: usize) -> Stream {
     Stream {
         name: "a multibyte text",
@@ -117,7 +117,7 @@ pub fn mixed_items(size: usize) -> Stream {
     Stream { count, ..stream }
 }
 
-/// Such maps as elements, and how many maps there are.
+/// Returns such maps as elements, and how many maps there are.
 fn mixed_maps(size: usize) -> (Stream, usize) {
     let mut stream = Stream::new("small mixed items", size);
     let mut random = Random::new(2);
@@ -183,7 +183,7 @@ fn short_string(stream: &mut Stream, random: &mut Random, major: u8, bound: usiz
     }
 }
 
-/// Strings of indefinite length, of both kinds, in pieces of at most 15 bytes.
+/// Returns strings of indefinite length, of both kinds, in pieces of at most 15 bytes.
 pub fn pieces(size: usize) -> Stream {
     let mut stream = Stream::new("indefinite strings in small pieces", size);
     let mut random = Random::new(3);
@@ -194,17 +194,17 @@ pub fn pieces(size: usize) -> Stream {
     stream
 }
 
-/// One byte string of indefinite length, in pieces of at most 15 bytes.
+/// Returns one byte string of indefinite length, in pieces of at most 15 bytes.
 pub fn byte_pieces(size: usize) -> Stream {
     string_in_pieces("a byte string in small pieces", 2, size)
 }
 
-/// One text of indefinite length, in pieces of at most 15 bytes.
+/// Returns one text of indefinite length, in pieces of at most 15 bytes.
 pub fn text_pieces(size: usize) -> Stream {
     string_in_pieces("a text in small pieces", 3, size)
 }
 
-/// One string of indefinite length. A piece has 7.5 bytes and its title on average.
+/// Returns one string of indefinite length. A piece has 7.5 bytes and its title on average.
 fn string_in_pieces(name: &'static str, major: u8, size: usize) -> Stream {
     let mut stream = Stream::new(name, size);
     indefinite_string(&mut stream, &mut Random::new(4), major, size * 2 / 17);
@@ -222,7 +222,7 @@ fn indefinite_string(stream: &mut Stream, random: &mut Random, major: u8, pieces
     stream.count = count + 1;
 }
 
-/// One string that repeats these bytes. They are padded with spaces to a multiple of 64.
+/// Returns one string that repeats these bytes. They are padded with spaces to a multiple of 64.
 fn one_string(name: &'static str, major: u8, pattern: &[u8], size: usize) -> Stream {
     let mut pattern = pattern.to_vec();
     pattern.resize((pattern.len() + 63) / 64 * 64, b' ');
