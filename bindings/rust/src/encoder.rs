@@ -44,8 +44,8 @@ impl<'a> Encoder<'a> {
         Ok(())
     }
 
-    /// Writes a byte string in one piece, or in pieces if it is longer than the limit `segment`. A limit of 0 counts as
-    /// 1. After an error the output holds a beginning of the string.
+    /// Writes a byte string in one piece, or in pieces if it is longer than the limit `segment`. A limit of 0 counts
+    /// as 1. After an error the output holds a beginning of the string.
     pub fn bytes(&mut self, value: &[u8], segment: Option<usize>) -> Result<(), Error> {
         let limit = segment.unwrap_or(usize::MAX).max(1);
         if value.len() <= limit {

@@ -17,7 +17,7 @@ pub enum Float {
 pub enum Header {
     /// The number itself.
     Positive(u64),
-    /// The number -1 - n.
+    /// The number -1 - n, for the value n.
     Negative(u64),
     /// A float.
     Float(Float),

@@ -30,8 +30,8 @@ impl<W: Write> Encoder<W> {
         self.0.flush()
     }
 
-    /// Writes a byte string in one piece, or in pieces if it is longer than the limit `segment`. A limit of 0 counts as
-    /// 1.
+    /// Writes a byte string in one piece, or in pieces if it is longer than the limit `segment`. A limit of 0 counts
+    /// as 1.
     pub fn bytes(&mut self, value: &[u8], segment: impl Into<Option<usize>>) -> io::Result<()> {
         let limit = segment.into().unwrap_or(usize::MAX).max(1);
         if value.len() <= limit {

@@ -6,7 +6,7 @@ use crate::Float;
 /// The bits of a double's exponent, if the double is an infinity or not a number.
 const EXPONENT: u64 = 0x7ff0 << 48;
 
-/// The bit of a double that is not a number, and raises no signal.
+/// The bit that a double has if it is not a number and raises no signal.
 const QUIET: u64 = 0x0008 << 48;
 
 /// Returns a float as a number. A float that is not a number becomes quiet.

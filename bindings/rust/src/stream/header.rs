@@ -6,7 +6,7 @@ use super::float::{float_of, number_of};
 pub enum Header {
     /// The number itself.
     Positive(u64),
-    /// The number -1 - n.
+    /// The number -1 - n, for the value n.
     Negative(u64),
     /// A float of any width.
     Float(f64),
