@@ -7,6 +7,8 @@ mod calls;
 #[cfg(test)]
 mod checks;
 #[cfg(test)]
+mod claims;
+#[cfg(test)]
 mod cose;
 #[cfg(test)]
 mod settings;

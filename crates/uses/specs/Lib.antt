@@ -1,3 +1,4 @@
+pub mod Claims
 pub mod Cose
 pub mod Maps
 pub mod Settings

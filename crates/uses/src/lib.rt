@@ -2,6 +2,7 @@
 //! Callers of the library, as a user writes them.
 #![tactic(auto)]
 
+mod claims;
 mod cose;
 mod maps;
 mod settings;
@@ -10,6 +11,7 @@ mod streams;
 mod sums;
 mod texts;
 
+pub use self::claims::{Claims, write_claims};
 pub use self::cose::{CoseError, MAP_DEPTH, Sign1, Span, read_sign1};
 pub use self::maps::{Entry, write_strings};
 pub use self::settings::{
