@@ -12,3 +12,5 @@ mod claims;
 mod cose;
 #[cfg(test)]
 mod settings;
+#[cfg(test)]
+mod webauthn;

@@ -7,3 +7,4 @@ mod Steps
 mod StreamLaws
 mod SumLaws
 mod TextLaws
+mod WebauthnLaws

@@ -6,3 +6,4 @@ pub mod Shortest
 pub mod Streams
 pub mod Sums
 pub mod Texts
+pub mod Webauthn

@@ -10,6 +10,7 @@ mod shortest;
 mod streams;
 mod sums;
 mod texts;
+mod webauthn;
 
 pub use self::claims::{Claims, write_claims};
 pub use self::cose::{CoseError, MAP_DEPTH, Sign1, Span, read_sign1};
@@ -21,3 +22,4 @@ pub use self::shortest::{DEPTH, shortest_item_len};
 pub use self::streams::normalise;
 pub use self::sums::{SumError, sum_numbers};
 pub use self::texts::{TextError, read_string};
+pub use self::webauthn::{ATTESTATION_DEPTH, Attestation, AttestationError, read_attestation};
