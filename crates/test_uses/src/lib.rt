@@ -11,6 +11,8 @@ mod claims;
 #[cfg(test)]
 mod cose;
 #[cfg(test)]
+mod cose_view;
+#[cfg(test)]
 mod settings;
 #[cfg(test)]
 mod webauthn;

@@ -1,4 +1,5 @@
 mod CoseLaws
+mod CoseViewLaws
 pub mod MapLaws
 mod PairLaws
 pub mod SettingsLaws

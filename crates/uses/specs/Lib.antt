@@ -1,5 +1,6 @@
 pub mod Claims
 pub mod Cose
+pub mod CoseView
 pub mod Maps
 pub mod Settings
 pub mod Shortest

@@ -4,6 +4,7 @@
 
 mod claims;
 mod cose;
+mod cose_view;
 mod maps;
 mod settings;
 mod shortest;
@@ -14,6 +15,7 @@ mod webauthn;
 
 pub use self::claims::{Claims, write_claims};
 pub use self::cose::{CoseError, MAP_DEPTH, Sign1, Span, read_sign1};
+pub use self::cose_view::{MESSAGE_DEPTH, Message, MessageError, view_sign1};
 pub use self::maps::{Entry, write_strings};
 pub use self::settings::{
     LONGEST_HOST, SETTINGS_DEPTH, Settings, SettingsError, read_settings, write_settings,

@@ -1,4 +1,4 @@
-use Rattle.std.proofs.Common.{rules, false, IsTrue}
+use Rattle.std.proofs.Common.{rules}
 use Rattle.uses.proofs.WebauthnLaws.{text_tested}
 use Rattle.uses.proofs.webauthn.is_text.Goals as goal
 

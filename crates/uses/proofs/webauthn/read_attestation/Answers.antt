@@ -1,7 +1,7 @@
 use Rattle.std.proofs.Common.{ℕ, List, refl}
 use Rattle.uses.specs.declared.cose.Span.{Span}
 use Rattle.uses.specs.declared.webauthn.Attestation.{Attestation}
-use Rattle.uses.specs.Webauthn.{BeginsAttestation, BeginsWith, HasAuthData, HasFormat, HasStatement, IsAttestation}
+use Rattle.uses.specs.Webauthn.{BeginsAttestation, BeginsWith, HasAuthData, HasFormat, HasStatement}
 use Rattle.uses.specs.Webauthn.{LacksAuthData, LacksFormat, LacksStatement}
 use Rattle.uses.proofs.WebauthnLaws.{begins, no_auth_data, no_format, no_statement}
 use Rattle.uses.proofs.webauthn.read_attestation.Goals as goal
