@@ -1,5 +1,6 @@
 // SPDX-License-Identifier: Apache-2.0
-//! Tests of the program that looks at files: its answers to the words `check`, `dump` and `diag`, and its arguments.
+//! Tests of the program that looks at files: its answers to the words `check`, `dump`, `diag` and `encode`, and its
+//! arguments.
 #![tactic(auto)]
 
 #[cfg(test)]
@@ -8,6 +9,8 @@ mod checks;
 mod diags;
 #[cfg(test)]
 mod dumps;
+#[cfg(test)]
+mod encodes;
 #[cfg(test)]
 mod ends;
 #[cfg(test)]

@@ -326,7 +326,7 @@ pub static SPELLED: [(&str, &str, &str); 64] = [
 ];
 
 // Words, and the files that they name, if they ask for a look at files.
-pub static WORDS: [(&str, Option<&str>); 44] = [
+pub static WORDS: [(&str, Option<&str>); 54] = [
     ("check", Some("")),
     ("check -", Some("-")),
     ("check a b", Some("a b")),
@@ -348,6 +348,8 @@ pub static WORDS: [(&str, Option<&str>); 44] = [
     ("dump --color always a --color=never b", Some("a b")),
     ("diag", Some("")),
     ("diag --pretty --strict --hex --depth 3 a", Some("a")),
+    ("encode", Some("")),
+    ("encode --one --depth 3 f", Some("f")),
     ("dump --one", None),
     ("dump --pretty", None),
     ("dump --names", None),
@@ -356,6 +358,14 @@ pub static WORDS: [(&str, Option<&str>); 44] = [
     ("dump --color a", None),
     ("diag --one", None),
     ("diag --offsets", None),
+    ("encode --strict", None),
+    ("encode --hex", None),
+    ("encode --names", None),
+    ("encode --pretty", None),
+    ("encode --offsets", None),
+    ("encode --color never", None),
+    ("encode --depth 257", None),
+    ("Encode", None),
     ("check --pretty", None),
     ("check --offsets", None),
     ("check --color never", None),
@@ -377,7 +387,7 @@ pub static WORDS: [(&str, Option<&str>); 44] = [
 ];
 
 // Words, and the start of the text that they ask for.
-pub static HELPS: [(&str, &str); 12] = [
+pub static HELPS: [(&str, &str); 14] = [
     ("help", "usage: cbor WORD"),
     ("--help", "usage: cbor WORD"),
     ("-h", "usage: cbor WORD"),
@@ -385,30 +395,32 @@ pub static HELPS: [(&str, &str); 12] = [
     ("help check", "usage: cbor check"),
     ("help dump", "usage: cbor dump"),
     ("--help diag", "usage: cbor diag"),
+    ("help encode", "usage: cbor encode"),
     ("help recode", "usage: cbor recode"),
     ("check --help", "usage: cbor check"),
     ("dump a -h --bogus", "usage: cbor dump"),
     ("diag --pretty --help", "usage: cbor diag"),
+    ("encode a --one -h", "usage: cbor encode"),
     ("--version", "cbor 0."),
 ];
 
 // Words that ask for nothing, and what is said of them.
-pub static REFUSALS: [(&str, &str); 14] = [
+pub static REFUSALS: [(&str, &str); 16] = [
     (
         "chek",
-        "no word \"chek\"; did you mean \"check\"?\ncbor: the words are check, dump, diag, recode, help",
+        "no word \"chek\"; did you mean \"check\"?\ncbor: the words are check, dump, diag, encode, recode, help",
     ),
     (
         "bogus",
-        "no word \"bogus\"\ncbor: the words are check, dump, diag, recode, help",
+        "no word \"bogus\"\ncbor: the words are check, dump, diag, encode, recode, help",
     ),
     (
         "recod 1",
-        "no word \"recod\"; did you mean \"recode\"?\ncbor: the words are check, dump, diag, recode, help",
+        "no word \"recod\"; did you mean \"recode\"?\ncbor: the words are check, dump, diag, encode, recode, help",
     ),
     (
         "help chek",
-        "no word \"chek\"; did you mean \"check\"?\ncbor: the words are check, dump, diag, recode, help",
+        "no word \"chek\"; did you mean \"check\"?\ncbor: the words are check, dump, diag, encode, recode, help",
     ),
     ("help check dump", "\"dump\" is one word too many"),
     ("--version 1", "\"1\" is one word too many"),
@@ -420,6 +432,11 @@ pub static REFUSALS: [(&str, &str); 14] = [
         "check --pretty=1",
         "check has no option \"--pretty\"\ncbor: the options of check are --strict, --depth, --one, --names, --hex, --help",
     ),
+    (
+        "encode --strict",
+        "encode has no option \"--strict\"\ncbor: the options of encode are --depth, --one, --help",
+    ),
+    ("encode --one=1", "--one takes no value"),
     ("check a --depth 300", "--depth 300: at most 256"),
     ("check --depth=300", "--depth 300: at most 256"),
     ("check --depth 03", "--depth 03: a number of at most 256"),

@@ -24,6 +24,7 @@ abbrev pub word_name : Word → List ℕ
 word_name w.Check = codes "check"
 word_name (w.Show v.Titles) = codes "dump"
 word_name (w.Show v.Notation) = codes "diag"
+word_name w.Encode = codes "encode"
 
 -- The name of an option.
 abbrev pub setting_name : Setting → List ℕ
@@ -53,22 +54,31 @@ TakesValue name = (name ≡ codes "--depth") ⊎ (name ≡ codes "--color")
 
 -- The first word has this option.
 abbrev pub IsKnown : Word → Setting → Type 0
-IsKnown word s.Strict = Unit {0}
-IsKnown word s.Hex = Unit {0}
 IsKnown word (s.Depth depth) = Unit {0}
+IsKnown w.Check s.Strict = Unit {0}
+IsKnown (w.Show view) s.Strict = Unit {0}
+IsKnown w.Encode s.Strict = ⊥
+IsKnown w.Check s.Hex = Unit {0}
+IsKnown (w.Show view) s.Hex = Unit {0}
+IsKnown w.Encode s.Hex = ⊥
 IsKnown w.Check s.One = Unit {0}
 IsKnown (w.Show view) s.One = ⊥
+IsKnown w.Encode s.One = Unit {0}
 IsKnown w.Check s.Names = Unit {0}
 IsKnown (w.Show view) s.Names = ⊥
+IsKnown w.Encode s.Names = ⊥
 IsKnown w.Check s.Offsets = ⊥
 IsKnown (w.Show v.Titles) s.Offsets = Unit {0}
 IsKnown (w.Show v.Notation) s.Offsets = ⊥
+IsKnown w.Encode s.Offsets = ⊥
 IsKnown w.Check (s.Colors colors) = ⊥
 IsKnown (w.Show v.Titles) (s.Colors colors) = Unit {0}
 IsKnown (w.Show v.Notation) (s.Colors colors) = ⊥
+IsKnown w.Encode (s.Colors colors) = ⊥
 IsKnown w.Check s.Pretty = ⊥
 IsKnown (w.Show v.Titles) s.Pretty = ⊥
 IsKnown (w.Show v.Notation) s.Pretty = Unit {0}
+IsKnown w.Encode s.Pretty = ⊥
 
 -- A depth is at most the greatest depth that the program takes.
 abbrev pub IsShallow : Setting → Type 0

@@ -25,6 +25,7 @@ impl Word {
             "check" => Some(Word::Check),
             "dump" => Some(Word::Show(View::Titles)),
             "diag" => Some(Word::Show(View::Notation)),
+            "encode" => Some(Word::Encode),
             _ => None,
         }
     }
@@ -79,8 +80,10 @@ impl Setting {
         ensures { IsTrue result ↔ IsKnown word self }
     {
         match (self, word) {
-            (Setting::Strict | Setting::Hex | Setting::Depth(_), _) => true,
-            (Setting::One | Setting::Names, Word::Check) => true,
+            (Setting::Depth(_), _) => true,
+            (Setting::Strict | Setting::Hex, Word::Check | Word::Show(_)) => true,
+            (Setting::One, Word::Check | Word::Encode) => true,
+            (Setting::Names, Word::Check) => true,
             (Setting::Offsets | Setting::Colors(_), Word::Show(View::Titles)) => true,
             (Setting::Pretty, Word::Show(View::Notation)) => true,
             _ => false,

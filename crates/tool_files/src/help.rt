@@ -9,7 +9,7 @@ cbor 0.1.0
 ";
 
 /// The words of the program.
-pub const WORDS: [&str; 5] = ["check", "dump", "diag", "recode", "help"];
+pub const WORDS: [&str; 6] = ["check", "dump", "diag", "encode", "recode", "help"];
 
 /// Returns the text of a topic.
 pub fn help_text(topic: Topic) -> &'static str {
@@ -19,6 +19,7 @@ pub fn help_text(topic: Topic) -> &'static str {
         Topic::Word(Word::Check) => CHECK,
         Topic::Word(Word::Show(View::Titles)) => DUMP,
         Topic::Word(Word::Show(View::Notation)) => DIAG,
+        Topic::Word(Word::Encode) => ENCODE,
     }
 }
 
@@ -30,6 +31,7 @@ usage: cbor WORD [OPTION..] [FILE..]
     check       says whether files are well-formed CBOR
     dump        shows files title by title
     diag        writes files in diagnostic notation
+    encode      writes the bytes that diagnostic notation spells
     recode      copies elements as raw bytes, each in its shortest spelling
     help WORD   lists the options, the statuses and examples of a word, as WORD --help does
     --version   says the version
@@ -131,6 +133,27 @@ Writes the items of the files in diagnostic notation, each on a line.
     }
 
 The status is 0 if each file is well-formed, 1 if a file is not, 2 after other arguments, 3 if a file can't be read or
+the output can't be written, and 141 if the reader of the output has gone away.
+";
+
+/// How `encode` is used.
+pub const ENCODE: &str = "\
+usage: cbor encode [OPTION..] [FILE..]
+
+Reads diagnostic notation (RFC 8949, section 8), and writes the bytes of its items. Each number and length has its
+shortest title, unless a mark such as _1 asks for a longer one. A fault is named by its line and column, and no byte of
+its file is written. A file is held in memory.
+
+    --depth N   takes tags, arrays and maps nested at most N levels deep. N is at most 256, which also holds without it
+    --one       wants exactly one item
+    --help      prints this text, as -h does
+
+    $ echo '[1, 2]' | ./cbor encode | od -An -tx1
+     82 01 02
+    $ echo '[1, 2' | ./cbor encode 2>&1 || true
+    cbor: -: line 2, column 1: expected a comma or a closing bracket
+
+The status is 0 if each file is such notation, 1 if a file is not, 2 after other arguments, 3 if a file can't be read or
 the output can't be written, and 141 if the reader of the output has gone away.
 ";
 

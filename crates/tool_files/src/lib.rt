@@ -1,9 +1,10 @@
 // SPDX-License-Identifier: Apache-2.0
 //! Looks at files of CBOR, over any reader and writer of std.
 //!
-//! `check` says whether bytes are well-formed, `dump` shows them title by title, and `diag` writes them in diagnostic
-//! notation. Each function is safe and returns. Contracts say which request the words of the command line spell, and
-//! that each input is read from its start with the options that they set. Tests try the printed texts.
+//! `check` says whether bytes are well-formed, `dump` shows them title by title, `diag` writes them in diagnostic
+//! notation, and `encode` reads that notation. Each function is safe and returns. Contracts say which request the words
+//! of the command line spell, and that each input is read from its start with the options that they set. Tests try the
+//! printed texts.
 #![tactic(auto)]
 
 pub mod arguments;
@@ -11,6 +12,7 @@ pub mod check;
 pub mod diag;
 pub mod digits;
 pub mod dump;
+pub mod encode;
 pub mod help;
 pub mod input;
 mod options;

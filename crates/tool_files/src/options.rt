@@ -12,6 +12,8 @@ pub enum Word {
     Check,
     /// It shows the input.
     Show(View),
+    /// It encodes the notation of the input.
+    Encode,
 }
 
 /// The view of an input.
@@ -39,7 +41,7 @@ pub enum Colors {
 pub struct Options {
     /// Whether only the shortest spelling is taken.
     pub strict: bool,
-    /// Whether exactly one item is wanted.
+    /// Whether exactly one item is wanted, in bytes or in notation.
     pub one: bool,
     /// Whether each answer has the file's name, even for a single file.
     pub names: bool,

@@ -70,6 +70,7 @@ fn name_of(word: Word) -> &'static str {
         Word::Check => "check",
         Word::Show(View::Titles) => "dump",
         Word::Show(View::Notation) => "diag",
+        Word::Encode => "encode",
     }
 }
 
@@ -86,6 +87,7 @@ pub fn options_of(word: Word) -> &'static [&'static str] {
             "--help",
         ],
         Word::Show(View::Notation) => &["--strict", "--depth", "--pretty", "--hex", "--help"],
+        Word::Encode => &["--depth", "--one", "--help"],
     }
 }
 

@@ -2,9 +2,11 @@
 //! A program that looks at files of CBOR.
 //!
 //! It joins the words on its command line with the calls of the libraries. `check` says whether the bytes are
-//! well-formed, `dump` shows them title by title, and `diag` writes them in diagnostic notation.
+//! well-formed, `dump` shows them title by title, `diag` writes them in diagnostic notation, and `encode` reads that
+//! notation.
 #![tactic(auto)]
 
+use cbor_encode::{Expected, NotationError};
 use std::env::VarError;
 use std::fs::File;
 use std::io::{BufWriter, IsTerminal};
@@ -14,6 +16,7 @@ use tool_files::arguments::{Colors, Options, Request, View, Word, asked_by};
 use tool_files::check::check_input;
 use tool_files::diag::diag_input;
 use tool_files::dump::dump_input;
+use tool_files::encode::{EncodeFault, encode_input};
 use tool_files::help::{VERSION, help_text};
 use tool_files::input::Input;
 use tool_files::progress::Watched;
@@ -136,6 +139,7 @@ fn run_stream<R: io::Read + Drop>(rt: &HostRuntime, task: Task, file: &str, read
     match task.word {
         Word::Check => print_verdict(rt, task, file, check_stream(rt, reader, task.options)),
         Word::Show(view) => show_stream(rt, task, file, view, reader),
+        Word::Encode => encode_stream(rt, task, file, reader),
     }
 }
 
@@ -224,6 +228,36 @@ fn write_view<R: io::Read + Drop>(
     match outcome {
         Ok(()) => Ok(()),
         Err(verdict) => Err(input.judge(verdict)),
+    }
+}
+
+/// Writes the bytes that the notation of a reader spells.
+fn encode_stream<R: io::Read + Drop>(
+    rt: &HostRuntime,
+    task: Task,
+    file: &str,
+    reader: R,
+) -> Status {
+    let mut writer = io::writer(rt);
+    match encode_input(rt.alloc(), reader, &mut writer, task.options) {
+        Ok(()) => Status::Well,
+        Err(EncodeFault::Output(error)) => output_failed(rt, error),
+        Err(EncodeFault::Input(error)) => {
+            let _ = eprintln!(rt; "cbor: {}: {error}", Shown(file));
+            Status::Failed
+        }
+        Err(EncodeFault::Notation(error)) => {
+            let _ = eprintln!(rt; "cbor: {}: {error}", Shown(file));
+            status_of(error)
+        }
+    }
+}
+
+/// Returns how the program ends after a text that is not encoded.
+fn status_of(error: NotationError) -> Status {
+    match error.expected {
+        Expected::Memory => Status::Failed,
+        _ => Status::Malformed,
     }
 }
 
