@@ -3,7 +3,8 @@
 ghost use Rattle.std.specs.Prelude.{◌≡◌, ◌↔◌, List, ℕ, suc, Option, Some, IfErr, IfOk, IsOk, MatchOption};
 ghost use Rattle.cbor_view.specs.Held.{elements_due, item_bytes};
 ghost use Rattle.cbor_view.specs.Nexts.{TakesItem};
-ghost use Rattle.uses.specs.CoseView.{BeginsMessage, FailsMessage, IsFour, IsMessage, IsNoSign1, IsPayloadOf, IsTagged, payload_body};
+ghost use Rattle.uses.specs.CoseView.{BeginsMessage, FailsMessage, IsFour, IsMessage, IsNoSign1};
+ghost use Rattle.uses.specs.CoseView.{IsPayloadOf, IsTagged, payload_body};
 
 use cbor_view::{Elements, Fault, Item};
 use ciborium_ll::simple;
@@ -42,8 +43,8 @@ pub enum MessageError {
 /// Returns the parts of the tagged COSE_Sign1 (RFC 9052, 4.2) with which the bytes begin.
 ///
 /// The COSE_Sign1 is tag 18 and an array of four: a byte string, a map, a byte string or null, and a byte string. The
-/// array and the byte strings have definite lengths. Titles may have any spelling. The map may be nested 16 levels deep.
-/// The call tests no other contents.
+/// array and the byte strings have definite lengths. Titles may have any spelling. The map may be nested 16 levels
+/// deep. The call tests no other contents.
 ///
 /// # Errors
 ///

@@ -1,9 +1,10 @@
 //! An attestation object of Web Authentication (W3C, 6.5.4), as the places of its parts.
 
-ghost use Rattle.std.specs.Prelude.{◌≡◌, ◌↔◌, ◌≤◌, ◌+◌, ℕ, List, length, codes, IfErr, IfOk, IsOk, IsTrue, MatchOption};
+ghost use Rattle.std.specs.Prelude.{◌≡◌, ◌↔◌, ◌+◌, ℕ, List, length, IfErr, IfOk, IsOk, IsTrue, MatchOption};
 ghost use Rattle.cbor_view.specs.Held.{item_bytes, item_depth};
 ghost use Rattle.cbor_view.specs.Views.{IsTextOf};
-ghost use Rattle.uses.specs.Webauthn.{BeginsAttestation, FailsAttestation, HasAuthData, HasFormat, HasStatement, HasValueAt};
+ghost use Rattle.uses.specs.Webauthn.{BeginsAttestation, FailsAttestation, HasAuthData, HasFormat};
+ghost use Rattle.uses.specs.Webauthn.{HasStatement, HasValueAt};
 
 use crate::cose::Span;
 use cbor_view::{Fault, Item};
@@ -35,7 +36,7 @@ pub enum AttestationError {
     NoAuthData,
 }
 
-/// Returns the places of the parts of the attestation object (W3C Web Authentication, 6.5.4) with which the bytes begin.
+/// Returns the places of the parts of the attestation object (W3C Web Authentication, 6.5.4) that begins the bytes.
 ///
 /// The object is a map with the text keys `fmt`, `attStmt` and `authData`, in any order, and with any other keys. If a
 /// key comes twice, its first value counts. The keys, the format and the authenticator data have definite lengths.

@@ -2,7 +2,8 @@ use Rattle.std.proofs.Common.{◌≡◌, ℕ, ◌+◌, ◌-◌, ◌++◌, List, 
 use Rattle.ciborium_ll.specs.Items.{IsItem}
 use Rattle.cbor_view.specs.Views.{IsTextOf}
 use Rattle.uses.specs.Webauthn.{HasValueAt}
-use Rattle.uses.proofs.WebauthnLaws.{first_back, first_room, first_there, no_first, no_map, value_back, value_here, value_later}
+use Rattle.uses.proofs.WebauthnLaws.{first_back, first_room, first_there, no_first, no_map}
+use Rattle.uses.proofs.WebauthnLaws.{value_back, value_here, value_later}
 use Rattle.uses.proofs.webauthn.find.Goals as goal
 
 pub returns-in_default : goal.returns-in_default

@@ -9,5 +9,6 @@ returns-in_default c = λ span part. c.in_default.ensures part.place part.value 
 
 pub returns-in_default-byte_string : goal.returns-in_default-byte_string
 returns-in_default-byte_string c =
-    no_part c.args.item.now.depth (codes "authData") c.args.item.now.bytes.now (IsBodyAt IsBytesOf) c.in-Some.whole.start
-    c.in-Some.value.bytes.now c.in-Some.ensures.0 (λ span part. c.in_default-byte_string.ensures part.body part.is_string)
+    no_part c.args.item.now.depth (codes "authData") c.args.item.now.bytes.now (IsBodyAt IsBytesOf)
+    c.in-Some.whole.start c.in-Some.value.bytes.now c.in-Some.ensures.0
+    (λ span part. c.in_default-byte_string.ensures part.body part.is_string)
