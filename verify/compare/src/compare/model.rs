@@ -20,6 +20,10 @@ pub struct Ways {
     pub narrows_floats: bool,
     /// Bytes of a cut character stay kept after a chunk that has no cut character at its end.
     pub keeps_stale_bytes: bool,
+    /// A raw copy writes a chunk of a body only after all bytes of the chunk came, and looks at a title only after all
+    /// of the title came. Our program writes and judges each byte as it comes. Lines are answered by chunks on both
+    /// sides.
+    pub waits_for_chunks: bool,
 }
 
 /// Why the reading of bytes stopped.
@@ -147,6 +151,15 @@ impl<'a> Source<'a> {
         Ok(taken)
     }
 
+    /// Looks at the first byte of a title within an indefinite string of this major type. It ends the string or begins
+    /// a string of that type.
+    fn may_begin(&self, major: u8) -> Result<(), Fault> {
+        match self.bytes.get(self.offset) {
+            Some(first) if *first != 0xff && first >> 5 != major => Err(Fault::Syntax(self.offset)),
+            _ => Ok(()),
+        }
+    }
+
     /// Returns the next title.
     fn title(&mut self) -> Result<Title, Fault> {
         let place = self.offset;
@@ -262,6 +275,33 @@ impl Body {
         self.front([&self.kept, read].concat(), ways).map(Some)
     }
 
+    /// Takes the whole body, or as much of it as there is and as is text in whole characters. Returns these bytes, and
+    /// why they are not the whole body.
+    fn there<'a>(&self, source: &mut Source<'a>) -> (&'a [u8], Option<Fault>) {
+        let rest = &source.bytes[source.offset..];
+        let length = usize::try_from(self.unread).unwrap_or(usize::MAX);
+        let there = &rest[..length.min(rest.len())];
+        let left = length - there.len();
+        let short = (left > 0).then_some(Fault::Short(source.offset + there.len()));
+        source.offset += there.len();
+        if !self.is_text {
+            return (there, short);
+        }
+        match std::str::from_utf8(there) {
+            Ok(_) => (there, short),
+            Err(error) => {
+                let (front, cut) = there.split_at(error.valid_up_to());
+                let is_damaged = error.error_len().is_some() || left < missing(cut);
+                let fault = if is_damaged {
+                    Some(Fault::Syntax(self.place))
+                } else {
+                    short
+                };
+                (front, fault)
+            }
+        }
+    }
+
     /// Returns the front of a chunk that is text. It keeps a short rest.
     fn front(&mut self, mut chunk: Vec<u8>, ways: Ways) -> Result<Vec<u8>, Fault> {
         let front = match std::str::from_utf8(&chunk) {
@@ -276,6 +316,16 @@ impl Body {
         self.kept = rest;
         Ok(chunk)
     }
+}
+
+/// Returns how many bytes the character lacks that begins with these bytes.
+fn missing(cut: &[u8]) -> usize {
+    let length = match cut[0] {
+        0xc2..=0xdf => 2,
+        0xe0..=0xef => 3,
+        _ => 4,
+    };
+    length - cut.len()
 }
 
 /// Reads a string after its title, through a buffer of this size.
@@ -293,6 +343,9 @@ fn string(
     }
     let mut opens = 1;
     while opens > 0 {
+        if !ways.waits_for_chunks {
+            source.may_begin(title.major)?;
+        }
         let inner = source.title()?;
         if inner.is_break() {
             opens -= 1;
@@ -323,6 +376,14 @@ fn body(
         kept: Vec::new(),
     };
     tell(Part::Segment(title.number))?;
+    if !ways.waits_for_chunks {
+        let (there, fault) = body.there(source);
+        tell(Part::Chunk(there))?;
+        return match fault {
+            Some(fault) => Err(fault),
+            None => tell(Part::End),
+        };
+    }
     while let Some(chunk) = body.chunk(source, size, ways)? {
         tell(Part::Chunk(&chunk))?;
     }
@@ -331,6 +392,10 @@ fn body(
 
 /// Returns the answer to `chunks`.
 fn chunks(size: usize, bytes: &[u8], ways: Ways) -> String {
+    let ways = Ways {
+        waits_for_chunks: true,
+        ..ways
+    };
     let mut source = Source::new(bytes);
     let title = match source.title() {
         Ok(title) if title.is_string() => title,
@@ -360,6 +425,10 @@ fn chunks(size: usize, bytes: &[u8], ways: Ways) -> String {
 
 /// Returns the answer to `recode`.
 fn recoded(count: usize, bytes: &[u8], ways: Ways) -> String {
+    let ways = Ways {
+        waits_for_chunks: true,
+        ..ways
+    };
     let (output, outcome) = copy(count, bytes, ways);
     let last = match outcome {
         Ok(offset) => format!("rest {}", word_of(&bytes[offset..])),
@@ -406,9 +475,9 @@ fn copy_element(source: &mut Source<'_>, output: &mut Vec<u8>, ways: Ways) -> Re
 
 #[cfg(test)]
 mod tests {
-    use super::{answer, Ways};
+    use super::{answer, copy, Fault, Ways};
     use compare::request::Request;
-use compare::title::shortest;
+    use compare::title::shortest;
 
     /// The answers of our program, worked by hand.
     const ROWS: [(&str, &str); 13] = [
@@ -429,6 +498,26 @@ use compare::title::shortest;
         ("text 0 -", "60\n"),
         ("text 4 e282", "error: text\n"),
     ];
+
+    /// Raw copies of one element, worked by hand: the bytes, the written bytes, and the fault.
+    const COPIES: [(&[u8], &[u8], Fault); 6] = [
+        (&[0x43, 1], &[0x43, 1], Fault::Short(2)),
+        (&[0x62, 0x61, 0xff], &[0x62, 0x61], Fault::Syntax(0)),
+        // A character of three bytes begins, and one byte of the body is left.
+        (&[0x63, 0x61, 0xe2], &[0x63, 0x61], Fault::Syntax(0)),
+        (&[0x64, 0x61, 0xe2], &[0x64, 0x61], Fault::Short(3)),
+        // A title of another type begins within a text.
+        (&[0x7f, 0x59, 0], &[0x7f], Fault::Syntax(1)),
+        (&[0x7f, 0x79, 0], &[0x7f], Fault::Short(2)),
+    ];
+
+    #[test]
+    fn copies_worked_by_hand() {
+        for (bytes, written, fault) in COPIES {
+            let got = copy(1, bytes, Ways::default());
+            assert_eq!(got, (written.to_vec(), Err(fault)), "{bytes:?}");
+        }
+    }
 
     #[test]
     fn rows_worked_by_hand() {

@@ -11,6 +11,9 @@ pub enum Rule {
     /// In the crate's version 0.2.0 a chunk's end may cut a character. Its bytes stay kept, although the next chunk
     /// handed them out. They are then put before the bytes that follow, or are a fault at the end.
     StaleText,
+    /// The crate's copy of raw bytes writes a chunk after all of its bytes came, and looks at a title after all of the
+    /// title came. Ours writes and judges each byte as it comes.
+    WholeChunks,
 }
 
 impl Rule {
@@ -19,18 +22,23 @@ impl Rule {
         match self {
             Rule::FloatWidth => "float-width",
             Rule::StaleText => "stale-text",
+            Rule::WholeChunks => "whole-chunks",
         }
     }
 
     /// All rules.
-    pub const ALL: [Rule; 2] = [Rule::FloatWidth, Rule::StaleText];
+    pub const ALL: [Rule; 3] = [Rule::FloatWidth, Rule::StaleText, Rule::WholeChunks];
 }
 
 /// The sets of rules that are tried, smaller ones first.
-const SETS: [&[Rule]; 3] = [
+const SETS: [&[Rule]; 7] = [
     &[Rule::FloatWidth],
     &[Rule::StaleText],
+    &[Rule::WholeChunks],
     &[Rule::FloatWidth, Rule::StaleText],
+    &[Rule::FloatWidth, Rule::WholeChunks],
+    &[Rule::StaleText, Rule::WholeChunks],
+    &[Rule::FloatWidth, Rule::StaleText, Rule::WholeChunks],
 ];
 
 /// The verdict on two answers to the same input.
@@ -73,5 +81,6 @@ fn ways_of(rules: &[Rule]) -> Ways {
     Ways {
         narrows_floats: rules.contains(&Rule::FloatWidth),
         keeps_stale_bytes: rules.contains(&Rule::StaleText),
+        waits_for_chunks: rules.contains(&Rule::WholeChunks),
     }
 }
