@@ -15,7 +15,8 @@ contents (h.Map (Some count)) = l.Pairs count
 contents (h.Map None) = l.OpenPairs
 contents header = l.Items 0
 
--- The rest of a nest after one more item, if an item is due: two items leave one, and one pair leaves its value.
+-- The rest of a nest after one more item, if an item is due: two items leave one, and the pair of `a1` leaves its
+-- value. With 0 items, as in `80`, none is due.
 abbrev pub next : Level → Option Level
 next (l.Items zero) = None
 next (l.Items (suc count)) = Some (l.Items count)

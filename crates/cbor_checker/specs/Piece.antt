@@ -8,7 +8,7 @@ use Rattle.cbor_checker.specs.Telling.{IsAnswer, IsMore, Tells, is_due}
 
 -- A checker at the old spot takes `feed.taken` bytes of the piece and comes to the new spot (RFC 7049, 2.1 to 2.4). It
 -- takes all bytes if more are due, and none if none was due. The answer is that of the new spot, and is true of all
--- bytes so far.
+-- bytes so far. After `82 01` it takes one byte of `02 03`, and answers `Ended(3)`.
 pub record TakesPiece (old : Spot) (bytes : List ℕ) (feed : Feed) (new : Spot) : Type 0 where
   pub taken : feed.taken ≤ length bytes
   pub all : IsMore feed.progress → feed.taken ≡ length bytes

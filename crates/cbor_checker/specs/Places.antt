@@ -5,7 +5,8 @@ use Rattle.cbor_checker.specs.Snapshots.{levels_in}
 use Rattle.cbor_checker.specs.Spots.{Spot}
 use Rattle.cbor_checker.specs.Stack.{levels_of}
 
--- The spot of a position whose nests have these numbers.
+-- The spot of a position whose nests have these numbers. One nest with the kind 0 and the count 1, as after `82`, has
+-- one item left after the item that is due.
 abbrev pub spot_in : Position → List ℕ → List ℕ → Spot
 spot_in p kinds counts = record {
   strict = p.strict;

@@ -9,7 +9,8 @@ use Rattle.cbor_checker.specs.declared.level.Level.TheVariants as l
 use Rattle.cbor_checker.specs.Spots.{Spot, item_done, item_due}
 use Rattle.cbor_checker.specs.Steps.{Leads}
 
--- The spot after this many bytes that begin with a title. The place is the offset of that title.
+-- The spot after this many bytes that begin with a title. The place is the offset of that title: three bytes from 5 on
+-- lead to the place 5 and the offset 8.
 abbrev pub passed : ℕ → Spot → Spot
 passed len spot = record spot { front = []; place = spot.offset; offset = spot.offset + len }
 
@@ -18,7 +19,7 @@ abbrev pub IsPlainItem : Bool → List ℕ → Type 0
 IsPlainItem strict bytes = (spot : Spot) → spot.phase ≡ p.Title → length spot.front ≡ 0 → spot.within ≡ w.Nothing
     → spot.strict ≡ strict → Leads spot bytes (item_done (passed (length bytes) spot))
 
--- The major types of numbers, floats and simple values (RFC 7049, 2.1).
+-- The major types of numbers, floats and simple values (RFC 7049, 2.1): 0, 1 and 7, as of `01`, `20` and `f4`.
 abbrev pub IsValueMajor : ℕ → Type 0
 IsValueMajor major = (major ≡ 0) ⊎ ((major ≡ 1) ⊎ (major ≡ 7))
 
@@ -43,7 +44,8 @@ pub data ArePlain (strict : Bool) (offset first : ℕ) : ℕ → ℕ → List �
       → IsPlainItem strict item
       → ArePlain strict offset first (suc count) (offset + length bytes) (bytes ++ item)
 
--- How many items are due in a nest after the current item, if they are counted (RFC 7049, 2.1): four for two pairs.
+-- How many items are due in a nest after the current item, if they are counted (RFC 7049, 2.1): 4 for two pairs, and 5
+-- for a value and two pairs. The items of `9f` are not counted.
 abbrev pub counted_behind : Level → Option ℕ
 counted_behind (l.Items count) = Some count
 counted_behind (l.Pairs count) = Some (2 * count)
@@ -54,7 +56,8 @@ counted_behind level = None
 abbrev pub pairs_of : ℕ → Level
 pairs_of left = if left % 2 == 0 then l.Pairs (left / 2) else l.Value (left / 2)
 
--- The nest with this many items after the item that is due.
+-- The nest with this many items after the item that is due. With 5, a nest of items has five items, and one of pairs
+-- has a value and two pairs.
 abbrev pub lowered : ℕ → Level → Level
 lowered left (l.Items count) = l.Items left
 lowered left level = pairs_of left

@@ -17,7 +17,7 @@ use Rattle.cbor_checker.specs.Opens.{open_count}
 use Rattle.cbor_checker.specs.Spots.{Spot}
 use Rattle.cbor_checker.specs.Telling.{has_left}
 
--- This many bytes of a text are due, if there is a state.
+-- This many bytes of a text are due, if there is a state: two in the state `Between`, as after `62`.
 abbrev pub text_in : ℕ → Option State → Option Phase
 text_in left (Some state) = Some (p.Text left state)
 text_in left None = None
@@ -34,7 +34,7 @@ phase_in kind number text =
     (if kind == 6 then Some (p.Faulted (f.Break number)) else
     (if kind == 7 then Some (p.Faulted (f.Deep number)) else None))))))
 
--- Whether only the shortest spelling is taken, by a number: 0 or 1.
+-- Whether only the shortest spelling is taken, by a number: 0 is no, 1 is yes, and 2 is neither.
 abbrev pub strict_in : ℕ → Option Bool
 strict_in number = if number == 0 then Some false else (if number == 1 then Some true else None)
 
@@ -57,7 +57,7 @@ level_in kind count =
     (if kind == 4 then Some l.OpenPairs else
     (if kind == 5 then Some l.OpenValue else None)))))
 
--- A nest within others, if they are all there.
+-- A nest within others, if they are all there: one item within a value and one pair, as after `a2 82`.
 abbrev pub within_others : Option Level → Option (List Level) → Option (List Level)
 within_others (Some level) (Some levels) = Some (level ∷ levels)
 within_others (Some level) None = None
@@ -71,7 +71,8 @@ levels_in (suc len) kinds counts =
     within_others (level_in (slice_index kinds len) (slice_index counts len)) (levels_in len kinds counts)
 
 -- A checker can have this phase and these open strings with the other numbers. The nests and the levels left are at
--- most 256, and each open string has come with a byte. A body has bytes left, and a title isn't whole.
+-- most 256, and each open string has come with a byte. A body has bytes left. A title isn't whole: `19 01` may be kept,
+-- and `19 01 00` may not.
 pub record IsState (snapshot : Snapshot) (phase : Phase) (within : Within) : Type 0 where
   pub room : snapshot.nests + snapshot.depth ≤ 256
   pub counted : open_count within ≤ snapshot.offset
@@ -79,7 +80,8 @@ pub record IsState (snapshot : Snapshot) (phase : Phase) (within : Within) : Typ
   pub long : snapshot.title_len ≤ 9
   pub begun : snapshot.title_len ≤ affix_len (slice_index (take snapshot.title_len snapshot.title) 0 % 32)
 
--- The plain numbers are those of this spot.
+-- The plain numbers are those of this spot. After `82` they are, among others, the phase 1, one nest with the kind 0
+-- and the count 1, and the offset 1.
 pub record Holds (snapshot : Snapshot) (spot : Spot) : Type 0 where
   pub phase : phase_in snapshot.phase snapshot.number snapshot.text ≡ Some spot.phase
   pub strict : strict_in snapshot.strict ≡ Some spot.strict

@@ -15,7 +15,8 @@ use Rattle.cbor_checker.specs.Levels.{closes, contents, next}
 
 -- The parts in turn: whether only the shortest spelling is taken, what is due, the bytes of a title that isn't whole,
 -- and the open strings. Then the levels left, the nests around the item (the innermost first), the place that a fault
--- would name, and how many bytes came.
+-- would name, and how many bytes came. After `82 19` with depth 3, the front is `19`, two levels are left, there is one
+-- nest, the place is 1 and the offset 2.
 pub record Spot : Type 0 where
   pub strict : Bool
   pub phase : Phase
@@ -26,11 +27,11 @@ pub record Spot : Type 0 where
   pub place : ℕ
   pub offset : ℕ
 
--- The same spot with another phase.
+-- The same spot with another phase, as with `Bytes(2)` after `42`.
 abbrev pub at_phase : Phase → Spot → Spot
 at_phase phase spot = record spot { phase = phase }
 
--- An item is due in the innermost nest. The first of `levels` is the rest of that nest after the item.
+-- An item is due in the innermost nest. The first of `levels` is the rest of that nest after it: one item after `82`.
 abbrev pub item_due : ℕ → List Level → Spot → Spot
 item_due depth levels spot =
     record spot { phase = p.Title; within = w.Nothing; depth = depth; levels = levels }
@@ -42,7 +43,7 @@ settled depth [] spot = record spot { phase = p.Ended; within = w.Nothing; depth
 settled depth (level ∷ levels) spot =
     elim (next level) [ None ↦ settled (suc depth) levels spot | Some left ↦ item_due depth (left ∷ levels) spot ]
 
--- The spot after a whole item.
+-- The spot after a whole item: after the `01` of `82 01 02`, the second item is due.
 abbrev pub item_done : Spot → Spot
 item_done spot = settled spot.depth spot.levels spot
 
@@ -82,7 +83,7 @@ broken (level ∷ levels) spot =
       | false ↦ at_phase (p.Faulted (f.Break spot.place)) spot
     ]
 
--- The bytes may not stand there: a fault of syntax at the place.
+-- The bytes may not stand there: a fault of syntax at the place, as at 1 in `5f 61`.
 abbrev pub refused : Spot → Spot
 refused spot = at_phase (p.Faulted (f.Syntax spot.place)) spot
 
@@ -132,7 +133,7 @@ text_entered (h.Text None) more spot = open_entered spot.strict (w.Text (suc mor
 text_entered h.Break more spot = string_closed w.Text more spot
 text_entered header more spot = refused spot
 
--- The spot after a whole title, of an item or within an open string.
+-- The spot after a whole title, of an item or within an open string. `01` is an item by itself, and a fault after `5f`.
 abbrev pub entered : Within → Header → Spot → Spot
 entered w.Nothing header spot = item_entered header spot
 entered (w.Bytes more) header spot = bytes_entered header more spot

@@ -11,13 +11,13 @@ use Rattle.cbor_checker.specs.declared.progress.End.{End}
 use Rattle.cbor_checker.specs.declared.progress.End.TheVariants as e
 use Rattle.cbor_checker.specs.Spots.{Spot}
 
--- A body has bytes left.
+-- If a body is due, it has bytes left: so it is with `Bytes(2)` after `42` and with `Title`, and not with `Bytes(0)`.
 abbrev pub has_left : Phase → Bool
 has_left (p.Bytes zero) = false
 has_left (p.Text zero state) = false
 has_left phase = true
 
--- More bytes may come.
+-- More bytes may come, as after `42`, and not after `01` or `1c`.
 abbrev pub is_due : Phase → Bool
 is_due p.Ended = false
 is_due (p.Faulted fault) = false
@@ -36,34 +36,36 @@ progress_in (p.Text left state) spot = r.More left
 progress_in p.Ended spot = r.Ended spot.offset
 progress_in (p.Faulted fault) spot = r.Fault fault
 
--- The answer at a spot.
+-- The answer at a spot: `More(2)` after `19`, and `Ended(1)` after `01`.
 abbrev pub progress_of : Spot → Progress
 progress_of spot = progress_in spot.phase spot
 
--- The answer if no more bytes come, by the last answer.
+-- The answer if no more bytes come, by the last answer: `Short(2)` for the `More(2)` of `19`, and `Between` for
+-- `Ended(1)`.
 abbrev pub end_in : Progress → End
 end_in (r.More due) = e.Short due
 end_in (r.Ended len) = e.Between
 end_in (r.Fault fault) = e.Fault fault
 end_in r.TooLong = e.Between
 
--- The answer at a spot if no more bytes come. Without any byte, they end between items.
+-- The answer at a spot if no more bytes come: `Short(2)` after `19`. Without any byte, they end between items.
 abbrev pub end_of : Spot → End
 end_of spot = if spot.offset == 0 then e.Between else end_in (progress_of spot)
 
--- More bytes are due.
+-- The answer is that more bytes are due: so is the `More(2)` of `19`, and `TooLong` is not.
 abbrev pub IsMore : Progress → Type 0
 IsMore (r.More due) = Unit {0}
 IsMore progress = ⊥
 
--- The answer is that of the spot. With `TooLong`, more bytes are due there that can't be counted.
+-- The answer is that of the spot. With `TooLong`, more bytes are due there. After `19`, `More(2)` and `TooLong` are
+-- answers, and `More(1)` is none.
 abbrev pub IsAnswer : Progress → Spot → Type 0
 IsAnswer r.TooLong spot = IsMore (progress_of spot)
 IsAnswer progress spot = progress ≡ progress_of spot
 
 -- The meaning of the answer for all bytes so far (RFC 7049, 2.1 to 2.4). `More`: they are no item, some more bytes make
 -- them an item, and all that do are at least `due`. `Ended`: they are one item, of this length. `Fault`: no item begins
--- so. `82 01` gets `More 1`, `82 01 02` gets `Ended 3`, and `ff` gets a fault.
+-- so. With depth 1, `82 01` gets `More(1)`, `82 01 02` gets `Ended(3)`, and `ff` gets a fault.
 abbrev pub Tells : Bool → ℕ → List ℕ → Progress → Type 0
 Tells strict depth bytes (r.More due) =
     (1 ≤ due) × ((more : List ℕ) × IsItem strict depth (bytes ++ more))
@@ -79,7 +81,7 @@ TellsEnd strict depth bytes e.Between = (bytes ≡ []) ⊎ IsItem strict depth b
 TellsEnd strict depth bytes (e.Short due) = (0 < length bytes) × Tells strict depth bytes (r.More due)
 TellsEnd strict depth bytes (e.Fault fault) = Tells strict depth bytes (r.Fault fault)
 
--- The item is whole.
+-- The item is whole: the phase is `Ended`, as after `f6`, and not `Bytes(2)`.
 abbrev pub EndedIn : Phase → Type 0
 EndedIn p.Ended = Unit {0}
 EndedIn phase = ⊥
@@ -88,7 +90,7 @@ EndedIn phase = ⊥
 abbrev pub HasEnded : Spot → Type 0
 HasEnded spot = EndedIn spot.phase
 
--- No item goes on from here.
+-- No item goes on from here: the phase is a fault, as `Syntax(0)` after `1c`, and not `Ended`.
 abbrev pub FaultIn : Phase → Type 0
 FaultIn (p.Faulted fault) = Unit {0}
 FaultIn phase = ⊥

@@ -7,15 +7,16 @@ use Rattle.cbor_checker.specs.Snapshots.{levels_in}
 use Rattle.cbor_checker.specs.Spots.{Spot}
 use Rattle.cbor_checker.specs.Stack.{levels_of}
 
--- The nests whose numbers stand in that memory.
+-- The nests whose numbers stand in that memory. With the length 1, the first kind 0 and the first count 1 are one item,
+-- as after `82`.
 abbrev pub levels_at : Levels → List Level
 levels_at l = levels_of (levels_in l.len l.kinds.now l.counts.now)
 
--- The memory is the same.
+-- The memory is the same, even if a count in it changed from 2 to 1.
 abbrev pub AreLent : Levels → Levels → Type 0
 AreLent old new = (new.kinds.ghost_name ≡ old.kinds.ghost_name) × (new.counts.ghost_name ≡ old.counts.ghost_name)
 
--- The spot that a walk has come to.
+-- The spot that a walk has come to. After `81 19` the place is 1, and the offset 2.
 abbrev pub spot_at : Walk → Spot
 spot_at w = record {
   strict = w.strict;
