@@ -19,7 +19,7 @@ use Rattle.cbor_checker.specs.Steps.{IsFed}
 use Rattle.cbor_checker.specs.Telling.{progress_of, IsMore}
 
 -- The answer of a checker that was fed the bytes. It took a beginning of them, and all of them if more are due. Its
--- answer is that of the spot to which the bytes that it took lead.
+-- answer is that of the spot to which the bytes that it took lead. For `01 02` it took `01`, and answers `Ended(1)`.
 pub record FeedTells (strict : Bool) (depth : ℕ) (bytes : List ℕ) (progress : Progress) : Type 0 where
   pub taken : List ℕ
   pub rest : List ℕ
@@ -49,12 +49,12 @@ pub record Names (strict : Bool) (depth : ℕ) (fed : List ℕ) (fault : Fault) 
   pub is_fed : IsFed strict depth fed spot
   pub answers : progress_of spot ≡ r.Fault fault
 
--- The answer is that the item has ended.
+-- The answer is that the item has ended, as `Ended(3)` for `82 01 02`.
 abbrev pub SaysEnd : Progress → Type 0
 SaysEnd (r.Ended len) = Unit {0}
 SaysEnd progress = ⊥
 
--- The answer is a fault.
+-- The answer is a fault, as `Break(0)` for `ff`.
 abbrev pub IsFault : Progress → Type 0
 IsFault (r.Fault fault) = Unit {0}
 IsFault progress = ⊥
@@ -89,8 +89,8 @@ NamesSyntax strict depth due at fault =
     ⊎ ((nest : HasLongNest strict depth due) × (length nest.before ≡ at) × (fault ≡ f.Deep at))
 
 -- The answer of a skip that began at the offset `from` is the fault: the same kind, and the same place counted from
--- there. Or the bytes end too early. The answer is never an item. If the fault is `Break(2)` and `from` is 10, the
--- answer is `Break(12)`.
+-- there. It may be a fault of syntax there if `NamesSyntax` says so. Otherwise it is that the bytes end too early, and
+-- never an item. If the fault is `Break(2)` and `from` is 10, `Break(12)` is such an answer.
 abbrev pub AnswersFault : {E : Type 0} → Bool → ℕ → List ℕ → Fault → ℕ → Result (Unit {0}) (SkipError E) → Type 0
 AnswersFault strict depth due fault from (Ok done) = ⊥
 AnswersFault strict depth due fault from (Err (s.Break at)) = (place : ℕ) × (at ≡ from + place) × (fault ≡ f.Break place)
