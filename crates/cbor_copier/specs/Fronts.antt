@@ -29,7 +29,7 @@ abbrev pub open_count : Within → ℕ
 open_count w.Nothing = 0
 open_count (w.Open kind more) = suc more
 
--- A body has bytes left.
+-- If a body is due, it has bytes left: so it is with `Bytes(2)` after `42` and with `Title`, and not with `Bytes(0)`.
 abbrev pub has_left : Phase → Bool
 has_left (p.Bytes zero) = false
 has_left (p.Text zero state) = false

@@ -5,7 +5,8 @@ use Rattle.cbor_copier.specs.declared.phase.Within.TheVariants as w
 use Rattle.cbor_copier.specs.Spots.{Spot, elements_due}
 use Rattle.cbor_copier.specs.Steps.{IsFed}
 
--- This many elements are left. None of the next title came, and nothing is pending.
+-- This many elements are left. None of the next title came, and nothing is pending. With 2, 5 and 6, two elements are
+-- left, the place is 5 and the offset 6.
 abbrev pub bare : ℕ → ℕ → ℕ → Spot
 bare left place offset = record {
   phase = p.Title;

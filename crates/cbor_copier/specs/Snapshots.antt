@@ -11,7 +11,7 @@ use Rattle.cbor_copier.specs.declared.snapshot.Snapshot.{Snapshot}
 use Rattle.cbor_copier.specs.Fronts.{has_left, most_front, open_count}
 use Rattle.cbor_copier.specs.Spots.{Spot}
 
--- This many bytes of a text are due, if there is a state.
+-- This many bytes of a text are due, if there is a state: two in the state `Between`, as after `62`.
 abbrev pub text_in : ℕ → Option State → Option Phase
 text_in left (Some state) = Some (p.Text left state)
 text_in left None = None
@@ -34,13 +34,14 @@ within_in kind more =
     (if kind == 1 then Some (w.Open k.Bytes more) else
     (if kind == 2 then Some (w.Open k.Text more) else None))
 
--- The bytes of a title or of a character that isn't whole.
+-- The bytes of a title or of a character that isn't whole. If `front_len` is 1 and `front` begins with `19 01`, it is
+-- `19`.
 abbrev pub front_in : Snapshot → List ℕ
 front_in snapshot = take snapshot.front_len snapshot.front
 
 -- A copier can have this phase and these open strings with the other numbers. A body has bytes left, and each open
--- string has come with a byte. No more bytes are held back than a cut title or character has, and no more are to be
--- written than the longest title has.
+-- string has come with a byte. No more bytes are held back than a cut title or character has: `19 01` may be, and
+-- `19 01 00` may not. No more are to be written than the longest title has.
 pub record IsState (snapshot : Snapshot) (phase : Phase) (within : Within) : Type 0 where
   pub some : has_left phase ≡ true
   pub counted : open_count within ≤ snapshot.offset
@@ -48,7 +49,8 @@ pub record IsState (snapshot : Snapshot) (phase : Phase) (within : Within) : Typ
   pub room : length (front_in snapshot) ≤ most_front phase (front_in snapshot)
   pub few : snapshot.pending_len ≤ 9
 
--- The plain numbers are those of this spot.
+-- The plain numbers are those of this spot. After `18` they are, among others, the phase 1, the byte `18` held back,
+-- and the offset 1.
 pub record Holds (snapshot : Snapshot) (spot : Spot) : Type 0 where
   pub phase : phase_in snapshot.phase snapshot.number snapshot.text ≡ Some spot.phase
   pub front : front_in snapshot ≡ spot.front

@@ -15,7 +15,7 @@ use Rattle.cbor_copier.specs.declared.phase.Within.TheVariants as w
 
 -- The parts in turn: what is due, the bytes of a title or a character that are held back, the open strings, and how
 -- many elements aren't whole. Then the place that a fault would name, how many bytes came, and what the last byte put
--- out.
+-- out. After `81 19` of two elements, `19` is held back, one element isn't whole, the place is 1 and the offset 2.
 pub record Spot : Type 0 where
   pub phase : Phase
   pub front : List ℕ
@@ -25,11 +25,11 @@ pub record Spot : Type 0 where
   pub offset : ℕ
   pub put : List ℕ
 
--- The same spot with another phase.
+-- The same spot with another phase, as with `Bytes(2)` after `42`.
 abbrev pub at_phase : Phase → Spot → Spot
 at_phase phase spot = record spot { phase = phase }
 
--- The same spot, with these bytes put out.
+-- The same spot, with these bytes put out: `01` after `18 01`.
 abbrev pub putting : List ℕ → Spot → Spot
 putting bytes spot = record spot { put = bytes }
 
@@ -38,7 +38,7 @@ abbrev pub elements_due : ℕ → Spot → Spot
 elements_due zero spot = record spot { phase = p.Ended; within = w.Nothing; left = zero }
 elements_due (suc left) spot = record spot { phase = p.Title; within = w.Nothing; left = suc left }
 
--- The spot after a whole element.
+-- The spot after a whole element: if 2 were left, 1 is left.
 abbrev pub element_done : Spot → Spot
 element_done spot = elements_due (spot.left - 1) spot
 
@@ -48,7 +48,7 @@ abbrev pub string_done : Within → Spot → Spot
 string_done w.Nothing spot = element_done spot
 string_done (w.Open kind more) spot = at_phase p.Title spot
 
--- The phase in a body with this many bytes left.
+-- The phase in a body with this many bytes left: `Bytes(2)` for two bytes of a byte string, as after `42`.
 abbrev pub body_phase : StringKind → ℕ → Phase
 body_phase k.Bytes len = p.Bytes len
 body_phase k.Text len = p.Text len s.Between
@@ -68,7 +68,7 @@ body_due kind (suc len) spot = at_phase (body_phase kind (suc len)) spot
 abbrev pub string_open : StringKind → ℕ → Spot → Spot
 string_open kind more spot = record spot { phase = p.Title; within = w.Open kind more }
 
--- The bytes may not stand there: a fault of syntax at the place.
+-- The bytes may not stand there: a fault of syntax at the place, as at 1 in `5f 61`.
 abbrev pub refused : Spot → Spot
 refused spot = at_phase (p.Faulted spot.place) spot
 
@@ -110,7 +110,7 @@ within_entered k.Text more (h.Text len) spot = piece_entered k.Text more (h.Text
 within_entered kind more h.Break spot = string_closed kind more spot
 within_entered kind more header spot = refused spot
 
--- The spot after a whole title, of an element or within an open string.
+-- The spot after a whole title, of an element or within an open string. `01` is an element, and a fault after `5f`.
 abbrev pub entered : Within → Header → Spot → Spot
 entered w.Nothing header spot = element_entered header spot
 entered (w.Open kind more) header spot = within_entered kind more header spot

@@ -11,7 +11,7 @@ use Rattle.cbor_copier.specs.declared.phase.StringKind.TheVariants as k
 use Rattle.cbor_copier.specs.declared.phase.Within.TheVariants as w
 use Rattle.cbor_copier.specs.Spots.{Spot, at_phase, putting, elements_due, body_due, entered, refused}
 
--- No byte came, and this many elements are due.
+-- No byte came, and this many elements are due. With 2, the place and the offset are 0. With 0, the copy has ended.
 abbrev pub start : ℕ → Spot
 start count = elements_due count (record {
   phase = p.Title;
@@ -23,12 +23,13 @@ start count = elements_due count (record {
   put = [];
 })
 
--- The offset at which this title began, which its fault names.
+-- The offset at which this title began, which its fault names. In `81 19 01 00` it is 1 for each byte of the second
+-- title.
 abbrev pub title_place : List ℕ → Spot → ℕ
 title_place [] spot = spot.offset
 title_place (byte ∷ bytes) spot = spot.place
 
--- The spot with one more byte of a title.
+-- The spot with one more byte of a title: `01` after the front `19` makes the front `19 01`.
 abbrev pub with_byte : ℕ → Spot → Spot
 with_byte byte spot = record spot {
   front = spot.front ++ byte ∷ [];
@@ -37,15 +38,16 @@ with_byte byte spot = record spot {
   put = [];
 }
 
--- The spot after a whole title.
+-- The spot after a whole title: after `58 02`, two bytes of a body are due, and `42` is put out.
 abbrev pub titled : Header → Spot → Spot
 titled header spot = entered spot.within header (record spot { front = [] })
 
--- The spot is at a fault.
+-- The spot is at a fault, as at the place 0 after `1c`.
 abbrev pub Faults : Spot → Type 0
 Faults spot = (place : ℕ) × (spot.phase ≡ p.Faulted place)
 
--- The spot that a byte of a title leads to. The byte stands at the end of the front (RFC 7049, 2.1).
+-- The spot that a byte of a title leads to. The byte stands at the end of the front (RFC 7049, 2.1). If an element is
+-- due, `01` leads past it, and `1c` to a fault.
 pub data TitleStep (spot : Spot) : Spot → Type 0 where
   -- The title isn't whole, and all titles with this beginning may stand here, as with `19` if an element is due.
   cut : IsCutTitle spot.front
@@ -60,7 +62,7 @@ pub data TitleStep (spot : Spot) : Spot → Type 0 where
   -- No title begins with these bytes, as with `1c`.
   none : BeginsRefused spot.front → TitleStep spot (refused (record spot { front = [] }))
 
--- The spot with one more byte of a character.
+-- The spot with one more byte of a character: after `62 c3`, the front is `c3`.
 abbrev pub with_char : ℕ → Spot → Spot
 with_char byte spot = record spot { front = spot.front ++ byte ∷ []; offset = spot.offset + 1; put = [] }
 
@@ -68,21 +70,23 @@ with_char byte spot = record spot { front = spot.front ++ byte ∷ []; offset = 
 abbrev pub char_put : Spot → Spot
 char_put spot = record spot { front = []; put = spot.front }
 
--- The spot after a byte of a text, with this many bytes left. With `false`, no text has this beginning.
+-- The spot after a byte of a text, with this many bytes left. With `false`, no text has this beginning. One byte is
+-- left after `62 c3`, and `62 ff` has a fault.
 abbrev pub text_left : Bool → ℕ → State → Spot → Spot
 text_left false left state spot = refused (record spot { front = [] })
 text_left true left s.Between spot = body_due k.Text left (char_put spot)
 text_left true left state spot = at_phase (p.Text left state) spot
 
--- A byte of a byte string is put out.
+-- A byte of a byte string is put out, as the last byte of `42 01 02`.
 abbrev pub byte_put : ℕ → Spot → Spot
 byte_put byte spot = record spot { offset = spot.offset + 1; put = byte ∷ [] }
 
--- This many bytes of a body came.
+-- This many bytes of a body came: three bytes from 5 on lead to the offset 8.
 abbrev pub counted_by : ℕ → Spot → Spot
 counted_by len spot = record spot { offset = spot.offset + len }
 
--- The next spot and the output, by what is due.
+-- The next spot and the output, by what is due. If one byte of a byte string is due, as after `41`, any byte ends the
+-- string and is put out. After the end of the elements, no byte leads on.
 abbrev pub StepIn : Phase → Spot → ℕ → Spot → Type 0
 StepIn p.Title spot byte new = TitleStep (with_byte byte spot) new
 StepIn (p.Bytes zero) spot byte new = ⊥
@@ -93,7 +97,8 @@ StepIn (p.Text (suc left) state) spot byte new =
 StepIn p.Ended spot byte new = ⊥
 StepIn (p.Faulted place) spot byte new = ⊥
 
--- The next spot and the output, after one more byte of a title, a character, or a byte string's body.
+-- The next spot and the output, after one more byte of a title, a character, or a byte string's body. From the start of
+-- one element, `01` leads to its end, and is put out.
 abbrev pub Step : Spot → ℕ → Spot → Type 0
 Step spot byte new = StepIn spot.phase spot byte new
 
