@@ -19,14 +19,14 @@ use Rattle.tool_files.specs.declared.request.Topic.TheVariants as t
 use Rattle.tool_files.specs.declared.options.Word.{Word}
 use Rattle.tool_files.specs.declared.options.Word.TheVariants as w
 
--- The name of a first word.
+-- The name of a first word: `dump` for the word that shows titles.
 abbrev pub word_name : Word → List ℕ
 word_name w.Check = codes "check"
 word_name (w.Show v.Titles) = codes "dump"
 word_name (w.Show v.Notation) = codes "diag"
 word_name w.Encode = codes "encode"
 
--- The name of an option.
+-- The name of an option, without its value: `--depth` for a depth of 3.
 abbrev pub setting_name : Setting → List ℕ
 setting_name s.Strict = codes "--strict"
 setting_name s.One = codes "--one"
@@ -37,7 +37,7 @@ setting_name (s.Colors colors) = codes "--color"
 setting_name s.Pretty = codes "--pretty"
 setting_name (s.Depth depth) = codes "--depth"
 
--- Whether the option takes a value.
+-- Whether the option takes a value. A depth, as `--depth 3`, takes one, and `--strict` takes none.
 abbrev pub has_value : Setting → Bool
 has_value (s.Depth depth) = true
 has_value (s.Colors colors) = true
@@ -48,11 +48,11 @@ has_value s.Hex = false
 has_value s.Offsets = false
 has_value s.Pretty = false
 
--- The names of the options that take a value.
+-- The names of the options that take a value. `--depth` is one, and `--depth=3` is none.
 abbrev pub TakesValue : List ℕ → Type 0
 TakesValue name = (name ≡ codes "--depth") ⊎ (name ≡ codes "--color")
 
--- The first word has this option.
+-- The first word has this option. `dump` has `--offsets`, and `check` does not.
 abbrev pub IsKnown : Word → Setting → Type 0
 IsKnown word (s.Depth depth) = Unit {0}
 IsKnown w.Check s.Strict = Unit {0}
@@ -80,18 +80,19 @@ IsKnown (w.Show v.Titles) s.Pretty = ⊥
 IsKnown (w.Show v.Notation) s.Pretty = Unit {0}
 IsKnown w.Encode s.Pretty = ⊥
 
--- A depth is at most the greatest depth that the program takes.
+-- If the option is a depth, it is at most the greatest depth that the program takes. 256 is, and 257 is not.
 abbrev pub IsShallow : Setting → Type 0
 IsShallow (s.Depth depth) = depth ≤ most_depth
 IsShallow setting = Unit {0}
 
--- The name of colors.
+-- The name of colors, as `auto` in `--color=auto`.
 abbrev pub colors_name : Colors → List ℕ
 colors_name c.Auto = codes "auto"
 colors_name c.Always = codes "always"
 colors_name c.Never = codes "never"
 
--- The option takes a value, and this text spells it. A depth is a number that is at most the greatest.
+-- The option takes a value, and this text spells it. A depth is a number that is at most the greatest: `3`, but not
+-- `03` or `257`.
 abbrev pub SpellsValue : Setting → List ℕ → Type 0
 SpellsValue (s.Depth depth) value = IsNumberUpTo most_depth value depth
 SpellsValue (s.Colors colors) value = value ≡ colors_name colors
@@ -110,15 +111,15 @@ pub data SpellsSetting (setting : Setting) (name : List ℕ) (words behind : Lis
   apart : (value : String Global) → name ≡ setting_name setting → words ≡ value ∷ behind
       → SpellsValue setting (string_bytes value) → SpellsSetting setting name words behind
 
--- A hyphen and more: the word is an option, as `--strict`. A hyphen alone is a file.
+-- A hyphen and more: the word is an option, as `--depth=3`. A hyphen alone is a file.
 abbrev pub IsOption : List ℕ → Type 0
 IsOption word = (behind : List ℕ) × (word ≡ 45 ∷ behind) × (behind ≡ [] → ⊥)
 
--- The option asks for help.
+-- The option asks for help. `--help` and `-h` do, and `help` does not.
 abbrev pub IsHelp : List ℕ → Type 0
 IsHelp word = (word ≡ codes "--help") ⊎ (word ≡ codes "-h")
 
--- The choices that options set.
+-- The choices that options set. `--depth 3 --pretty` sets the depth 3 and the indented layout.
 pub record Choices : Type 0 where
   pub strict : Bool
   pub one : Bool
@@ -129,7 +130,7 @@ pub record Choices : Type 0 where
   pub layout : Layout
   pub depth : ℕ
 
--- The choices without options.
+-- The choices without options: each item on one line, and a depth of 256.
 abbrev pub default_choices : Choices
 default_choices = record {
   strict = false;
@@ -142,7 +143,7 @@ default_choices = record {
   depth = most_depth;
 }
 
--- The choices with one option more. It changes only its own choice.
+-- The choices with one option more. It changes only its own choice. After `--depth 3`, `--depth 4` sets the depth 4.
 abbrev pub with_setting : Setting → Choices → Choices
 with_setting s.Strict choices = record choices { strict = true }
 with_setting s.One choices = record choices { one = true }
@@ -153,7 +154,7 @@ with_setting (s.Colors colors) choices = record choices { colors = colors }
 with_setting s.Pretty choices = record choices { layout = l.Indented }
 with_setting (s.Depth depth) choices = record choices { depth = depth }
 
--- The choices that the options hold.
+-- The choices that the options hold, as the depth 3 that `--depth 3` set.
 abbrev pub choices_of : Options → Choices
 choices_of options = record {
   strict = options.strict;
@@ -166,21 +167,23 @@ choices_of options = record {
   depth = options.depth;
 }
 
--- The texts of words that name files.
+-- The texts of words that name files, in bytes. The words `a` and `-` have `61` and `2d`.
 abbrev pub texts : List (Bor (List ℕ)) → List (List ℕ)
 texts files = map (λ file. file.now) files
 
--- The wish of the words after the first word: a look at these files with these choices, or help.
+-- The wish of the words after the first word: a look at these files with these choices, or help. `--depth 3 f` is a
+-- look at `f` to the depth 3, and `-h` is help.
 pub data Wish : Type 0 where
   look : Choices → List (List ℕ) → Wish
   help : Wish
 
--- The same wish, by whether it is help.
+-- The same wish, by whether it is help. `false` and the file `f` are a look at `f`.
 abbrev pub wish_of : Bool → Choices → List (List ℕ) → Wish
 wish_of true choices files = help
 wish_of false choices files = look choices files
 
--- The wish with one more file, which precedes the others.
+-- The wish with one more file, which precedes the others. With `a`, a look at `b` is one at `a` and `b`, and help stays
+-- help.
 abbrev pub with_file : List ℕ → Wish → Wish
 with_file file (look choices files) = look choices (file ∷ files)
 with_file file help = help
@@ -206,49 +209,52 @@ pub data AsksWith (word : Word) : Choices → List (String Global) → Wish → 
       (rest : List (String Global)) → words ≡ name ∷ rest → IsHelp (string_bytes name) → wish ≡ help
       → AsksWith word choices words wish
 
--- The request of a command line.
+-- The request of a command line. `check f` wants a look at `f`, and `help` wants the text on the program.
 pub data Wanted : Type 0 where
   looks : Word → Choices → List (List ℕ) → Wanted
   helps_with : Topic → Wanted
   says_version : Wanted
 
--- The request in the code, with these files.
+-- The request in the code, with these files. With the file `f`, a `Look` is one at `f`, and `Version` has no file.
 abbrev pub wanted_by : Request → List (List ℕ) → Wanted
 wanted_by (r.Look word options) files = looks word (choices_of options) files
 wanted_by (r.Help topic) files = helps_with topic
 wanted_by r.Version files = says_version
 
--- The request of a wish after this first word.
+-- The request of a wish after this first word. After `dump`, help is the text on `dump`.
 abbrev pub wanted_with : Word → Wish → Wanted
 wanted_with word (look choices files) = looks word choices files
 wanted_with word help = helps_with (t.Word word)
 
--- The words after the first word ask for this, from the choices without options on.
+-- The words after the first word ask for this, from the choices without options on. After `check`, `f` asks for a look
+-- at `f` to the depth 256.
 abbrev pub AsksOf : Word → List (String Global) → Wanted → Type 0
 AsksOf word words wanted = (wish : Wish) × AsksWith word default_choices words wish × (wanted ≡ wanted_with word wish)
 
--- The name of a topic.
+-- The name of a topic. The program itself has the name `help`.
 abbrev pub topic_name : Topic → List ℕ
 topic_name t.Program = codes "help"
 topic_name (t.Word word) = word_name word
 topic_name t.Recode = codes "recode"
 
--- The words after a word that asks for help name this topic, or none, and the topic is then the program.
+-- The words after a word that asks for help name this topic. Without a word it is the program. `recode` names a topic,
+-- and the two words `dump diag` name none.
 abbrev pub NamesTopic : List (String Global) → Topic → Type 0
 NamesTopic words about = ((words ≡ []) × (about ≡ t.Program))
     ⊎ ((name : String Global) × (words ≡ name ∷ []) × (string_bytes name ≡ topic_name about))
 
--- The first word asks for help.
+-- The first word asks for help. `help` and `-h` do, and `--version` does not.
 abbrev pub IsHelpWord : List ℕ → Type 0
 IsHelpWord word = (word ≡ codes "help") ⊎ IsHelp word
 
--- A first word that is no word for a look at files asks for this: for the version, or for a text of help.
+-- A first word that is no word for a look at files asks for this: for the version, or for a text of help. `help dump`
+-- asks for the text on `dump`, and `--version dump` for nothing.
 pub data AsksAbout (first : List ℕ) (words : List (String Global)) (wanted : Wanted) : Type 0 where
   version : first ≡ codes "--version" → words ≡ [] → wanted ≡ says_version → AsksAbout first words wanted
   topic : (about : Topic) → IsHelpWord first → NamesTopic words about
       → wanted ≡ helps_with about → AsksAbout first words wanted
 
--- The words ask for this.
+-- The words ask for this. `check f` asks for a look at `f`, and `f` alone for nothing.
 pub data AsksFor (words : List (String Global)) (wanted : Wanted) : Type 0 where
   of : (name : String Global) (rest : List (String Global)) (word : Word) → words ≡ name ∷ rest
       → string_bytes name ≡ word_name word → AsksOf word rest wanted → AsksFor words wanted

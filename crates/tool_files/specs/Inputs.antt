@@ -16,27 +16,29 @@ use Rattle.tool_files.specs.declared.input.Input.TheVariants as i
 use Rattle.tool_verdicts.specs.declared.check.TheConstants.{BUFFER_SIZE}
 
 module _ {T : Type 0} where
-  -- A reader of the bytes that the digits of a source spell. None was read, and no fault was found.
+  -- A reader of the bytes that the digits of a source spell, as two bytes of the text `01 80`. None was read, and no
+  -- fault was found.
   abbrev pub BeginsDigits : T → Digits T → Type 0
   BeginsDigits source digits = (digits.source ≡ source) × (digits.fault ≡ None) × (digits.is_ended ≡ false)
 
-  -- A reader of the bytes of a source, or with `--hex` of the bytes that its digits spell. None was read.
+  -- A reader of the bytes of a source, or with `--hex` of the bytes that its digits spell. None was read. The text `01`
+  -- has two bytes, and with `--hex` one.
   abbrev pub IsInputOf : Bool → T → Input T → Type 0
   IsInputOf false source (i.Bytes bytes) = bytes ≡ source
   IsInputOf true source (i.Digits digits) = BeginsDigits source digits
   IsInputOf hex source input = ⊥
 
-  -- The fault of the text, if the input is one and a fault was found.
+  -- The fault of the text, if the input is one and a fault was found: half a byte for `0` alone.
   abbrev pub input_fault : Input T → Option TextFault
   input_fault (i.Bytes bytes) = None
   input_fault (i.Digits digits) = digits.fault
 
-  -- The bytes to come, if the reader tells them. A reader of digits tells none.
+  -- The bytes to come, if the reader tells them: `01 02` of a source that tells these. A reader of digits tells none.
   abbrev pub input_remaining : (T → Option (List ℕ)) → Input T → Option (List ℕ)
   input_remaining remaining (i.Bytes source) = remaining source
   input_remaining remaining (i.Digits digits) = None
 
-  -- A decoder at the start of a reader's bytes, through an empty buffer.
+  -- A decoder at the start of a reader's bytes, through an empty buffer. Its offset is 0.
   pub record BeginsInput (strict : Bool) (reader : T) (decoder : Decoder (BufferedReader T)) : Type 0 where
     pub start : BufferedReader T
     pub source : buffered_source start ≡ reader
@@ -45,7 +47,8 @@ module _ {T : Type 0} where
 
   module _ {E : Type 0} (reads : Ghosts (BufferedReader T) E) where
     -- A check from the start of the input, of one item or of a sequence as is wanted, gave the verdict. A read that
-    -- failed for another reason than the end takes precedence.
+    -- failed for another reason than the end takes precedence. The sequence `01 02` gets `ok 2 2`, unless a read failed
+    -- so.
     pub record ChecksInput (strict one : Bool) (depth : ℕ) (reader : T) (verdict : Verdict) : Type 0 where
       pub old : Decoder (BufferedReader T)
       pub new : Decoder (BufferedReader T)
@@ -54,7 +57,8 @@ module _ {T : Type 0} where
       pub says : SaysVerdict reads one depth BUFFER_SIZE old found new
       pub said : verdict ≡ unless_failed (buffered_read_fault new.reader) found
 
--- A fault of the text takes precedence over the verdict on the bytes that it spells.
+-- A fault of the text takes precedence over the verdict on the bytes that it spells. Half a byte in the text is said in
+-- place of `ok 1 1`.
 abbrev pub text_said : Option TextFault → Verdict → Verdict
 text_said None verdict = verdict
 text_said (Some fault) verdict = v.Text fault
@@ -64,7 +68,7 @@ abbrev pub IsFront : List ℕ → List ℕ → Type 0
 IsFront front bytes = (rest : List ℕ) × (bytes ≡ front ++ rest)
 
 -- The numbers of a verdict are those of items that the bytes begin with: of all items that were read, or of the item
--- that more bytes follow.
+-- that more bytes follow. `01 02` begins with the items of `ok 2 2`, and with the item of `more 1`.
 abbrev pub CountsItems : Bool → Bool → ℕ → List ℕ → Verdict → Type 0
 CountsItems false strict depth bytes (v.Well items count) =
     (front : List ℕ) × IsFront front bytes × AreItems strict depth items front × (count ≡ length front)

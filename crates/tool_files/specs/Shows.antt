@@ -22,7 +22,7 @@ use Rattle.tool_files.specs.declared.patient.Patient.{Patient}
 
 module _ {T E W F : Type 0} (reads : Ghosts (BufferedReader T) E) (sink : Sink W F) where
   -- Items were shown from the start of the input, each in a line or in lines of its own. The result has the verdict
-  -- after them.
+  -- after them. For `01 f5` the lines are `1` and `true`.
   pub record ShowsInput (strict : Bool) (depth : ℕ) (layout : Layout) (reader : T) (writer : W)
       (result : Result (Result (Unit {0}) Verdict) F) (then_writer : W) : Type 0 where
     pub old : Decoder (BufferedReader T)
@@ -35,7 +35,7 @@ module _ {T E W F : Type 0} (reads : Ghosts (BufferedReader T) E) (sink : Sink W
 
 module _ {T E : Type 0} (reads : Ghosts (Patient T) E) where
   -- The input was dumped from its start, and the result has the verdict after the rows. If a row could not be printed,
-  -- it has the row's error.
+  -- it has the row's error. After the row of `01` in `01 1c` it has `syntax 1`.
   pub record DumpsInput (strict : Bool) (depth : ℕ) (reader : T) (result : Result (Unit {0}) Verdict) : Type 0 where
     pub start : Patient T
     pub source : patient_source start ≡ reader
