@@ -12,7 +12,8 @@ use Rattle.capi.specs.declared.answer.CllAnswer.TheVariants as a
 use Rattle.capi.specs.declared.answer.CllReport.{CllReport}
 
 -- The number of elements, by the answer of a copy into this room. Either all were done, and the last ends at the end of
--- the copy. Or fewer were done: the spelling of one more has no room, or the bytes do not begin with one more.
+-- the copy. Or fewer were done: the spelling of one more has no room, or the bytes do not begin with one more. For two
+-- elements in `01 18 18` and a room of 2 the number is 1.
 abbrev pub CountsTo : ℕ → List ℕ → ℕ → CllAnswer → CllReport → Type 0
 CountsTo count bytes room a.Ok report = (report.elements ≡ count) × (report.whole ≡ report.consumed)
 CountsTo count bytes room a.Room report =
@@ -33,13 +34,15 @@ pub record CountsElements (count : ℕ) (bytes : List ℕ) (room : ℕ) (answer 
   pub written : report.spelled ≤ report.written
   pub counts : CountsTo count bytes room answer report
 
--- The number of elements in their shortest spelling, by the answer of a check (RFC 7049, 3.9).
+-- The number of elements in their shortest spelling, by the answer of a check (RFC 7049, 3.9). For two elements in
+-- `01 18 17` it is 1.
 abbrev pub CountsStrictTo : ℕ → List ℕ → CllAnswer → CllReport → Type 0
 CountsStrictTo count bytes a.Ok report = (report.elements ≡ count) × (report.whole ≡ report.consumed)
 CountsStrictTo count bytes answer report =
     (report.elements < count) × (BeginsWithElements true (suc report.elements) bytes → ⊥)
 
--- The count of `cll_strict`: that of elements in their shortest spelling, with nothing written (RFC 7049, 3.9).
+-- The count of `cll_strict`: that of elements in their shortest spelling, with nothing written (RFC 7049, 3.9). For two
+-- elements in `41 01 18 17` one is done, up to 2.
 pub record CountsStrictly (count : ℕ) (bytes : List ℕ) (answer : CllAnswer) (report : CllReport) : Type 0 where
   pub front : BeginsWithElements true report.elements bytes
   pub ends : report.whole ≡ length front.elements
@@ -48,7 +51,8 @@ pub record CountsStrictly (count : ℕ) (bytes : List ℕ) (answer : CllAnswer) 
 
 module _ {R E W F : Type 0} (source : Reader R E) (sink : Writer W F) where
   -- The number of elements, by the result of a copy through a buffer of this size. Either all were copied. Or fewer
-  -- were copied, and a copy of one more stops at the same error, also a copy of that element alone after them.
+  -- were copied, and a copy of one more stops at the same error, also a copy of that element alone after them. For two
+  -- elements in `01 1c` the number is 1.
   abbrev pub EndsCount : ℕ → ℕ → Sides R W → Sides R W → Result (Unit {0}) (RecodeError E F) → Sides R W → ℕ → Type 0
   EndsCount count room old between (Ok done) new elements = (elements ≡ count) × (new ≡ between)
   EndsCount count room old between (Err error) new elements =
@@ -56,7 +60,7 @@ module _ {R E W F : Type 0} (source : Reader R E) (sink : Writer W F) where
       × StopsCopy source sink 1 room between error new
 
   -- This many elements were copied. After them the decoder came to this offset, and this many bytes of them were
-  -- written.
+  -- written. From the offset 0 on, `18 17` has 1, 2 and 1.
   pub record CountsCopy (count room : ℕ) (old : Sides R W) (result : Result (Unit {0}) (RecodeError E F))
       (new : Sides R W) (elements whole spelled : ℕ) : Type 0 where
     pub between : Sides R W

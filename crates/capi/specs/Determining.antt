@@ -11,16 +11,17 @@ use Rattle.capi.specs.declared.answer.CllAnswer.TheVariants as a
 use Rattle.capi.specs.declared.answer.CllReport.{CllReport}
 use Rattle.capi.specs.Answers.{Reports}
 
--- The number of an order of keys, as the C header has it.
+-- The number of an order of keys, as the C header has it. `LengthFirst` has 1.
 abbrev pub order_code : Order → ℕ
 order_code Bytewise = 0
 order_code LengthFirst = 1
 
--- The number is that of no order of keys.
+-- The number is that of no order of keys, as 2.
 abbrev pub IsNoOrder : ℕ → Type 0
 IsNoOrder number = (order : Order) → number ≡ order_code order → ⊥
 
--- The answer that stands for the reason of a refusal.
+-- The answer that stands for the reason of a refusal. For `9f` it is `Indefinite`, and for the simple value `f8 18` it
+-- is `Syntax`.
 abbrev pub why_answer : Why → CllAnswer
 why_answer w.Cut = a.Short
 why_answer w.NoTitle = a.Syntax
@@ -32,7 +33,8 @@ why_answer w.KeyOrder = a.KeyOrder
 why_answer w.DuplicateKey = a.DuplicateKey
 why_answer w.Deep = a.TooDeep
 
--- The place that a report names for a refusal at this offset: the offset, or 0 if the bytes end too early.
+-- The place that a report names for a refusal at this offset: the offset, or 0 if the bytes end too early. `Deep` at 1
+-- names 1, and `Cut` at 1 names 0.
 abbrev pub named_place : Why → ℕ → ℕ
 named_place w.Cut offset = 0
 named_place why offset = offset

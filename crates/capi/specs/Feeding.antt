@@ -21,54 +21,56 @@ pub record IsKept (checker : CllChecker) (spot : Spot) : Type 0 where
   pub mark : checker.mark ≡ 7163364913109890413
   pub state : Holds checker.state spot
 
--- This memory holds no checker.
+-- This memory holds no checker. Memory with the mark 0 holds none.
 abbrev pub IsNoChecker : CllChecker → Type 0
 IsNoChecker checker = (spot : Spot) → IsKept checker spot → ⊥
 
 -- This memory holds a checker of an item to the depth, to which nothing came. With `strict` the item is one in its
--- shortest spelling.
+-- shortest spelling. A title is due at the offset 0.
 abbrev pub IsSetUp : Bool → ℕ → CllChecker → Type 0
 IsSetUp strict depth checker = (spot : Spot) × IsKept checker spot × IsFed strict depth [] spot
 
--- The answer that stands for a fault.
+-- The answer that stands for a fault. The break of `81 ff` has `BreakDue`.
 abbrev pub fault_answer : Fault → CllAnswer
 fault_answer (f.Syntax place) = a.Syntax
 fault_answer (f.Break place) = a.BreakDue
 fault_answer (f.Deep place) = a.TooDeep
 
--- The place of a fault.
+-- The place of a fault. For the break of `81 ff` it is 1.
 abbrev pub fault_place : Fault → ℕ
 fault_place (f.Syntax place) = place
 fault_place (f.Break place) = place
 fault_place (f.Deep place) = place
 
--- The answer that stands for the progress that `feed` of `cbor_checker` returns.
+-- The answer that stands for the progress that `feed` of `cbor_checker` returns. `More 2`, as after `19`, has `Short`.
 abbrev pub progress_answer : Progress → CllAnswer
 progress_answer (r.Ended len) = a.Ok
 progress_answer (r.More due) = a.Short
 progress_answer (r.Fault fault) = fault_answer fault
 progress_answer r.TooLong = a.TooLong
 
--- The number of this answer: the length of the item, how many bytes are due, or the place of the fault.
+-- The number of this answer: the length of the item, how many bytes are due, or the place of the fault. It is 2 after
+-- `19`, and 3 after `19 01 00`.
 abbrev pub progress_number : Progress → ℕ
 progress_number (r.Ended len) = len
 progress_number (r.More due) = due
 progress_number (r.Fault fault) = fault_place fault
 progress_number r.TooLong = 0
 
--- The answer that stands for the end that `end` of `cbor_checker` returns.
+-- The answer that stands for the end that `end` of `cbor_checker` returns. `Between`, as after `01`, has `Ok`.
 abbrev pub end_answer : End → CllAnswer
 end_answer e.Between = a.Ok
 end_answer (e.Short due) = a.Short
 end_answer (e.Fault fault) = fault_answer fault
 
--- The number of this answer: how many bytes are due, or the place of the fault.
+-- The number of this answer: how many bytes are due, or the place of the fault. It is 2 after `19`, and 0 after `01`.
 abbrev pub end_number : End → ℕ
 end_number e.Between = 0
 end_number (e.Short due) = due
 end_number (e.Fault fault) = fault_place fault
 
--- The answer with its number is that of the spot. If no more bytes can be counted, more are due there.
+-- The answer with its number is that of the spot. If no more bytes can be counted, more are due there. After `19 01`
+-- the answer is `Short` with 1.
 abbrev pub IsAnswer : CllAnswer → ℕ → Spot → Type 0
 IsAnswer a.TooLong number spot = IsMore (progress_of spot)
 IsAnswer answer number spot =
@@ -86,14 +88,16 @@ SaysOf strict depth whole a.TooDeep number = Tells strict depth whole (r.Fault (
 SaysOf strict depth whole a.TooLong number = Tells strict depth whole r.TooLong × (number ≡ 0)
 SaysOf strict depth whole answer number = ⊥
 
--- The call consumed no more bytes than there are, and wrote nothing, whatever the memory of the checker held.
+-- The call consumed no more bytes than there are, and wrote nothing, whatever the memory of the checker held. From
+-- `01 02` it consumed at most 2.
 pub record TakesWithin (bytes : List ℕ) (report : CllReport) : Type 0 where
   pub taken : report.consumed ≤ length bytes
   pub written : report.written ≡ 0
 
 -- The result of `cll_checker_feed` for a piece, and for a checker that has come to the old spot. The call takes all
 -- bytes if more are due, fewer if no more can be counted, and none if none was due. The answer holds for all bytes so
--- far, which have led to the spot of the new checker (RFC 7049, 2.1 to 2.4).
+-- far, which have led to the spot of the new checker (RFC 7049, 2.1 to 2.4). After `43 01` the piece `02 03 04` is `Ok`
+-- with 4, and 2 bytes of it are consumed.
 pub record Feeds (strict : Bool) (depth : ℕ) (fed : List ℕ) (old : Spot) (bytes : List ℕ) (answer : CllAnswer) (report : CllReport)
     (new : CllChecker) : Type 0 where
   pub taken : report.consumed ≤ length bytes
@@ -108,7 +112,7 @@ pub record Feeds (strict : Bool) (depth : ℕ) (fed : List ℕ) (old : Spot) (by
   pub stays : is_due old.phase ≡ false → (report.consumed ≡ 0) × (spot ≡ old)
 
 -- The meaning of an answer and its number if no more bytes come: none came or they are one item, they are cut off, or
--- no item begins so.
+-- no item begins so. After `43 01` it is `Short` with 2, and without a byte `Ok` with 0.
 abbrev pub SaysOfEnd : Bool → ℕ → List ℕ → CllAnswer → ℕ → Type 0
 SaysOfEnd strict depth whole a.Ok number = TellsEnd strict depth whole e.Between × (number ≡ 0)
 SaysOfEnd strict depth whole a.Short number = TellsEnd strict depth whole (e.Short number)
@@ -118,6 +122,7 @@ SaysOfEnd strict depth whole a.TooDeep number = TellsEnd strict depth whole (e.F
 SaysOfEnd strict depth whole answer number = ⊥
 
 -- The result of `cll_checker_end` at the spot: the answer and its number are those of the spot (RFC 7049, 2.1 to 2.4).
+-- After `19 01` it is `Short` with 1.
 pub record EndsFed (strict : Bool) (depth : ℕ) (fed : List ℕ) (spot : Spot) (answer : CllAnswer) (report : CllReport)
     : Type 0 where
   pub says : SaysOfEnd strict depth fed answer report.place

@@ -21,7 +21,7 @@ kind_number (h.Float (f.Single bits)) = 9
 kind_number (h.Float (f.Double bits)) = 10
 kind_number h.Break = 11
 
--- A length, or 0 for the indefinite form.
+-- A length, as 3 for `43`, or 0 for the indefinite form.
 abbrev pub length_or_none : Option ℕ → ℕ
 length_or_none (Some len) = len
 length_or_none None = 0
@@ -42,12 +42,12 @@ value_of (h.Float (f.Single bits)) = bits
 value_of (h.Float (f.Double bits)) = bits
 value_of h.Break = 0
 
--- 1 for the indefinite form, and 0 otherwise.
+-- 1 for the indefinite form, as for `5f`, and 0 otherwise, as for `43`.
 abbrev pub indefinite_of : Option ℕ → ℕ
 indefinite_of (Some len) = 0
 indefinite_of None = 1
 
--- 1 for a header of the indefinite form, and 0 otherwise (RFC 7049, 2.2).
+-- 1 for a header of the indefinite form, as of `9f`, and 0 otherwise, as of the break `ff` (RFC 7049, 2.2).
 abbrev pub open_of : Header → ℕ
 open_of (h.Bytes len) = indefinite_of len
 open_of (h.Text len) = indefinite_of len
@@ -55,14 +55,14 @@ open_of (h.Array len) = indefinite_of len
 open_of (h.Map len) = indefinite_of len
 open_of header = 0
 
--- The parts are those of the header: its kind, its number, and 1 for its indefinite form (RFC 7049, 2.1 to 2.4). `19 03
--- e8` has kind 0, value 1000 and form 0.
+-- The parts are those of the header: its kind, its number, and 1 for its indefinite form (RFC 7049, 2.1 to 2.4).
+-- `19 03 e8` has kind 0, value 1000 and form 0.
 pub record Says (parts : CllHeader) (header : Header) : Type 0 where
   pub kind : parts.kind ≡ kind_number header
   pub value : parts.value ≡ value_of header
   pub indefinite : parts.indefinite ≡ open_of header
 
--- The length that a form and a value say: none for the indefinite form.
+-- The length that a form and a value say: none for the indefinite form. The form 0 and the value 3 say 3.
 abbrev pub len_from : ℕ → ℕ → Option ℕ
 len_from form n = if form == 0 then Some n else None
 
@@ -83,6 +83,6 @@ rebuilt kind form n =
     (if kind == 10 then Some (h.Float (f.Double n)) else
     (if kind == 11 then Some h.Break else None)))))))))))
 
--- No header has these parts.
+-- No header has these parts. So it is with kind 12, and with kind 7 and value 256.
 abbrev pub IsNoHeader : CllHeader → Type 0
 IsNoHeader parts = (header : Header) → IsInRange header → Says parts header → ⊥

@@ -9,7 +9,8 @@ use Rattle.capi.specs.declared.header.CllHeader.{CllHeader}
 use Rattle.capi.specs.Answers.{Reports}
 use Rattle.capi.specs.Headers.{IsNoHeader, Says}
 
--- The output begins with the bytes, or they do not fit and the output is as it was, by the answer.
+-- The output begins with the bytes, or they do not fit and the output is as it was, by the answer. With `18 18` the
+-- output `00 00 00` becomes `18 18 00`, and `00` stays as it was.
 abbrev pub Puts : List ℕ → List ℕ → CllAnswer → List ℕ → CllReport → Type 0
 Puts bytes old a.Ok new report = (new ≡ bytes ++ drop (length bytes) old) × Reports report 0 (length bytes) 0
 Puts bytes old a.Room new report = (length old < length bytes) × (new ≡ old) × Reports report 0 0 0

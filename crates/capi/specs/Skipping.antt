@@ -29,7 +29,7 @@ Skips depth bytes a.TooDeep report =
 Skips depth bytes answer report = ⊥
 
 module _ {E : Type 0} where
-  -- The answer that stands for the result of `skip_item`.
+  -- The answer that stands for the result of `skip_item`. A break at 1, as in `81 ff`, has `BreakDue`.
   abbrev pub skip_answer : Result (Unit {0}) (SkipError E) → CllAnswer
   skip_answer (Ok done) = a.Ok
   skip_answer (Err (s.Read (e.Io fault))) = a.Short
@@ -39,7 +39,7 @@ module _ {E : Type 0} where
   skip_answer (Err (s.Break place)) = a.BreakDue
   skip_answer (Err (s.Deep place)) = a.TooDeep
 
-  -- The place that the result names, or 0.
+  -- The place that the result names, or 0. For the break of `81 ff` it is 1.
   abbrev pub skip_place : Result (Unit {0}) (SkipError E) → ℕ
   skip_place (Err (s.Read (e.Syntax place))) = place
   skip_place (Err (s.Break place)) = place

@@ -23,13 +23,15 @@ pub record WideTitle (header : Header) (width : ℕ) : Type 0 where
   pub is_title : IsTitle title header
   pub wide : length title ≡ suc width
 
--- The title has this width, or the header has no title of this width.
+-- The title has this width, or the header has no title of this width. The number 300 has `19 01 2c` in a width of 2,
+-- and none in a width of 1.
 abbrev pub Wide : Header → ℕ → Option Title → Type 0
 Wide header width (Some title) =
     IsParts title × IsTitle (title_bytes title) header × (length (title_bytes title) ≡ suc width)
 Wide header width None = WideTitle header width → ⊥
 
--- The title has this width and a header with the parts of C, or no such header has a title of this width.
+-- The title has this width and a header with the parts of C, or no such header has a title of this width. Kind 4, value
+-- 3 and form 0 have `98 03` in a width of 1.
 abbrev pub WideOf : CllHeader → ℕ → Option Title → Type 0
 WideOf parts width (Some title) = (header : Header) × Says parts header × Wide header width (Some title)
 WideOf parts width None = (header : Header) → Says parts header → WideTitle header width → ⊥
@@ -50,7 +52,7 @@ PushesWide parts width old answer new report = ⊥
 
 -- ---- the title that the code makes
 
--- The minor if it holds its number.
+-- The minor if it holds its number, as the truth value says. With `false`, `Small 24` gives none.
 abbrev pub minor_where : Bool → Minor → Option Minor
 minor_where true minor = Some minor
 minor_where false minor = None
@@ -64,12 +66,13 @@ minor_in width n =
     (if width == 4 then minor_where (nat_lt n (2 ^ 32)) (m.Four n) else
     (if width == 8 then Some (m.Eight n) else None))))
 
--- A minor under a major type.
+-- A minor under a major type. The major type 4 and `Small 3` make `83`.
 abbrev pub with_major : ℕ → Option Minor → Option Title
 with_major major (Some minor) = Some (record { major = major; minor = minor })
 with_major major None = None
 
--- A title of a number under a major type, if the number fits the width.
+-- A title of a number under a major type, if the number fits the width. Under the major type 1, 24 has `38 18` in a
+-- width of 1, and none in 0.
 abbrev pub numbered_in : ℕ → ℕ → ℕ → Option Title
 numbered_in major width n = with_major major (minor_in width n)
 
@@ -78,7 +81,8 @@ numbered_in major width n = with_major major (minor_in width n)
 abbrev pub open_in : ℕ → ℕ → Option Title
 open_in major width = if width == 0 then Some (record { major = major; minor = m.Open }) else None
 
--- A title of a length, or of the indefinite form, which has no bytes after its first one.
+-- A title of a length, or of the indefinite form, which has no bytes after its first one. Under the major type 2 and in
+-- a width of 0, the length 3 has `43`, and the indefinite form has `5f`.
 abbrev pub length_in : ℕ → ℕ → Option ℕ → Option Title
 length_in major width (Some len) = numbered_in major width len
 length_in major width None = open_in major width
