@@ -26,7 +26,7 @@ pub enum CllAnswer {
     Argument,
     /// At `place` stands a longer title than need be, or a float that fits a smaller width.
     NotShortest,
-    /// At `place` stands a longer title than need be, or a float that fits a smaller width.
+    /// At `place` stands the title of an indefinite form, or a break.
     Indefinite,
     /// At `place` stands a key that comes before the key of the pair before it.
     KeyOrder,
