@@ -29,12 +29,12 @@ mutual
     fits_simple : {n : ℕ} → (n < 24) ⊎ ((32 ≤ n) × (n < 2 ^ 8)) → Fits (Simple n)
     fits_float : {bits : ℕ} → bits < 2 ^ 64 → Fits (Float bits)
 
-  -- The values of an array fit.
+  -- The values of an array fit. Those of [1, simple(32)] do, and those of [1, simple(24)] do not.
   pub data AllFit : Values → Type 0 where
     fits_end : AllFit End
     fits_item : {value : Value} {values : Values} → Fits value → AllFit values → AllFit (Item value values)
 
-  -- The keys and values of a map fit, and no two keys are the same.
+  -- The keys and values of a map fit, and no two keys are the same. Values may be the same, as in {1: 2, 3: 2}.
   pub data PairsFit : Pairs → Type 0 where
     fits_none : PairsFit None
     fits_pair : {key value : Value} {pairs : Pairs} → Fits key → Fits value → IsNewKey key pairs → PairsFit pairs

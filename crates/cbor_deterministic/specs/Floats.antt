@@ -4,13 +4,14 @@ use Rattle.std.specs.Prelude.{ℕ, ◌+◌, ◌-◌, ◌*◌, ◌/◌, ◌%◌, 
 use Rattle.ciborium_ll_grammar.specs.declared.hdr.Float.{Float}
 use Rattle.ciborium_ll_grammar.specs.declared.hdr.Float.TheVariants as f
 
--- The three parts of a float (IEEE 754, 3.4).
+-- The three parts of a float (IEEE 754, 3.4). -2.0 in 16 bits, `c0 00`, has the sign 1, the exponent 16 and the
+-- mantissa 0.
 pub record Parts : Type 0 where
   pub sign : ℕ
   pub exponent : ℕ
   pub mantissa : ℕ
 
--- How many bits the exponent and the mantissa have (IEEE 754, 3.6).
+-- How many bits the exponent and the mantissa have (IEEE 754, 3.6): 5 and 10 in 16 bits.
 pub record Format : Type 0 where
   pub exponent : ℕ
   pub mantissa : ℕ

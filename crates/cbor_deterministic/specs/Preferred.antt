@@ -14,7 +14,8 @@ IsWideFloat (f.Half bits) = ⊥
 IsWideFloat (f.Single bits) = HasNarrower half single (parts single bits)
 IsWideFloat (f.Double bits) = HasNarrower single double (parts double bits)
 
--- The header is that of a float that fits a smaller width (RFC 8949, 4.1).
+-- The header is that of a float that fits a smaller width (RFC 8949, 4.1). The header of `fa 3f 80 00 00` is wide, and
+-- that of `f9 3c 00` is not.
 abbrev pub IsWide : Header → Type 0
 IsWide (h.Float float) = IsWideFloat float
 IsWide header = ⊥

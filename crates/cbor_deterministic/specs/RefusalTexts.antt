@@ -5,7 +5,7 @@ use Rattle.cbor_deterministic.specs.declared.Why.TheVariants.{Cut, NoTitle, NotS
 use Rattle.cbor_deterministic.specs.declared.Why.TheVariants.{KeyOrder, DuplicateKey, Deep}
 use Rattle.cbor_deterministic.specs.declared.Refusal.{Refusal}
 
--- The text that `{}` writes for a reason.
+-- The text that `{}` writes for a reason. For `Cut` it is "the bytes end too early".
 abbrev pub why_text : Why → List ℕ
 why_text Cut = codes "the bytes end too early"
 why_text NoTitle = codes "no title begins with this byte"
@@ -17,6 +17,7 @@ why_text KeyOrder = codes "a key that comes before the one in front of it"
 why_text DuplicateKey = codes "the same key twice"
 why_text Deep = codes "too deep a nesting"
 
--- The text that `{}` writes for a refusal: the reason and the offset.
+-- The text that `{}` writes for a refusal: the reason and the offset. For `Deep` at 7 it is "too deep a nesting at
+-- offset 7".
 abbrev pub refusal_text : Refusal → List ℕ
 refusal_text refusal = why_text refusal.why ++ codes " at offset " ++ decimal refusal.place

@@ -30,7 +30,8 @@ pub data FailsTitle : List ℕ → Why → Type 0 where
   small_simple : {title : List ℕ} {header : Header} (rest : List ℕ) → IsTitle title header → IsSmallSimple header
       → FailsTitle (title ++ rest) NoSimple
 
--- The header is that of a tag, an array or a map (RFC 8949, 3.1).
+-- The header is that of a tag, an array or a map (RFC 8949, 3.1). The headers of `c1`, `82` and `a2` are such headers,
+-- and that of `61` is not.
 abbrev pub IsNest : Header → Type 0
 IsNest (h.Tag number) = Unit {0}
 IsNest (h.Array count) = Unit {0}

@@ -55,6 +55,6 @@ pub record HasKey (order : Order) (depth : ℕ) (bytes key value : List ℕ) : T
   pub opens : Opens order depth bytes (h.Map (Some count)) pairs
   pub has : IsPairOf order (depth - 1) pairs key value
 
--- The bytes are no map that has this key.
+-- The bytes are no map that has this key. `a1 01 02` has no key `02`, and `81 01`, an array, has no key.
 abbrev pub HasNoKey : Order → ℕ → List ℕ → List ℕ → Type 0
 HasNoKey order depth bytes key = (value : List ℕ) → HasKey order depth bytes key value → ⊥
