@@ -25,7 +25,7 @@ elements_bytes elements = elements.rest.now
 abbrev pub elements_due : Elements → ℕ
 elements_due elements = elements.due
 
--- How many levels each of them may take: none if the array may take one.
+-- How many levels each of them may take: 0 for `82 01 02` to a depth of 1.
 abbrev pub elements_depth : Elements → ℕ
 elements_depth elements = elements.depth
 
@@ -41,7 +41,7 @@ entries_bytes entries = entries.rest.now
 abbrev pub entries_due : Entries → ℕ
 entries_due entries = entries.due
 
--- How many levels each key and each value may take: none if the map may take one.
+-- How many levels each key and each value may take: 0 for `a2 01 02 03 04` to a depth of 1.
 abbrev pub entries_depth : Entries → ℕ
 entries_depth entries = entries.depth
 
