@@ -26,17 +26,18 @@ HasRefusal depth bytes w.Deep place = (fault : HasDeepNest false depth bytes) ×
 HasRefusal depth bytes w.NoSimple place = BeginsWithItem false depth bytes × NoneInFront IsSpelling bytes
 HasRefusal depth bytes w.DuplicateKey place = BeginsWithItem false depth bytes × NoneInFront IsFittingSpelling bytes
 
--- Why nothing is written: the bytes are refused, or no memory is left.
+-- Why nothing is written: the bytes are refused, or no memory is left. For `1c` it is `Malformed` at 0, or `Memory`.
 abbrev pub IsUnwritten : ℕ → List ℕ → CanonicalError → Type 0
 IsUnwritten depth bytes (Refused refusal) = HasRefusal depth bytes refusal.why refusal.place
 IsUnwritten depth bytes Memory = Unit {0}
 
--- The error refuses for this reason.
+-- The error refuses for this reason. `Cut` at 2 does so for `Cut`, and `Memory` for no reason.
 abbrev pub HasWhy : Why → CanonicalError → Type 0
 HasWhy why (Refused refusal) = refusal.why ≡ why
 HasWhy why Memory = ⊥
 
--- The refusal for the error of a skip over bytes of this number.
+-- The refusal for the error of a skip over this many bytes, or none without an error. Over 3 bytes `Break` at 1 gives
+-- `Break` at 1, and an error of the reader gives `Cut` at 3.
 abbrev pub IsRefusalOf : {E : Type 0} → ℕ → Result (Unit {0}) (SkipError E) → Result (Unit {0}) Refusal → Type 0
 IsRefusalOf len (Ok done) (Ok other) = Unit {0}
 IsRefusalOf len (Err (s.Break place)) (Err refusal) = (refusal.why ≡ w.Break) × (refusal.place ≡ place)

@@ -14,7 +14,8 @@ use Rattle.cbor_canonical.specs.declared.Stop.{Stop}
 use Rattle.cbor_canonical.specs.declared.Stop.TheVariants as stop
 use Rattle.cbor_canonical.specs.declared.rewrite.Entry.{Entry}
 
--- The bytes begin with a front, and the call wrote bytes after the old bytes, for which P holds.
+-- The bytes begin with a front, and the call wrote bytes after the old bytes. P holds for the front and the written
+-- bytes. If P holds for `18 01` and `01`, a call may read `18 01` of `18 01 02` and write `01`.
 pub record Turns (P : List ℕ → List ℕ → Type 0) (bytes rest old new : List ℕ) : Type 0 where
   pub front : List ℕ
   pub written : List ℕ
@@ -62,13 +63,15 @@ pub record IsPairOf (order : Order) (depth : ℕ) (bytes : List ℕ) (entry : En
   pub value_is : IsRewritten order depth value entry.value.items
   pub whole : bytes ≡ key ++ value
 
--- The bytes are the keys and the values of these entries, in order.
+-- The bytes are the keys and the values of these entries, in order and in any spelling. `18 01 02 03 04` has the
+-- entries of 1: 2 and of 3: 4.
 pub data ArePairsOf (order : Order) (depth : ℕ) : List ℕ → List Entry → Type 0 where
   no_pairs : ArePairsOf order depth [] []
   more_pairs : {bytes others : List ℕ} {entry : Entry} {entries : List Entry} → IsPairOf order depth bytes entry
       → ArePairsOf order depth others entries → ArePairsOf order depth (bytes ++ others) (entry ∷ entries)
 
--- The bytes begin with a pair, and its entry is put after the old ones.
+-- The bytes begin with a pair, and its entry is put after the old ones. For `18 01 02 03` it is the entry of 1: 2, and
+-- the rest is `03`.
 pub record TurnsPair (order : Order) (depth : ℕ) (bytes rest : List ℕ) (old new : List Entry) : Type 0 where
   pub front : List ℕ
   pub entry : Entry
@@ -76,7 +79,8 @@ pub record TurnsPair (order : Order) (depth : ℕ) (bytes rest : List ℕ) (old 
   pub whole : bytes ≡ front ++ rest
   pub put : new ≡ old ++ entry ∷ []
 
--- The bytes begin with the pairs of a map of this count and its end. The entries are these pairs.
+-- The bytes begin with the pairs of a map of this count and its end. The entries are these pairs. Without a count
+-- `01 02 ff 03` has one entry and the rest `03`.
 pub record TurnsPairs (order : Order) (depth : ℕ) (count : Option ℕ) (bytes rest : List ℕ) (entries : List Entry) :
     Type 0 where
   pub pairs : List ℕ
@@ -85,24 +89,26 @@ pub record TurnsPairs (order : Order) (depth : ℕ) (count : Option ℕ) (bytes 
   pub ends : EndsNest count (length entries) tail
   pub whole : bytes ≡ pairs ++ (tail ++ rest)
 
--- The keys and the values of the entries, joined.
+-- The keys and the values of the entries, joined: `01 02 03 04` for the entries of 1: 2 and of 3: 4.
 abbrev pub joined_pairs : List Entry → List ℕ
 joined_pairs [] = []
 joined_pairs (entry ∷ entries) = entry.key.items ++ (entry.value.items ++ joined_pairs entries)
 
--- The key of the first entry comes before that of the second.
+-- The key of the first entry comes before that of the second (RFC 8949, 4.2.1 and 4.2.3). Length-first the key `20`
+-- comes before `18 64`.
 abbrev pub IsBefore : Order → Entry → Entry → Type 0
 IsBefore order entry other = Precedes order entry.key.items other.key.items
 
--- The keys of the entries ascend.
+-- The keys of the entries ascend (RFC 8949, 4.2.1). The keys `01` and `03` do so, and the keys `01` and `01` do not.
 abbrev pub DoAscend : Order → List Entry → Type 0
 DoAscend order entries = AllAdjacentBelow (IsBefore order) entries (length entries)
 
--- No key comes after the next one.
+-- No key comes after the next one. The keys `01`, `01` and `03` are sorted, and `03` and `01` are not.
 abbrev pub AreSorted : Order → List Entry → Type 0
 AreSorted order entries = AllAdjacentBelow (λ entry other. IsBefore order other entry → ⊥) entries (length entries)
 
--- A key is the same as the next one.
+-- A key is the same as the next one (RFC 8949, 5.6). So it is with the keys `01`, `03` and `03`, but not with `03`,
+-- `01` and `03`.
 pub record HasEqualKeys (entries : List Entry) : Type 0 where
   pub at : ℕ
   pub within : at + 1 < length entries
@@ -111,15 +117,16 @@ pub record HasEqualKeys (entries : List Entry) : Type 0 where
 
 -- ---- bytes at which a call fails
 
--- The bytes that can't begin the input of a call that stops for this reason. They are an item to the depth, a spelling
--- of a value, or a spelling of a value in which no map has a key twice.
+-- The bytes that can't begin the input of a call that stops for this reason. For `Malformed` they are an item to the
+-- depth, and for `NoSimple` a spelling of a value. For `Duplicate` they are a spelling of a value in which no map has a
+-- key twice. For `Memory` there are none. `a2 01 02 01 03` are such bytes for `NoSimple`, but not for `Duplicate`.
 abbrev pub IsMissed : ℕ → Stop → List ℕ → Type 0
 IsMissed depth stop.Malformed bytes = IsItem false depth bytes
 IsMissed depth (stop.NoSimple left) bytes = IsSpelling bytes
 IsMissed depth (stop.Duplicate left) bytes = IsFittingSpelling bytes
 IsMissed depth stop.Memory bytes = ⊥
 
--- The bytes are two such items, joined.
+-- The bytes are two such lists of bytes, joined: `01 02` for `Malformed`.
 pub record ArePairMissed (depth : ℕ) (stop : Stop) (bytes : List ℕ) : Type 0 where
   pub key : List ℕ
   pub value : List ℕ
@@ -127,22 +134,24 @@ pub record ArePairMissed (depth : ℕ) (stop : Stop) (bytes : List ℕ) : Type 0
   pub value_is : IsMissed depth stop value
   pub whole : bytes ≡ key ++ value
 
--- The bytes are this many of these bytes, joined.
+-- The bytes are this many lists for which P holds, joined. If P holds for `01`, `01 01` are two.
 pub data AreJoined (P : List ℕ → Type 0) : ℕ → List ℕ → Type 0 where
   none_joined : AreJoined P zero []
   more_joined : {count : ℕ} {first others : List ℕ} → P first → AreJoined P count others
       → AreJoined P (suc count) (first ++ others)
 
--- No item begins the bytes, for this reason.
+-- `IsMissed` holds for no front of the bytes. So it is with `1c` for `Malformed`, and with `f8 18` for `NoSimple`.
 abbrev pub FailsItem : ℕ → List ℕ → Stop → Type 0
 FailsItem depth bytes stop = NoneInFront (IsMissed depth stop) bytes
 
--- The bytes don't complete an item after a title of the header, for this reason.
+-- `IsMissed` holds for no front of a title of the header and the bytes after it. After `82` so it is with `01` for
+-- `Malformed`.
 abbrev pub FailsRest : ℕ → Header → List ℕ → Stop → Type 0
 FailsRest depth header bytes stop =
     (title : List ℕ) → IsTitle title header → NoneInFront (IsMissed depth stop) (title ++ bytes)
 
--- The bytes don't begin with the items of an array, or the pairs of a map, of this count.
+-- The bytes don't begin with the items of an array, or the pairs of a map, of this count. P holds for each item or
+-- pair. If P holds for `01` alone, `01` fails with the count 2, and `01 02` without a count.
 abbrev pub FailsNest : (List ℕ → Type 0) → Option ℕ → List ℕ → Type 0
 FailsNest P count bytes = (done : ℕ) (items tail rest : List ℕ) → AreJoined P done items → EndsNest count done tail
     → bytes ≡ items ++ (tail ++ rest) → ⊥

@@ -12,7 +12,7 @@ use Rattle.cbor_canonical.specs.declared.strings.StringKind.TheVariants as k
 use Rattle.cbor_canonical.specs.declared.strings.Step.{Step}
 use Rattle.cbor_canonical.specs.declared.strings.Step.TheVariants as s
 
--- The kind of string in the words of the grammar.
+-- The kind of string in the words of the grammar: `Text` for a text, as `61 61`.
 abbrev pub kind_of : StringKind → Kind
 kind_of k.Bytes = Bytes
 kind_of k.Text = Text
@@ -24,7 +24,7 @@ pub record IsBody (kind : Kind) (len : ℕ) (bytes body rest : List ℕ) : Type 
   pub is : length body ≡ len
   pub writable : IsWritable kind body
 
--- The bytes begin with no such body.
+-- The bytes begin with no such body. `01` begins with none of length 2, and `ff` with none of a text of length 1.
 abbrev pub HasNoBody : Kind → ℕ → List ℕ → Type 0
 HasNoBody kind len bytes = (body rest : List ℕ) → IsBody kind len bytes body rest → ⊥
 
@@ -52,7 +52,8 @@ pub data Closes (kind : Kind) : ℕ → List ℕ → Type 0 where
   by_open : {opens : ℕ} {title rest : List ℕ} → IsTitle title (kind_header kind None)
       → Closes kind (suc (suc opens)) rest → Closes kind (suc opens) (title ++ rest)
 
--- No break, further open or string of definite length begins the bytes of an open string.
+-- The bytes begin with no strings of the kind and breaks that end one or more opens (RFC 8949, 3.2.3). In a byte string
+-- `61 61 ff` begins with none, and neither does `41 01`, since no break follows.
 abbrev pub HasNoStep : Kind → List ℕ → Type 0
 HasNoStep kind bytes = (opens : ℕ) → Closes kind (suc opens) bytes → ⊥
 
@@ -66,7 +67,8 @@ pub record Gathers (kind : Kind) (bytes rest old new : List ℕ) : Type 0 where
   pub whole : bytes ≡ strings ++ 0xff ∷ rest
   pub wrote : new ≡ old ++ joined bodies
 
--- Why the bytes begin with no strings of the kind and a break: there are none, or no memory is left.
+-- Why the bytes begin with no strings of the kind and a break: there are none, or no memory is left. For `41 01`
+-- without a break it is `Malformed`, or `Memory`.
 abbrev pub FailsGather : Kind → List ℕ → Stop → Type 0
 FailsGather kind bytes stop.Malformed = (strings rest : List ℕ) (bodies : List (List ℕ))
     → AreStrings kind strings bodies → AreWritable kind bodies → bytes ≡ strings ++ 0xff ∷ rest → ⊥
@@ -89,7 +91,8 @@ pub record IsStringTurned (kind : Kind) (len : Option ℕ) (bytes written : List
   pub range : length body < 2 ^ 64
   pub spelled : written ≡ body_spelling kind body
 
--- Why no content of a string of this length begins the bytes: there is none, or no memory is left.
+-- Why no content of a string of this length begins the bytes: there is none, or no memory is left. With the length 2,
+-- it is `Malformed` or `Memory` for `01`.
 abbrev pub FailsString : Kind → Option ℕ → List ℕ → Stop → Type 0
 FailsString kind len bytes stop.Malformed = (content body rest : List ℕ) → IsContent kind len content body
     → bytes ≡ content ++ rest → ⊥
