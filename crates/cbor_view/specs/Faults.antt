@@ -16,7 +16,8 @@ HasFault depth bytes (Syntax place) = (fault : HasItemFault false depth bytes) �
 HasFault depth bytes (Break place) = (fault : HasEarlyBreak false depth bytes) × (place ≡ length fault.before)
 HasFault depth bytes (Deep place) = (fault : HasDeepNest false depth bytes) × (place ≡ length fault.before)
 
--- The error names a fault of the bytes, as each error over memory does.
+-- The error names a fault of the bytes, as each error over memory does. `Syntax` at 0 is such an error, and `TooLong`
+-- is none.
 abbrev pub IsOfBytes : {E : Type 0} → SkipError E → Type 0
 IsOfBytes (s.Read (e.Io fault)) = Unit {0}
 IsOfBytes (s.Read (e.Syntax place)) = Unit {0}
@@ -25,7 +26,7 @@ IsOfBytes (s.Read e.Waiting) = ⊥
 IsOfBytes (s.Break place) = Unit {0}
 IsOfBytes (s.Deep place) = Unit {0}
 
--- The error names this fault.
+-- The error names this fault: `Io` names `Short`, and `Deep` at 1 names `Deep` at 1. `TooLong` names none.
 abbrev pub NamesFault : {E : Type 0} → SkipError E → Fault → Type 0
 NamesFault (s.Read (e.Io cause)) fault = fault ≡ Short
 NamesFault (s.Read (e.Syntax place)) fault = fault ≡ Syntax place

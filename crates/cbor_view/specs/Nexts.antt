@@ -12,7 +12,7 @@ use Rattle.cbor_view.specs.Held.{item_bytes, item_depth, elements_bytes, element
 use Rattle.cbor_view.specs.Held.{entries_bytes, entries_due, entries_depth, segments_bytes, texts_bytes}
 use Rattle.cbor_view.specs.Segments.{AreSegments, IsFirstSegment}
 
--- A count is one less than before, and an indefinite length stays indefinite.
+-- A count is one less than before, and an indefinite length stays indefinite. 1 follows 2, and no count follows 0.
 abbrev pub CountsDown : Option ℕ → Option ℕ → Type 0
 CountsDown (Some old) (Some new) = old ≡ new + 1
 CountsDown (Some old) None = ⊥
@@ -27,13 +27,14 @@ pub record TakesItem (old : Elements) (item : Item) (new : Elements) : Type 0 wh
   pub counted : CountsDown (elements_due old) (elements_due new)
   pub same_levels : elements_depth new ≡ elements_depth old
 
--- No item was left, and nothing changed.
+-- No item was left, as after both items of `82 01 02`, and nothing changed.
 pub record HasNoItem (old new : Elements) : Type 0 where
   pub none_left : elements_bytes old ≡ []
   pub counted : IfSome (elements_due old) (λ count. count ≡ 0)
   pub same : new ≡ old
 
--- `next` gives the first item of those that are left, or `None` exactly if none is left.
+-- `next` gives the first item of those that are left, or `None` exactly if none is left. For `82 01 02` it gives `01`,
+-- `02` and then `None`.
 abbrev pub GivesItem : Elements → Option Item → Elements → Type 0
 GivesItem old result new = MatchOption result (HasNoItem old new) (λ item. TakesItem old item new)
 
@@ -47,24 +48,26 @@ pub record TakesPair (old : Entries) (key value : Item) (new : Entries) : Type 0
   pub counted : CountsDown (entries_due old) (entries_due new)
   pub same_levels : entries_depth new ≡ entries_depth old
 
--- No pair was left, and nothing changed.
+-- No pair was left, as after the pair of `a1 01 02`, and nothing changed.
 pub record HasNoPair (old new : Entries) : Type 0 where
   pub none_left : entries_bytes old ≡ []
   pub counted : IfSome (entries_due old) (λ count. count ≡ 0)
   pub same : new ≡ old
 
--- `next` gives the first pair of those that are left, or `None` exactly if none is left.
+-- `next` gives the first pair of those that are left, or `None` exactly if none is left. For `a1 01 02` it gives `01`
+-- with `02`, and then `None`.
 abbrev pub GivesPair : Entries → Option (Item × Item) → Entries → Type 0
 GivesPair old result new = MatchOption result (HasNoPair old new) (λ pair. TakesPair old pair.0 pair.1 new)
 
 -- `next` gives the body of the first segment that is left, or `None` exactly if none is left, and then changes nothing.
+-- With `42 01 02 ff` left it gives `01 02`, and with `ff` left `None`.
 abbrev pub GivesSegment : Segments → Option (Bor (List ℕ)) → Segments → Type 0
 GivesSegment old result new = (kind : Kind) (bodies : List (List ℕ)) → AreSegments kind (segments_bytes old) bodies
     → MatchOption result ((bodies ≡ []) × (new ≡ old))
     (λ body. IsFirstSegment kind bodies body.now (segments_bytes new))
 
 -- `next` gives the body of the first segment of a text string that is left, or `None` exactly if none is left, and then
--- changes nothing.
+-- changes nothing. For `7f 61 61 61 62 ff` it gives "a", "b" and then `None`.
 abbrev pub GivesText : TextSegments → Option (Bor (List ℕ)) → TextSegments → Type 0
 GivesText old result new = (bodies : List (List ℕ)) → AreSegments Text (texts_bytes old) bodies
     → MatchOption result ((bodies ≡ []) × (new ≡ old))

@@ -33,7 +33,8 @@ pub record HasFirst (Matches : List ℕ → Type 0) (depth : ℕ) (bytes value :
   pub opens : Opens depth bytes (h.Map count) (closed count pairs)
   pub first : IsFirstPair Matches (depth - 1) pairs value
 
--- The bytes are no map that has a key which matches.
+-- The bytes are no map that has a key which matches. If `02` alone matches, `a1 01 02` is no such map, and neither is
+-- `81 02`.
 abbrev pub HasNone : (List ℕ → Type 0) → ℕ → List ℕ → Type 0
 HasNone Matches depth bytes = (count : Option ℕ) (pairs key value : List ℕ)
     → Opens depth bytes (h.Map count) (closed count pairs) → IsPairOf (depth - 1) pairs key value → Matches key → ⊥

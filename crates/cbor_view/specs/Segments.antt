@@ -17,13 +17,14 @@ pub data AreSegments (kind : Kind) : List ℕ → List (List ℕ) → Type 0 whe
   closed : {rest : List ℕ} {bodies : List (List ℕ)} → AreSegments kind rest bodies
       → AreSegments kind (0xff ∷ rest) bodies
 
--- The bytes are the segments of a string that are left.
+-- The bytes are the segments of a string that are left, as `41 02 ff` after the first of `5f 41 01 41 02 ff`.
 pub record HasSegments (bytes : List ℕ) : Type 0 where
   pub kind : Kind
   pub bodies : List (List ℕ)
   pub are : AreSegments kind bytes bodies
 
--- The bytes are the segments of a text string that are left, and each body is UTF-8 by itself.
+-- The bytes are the segments of a text string that are left, and each body is UTF-8 by itself (RFC 7049, 2.2.2).
+-- `61 61 ff` are such segments. `61 c3 61 a4 ff` are none, though the bodies `c3` and `a4`, joined, are UTF-8.
 pub record HasTexts (bytes : List ℕ) : Type 0 where
   pub bodies : List (List ℕ)
   pub are : AreSegments Text bytes bodies
@@ -36,13 +37,15 @@ pub record IsFirstSegment (kind : Kind) (bodies : List (List ℕ)) (body rest : 
   pub is : bodies ≡ body ∷ others
   pub are : AreSegments kind rest others
 
--- The bytes are a string of the kind with some bodies.
+-- The bytes are a string of the kind with some bodies, and each body of a text is UTF-8 by itself. `5f 41 01 ff` is a
+-- byte string, and `61 ff` is no text string.
 pub record IsStringItem (kind : Kind) (bytes : List ℕ) : Type 0 where
   pub bodies : List (List ℕ)
   pub is : IsString kind bytes bodies
   pub written : AreWritable kind bodies
 
--- The bytes are a string of the kind, and the segments that are left are all of its segments (RFC 7049, 2.2.2).
+-- The bytes are a string of the kind, and the segments that are left are all of its segments (RFC 7049, 2.2.2). All
+-- segments of `5f 41 01 ff` are left in `41 01 ff`, and none is left in `ff`.
 pub record IsSegmented (kind : Kind) (bytes rest : List ℕ) : Type 0 where
   pub is_string : ∥ IsStringItem kind bytes ∥₁
   pub same : (bodies : List (List ℕ)) → IsString kind bytes bodies → AreSegments kind rest bodies

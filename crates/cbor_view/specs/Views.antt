@@ -56,7 +56,7 @@ abbrev pub HasPairs : ℕ → Option ℕ → List ℕ → Type 0
 HasPairs depth (Some count) bytes = AreItems false depth (2 * count) bytes
 HasPairs depth None bytes = (count : ℕ) × AreItems false depth (2 * count) bytes
 
--- One less than a count that is told.
+-- One less than a count that is told: 1 for 2, 0 for 0, and `None` for `None`.
 abbrev pub one_less : Option ℕ → Option ℕ
 one_less (Some count) = Some (count - 1)
 one_less None = None
