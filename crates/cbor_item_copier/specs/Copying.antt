@@ -11,8 +11,8 @@ use Rattle.cbor_checker.specs.Spots.{Spot}
 use Rattle.cbor_checker.specs.Steps.{IsFed}
 use Rattle.cbor_item_copier.specs.declared.copier.ItemCopier.{ItemCopier}
 
--- The most bytes that a `usize` counts. Each element has a byte, so an item whose bytes are counted has at most as many
--- elements.
+-- The most bytes that a `usize` counts, 2^64 - 1. Each element has a byte, so an item whose bytes are counted has at
+-- most as many elements.
 abbrev pub most : ℕ
 most = 18446744073709551615
 
@@ -32,15 +32,15 @@ pub record AreFed (strict : Bool) (depth : ℕ) (fed : List ℕ) (item : Spot) (
   pub taken : AreTaken item.phase fed bytes
   pub copied : AreElementsFed most bytes elements output
 
--- The bytes that were put out and are to be written.
+-- The bytes that were put out and are to be written: `01` after `18 01` without room.
 abbrev pub pending_of : Copier → List ℕ
 pending_of copier = (copy.spot_of copier).put
 
--- How many bytes are to be written, or are held back of a title or a character that is not whole.
+-- How many bytes are to be written, or are held back of a title or a character that is not whole: two after `19 01`.
 abbrev pub kept_len : Copier → ℕ
 kept_len copier = length (copy.spot_of copier).put + length (copy.spot_of copier).front
 
--- The bytes that a copier of an item put out and is to write.
+-- The bytes that a copier of an item put out and is to write: `01` after `82 01` with room for one byte.
 abbrev pub pending : ItemCopier → List ℕ
 pending c = pending_of c.copier
 
@@ -48,15 +48,15 @@ pending c = pending_of c.copier
 abbrev pub held : ItemCopier → ℕ
 held c = kept_len c.copier
 
--- The state of the checker.
+-- The state of the checker. After `82 01` one more item is due.
 abbrev pub item_spot : ItemCopier → Spot
 item_spot c = spot_of c.checker
 
--- The state of the copier of elements, apart from the pending bytes.
+-- The state of the copier of elements, apart from the pending bytes. After `82 18` it holds `18` back.
 abbrev pub elements_spot : ItemCopier → Elements
 elements_spot c = putting [] (copy.spot_of c.copier)
 
 -- The bytes `fed` came to a copy of one item to the depth, and the bytes `given` were written: all that was put out
--- except for the pending bytes.
+-- except for the pending bytes. After `82 01` with room for one byte, `given` is `82`.
 abbrev pub IsItemCopied : Bool → ℕ → List ℕ → List ℕ → ItemCopier → Type 0
 IsItemCopied strict depth fed given c = AreFed strict depth fed (item_spot c) (elements_spot c) (given ++ pending c)
