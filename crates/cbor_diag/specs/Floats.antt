@@ -11,11 +11,12 @@ use Rattle.cbor_diag.specs.declared.scalars.Width.{Width}
 
 -- ---- the value
 
--- Two to the power of the exponent less 25, as a double.
+-- Two to the power of the exponent less 25, as a double. The exponent 25 gives 1.0.
 abbrev pub power_of_two : ℕ → Float
 power_of_two exponent = from_bits binary64 ((exponent + 998) * 2 ^ 52)
 
--- The value of a half without its sign (RFC 7049, appendix D). The fraction has ten bits, and the exponent five.
+-- The value of a half without its sign (RFC 7049, appendix D). The fraction has ten bits, and the exponent five. The
+-- exponent 15 and the fraction 0 give 1.0, and 31 and 1 give NaN.
 abbrev pub half_size : ℕ → ℕ → Float
 half_size exponent fraction =
     if exponent == 31 then (if fraction == 0 then inf false else nan)
@@ -29,7 +30,8 @@ half_value bits =
     let size = half_size (bits / 1024 % 32) (bits % 1024) in
     if nat_lt bits 32768 then size else f.Ieee.neg size
 
--- The value of a float by its width and its bits (RFC 7049, 2.3).
+-- The value of a float by its width and its bits (RFC 7049, 2.3). The half `3c00` and the single `3f800000` are both
+-- 1.0.
 abbrev pub float_value : Raw → Float
 float_value (raw.Half bits) = half_value bits
 float_value (raw.Single bits) = from_bits binary32 bits
@@ -46,7 +48,8 @@ with_point (byte ∷ bytes) =
     else byte ∷ with_point bytes)
 
 -- The text of a value: digits that are read as exactly this value, laid out as the kit's `ryu` promises, with a point
--- and a sign at an exponent. Or it is a name: `NaN`, `Infinity`, `-Infinity` (RFC 8949, 8).
+-- and a sign at an exponent. Or it is a name: `NaN`, `Infinity`, `-Infinity` (RFC 8949, 8). `1.0e+20` is a text of 10
+-- to the power of 20, and `1e20` is none.
 abbrev pub IsNumberText : Float → List ℕ → Type 0
 IsNumberText nan text = text ≡ codes "NaN"
 IsNumberText (inf false) text = text ≡ codes "Infinity"
@@ -59,7 +62,8 @@ IsNumberText (fin sign number exponent) text =
 
 -- Whether a float of the width has the value of the double with this exponent and fraction. Each width has infinities
 -- and NaN. For other values the exponent is not too great, and the bits of the fraction that the width lacks are zeros:
--- one more for each step below its least exponent.
+-- one more for each step below its least exponent. A half has the value of the exponent 1023 and the fraction 0, which
+-- is 1.0, and not that of 1023 and 1.
 abbrev pub is_held : Width → ℕ → ℕ → Bool
 is_held width exponent fraction =
     if exponent == 2047 then true

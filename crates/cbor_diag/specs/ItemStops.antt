@@ -17,7 +17,7 @@ use Rattle.cbor_diag.specs.ItemTexts.{nest_opening, nest_closing, nest_last, ite
 use Rattle.cbor_diag.specs.ItemTexts.{is_first_at, AreShown, RestShown, WithinShown, ItemShown}
 use Rattle.cbor_diag.specs.Showing.{ShowsHeader}
 
--- An item is due, and no title came, or a break.
+-- An item is due, and no title came, or a break. After `81` it is so for `1c`, which begins no title, and for `ff`.
 abbrev pub ComesNoItem : {R E : Type 0} → Reader R E → Decoder R → SkipError E → Decoder R → Type 0
 ComesNoItem source old (s.Read error) new = DecoderPullAnswer source old (Err error) new
 ComesNoItem source old (s.Break place) new = PullsTitle source old h.Break new

@@ -38,16 +38,17 @@ nest_closing (h.Array len) = codes "]"
 nest_closing (h.Map len) = codes "}"
 nest_closing header = []
 
--- Two spaces for each level.
+-- Two spaces for each level: the level 2 has 4 spaces.
 abbrev pub indent : ℕ → List ℕ
 indent zero = []
 indent (suc level) = codes "  " ++ indent level
 
--- A line feed, and the indent of a line of this level.
+-- A line feed, and the indent of a line of this level. At the level 1 it is `0a 20 20`.
 abbrev pub new_line : ℕ → List ℕ
 new_line level = 10 ∷ indent level
 
--- The level of the content of a header: one deeper in an array or a map, and the same in a tag.
+-- The level of the content of a header: one deeper in an array or a map, and the same in a tag. At the level 0 the
+-- content of `82` has the level 1, and that of `c1` the level 0.
 abbrev pub level_within : Header → ℕ → ℕ
 level_within (h.Array len) level = suc level
 level_within (h.Map len) level = suc level
@@ -55,19 +56,20 @@ level_within header level = level
 
 -- The space before an item, by whether its array or map has the indefinite form, and whether the item is its first.
 -- With lines it is a new line, and otherwise a space. After the bracket of a definite form on one line there is none.
+-- On one line `1` has a space in `[_ 1]`, and none in `[1]`.
 abbrev pub item_space : Layout → ℕ → Bool → Bool → List ℕ
 item_space l.Indented level opens first = new_line level
 item_space l.OneLine level true first = codes " "
 item_space l.OneLine level false true = []
 item_space l.OneLine level false false = codes " "
 
--- The space before an item within this header. An item of a tag has none.
+-- The space before an item within this header. An item of a tag has none, as `2` in `1(2)`.
 abbrev pub nest_space : Header → Layout → ℕ → Bool → List ℕ
 nest_space (h.Array len) layout level first = item_space layout level (is_indefinite len) first
 nest_space (h.Map len) layout level first = item_space layout level (is_indefinite len) first
 nest_space header layout level first = []
 
--- The comma between two items.
+-- The comma before an item, by whether it is the first: in `[1, 2]` there is none before `1`, and one before `2`.
 abbrev pub comma : Bool → List ℕ
 comma true = []
 comma false = codes ","
@@ -86,7 +88,8 @@ last_space layout level false true = []
 last_space l.Indented level opens false = new_line level
 last_space l.OneLine level opens false = []
 
--- The space after the last item within this header. An item of a tag has none.
+-- The space after the last item within this header. An item of a tag has none. With lines it is a new line for `81`,
+-- and nothing for `80`.
 abbrev pub nest_last : Header → Layout → ℕ → Bool → List ℕ
 nest_last (h.Array len) layout level empty = last_space layout level (is_indefinite len) empty
 nest_last (h.Map len) layout level empty = last_space layout level (is_indefinite len) empty
@@ -100,7 +103,7 @@ abbrev pub is_value_at : Header → ℕ → Bool
 is_value_at (h.Map len) count = count % 2 == 1
 is_value_at header count = false
 
--- After `count` items the next item is the first.
+-- Whether the next item is the first after `count` items: it is after 0 items, and not after 1.
 abbrev pub is_first_at : ℕ → Bool
 is_first_at zero = true
 is_first_at (suc count) = false
@@ -122,7 +125,7 @@ nest_end (h.Array None) = 0xff ∷ []
 nest_end (h.Map None) = 0xff ∷ []
 nest_end header = []
 
--- The quotes of a string of the kind (RFC 8949, 8).
+-- The quotes of a string of the kind (RFC 8949, 8). `41 61` is shown as `h'61'`, and `61 61` as `"a"`.
 abbrev pub kind_quotes : Kind → Quotes
 kind_quotes Bytes = q.Hex
 kind_quotes Text = q.Text

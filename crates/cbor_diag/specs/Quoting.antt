@@ -13,23 +13,25 @@ abbrev pub room_code : Option ℕ → ℕ
 room_code None = 0
 room_code (Some room) = suc room
 
--- Numbers for the written bytes: an empty list if none are told.
+-- Numbers for the written bytes: an empty list if none are told, and otherwise a 0 and the bytes. The bytes `61 62`
+-- give `00 61 62`.
 abbrev pub written_code : Option (List ℕ) → List ℕ
 written_code None = []
 written_code (Some bytes) = 0 ∷ bytes
 
--- Numbers for the failed calls, the room and the written bytes.
+-- Numbers for the failed calls, the room and the written bytes. For one failed call, a room of 5 and the byte `61` they
+-- are `01 06 00 61`.
 abbrev pub told_code : Option (List ℕ) → Option ℕ → ℕ → List ℕ
 told_code written room failures = failures ∷ room_code room ∷ written_code written
 
--- A number for a kind of quotes.
+-- A number for a kind of quotes: 0 for digits, and 1 for a text.
 abbrev pub quotes_code : Quotes → ℕ
 quotes_code q.Hex = 0
 quotes_code q.Text = 1
 
 -- ---- the written bytes
 
--- How many failures there were. At most one is passed on.
+-- How many failures there were: 1 if the writer has failed, and otherwise 0. At most one is passed on.
 abbrev pub failure_count : Bool → ℕ
 failure_count false = 0
 failure_count true = 1

@@ -29,7 +29,7 @@ abbrev pub opening : Quotes → List ℕ
 opening q.Hex = codes "h'"
 opening q.Text = 34 ∷ []
 
--- The text after a body.
+-- The text after a body: `'` after `h'01`, and a quote after a text.
 abbrev pub closing : Quotes → List ℕ
 closing q.Hex = codes "'"
 closing q.Text = 34 ∷ []
@@ -82,18 +82,19 @@ module _ {R E W F : Type 0} (source : Reader R E) (sink : Writer W F) (kind : Ki
 
 -- ---- the text of a string
 
--- The text before a body, by whether the string has the indefinite form, and whether the body is its first.
+-- The text before a body, by whether the string has the indefinite form, and whether the body is its first. In
+-- `(_ h'01', h'02')` it is `(_ `, and then a comma and a space.
 abbrev pub lead_text : Bool → Bool → List ℕ
 lead_text false first = []
 lead_text true true = codes "(_ "
 lead_text true false = codes ", "
 
--- Whether there is no body.
+-- Whether there is no body. `5f ff` has none, and `5f 40 ff` has an empty one.
 abbrev pub is_none : List (List ℕ) → Bool
 is_none [] = true
 is_none (body ∷ bodies) = false
 
--- The bodies after the first body, each in quotes.
+-- The bodies after the first body, each in quotes. In `(_ h'01', h'02')` they are `, h'02'`.
 abbrev pub more_bodies : Bool → Quotes → List (List ℕ) → List ℕ
 more_bodies opens quotes [] = []
 more_bodies opens quotes (body ∷ bodies) =
@@ -106,7 +107,7 @@ bodies_text opens quotes (body ∷ bodies) =
     (lead_text opens true ++ quoted_body quotes body) ++ more_bodies opens quotes bodies
 
 -- The text after the bodies. A string of the indefinite form that has no body is shown by its quotes and an underscore
--- (RFC 8949, 8.1).
+-- (RFC 8949, 8.1). `5f ff` is shown as `''_`, and `5f 40 ff` ends with `)`.
 abbrev pub end_text : Bool → Quotes → Bool → List ℕ
 end_text false quotes none = []
 end_text true q.Hex true = codes "''_"
@@ -117,7 +118,7 @@ end_text true quotes false = codes ")"
 abbrev pub string_text : Bool → Quotes → List (List ℕ) → List ℕ
 string_text opens quotes bodies = bodies_text opens quotes bodies ++ end_text opens quotes (is_none bodies)
 
--- Whether the form is indefinite.
+-- Whether the form is indefinite, by the length or the count. It is for `5f`, which has none, and not for `42`.
 abbrev pub is_indefinite : Option ℕ → Bool
 is_indefinite None = true
 is_indefinite (Some len) = false
@@ -138,14 +139,16 @@ IsTitled kind None behind bodies count =
     (strings : List ℕ) × (title : List ℕ) × (behind ≡ strings ++ title) × BeginsBodies kind None strings bodies
     × IsTitle title (kind_header kind (Some count))
 
--- A title is due, and none came, or the title begins no body.
+-- A title is due, and none came, or the title begins no body. After `5f` the title `01` begins none, and `41` begins
+-- one.
 abbrev pub MeetsNoBody : {R E : Type 0} → Reader R E → Kind → Decoder R → Error E → Decoder R → Type 0
 MeetsNoBody source kind between error new =
     DecoderPullAnswer source between (Err error) new ⊎
     ((header : Header) × PullsTitle source between header new
     × ((count : ℕ) → header ≡ kind_header kind (Some count) → ⊥))
 
--- A whole string was read after its header.
+-- A whole string was read after its header. After that of `42` its bytes can be `01 02`, and after that of `5f`,
+-- `41 01 ff`.
 pub record StringRead {R E : Type 0} (source : Reader R E) (kind : Kind) (len : Option ℕ) (old new : Decoder R)
     : Type 0 where
   pub behind : List ℕ
