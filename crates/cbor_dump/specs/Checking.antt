@@ -9,7 +9,8 @@ use Rattle.cbor_dump.specs.declared.dump.DumpError.TheVariants as d
 use Rattle.cbor_dump.specs.Sequences.{ChecksItems, ChecksTold}
 use Rattle.cbor_dump.specs.Takings.{ThroughSomeRoom}
 
--- A dump answers as a check that gives this answer: with the same end, or the same error.
+-- A dump answers as a check that gives this answer: with the same end, or the same error. If a check of `01 ff` stops
+-- with `Break(1)`, the dump does too.
 abbrev pub AnswersAs : {E W : Type 0} → Result (Sequence E) (Stopped E) → Result E (DumpError E W) → Type 0
 AnswersAs (Ok sequence) (Ok fault) = sequence.«end» ≡ fault
 AnswersAs (Err stopped) (Err (d.Item error)) = stopped.error ≡ error

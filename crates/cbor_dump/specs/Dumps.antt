@@ -15,66 +15,73 @@ use Rattle.cbor_dump.specs.Takings.{EndsRow, IsSteadyNoneWaiting, ReadsOn, Refus
 use Rattle.cbor_dump.specs.Levels.{Line, Ending, Meant, bytes_of, AllStand}
 use Rattle.cbor_dump.specs.Endings.{EndAs, LeavesAs, bytes_at_fault}
 
--- Each line was taken, though a fault may follow the lines.
+-- Each line was taken, though a fault may follow the lines. After both lines of `01 ff` the error is `Item(Break(1))`.
 abbrev pub IsErrorOfItem : {E W : Type 0} → DumpError E W → Type 0
 IsErrorOfItem (d.Item error) = Unit {0}
 IsErrorOfItem (d.Rows fault) = ⊥
 
--- Each line was taken, whatever the answer says otherwise.
+-- Each line was taken, whatever the answer says otherwise. For `01` it can be `Ok`, and for `01 ff` the error of an
+-- item.
 abbrev pub AreRowsTaken : {A E W : Type 0} → Result A (DumpError E W) → Type 0
 AreRowsTaken (Ok value) = Unit {0}
 AreRowsTaken (Err error) = IsErrorOfItem error
 
--- The answer is this error of the read, unless a row was refused.
+-- The answer is this error of the read, unless a row was refused. For `Syntax(1)`, as `81 1c` gives, it is
+-- `Item(Read(Syntax(1)))`.
 abbrev pub SaysFault : {E W : Type 0} → Error E → DumpError E W → Type 0
 SaysFault error (d.Item why) = why ≡ s.Read error
 SaysFault error (d.Rows fault) = Unit {0}
 
--- The error is that of a refused row.
+-- The error is that of a refused row, and not that of an item, as `Item(Break(1))` for `01 ff`.
 abbrev pub IsRefusal : {E W : Type 0} → DumpError E W → Type 0
 IsRefusal (d.Item error) = ⊥
 IsRefusal (d.Rows fault) = Unit {0}
 
--- The answer is the error of a refused row.
+-- The answer is the error of a refused row. If only the row of `82` is taken, it is so for `82 01 02`.
 abbrev pub IsRefused : {A E W : Type 0} → Result A (DumpError E W) → Type 0
 IsRefused (Ok value) = ⊥
 IsRefused (Err error) = IsRefusal error
 
--- The error is that of the end: outside of all nests the reader failed before a byte of a title came.
+-- The error is that of the end: outside of all nests the reader failed before a byte of a title came. If the bytes end
+-- after `01`, it is, and if they end after `81` or `19`, it is not.
 abbrev pub IsEndOf : {E : Type 0} → Error E → ℕ → ℕ → Type 0
 IsEndOf (e.Io fault) level len = (level ≡ 0) × (len ≡ 0)
 IsEndOf error level len = ⊥
 
--- The error is that of a title after which nothing more is read.
+-- The error is that of a title after which nothing more is read. It can be `Item(Break(1))`, as for `01 ff`, and not
+-- `Item(Read(TooLong))`.
 abbrev pub IsAlone : {E W : Type 0} → DumpError E W → Type 0
 IsAlone (d.Item (s.Read error)) = ⊥
 IsAlone error = Unit {0}
 
 -- The answer of a dump whose read of a title failed with this error, after it read this many bytes of the title. At the
--- end, outside of all nests, the sequence ends. Otherwise the answer says the fault.
+-- end, outside of all nests, the sequence ends. Otherwise the answer says the fault. If the bytes end after `01`, it is
+-- `Ok`, and if they end after `81`, it is an error.
 abbrev pub EndsTitles : {E W : Type 0} → Error E → ℕ → ℕ → Result E (DumpError E W) → Type 0
 EndsTitles error level len (Ok fault) = (error ≡ e.Io fault) × (level ≡ 0) × (len ≡ 0)
 EndsTitles error level len (Err why) = SaysFault error why × (IsEndOf error level len → ⊥)
 
--- If a header waits, a dump draws no row, reads nothing, and answers that a header waits.
+-- If a header waits, a dump draws no row, reads nothing, and answers that a header waits. It is so if a caller pulled
+-- the title `82` and pushed its header back.
 pub record AnswersWaiting {R E S W : Type 0} (rows : S) (old : Decoder R) (result : Result E (DumpError E W))
     (then_rows : S) (new : Decoder R) : Type 0 where
   pub answer : result ≡ Err (d.Item (s.Read e.Waiting))
   pub no_row : then_rows ≡ rows
   pub refuses : RefusesRead old new
 
--- The lines so far, if they are told, grow by these lines.
+-- The lines so far, if they are told, grow by these lines. After the line of `82` those of `01` and `02` make three.
 abbrev pub Draws : Option (List Line) → Option (List Line) → List Line → Type 0
 Draws None new lines = Unit {0}
 Draws (Some old) None lines = ⊥
 Draws (Some old) (Some new) lines = new ≡ old ++ lines
 
--- The lines so far, and this line after them.
+-- The lines so far, and this line after them. The line of `01` after that of `81` makes two.
 abbrev pub with_line : Option (List Line) → Line → Option (List Line)
 with_line None line = None
 with_line (Some lines) line = Some (lines ++ line ∷ [])
 
--- A row was refused. If it had been taken, the lines would have grown by these lines.
+-- A row was refused. If it had been taken, the lines would have grown by these lines. If those of `82` and `01` were
+-- taken and that of `02` was refused, these are all three.
 pub record DrawsRefused (old new : Option (List Line)) (lines : List Line) : Type 0 where
   pub row : Line
   pub draws : Draws old (with_line new row) lines
@@ -86,7 +93,7 @@ fault_lines level offset (byte ∷ bytes) =
     record { level = level; offset = offset; bytes = byte ∷ bytes; meaning = m.Fault } ∷ []
 
 -- After the bytes before, which begin at the start, lines of these bytes were drawn. Each line stands at its level, and
--- the lines end as `ending` says.
+-- the lines end as `ending` says. After `82` the bytes `01 02` have two lines at the level 1.
 pub record Lines (depth start : ℕ) (old new : Option (List Line)) (before bytes : List ℕ) (ending : Ending)
     : Type 0 where
   pub lines : List Line
@@ -95,7 +102,8 @@ pub record Lines (depth start : ℕ) (old new : Option (List Line)) (before byte
   pub joined : bytes_of lines ≡ bytes
   pub ends : EndAs ending lines
 
--- A row of these bytes was refused. If it had been taken, it would stand at its level.
+-- A row of these bytes was refused. If it had been taken, it would stand at its level. After `81` the row of `01` would
+-- stand at the level 1.
 pub record LinesRefused (depth start : ℕ) (old new : Option (List Line)) (before bytes : List ℕ) : Type 0 where
   pub row : Line
   pub lines : Lines depth start old (with_line new row) before bytes Meant

@@ -75,7 +75,8 @@ title_level header nests opens = length nests + opens
 
 -- ---- lines
 
--- A line of a dump: its level, its offset, its bytes, and what they mean.
+-- A line of a dump: its level, its offset, its bytes, and what they mean. In a dump of `81 01` the line of `01` has the
+-- level 1 and the offset 1.
 pub record Line : Type 0 where
   pub level : ℕ
   pub offset : ℕ
@@ -112,8 +113,8 @@ pub record HasBody (depth : ℕ) (before : List ℕ) (kind : Kind) (line : Line)
   pub level : line.level ≡ suc (length nests + opens)
 
 -- How lines end. `Meant`: each line has a meaning. `Refused`: the last line is at fault, since a dump, strict or not,
--- refuses its bytes. `Failed` and `Stopped`: the reader failed, or a read stopped for another reason; each line has a
--- meaning, or the last line was cut and is at fault.
+-- refuses its bytes, as `1c`. `Failed` and `Stopped`: the reader failed, or a read stopped for another reason; each
+-- line has a meaning, or the last line was cut and is at fault, as `19`.
 pub data Ending : Type 0 where
   Meant : Ending
   Refused : Bool → Ending
@@ -128,7 +129,7 @@ IsNoTitle strict kind opens bytes = AnswersTitle strict bytes None
     ⊎ ((0 < opens) × ((header : Header) × IsTitle bytes header × IsRefusedIn strict kind header))
 
 -- The bytes of a title that a line at fault has, by how the lines end: all of a refused title, or the first byte of a
--- title that was cut.
+-- title that was cut. For `Refused` they can be `1c`, and for `Failed` `19`.
 abbrev pub IsTitleFault : Ending → Kind → ℕ → List ℕ → Type 0
 IsTitleFault Meant kind opens bytes = ⊥
 IsTitleFault (Refused strict) kind opens bytes = IsNoTitle strict kind opens bytes
@@ -136,7 +137,8 @@ IsTitleFault Failed kind opens bytes = IsFirstByte bytes
 IsTitleFault Stopped kind opens bytes = IsFirstByte bytes
 
 -- The bytes of a text's body that a line at fault has, if `left` bytes of the body are left: bytes that are no text, or
--- the first bytes of a text that was cut.
+-- the first bytes of a text that was cut. For `Refused` they can be `ff`. If 14 bytes are left, they can be twelve `61`
+-- and a `c3` for `Failed`.
 abbrev pub IsTextFault : Ending → ℕ → List ℕ → Type 0
 IsTextFault Meant left bytes = ⊥
 IsTextFault (Refused strict) left bytes = IsNoText [] left bytes
@@ -144,6 +146,7 @@ IsTextFault Failed left bytes = IsCutText left bytes
 IsTextFault Stopped left bytes = IsCutText left bytes
 
 -- After these bytes the line has the bytes that were read of a title at fault, at the level of a title that is due.
+-- After `81` a line of `1c` has the level 1.
 pub record HasNoTitle (how : Ending) (depth : ℕ) (before : List ℕ) (line : Line) : Type 0 where
   pub nests : List Nest
   pub opens : ℕ
@@ -151,12 +154,13 @@ pub record HasNoTitle (how : Ending) (depth : ℕ) (before : List ℕ) (line : L
   pub fault : IsTitleFault how due.kind opens line.bytes
   pub level : line.level ≡ length nests + opens
 
--- After these bytes the line has the bytes that were read of a text's body at fault.
+-- After these bytes the line has the bytes that were read of a text's body at fault. After `62` they can be `ff 61`.
 pub record HasNoText (how : Ending) (depth : ℕ) (before : List ℕ) (line : Line) : Type 0 where
   pub body : HasBody depth before Text line
   pub fault : IsTextFault how (body.len - length body.front) line.bytes
 
--- After these bytes the line has the bytes that its meaning says, at its level.
+-- After these bytes the line has the bytes that its meaning says, at its level. After `41` the line of `61` is a part
+-- of a byte string, at the level 1.
 abbrev pub Stands : Ending → ℕ → List ℕ → Meaning → Line → Type 0
 Stands how depth before (m.Header header) line = HasTitle depth before header line
 Stands how depth before m.Bytes line = HasBody depth before Bytes line
@@ -168,7 +172,7 @@ abbrev pub FitsRow : List ℕ → Type 0
 FitsRow bytes = (0 < length bytes) × (length bytes ≤ most_bytes)
 
 -- Each line has the bytes that its meaning says, fits a row, and has the offset of its first byte. The bytes before
--- begin at the start.
+-- begin at the start. If `82` begins at 0, the lines of `01` and `02` have the offsets 1 and 2.
 abbrev pub AllStand : Ending → ℕ → ℕ → List ℕ → List Line → Type 0
 AllStand how depth start before [] = Unit {0}
 AllStand how depth start before (line ∷ lines) = (line.offset ≡ start + length before) × FitsRow line.bytes

@@ -46,7 +46,7 @@ IsFullPart Text left bytes = min left most_text ≤ length bytes
 
 -- The bytes that were read of a body that has `left` bytes left, if the read stopped with this error. For `Syntax` they
 -- are a full part of a text's body that is no text, or begins none. Otherwise there are none, or they are the first
--- bytes of a text that was cut.
+-- bytes of a text that was cut. If 2 bytes are left, they can be `ff 61` for `Syntax`.
 abbrev pub IsPartRow : {E : Type 0} → Kind → ℕ → Error E → List ℕ → Type 0
 IsPartRow kind left (e.Syntax at) bytes = (kind ≡ Text) × IsNoText [] left bytes × IsFullPart Text left bytes
 IsPartRow kind left error bytes = (bytes ≡ []) ⊎ ((kind ≡ Text) × IsCutText left bytes)

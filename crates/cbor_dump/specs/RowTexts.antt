@@ -18,7 +18,7 @@ use Rattle.cbor_dump.specs.declared.rows.Row.{Row}
 
 -- ---- bytes
 
--- This many spaces.
+-- This many spaces: 3 are `20 20 20`.
 abbrev pub blank : ℕ → List ℕ
 blank zero = []
 blank (suc count) = 32 ∷ blank count
@@ -33,7 +33,7 @@ abbrev pub more_text : List ℕ → List ℕ
 more_text [] = []
 more_text (byte ∷ bytes) = 32 ∷ (hex_text byte ++ more_text bytes)
 
--- Bytes as digits, with spaces between them.
+-- Bytes as digits, with spaces between them. The bytes 130 and 1 give `82 01`.
 abbrev pub digits_text : List ℕ → List ℕ
 digits_text [] = []
 digits_text (byte ∷ bytes) = hex_text byte ++ more_text bytes
@@ -93,11 +93,12 @@ character_text character =
     else encode_utf8 character)))))))
 
 -- Characters that stand for themselves between quotes: ASCII without control characters, quotes and backslashes.
+-- `61 20` are such, and `0a`, `22` and `7f` are none.
 abbrev pub ArePlain : List ℕ → Type 0
 ArePlain characters = (i : ℕ) → i < length characters → (32 ≤ slice_index characters i)
     × (slice_index characters i < 127) × (slice_index characters i ≢ 34) × (slice_index characters i ≢ 92)
 
--- The texts of characters, joined.
+-- The texts of characters, joined: `61 0a` gives `a\n`.
 abbrev pub characters_text : List ℕ → List ℕ
 characters_text [] = []
 characters_text (character ∷ characters) = character_text character ++ characters_text characters

@@ -19,13 +19,14 @@ use Rattle.cbor_dump.specs.declared.sequence.Stopped.{Stopped}
 abbrev pub IsSequence : Bool → ℕ → List ℕ → Type 0
 IsSequence strict depth bytes = (count : ℕ) × AreItems strict depth count bytes
 
--- The error says that no byte of an item came: the reader failed, and the offset is still that of the item.
+-- The error says that no byte of an item came: the reader failed, and the offset is still that of the item. For an item
+-- at 1 it is so if the reader failed at 1, and not if it failed at 2.
 abbrev pub IsEnd : {E : Type 0} → SkipError E → ℕ → ℕ → Type 0
 IsEnd (s.Read (e.Io fault)) place stop = stop ≡ place
 IsEnd error place stop = ⊥
 
--- The answer at the end of the read. The first item begins at the start, the last item at the place, and the read
--- stopped at `stop`.
+-- The answer at the end of the read. The items stand from the start to the place, and the read stopped at `stop`. If
+-- two items stand from 0 to 3, `Ok` says 2 items and 3 bytes, and `stop` is 3.
 abbrev pub EndsSequence : {E : Type 0} → SkipError E → ℕ → ℕ → ℕ → ℕ → Result (Sequence E) (Stopped E) → Type 0
 EndsSequence error items start place stop (Ok sequence) = (error ≡ s.Read (e.Io sequence.«end»)) × (stop ≡ place)
     × (sequence.items ≡ items) × (sequence.bytes ≡ place - start)
@@ -33,6 +34,7 @@ EndsSequence error items start place stop (Err stopped) =
     (stopped ≡ record { items = items; place = place; error = error }) × (IsEnd error place stop → ⊥)
 
 -- How often the reader failed, by the answer of a check: once at the end, and before the end once if the error says so.
+-- `Ok` counts 1 failure, and `Break(1)` none.
 abbrev pub CountsCheck : {E : Type 0} → Result (Sequence E) (Stopped E) → ℕ → ℕ → Type 0
 CountsCheck (Ok sequence) old new = new ≡ old + 1
 CountsCheck (Err stopped) old new = CountsItemFailure stopped.error old new

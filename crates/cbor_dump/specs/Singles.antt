@@ -15,7 +15,8 @@ use Rattle.cbor_dump.specs.declared.single.NotOne.{NotOne}
 use Rattle.cbor_dump.specs.declared.single.NotOne.TheVariants as n
 use Rattle.cbor_dump.specs.Sequences.{FindsSequence}
 
--- The answer of the pull after an item. The item stands from the start to the place, and the pull stopped at `stop`.
+-- The answer of the pull after an item. The item stands from the start to the place, and the pull stopped at `stop`. In
+-- `01 80` the item stands from 0 to 1, and the answer is `More` at 1.
 abbrev pub EndsOne : {E : Type 0} → Result Header (Error E) → ℕ → ℕ → ℕ → Result (Sequence E) (NotOne E) → Type 0
 EndsOne pulled start place stop (Ok sequence) = (pulled ≡ Err (e.Io sequence.«end»)) × (stop ≡ place)
     × (sequence.items ≡ 1) × (sequence.bytes ≡ place - start)
@@ -23,7 +24,8 @@ EndsOne pulled start place stop (Err (n.Item error)) = ⊥
 EndsOne {E} pulled start place stop (Err (n.More at next)) = (at ≡ place) × (next ≡ pulled)
     × ((fault : E) → pulled ≡ Err (e.Io fault) → stop ≡ place → ⊥)
 
--- How often the reader failed, by the answer: once at the end, and before the end once if the error says so.
+-- How often the reader failed, by the answer: once at the end, and before the end once if the error says so. After `01`
+-- the end counts 1 failure, and a further `80` none.
 abbrev pub CountsOne : {E : Type 0} → Result (Sequence E) (NotOne E) → ℕ → ℕ → Type 0
 CountsOne (Ok sequence) old new = new ≡ old + 1
 CountsOne (Err (n.Item error)) old new = CountsItemFailure error old new

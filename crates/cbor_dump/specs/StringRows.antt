@@ -28,12 +28,12 @@ use Rattle.cbor_dump.specs.Endings.{ending}
 use Rattle.cbor_dump.specs.Parts.{FailsInBody}
 use Rattle.cbor_dump.specs.Takings.{ThroughSomeRoom, IsInMode}
 
--- The kind of a string in the code, as the grammar has it.
+-- The kind of a string in the code, as the grammar has it: `Bytes` for `41`, and `Text` for `61`.
 abbrev pub kind_of : CodeKind → Kind
 kind_of k.Bytes = Bytes
 kind_of k.Text = Text
 
--- The meaning of a part of a body.
+-- The meaning of a part of a body: that of `01` after `41` is `Bytes`.
 abbrev pub meaning_of : CodeKind → Meaning
 meaning_of k.Bytes = m.Bytes
 meaning_of k.Text = m.Text

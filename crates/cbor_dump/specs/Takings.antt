@@ -13,11 +13,11 @@ use Rattle.ciborium_ll.specs.Decoding.{failures_of, refusals_of, view, IsSteady,
 use Rattle.ciborium_ll.specs.Decoding.{PullsTitle, Reads}
 use Rattle.cbor_dump.specs.declared.taken.Taken.{Taken}
 
--- The bytes that were read for a row.
+-- The bytes that were read for a row. If its length is 2, they are the first 2 of its 16.
 abbrev pub taken_bytes : Taken → List ℕ
 taken_bytes taken = take taken.len taken.bytes
 
--- The most bytes that a row has.
+-- The most bytes that a row has. The body of a byte string of 17 bytes takes 2 rows.
 abbrev pub most_bytes : ℕ
 most_bytes = 16
 
@@ -27,7 +27,8 @@ pub record ThroughSomeRoom (Holds : ℕ → Type 0) : Type 0 where
   pub held : room ≤ most_bytes
   pub holds : Holds room
 
--- The most bytes of a text that are read at once. The row then has room for the rest of a character.
+-- The most bytes of a text that are read at once. The row then has room for the rest of a character: after twelve `61`
+-- and a `f0` three more bytes fit.
 abbrev pub most_text : ℕ
 most_text = 13
 
@@ -57,17 +58,17 @@ Leaves [] left = length left < most_bytes
 Leaves (byte ∷ []) left = length left < affix_len (byte % 32)
 Leaves bytes left = left ≡ []
 
--- How many bytes are left if the reader failed. For any other error nothing is said.
+-- How many bytes are left if the reader failed: after `1b` at most 7. For any other error nothing is said.
 abbrev pub LeavesBehind : {E : Type 0} → Error E → List ℕ → List ℕ → Type 0
 LeavesBehind (e.Io fault) bytes left = Leaves bytes left
 LeavesBehind error bytes left = Unit {0}
 
--- No header waits, and the decoder is as strict.
+-- No header waits, and the decoder is as strict: for `true` it refuses `18 01`, and for `false` it takes it.
 pub record IsInMode {R : Type 0} (strict : Bool) (decoder : Decoder R) : Type 0 where
   pub none_waits : decoder.waiting ≡ None
   pub mode : decoder.strict ≡ strict
 
--- A read was refused, since a header waits. Only the count of refusals changed.
+-- A read was refused, since a header waits. Only the count of refusals changed, as from 0 to 1.
 pub record RefusesRead {R : Type 0} (old new : Decoder R) : Type 0 where
   pub untouched : IsUntouched old new
   pub counted : refusals_of new ≡ refusals_of old + 1

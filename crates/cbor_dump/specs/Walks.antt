@@ -19,17 +19,18 @@ IsItemAlone (h.Float value) = Unit {0}
 IsItemAlone (h.Simple number) = Unit {0}
 IsItemAlone header = ⊥
 
--- The items that remain at the level of this number.
+-- The items that remain at the level of this number. After `83 01` they are `Items(2)` at the number 0.
 abbrev pub remaining_at : List Remaining → ℕ → Remaining
 remaining_at levels at = slice_index_or levels at (r.Items 0)
 
--- Each nest has items left, as many as the walk keeps at its level.
+-- Each nest has items left, as many as the walk keeps at its level. After `82 81` it keeps `Items(2)` at 0 and
+-- `Items(1)` at 1.
 abbrev pub AreKept : List Remaining → List Nest → Type 0
 AreKept levels [] = Unit {0}
 AreKept levels (nest ∷ nests) = IsRemaining nest.header nest.count (remaining_at levels (length nests))
     × (is_done (remaining_at levels (length nests)) ≡ false) × AreKept levels nests
 
--- The walk keeps exactly these nests.
+-- The walk keeps exactly these nests. After `81 c1` they are the tag and the array, and it uses 2 levels.
 pub record KeepsNests (depth : ℕ) (walk : Walk) (nests : List Nest) : Type 0 where
   pub kept : AreKept walk.levels nests
   pub used : walk.used ≡ length nests
@@ -59,7 +60,8 @@ abbrev pub whole_behind : ℕ → ℕ → ℕ
 whole_behind whole zero = suc whole
 whole_behind whole (suc used) = whole
 
--- After the bytes an item is due: after an item that has ended, or within an item that was begun.
+-- After the bytes an item is due: after an item that has ended, or within an item that was begun. After `82 01` it is
+-- due within the array, and after `82 01 02` outside of it.
 abbrev pub IsDueBehind : Bool → ℕ → ℕ → Walk → List ℕ → Type 0
 IsDueBehind strict depth whole walk bytes = IsDue strict depth (whole_behind whole walk.used) walk bytes
 
