@@ -4,7 +4,8 @@ use Rattle.ciborium_ll_grammar.specs.declared.hdr.Header.{Header}
 use Rattle.ciborium_ll_grammar.specs.Title.{IsTitle, Major, major_code, Size, numbered_header}
 use Rattle.ciborium_ll_grammar.specs.Items.{IsTakenTitle}
 
--- The bytes after a call are the bytes before it, and then bytes for which P holds.
+-- The bytes after a call are the bytes before it, and then bytes for which P holds. If they are `81` before and `81 01`
+-- after, P holds for `01`.
 pub record Adds (P : List ℕ → Type 0) (before after : List ℕ) : Type 0 where
   pub added : List ℕ
   pub parts : after ≡ before ++ added

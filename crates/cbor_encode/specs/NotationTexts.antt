@@ -4,7 +4,7 @@ use Rattle.cbor_encode.specs.declared.Expected.{Expected}
 use Rattle.cbor_encode.specs.declared.Expected.TheVariants as e
 use Rattle.cbor_encode.specs.declared.NotationError.{NotationError}
 
--- The text that `{}` writes for an expected part of the notation.
+-- The text that `{}` writes for an expected part of the notation. For `Digit` it is "a digit".
 abbrev pub expected_text : Expected → List ℕ
 expected_text e.Item = codes "an item"
 expected_text e.End = codes "the end of the text"
@@ -28,7 +28,8 @@ expected_text e.Text = codes "UTF-8"
 expected_text e.Level = codes "fewer levels"
 expected_text e.Memory = codes "more memory"
 
--- The text that `{}` writes for an error: its line, its column and the expected part.
+-- The text that `{}` writes for an error: its line, its column and the expected part, as in "line 1, column 3: expected
+-- a digit".
 abbrev pub error_text : NotationError → List ℕ
 error_text error =
     codes "line " ++ decimal error.line ++ codes ", column " ++ decimal error.column ++ codes ": expected "

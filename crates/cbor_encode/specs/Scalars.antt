@@ -14,7 +14,7 @@ IsScalar (h.Float float) = Unit {0}
 IsScalar (h.Simple number) = IsSmallSimple (h.Simple number) → ⊥
 IsScalar header = ⊥
 
--- The kind of a string.
+-- The kind of a string, by whether it is a text: `61 61` is one, and `41 61` is a byte string.
 abbrev pub kind_of : Bool → Kind
 kind_of true = Text
 kind_of false = Bytes
