@@ -24,7 +24,8 @@ ComesNoItem source old (s.Break place) new = PullsTitle source old h.Break new
 ComesNoItem source old (s.Deep place) new = ⊥
 
 module _ {R E W F : Type 0} (source : Reader R E) (sink : Writer W F) (layout : Layout) where
-  -- After the header `count` items were read, and their text was written.
+  -- After the header `count` items were read, and their text was written. On one line it can be `01` after `82`, with
+  -- the text `1`.
   pub record WithinBegun (level : ℕ) (header : Header) (count : ℕ) (old now : Sides R W) : Type 0 where
     pub items : List ℕ
     pub text : List ℕ
@@ -34,6 +35,7 @@ module _ {R E W F : Type 0} (source : Reader R E) (sink : Writer W F) (layout : 
 
   mutual
     -- `RestStops level header old error new`: after its header the show of an item of this level ended with the error.
+    -- After `81` a break `ff` ends it, and its text is `[`.
     pub data RestStops : ℕ → Header → Sides R W → DiagError E F → Sides R W → Type 0 where
       -- In an item that contains no others.
       plain : {level : ℕ} {header : Header} {old new : Sides R W} {error : DiagError E F}
@@ -58,7 +60,7 @@ module _ {R E W F : Type 0} (source : Reader R E) (sink : Writer W F) (layout : 
           → RestStops level header old (d.Write fault) (sides between.decoder new)
 
     -- `WithinStops level header old error new`: after the header some items of this level were shown. The show ended
-    -- with the error at the next item that was due.
+    -- with the error at the next item that was due. In `82 01 1c` it ended at `1c`, after the item `01`.
     pub data WithinStops : ℕ → Header → Sides R W → DiagError E F → Sides R W → Type 0 where
       -- No item came, and nothing more was written.
       title : {level count : ℕ} {header : Header} {old between : Sides R W} {error : SkipError E} {new : Decoder R}
@@ -79,7 +81,7 @@ module _ {R E W F : Type 0} (source : Reader R E) (sink : Writer W F) (layout : 
           → RestStops level next (sides titled led) error new → WithinStops level header old error new
 
   -- The show of an item ended with the error. No title came, or a break, and nothing was written; or it ended after its
-  -- title.
+  -- title. For `ff` nothing is written, and for `81 ff` the text is `[`.
   pub data ItemStops (old : Sides R W) : DiagError E F → Sides R W → Type 0 where
     no_item : {error : SkipError E} {new : Decoder R} → ComesNoItem source old.decoder error new
         → ItemStops old (d.Read error) (sides new old.writer)
@@ -87,17 +89,18 @@ module _ {R E W F : Type 0} (source : Reader R E) (sink : Writer W F) (layout : 
         → PullsTitle source old.decoder header titled → RestStops 0 header (sides titled old.writer) error new
         → ItemStops old error new
 
-  -- The show of the rest of an item, by its answer.
+  -- The show of the rest of an item, by its answer. After `82` it can be `Ok` for `01 02`, and not for `01 ff`.
   abbrev pub ShowsRest : ℕ → Header → Sides R W → Result (Unit {0}) (DiagError E F) → Sides R W → Type 0
   ShowsRest level header old (Ok done) new = RestShown source sink layout level header old new
   ShowsRest level header old (Err error) new = RestStops level header old error new
 
-  -- The show of the content of a header, by its answer, which says whether the header contains nothing.
+  -- The show of the content of a header, by its answer, which says whether the header contains nothing. After `80` the
+  -- answer can be `Ok(true)`, and after `81`, for `01`, it can be `Ok(false)`.
   abbrev pub ShowsWithin : ℕ → Header → Sides R W → Result Bool (DiagError E F) → Sides R W → Type 0
   ShowsWithin level header old (Ok empty) new = WithinShown source sink layout level header old empty new
   ShowsWithin level header old (Err error) new = WithinStops level header old error new
 
-  -- The show of an item, by its answer.
+  -- The show of an item, by its answer. It can be `Ok` for `82 01 02`, and not for `82 01 ff`.
   abbrev pub ShowsItem : Sides R W → Result (Unit {0}) (DiagError E F) → Sides R W → Type 0
   ShowsItem old (Ok done) new = ItemShown source sink layout old new
   ShowsItem old (Err error) new = ItemStops old error new

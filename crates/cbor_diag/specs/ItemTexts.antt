@@ -157,7 +157,8 @@ mutual
         (text ++ (item_lead header layout level (is_value_at header count) (is_first_at count) ++ item))
 
 module _ {R E W F : Type 0} (source : Reader R E) (sink : Writer W F) (layout : Layout) where
-  -- After its header the rest of an item was read, and its whole text was written.
+  -- After its header the rest of an item was read, and its whole text was written. After `82` the rest `01 02` has the
+  -- text `[1, 2]` on one line.
   pub record RestShown (level : ℕ) (header : Header) (old new : Sides R W) : Type 0 where
     pub rest : List ℕ
     pub text : List ℕ
@@ -166,6 +167,7 @@ module _ {R E W F : Type 0} (source : Reader R E) (sink : Writer W F) (layout : 
     pub written : WritesAll sink old.writer text new.writer
 
   -- After the header all its content was read, and its text was written. The answer says whether it contains nothing.
+  -- After `82` the content `01 02` has the text `1, 2` on one line.
   pub record WithinShown (level : ℕ) (header : Header) (old : Sides R W) (empty : Bool) (new : Sides R W) : Type 0 where
     pub count : ℕ
     pub items : List ℕ
@@ -176,7 +178,7 @@ module _ {R E W F : Type 0} (source : Reader R E) (sink : Writer W F) (layout : 
     pub written : WritesAll sink old.writer text new.writer
     pub counted : empty ≡ (is_first_at count)
 
-  -- One whole item was read, and its whole text was written.
+  -- One whole item was read, and its whole text was written. The item `82 01 02` has the text `[1, 2]` on one line.
   pub record ItemShown (old new : Sides R W) : Type 0 where
     pub title : List ℕ
     pub header : Header

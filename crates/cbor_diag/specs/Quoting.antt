@@ -37,17 +37,19 @@ failure_count false = 0
 failure_count true = 1
 
 module _ {W F : Type 0} (sink : Ghosts W F) where
-  -- All that a writer tells, in one list.
+  -- All that a writer tells, in one list. A writer that tells neither bytes nor room, and has not failed, gives
+  -- `00 00`.
   abbrev pub writer_code : W → List ℕ
   writer_code writer = told_code (sink.written writer) (sink.room writer) (sink.failures writer)
 
-  -- The text was written, or the writer failed and a beginning of the text was written.
+  -- The text was written, or the writer failed and a beginning of the text was written. If it failed, it can have
+  -- written `61` of the text `61 0a`.
   abbrev pub WritesUntil : Bool → W → List ℕ → W → Type 0
   WritesUntil false old text new = WritesAll sink old text new
   WritesUntil true old text new = WritesFront sink old text new
 
   -- Since the writer within told the numbers of this list, these bytes were written to it as they stand between quotes,
-  -- or it failed at them.
+  -- or it failed at them. The byte `0a` stands as `0a` in a byte string, and as `\n` in a text.
   abbrev pub IsQuoted : List ℕ → Quotes → Bool → List ℕ → W → Type 0
   IsQuoted began quotes failed given writer =
       (before : W) → writer_code before ≡ began → WritesUntil failed before (body_text quotes given) writer

@@ -46,7 +46,7 @@ begun_text quotes front = opening quotes ++ body_text quotes front
 
 module _ {R E W F : Type 0} (source : Reader R E) (sink : Writer W F) (kind : Kind) (len : ℕ) where
   -- The writer failed within the text of these bytes of the body, which were read. Up to three more bytes of a text
-  -- string were read after them.
+  -- string were read after them. For the body `01 02` in quotes it can have written `h'01`.
   pub record BodyUnshown (text : List ℕ → List ℕ) (old new : Sides R W) : Type 0 where
     pub bytes : List ℕ
     pub kept : List ℕ
@@ -56,23 +56,25 @@ module _ {R E W F : Type 0} (source : Reader R E) (sink : Writer W F) (kind : Ki
     pub stopped : WritesFront sink old.writer (text bytes) new.writer
 
 module _ {R E W F : Type 0} (source : Reader R E) (sink : Writer W F) (kind : Kind) (len room place : ℕ) where
-  -- A body of this length was read whole, and its text was written.
+  -- A body of this length was read whole, and its text was written. For the body `01 02` in quotes it is `h'0102'`.
   pub record BodyShown (text : List ℕ → List ℕ) (old new : Sides R W) : Type 0 where
     pub ends : ReadsRest source kind [] len old.decoder new.decoder
     pub written : WritesAll sink old.writer (text ends.read) new.writer
 
   -- The read of a body stopped, through a buffer of this room. The text of the bytes that were handed out was written.
+  -- For a body of 3 bytes and a room of 2 it can be `h'0102`.
   pub record BodyStopped (text : List ℕ → List ℕ) (old : Sides R W) (error : Error E) (new : Sides R W) : Type 0 where
     pub ends : StopsRest source kind [] len room place old.decoder error new.decoder
     pub written : WritesAll sink old.writer (text ends.part.front) new.writer
 
-  -- A body was copied to a quoting writer.
+  -- A body was copied to a quoting writer. The body `0a` of a text is written as `\n`.
   abbrev pub CopiesQuoted : Quotes → Sides R W → Result (Unit {0}) (RecodeError E F) → Sides R W → Type 0
   CopiesQuoted quotes old (Ok done) new = BodyShown (body_text quotes) old new
   CopiesQuoted quotes old (Err (r.Read error)) new = BodyStopped (body_text quotes) old error new
   CopiesQuoted quotes old (Err (r.Write fault)) new = BodyUnshown source sink kind len (body_text quotes) old new
 
-  -- A body was shown in quotes. If its read stopped, the text ends after the bytes that were handed out.
+  -- A body was shown in quotes. If its read stopped, the text ends after the bytes that were handed out. The body
+  -- `01 02` of a byte string is shown as `h'0102'`.
   abbrev pub ShowsBody : Quotes → Sides R W → Result (Unit {0}) (DiagError E F) → Sides R W → Type 0
   ShowsBody quotes old (Ok done) new = BodyShown (quoted_body quotes) old new
   ShowsBody quotes old (Err (d.Read (s.Read error))) new = BodyStopped (begun_text quotes) old error new
@@ -158,12 +160,12 @@ pub record StringRead {R E : Type 0} (source : Reader R E) (kind : Kind) (len : 
 
 module _ {R E W F : Type 0} (source : Reader R E) (sink : Writer W F) (kind : Kind) (quotes : Quotes)
     (len : Option ℕ) where
-  -- A whole string was read and shown.
+  -- A whole string was read and shown. After `42` the bytes `01 02` are shown as `h'0102'`.
   pub record StringShown (old new : Sides R W) : Type 0 where
     pub reads : StringRead source kind len old.decoder new.decoder
     pub written : WritesAll sink old.writer (string_text (is_indefinite len) quotes reads.bodies) new.writer
 
-  -- A beginning of a string was read, and its bodies were shown.
+  -- A beginning of a string was read, and its bodies were shown. After `5f` the bytes `41 01` are shown as `(_ h'01'`.
   pub record StringBegun (old now : Sides R W) : Type 0 where
     pub behind : List ℕ
     pub bodies : List (List ℕ)
@@ -172,7 +174,8 @@ module _ {R E W F : Type 0} (source : Reader R E) (sink : Writer W F) (kind : Ki
     pub written : WritesAll sink old.writer (bodies_text (is_indefinite len) quotes bodies) now.writer
 
   -- A beginning of a string was read, up to the title of one more body of this many bytes. The earlier bodies were
-  -- shown, and the text before the new body was written.
+  -- shown, and the text before the new body was written. After `5f` the bytes `41 01 42` give `(_ h'01'`, a comma and a
+  -- space.
   pub record BodyAnnounced (count : ℕ) (old now : Sides R W) : Type 0 where
     pub behind : List ℕ
     pub bodies : List (List ℕ)
@@ -181,7 +184,8 @@ module _ {R E W F : Type 0} (source : Reader R E) (sink : Writer W F) (kind : Ki
     pub written : WritesAll sink old.writer
         (bodies_text (is_indefinite len) quotes bodies ++ lead_text (is_indefinite len) (is_none bodies)) now.writer
 
-  -- The read stopped at a title that is due, or within a body. The text ends there.
+  -- The read stopped at a title that is due, or within a body. The text ends there. In `5f 41 01 1c` it stopped at
+  -- `1c`, after `(_ h'01'`.
   pub data StringStops (room : ℕ) (old : Sides R W) (error : Error E) (new : Sides R W) : Type 0 where
     at_title : (between : Decoder R) → StringBegun old (sides between new.writer)
         → MeetsNoBody source kind between error new.decoder → StringStops room old error new
@@ -189,7 +193,8 @@ module _ {R E W F : Type 0} (source : Reader R E) (sink : Writer W F) (kind : Ki
         → BodyStopped source sink kind count room place (begun_text quotes) between error new
         → StringStops room old error new
 
-  -- The writer failed: before a body, within it, or after the last body.
+  -- The writer failed: before a body, within it, or after the last body. After the body of `5f 41 01 ff` it can fail at
+  -- the parenthesis that closes `(_ h'01')`.
   pub data StringUnshown (old new : Sides R W) : Type 0 where
     at_lead : (behind : List ℕ) (bodies : List (List ℕ)) (count : ℕ) → IsTitled kind len behind bodies count
         → ReadsPast source old.decoder behind new.decoder
@@ -202,7 +207,7 @@ module _ {R E W F : Type 0} (source : Reader R E) (sink : Writer W F) (kind : Ki
         → WritesFront sink old.writer (string_text (is_indefinite len) quotes reads.bodies) new.writer
         → StringUnshown old new
 
-  -- The show of a string after its header, through a buffer of this room.
+  -- The show of a string after its header, through a buffer of this room. After `42` it can be `Ok` for `01 02`.
   abbrev pub ShowsString : ℕ → Sides R W → Result (Unit {0}) (DiagError E F) → Sides R W → Type 0
   ShowsString room old (Ok done) new = StringShown old new
   ShowsString room old (Err (d.Read (s.Read error))) new = StringStops room old error new
