@@ -24,7 +24,8 @@ module _ {R E W : Type 0} (source : Ghosts R E) where
     pub answers : AnswersAs checked result
     pub checks : ThroughSomeRoom (λ room. ChecksItems source depth room old checked new)
 
-  -- A dump of bytes that are told does what a check does, and answers the same.
+  -- A dump of bytes that are told does what a check does, and answers the same. For `01 ff` both answer with the error
+  -- `Break` at 1.
   pub record AnswersTold (depth : ℕ) (due : List ℕ) (old : Decoder R) (result : Result E (DumpError E W))
       (new : Decoder R) : Type 0 where
     pub checked : Result (Sequence E) (Stopped E)

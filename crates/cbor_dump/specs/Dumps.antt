@@ -110,33 +110,34 @@ pub record LinesRefused (depth start : ℕ) (old new : Option (List Line)) (befo
 
 module _ {R E W : Type 0} (source : Ghosts R E) where
   -- A dump or a part of it leaves its decoder as the read that ended it does. If a row was refused, either no read
-  -- failed, or the row has the bytes that were read before one failed.
+  -- failed, or the row has the bytes that were read before one failed. At the break in `01 ff` no read failed.
   abbrev pub StopsDump : DumpError E W → Decoder R → Decoder R → Type 0
   StopsDump (d.Item (s.Read error)) old new = StopsBy source error old new
   StopsDump (d.Item (s.Break at)) old new = ReadsOn source old new
   StopsDump (d.Item (s.Deep at)) old new = ReadsOn source old new
   StopsDump (d.Rows fault) old new = ReadsOn source old new ⊎ ((error : Error E) × StopsBy source error old new)
 
-  -- How a part of a dump leaves its decoder.
+  -- How a part of a dump leaves its decoder. On `Ok`, as after the title `01`, no read failed.
   abbrev pub LeavesPart : Result (Unit {0}) (DumpError E W) → Decoder R → Decoder R → Type 0
   LeavesPart (Ok done) old new = ReadsOn source old new
   LeavesPart (Err error) old new = StopsDump error old new
 
-  -- How a dump leaves its decoder. At its end the reader failed once.
+  -- How a dump leaves its decoder. At its end, as after `01 02`, the reader failed once.
   abbrev pub LeavesDecoder : Result E (DumpError E W) → Decoder R → Decoder R → Type 0
   LeavesDecoder (Ok fault) old new = StopsBy source (e.Io fault) old new
   LeavesDecoder (Err error) old new = StopsDump error old new
 
 module _ {R E : Type 0} (source : Ghosts R E) where
   -- The lines that were drawn have exactly the consumed bytes. If told bytes end too early, `left` says how many are
-  -- left.
+  -- left. In `81 19 01` the lines have `81 19`, and 1 byte is left.
   pub record Shows (depth start : ℕ) (drawn then_drawn : Option (List Line)) (before bytes : List ℕ)
       (ending : Ending) (old new : Decoder R) : Type 0 where
     pub lines : Lines depth start drawn then_drawn before bytes ending
     pub takes : TakesBytes source old bytes new
     pub left : IsSteadyNoneWaiting source old → IfSome (view source new) (LeavesAs ending (bytes_at_fault lines.lines))
 
-  -- As `Shows`, but the lines have also the bytes of `row`, which were consumed before.
+  -- As `Shows`, but the lines have also the bytes of `row`, which were consumed before. For the row `42` and the bytes
+  -- `01 02` there are two lines.
   pub record ShowsBehind (depth start : ℕ) (drawn then_drawn : Option (List Line)) (before row bytes : List ℕ)
       (ending : Ending) (old new : Decoder R) : Type 0 where
     pub lines : Lines depth start drawn then_drawn before (row ++ bytes) ending
@@ -144,7 +145,8 @@ module _ {R E : Type 0} (source : Ghosts R E) where
     pub left : IsSteadyNoneWaiting source old → IfSome (view source new) (LeavesAs ending (bytes_at_fault lines.lines))
 
   -- A row was refused. The rows before it and this row have exactly the consumed bytes, and each stands at its level:
-  -- as `Shows` says, if the row had been taken.
+  -- as `Shows` says, if the row had been taken. If the row of `01` in `82 01 02` was refused, the consumed bytes are
+  -- `82 01`.
   pub record ShowsRefused (depth start : ℕ) (drawn then_drawn : Option (List Line)) (before : List ℕ)
       (old new : Decoder R) : Type 0 where
     pub row : Line
@@ -152,7 +154,8 @@ module _ {R E : Type 0} (source : Ghosts R E) where
     pub bytes : List ℕ
     pub shows : Shows depth start drawn (with_line then_drawn row) before bytes how old new
 
-  -- The bytes of a title were consumed before, and then a row was refused: the title's or a later row.
+  -- The bytes of a title were consumed before, and then a row was refused: the title's or a later row. After `42` it is
+  -- that of `42` or that of the body `01 02`.
   pub record ShowsBehindRefused (depth start : ℕ) (drawn then_drawn : Option (List Line)) (before title : List ℕ)
       (old new : Decoder R) : Type 0 where
     pub row : Line

@@ -40,13 +40,14 @@ CountsCheck (Ok sequence) old new = new ≡ old + 1
 CountsCheck (Err stopped) old new = CountsItemFailure stopped.error old new
 
 module _ {R E : Type 0} (source : Ghosts R E) where
-  -- `count` items were read, by a strict decoder in their shortest spelling.
+  -- `count` items were read, by a strict decoder in their shortest spelling. The bytes `01 80` are two items.
   pub record ReadsItems (depth count : ℕ) (old new : Decoder R) : Type 0 where
     pub bytes : List ℕ
     pub are_items : AreItems (strictness old) depth count bytes
     pub passed : ReadsPast source old bytes new
 
-  -- Items were read, and the reader failed at a further item before it consumed a byte.
+  -- Items were read, and the reader failed at a further item before it consumed a byte. For `01 80` there are 2 items
+  -- and 2 bytes.
   pub record FindsEnd (depth room : ℕ) (old : Decoder R) (sequence : Sequence E) (new : Decoder R) : Type 0 where
     pub between : Decoder R
     pub reads : ReadsItems depth sequence.items old between
@@ -54,7 +55,8 @@ module _ {R E : Type 0} (source : Ghosts R E) where
     pub fails : SkipsItem source depth room between (Err (s.Read (e.Io sequence.«end»))) new
     pub still : new.offset ≡ between.offset
 
-  -- Items were read, and the read of a further item failed. The failure is not an end.
+  -- Items were read, and the read of a further item failed. The failure is not an end. In `01 ff` the place after the
+  -- first item is 1.
   pub record FindsNoItem (depth room : ℕ) (old : Decoder R) (stopped : Stopped E) (new : Decoder R) : Type 0 where
     pub between : Decoder R
     pub reads : ReadsItems depth stopped.items old between
@@ -62,13 +64,14 @@ module _ {R E : Type 0} (source : Ghosts R E) where
     pub fails : SkipsItem source depth room between (Err stopped.error) new
     pub no_end : IsEnd stopped.error between.offset new.offset → ⊥
 
-  -- The reads of `check` through a buffer of this room, by its answer, after the items that the answer counts.
+  -- The reads of `check` through a buffer of this room, by its answer, after the items that the answer counts. It can
+  -- be `Ok` for `01 80`, and not for `01 ff`.
   abbrev pub ChecksItems : ℕ → ℕ → Decoder R → Result (Sequence E) (Stopped E) → Decoder R → Type 0
   ChecksItems depth room old (Ok sequence) new = FindsEnd depth room old sequence new
   ChecksItems depth room old (Err stopped) new = FindsNoItem depth room old stopped new
 
   -- The bytes are a sequence of as many items as the answer counts, for a strict decoder in their shortest spelling. No
-  -- byte is left.
+  -- byte is left. The bytes `82 01 02 03` are 2 items.
   pub record FindsSequence (depth : ℕ) (due : List ℕ) (old : Decoder R) (sequence : Sequence E) (new : Decoder R)
       : Type 0 where
     pub are_items : AreItems old.strict depth sequence.items due
@@ -92,7 +95,7 @@ module _ {R E : Type 0} (source : Ghosts R E) where
     pub met : SkipsTold source old.strict depth ahead between (Err stopped.error) new
 
   -- The reads of `check` with told bytes, by its answer: it reads a sequence, or the items before the fault, and
-  -- `SkipsTold` holds of the next item.
+  -- `SkipsTold` holds of the next item. It is `Ok` for `82 01 02`, and an error for `82 01`.
   abbrev pub ChecksTold : ℕ → List ℕ → Decoder R → Result (Sequence E) (Stopped E) → Decoder R → Type 0
   ChecksTold depth due old (Ok sequence) new = FindsSequence depth due old sequence new
   ChecksTold depth due old (Err stopped) new = FindsFault depth due old stopped new

@@ -33,7 +33,7 @@ CountsOne (Err (n.More at (Ok header))) old new = new ≡ old
 CountsOne (Err (n.More at (Err error))) old new = CountsFailure error old new
 
 module _ {R E : Type 0} (source : Ghosts R E) where
-  -- An item was read, and the reader failed after it before it consumed a byte.
+  -- An item was read, and the reader failed after it before it consumed a byte. For `82 01 02` it has 3 bytes.
   pub record FindsAlone (depth : ℕ) (old : Decoder R) (sequence : Sequence E) (new : Decoder R) : Type 0 where
     pub between : Decoder R
     pub reads : ReadsItem source depth old between
@@ -42,7 +42,7 @@ module _ {R E : Type 0} (source : Ghosts R E) where
     pub fails : DecoderPullAnswer source between (Err (e.Io sequence.«end»)) new
     pub still : new.offset ≡ between.offset
 
-  -- An item was read, and the pull after it found no end.
+  -- An item was read, and the pull after it found no end. In `01 80` it found the header of `80` at 1.
   pub record FindsMore (depth : ℕ) (old : Decoder R) (at : ℕ) (next : Result Header (Error E)) (new : Decoder R)
       : Type 0 where
     pub between : Decoder R
@@ -52,7 +52,7 @@ module _ {R E : Type 0} (source : Ghosts R E) where
     pub no_end : (fault : E) → next ≡ Err (e.Io fault) → new.offset ≡ between.offset → ⊥
 
   -- The reads of `check_one` through a buffer of this room, by its answer: one item alone, no item, or more bytes after
-  -- it.
+  -- it. The bytes `01`, `ff` and `01 80` are examples of these.
   abbrev pub ChecksOne : ℕ → ℕ → Decoder R → Result (Sequence E) (NotOne E) → Decoder R → Type 0
   ChecksOne depth room old (Ok sequence) new = FindsAlone depth old sequence new
   ChecksOne depth room old (Err (n.Item error)) new = SkipsItem source depth room old (Err error) new
@@ -65,7 +65,7 @@ module _ {R E : Type 0} (source : Ghosts R E) where
     pub some : front.rest ≡ [] → ⊥
     pub place : at ≡ old.offset + length front.item
 
-  -- The reads of `check_one` with told bytes, by its answer.
+  -- The reads of `check_one` with told bytes, by its answer. It is `Ok` for `01`, and `More` at 1 for `01 80`.
   abbrev pub ChecksOneTold : ℕ → List ℕ → Decoder R → Result (Sequence E) (NotOne E) → Decoder R → Type 0
   ChecksOneTold depth due old (Ok sequence) new = (sequence.items ≡ 1) × FindsSequence source depth due old sequence new
   ChecksOneTold depth due old (Err (n.Item error)) new = SkipsTold source old.strict depth due old (Err error) new

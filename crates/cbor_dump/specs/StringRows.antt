@@ -71,7 +71,7 @@ module _ {R E : Type 0} (source : Ghosts R E) where
 
 module _ {R E W : Type 0} (source : Ghosts R E) where
   -- The read of the bytes that follow a string's title stops as a skip of the string does. The place is that of the
-  -- title of a body (RFC 7049, 2.2).
+  -- title of a body (RFC 7049, 2.2). After `62` at 0 the body `ff 61` stops it with `Syntax` at 0.
   abbrev pub StopsBehindTitle : Kind → Option ℕ → ℕ → Decoder R → Result (Unit {0}) (DumpError E W) → Decoder R → Type 0
   StopsBehindTitle kind len place old (Ok done) new = Unit {0}
   StopsBehindTitle kind (Some len) place old (Err (d.Item (s.Read error))) new =
@@ -82,7 +82,7 @@ module _ {R E W : Type 0} (source : Ghosts R E) where
   StopsBehindTitle kind len place old (Err (d.Rows fault)) new = Unit {0}
 
   -- The bytes that follow a string's title were shown, or a beginning of them. For a definite length they are the body,
-  -- and the body of a text is UTF-8. Otherwise they are strings and a break.
+  -- and the body of a text is UTF-8. Otherwise they are strings and a break. After `5f` they can be `41 61 ff`.
   pub record ShowsBehindTitle (depth start : ℕ) (drawn then_drawn : Option (List Line)) (before : List ℕ) (kind : Kind)
       (len : Option ℕ) (strict : Bool) (place : ℕ) (result : Result (Unit {0}) (DumpError E W)) (old new : Decoder R)
       : Type 0 where

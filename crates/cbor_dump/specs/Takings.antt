@@ -74,31 +74,31 @@ pub record RefusesRead {R : Type 0} (old new : Decoder R) : Type 0 where
   pub counted : refusals_of new ≡ refusals_of old + 1
 
 module _ {R E : Type 0} (source : Ghosts R E) where
-  -- No read failed: the decoder moved on, and the reader did not fail.
+  -- No read failed: the decoder moved on, and the reader did not fail. It is so after the title `82` was read.
   pub record ReadsOn (old new : Decoder R) : Type 0 where
     pub moves_on : MovesOn source old new
     pub failures : failures_of source new ≡ failures_of source old
 
-  -- The reader failed once, at the last read.
+  -- The reader failed once, at the last read. It is so if the bytes end after `19`.
   pub record FailsLast (old new : Decoder R) : Type 0 where
     pub moves_on : MovesOn source old new
     pub failures : failures_of source new ≡ failures_of source old + 1
 
-  -- The decoder refused the last read.
+  -- The decoder refused the last read. It does so if the header of `82` was pushed back.
   pub record RefusesLast (old new : Decoder R) : Type 0 where
     pub between : Decoder R
     pub reads : ReadsOn old between
     pub refuses : RefusesRead between new
 
   -- The reads ended with this error: the reader failed, the decoder refused a read, or the bytes that were read are at
-  -- fault.
+  -- fault. For `1c` the bytes are at fault, and for a cut `19` the reader failed.
   abbrev pub StopsBy : Error E → Decoder R → Decoder R → Type 0
   StopsBy (e.Io fault) old new = FailsLast old new
   StopsBy (e.Syntax at) old new = ReadsOn old new
   StopsBy e.TooLong old new = RefusesLast old new
   StopsBy e.Waiting old new = RefusesLast old new
 
-  -- The reads, by their answer.
+  -- The reads, by their answer. For the title `82` it is `Ok`, and no read failed.
   abbrev pub ReadsBy : {T : Type 0} → Result T (Error E) → Decoder R → Decoder R → Type 0
   ReadsBy (Ok done) old new = ReadsOn old new
   ReadsBy (Err error) old new = StopsBy error old new
@@ -112,32 +112,35 @@ module _ {R E : Type 0} (source : Ghosts R E) where
     pub reads : Reads source old result bytes new
     pub behind : OnOk result (after ≡ before ++ bytes)
 
-  -- A read of one more byte failed.
+  -- A read of one more byte failed, as at the end of `01 02`.
   pub record FailsNext (old new : Decoder R) : Type 0 where
     pub error : Error E
     pub byte : ℕ
     pub fails : Reads source old (Err error) (byte ∷ []) new
 
-  -- No more is read for a row of this many bytes: it is full, or a read of one more byte failed.
+  -- No more is read for a row of this many bytes: it is full, or a read of one more byte failed. A row of 16 bytes is
+  -- full, and after 15 bytes a read failed.
   abbrev pub EndsRow : ℕ → Decoder R → Decoder R → Type 0
   EndsRow count old new = ((count ≡ most_bytes) × (new ≡ old)) ⊎ ((count < most_bytes) × FailsNext old new)
 
-  -- A title was read as `pull` reads it, by the answer.
+  -- A title was read as `pull` reads it, by the answer. For `18 64` it is the header of 100, and for `1c` an error.
   abbrev pub PullsRow : Decoder R → Result Header (Error E) → Decoder R → Type 0
   PullsRow old (Ok header) new = PullsTitle source old header new × (IsSteady source old → IsSteady source new)
   PullsRow old (Err error) new = DecoderPullAnswer source old (Err error) new
 
-  -- The reader fails only if bytes are missing, and no header waits.
+  -- The reader fails only if bytes are missing, and no header waits. If 2 bytes are left, the reader does not fail at a
+  -- read of 2.
   pub record IsSteadyNoneWaiting (decoder : Decoder R) : Type 0 where
     pub steady : IsSteady source decoder
     pub none_waits : decoder.waiting ≡ None
 
-  -- These bytes were read: the offset rose by their number, and an idle decoder consumed exactly these bytes.
+  -- These bytes were read: the offset rose by their number, and an idle decoder consumed exactly these bytes. For
+  -- `82 01` the offset rose by 2.
   pub record TakesBytes (old : Decoder R) (bytes : List ℕ) (new : Decoder R) : Type 0 where
     pub offset : new.offset ≡ old.offset + length bytes
     pub consumed : IsSteadyNoneWaiting old → Consumes (view source old) (view source new) bytes × IsSteadyNoneWaiting new
 
-  -- The bytes of a row grew by bytes that were read.
+  -- The bytes of a row grew by bytes that were read. The bytes `19` grew by `01 00` to `19 01 00`.
   pub record Keeps (before after : List ℕ) (old new : Decoder R) : Type 0 where
     pub bytes : List ℕ
     pub appended : after ≡ before ++ bytes

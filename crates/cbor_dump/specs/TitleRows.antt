@@ -46,7 +46,8 @@ module _ {E W : Type 0} where
       IsDeepest strict depth whole before × IsNest header × (at ≡ place)
   StopsAlone strict depth whole header place before (Err (d.Rows fault)) = Unit {0}
 
-  -- A title was drawn, after which nothing more is read. On `Ok` an item is due after it.
+  -- A title was drawn, after which nothing more is read. On `Ok` an item is due after it. After `82` the title `01` has
+  -- a line at the level 1.
   pub record DrawsTitle (strict : Bool) (depth whole start : ℕ) (drawn then_drawn : Option (List Line))
       (before title : List ℕ) (header : Header) (walk : Walk) (place : ℕ)
       (result : Result (Unit {0}) (DumpError E W)) : Type 0 where
@@ -61,6 +62,7 @@ module _ {R E : Type 0} (source : Ghosts R E) where
 
 module _ {R E W : Type 0} (source : Ghosts R E) where
   -- A title ends a dump, or the string that it begins does. The string stops as a skip of it does (RFC 7049, 2.2).
+  -- After `81` the title `ff` ends it, and so does `62` with the body `ff 61`.
   abbrev pub EndsAtTitle : Bool → ℕ → ℕ → Header → ℕ → List ℕ → Decoder R → Result (Unit {0}) (DumpError E W)
       → Decoder R → Type 0
   EndsAtTitle strict depth whole header place before old (Ok done) new = Unit {0}
@@ -73,7 +75,8 @@ module _ {R E W : Type 0} (source : Ghosts R E) where
       IsDeepest strict depth whole before × IsNest header × (at ≡ place) × (new ≡ old)
   EndsAtTitle strict depth whole header place before old (Err (d.Rows fault)) new = Unit {0}
 
-  -- A title that was read before was shown, and the string that it begins. On `Ok` an item is due after it.
+  -- A title that was read before was shown, and the string that it begins. On `Ok` an item is due after it. For `42`
+  -- the lines are those of `42` and of its body `01 02`.
   pub record ShowsTitle (depth whole start : ℕ) (drawn then_drawn : Option (List Line)) (before title : List ℕ)
       (header : Header) (walk : Walk) (strict : Bool) (place : ℕ) (result : Result (Unit {0}) (DumpError E W))
       (old new : Decoder R) : Type 0 where
@@ -86,7 +89,7 @@ module _ {R E W : Type 0} (source : Ghosts R E) where
 module _ {R E W : Type 0} (source : Ghosts R E) where
   -- The lines that were drawn have exactly the consumed bytes, and each stands at its level. At most the last line
   -- before an error is at fault (`ending`). On `Ok` the bytes are a sequence of items (RFC 8742), in any spelling or in
-  -- the shortest one.
+  -- the shortest one. The bytes `82 01 02` have three lines.
   pub record ShowsAll (strict : Bool) (depth : ℕ) (drawn then_drawn : Option (List Line)) (result : Result E
       (DumpError E W))
       (old new : Decoder R) : Type 0 where
