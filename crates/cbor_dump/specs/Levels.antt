@@ -113,8 +113,8 @@ pub record HasBody (depth : ℕ) (before : List ℕ) (kind : Kind) (line : Line)
   pub level : line.level ≡ suc (length nests + opens)
 
 -- How lines end. `Meant`: each line has a meaning. `Refused`: the last line is at fault, since a dump, strict or not,
--- refuses its bytes, as `1c`. `Failed` and `Stopped`: the reader failed, or a read stopped for another reason; each
--- line has a meaning, or the last line was cut and is at fault, as `19`.
+-- refuses its bytes, as `1c`. `Failed` and `Stopped`: the reader failed, or a read stopped for another reason. Each
+-- line then has a meaning, or the last line was cut and is at fault, as `19`.
 pub data Ending : Type 0 where
   Meant : Ending
   Refused : Bool → Ending
