@@ -7,7 +7,7 @@ use Rattle.ciborium_ll_text.specs.Text.{IsCharacter, joined, IsCharacters}
 abbrev pub IsMember : ℕ → List ℕ → Type 0
 IsMember limit member = IsCharacters member × (length member ≤ limit)
 
--- The list has an element.
+-- The list has an element: `61` has one, and the empty list has none.
 abbrev pub IsNonempty : List ℕ → Type 0
 IsNonempty member = 0 < length member
 
@@ -23,7 +23,7 @@ abbrev pub IsFilled : ℕ → List ℕ → List ℕ → Type 0
 IsFilled limit member following = (character rest : List ℕ) → IsCharacter character → following ≡ character ++ rest
     → limit < length member + length character
 
--- Each member but the last is filled.
+-- Each member but the last is filled. For the limit 2, this holds of `61 62` and `63`, but not of `61` and `62`.
 abbrev pub AreFilled : ℕ → List (List ℕ) → Type 0
 AreFilled limit [] = Unit {0}
 AreFilled limit (member ∷ []) = Unit {0}

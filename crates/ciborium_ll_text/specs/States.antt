@@ -23,7 +23,8 @@ after_first byte =
     else (if is_from 0xf4 0xf4 byte then s.BehindF4
     else s.Damaged))))))))
 
--- `state` if a later byte is from the lowest to the highest, otherwise damaged.
+-- `state` if a later byte is from the lowest to the highest, otherwise damaged. From `80` to `bf`, `a4` gives `state`,
+-- and `61` gives `Damaged`.
 unfoldable pub after_next : ℕ → ℕ → State → ℕ → State
 after_next lowest highest state byte = if is_from lowest highest byte then state else s.Damaged
 

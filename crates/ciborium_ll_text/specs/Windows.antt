@@ -6,7 +6,7 @@ use Rattle.ciborium_ll_text.specs.declared.state.State.TheVariants as s
 use Rattle.ciborium_ll_text.specs.States.{after_first}
 
 -- Each byte between two indices may follow the three before it, by the definition `Step` of the kit's crate `simdutf8`
--- (Unicode, Table 3-7).
+-- (Unicode, Table 3-7). In `61 e2 82 ac` the byte at the index 3 may follow, and in `61 62 63 ac` it may not.
 abbrev pub MayFollow : List ℕ → ℕ → ℕ → Type 0
 MayFollow bytes from to =
     (i : ℕ) → from ≤ i → i < to
