@@ -48,7 +48,7 @@ pub data Reaches (count : ℕ) : List ℕ → List Mark → Point → Type 0 whe
 
 -- ---- the first fault
 
--- A title is due.
+-- A title is due at the point. After `5f` one is due, and after `62` a body.
 abbrev pub IsAtTitle : Point → Type 0
 IsAtTitle Due = Unit {0}
 IsAtTitle (In kind) = Unit {0}
@@ -59,7 +59,8 @@ IsAtTitle (BodyDue kind len start) = ⊥
 abbrev pub IsRefusedIn : Bool → Kind → Header → Type 0
 IsRefusedIn strict kind header = IsMisplaced kind header ⊎ ((strict ≡ true) × (header ≡ kind_header kind None))
 
--- The bytes end too early, or the bytes at this offset are not of the grammar.
+-- The bytes end too early, or the bytes at this offset are not of the grammar. For `19 01` the answer is `Short`, and
+-- for `1c` it is `Syntax 0`.
 pub data Answer : Type 0 where
   Short : Answer
   Syntax : ℕ → Answer

@@ -53,11 +53,12 @@ parts_first major minor = byte_of major (minor_code minor)
 abbrev pub parts_bytes : ℕ → Minor → List ℕ
 parts_bytes major minor = parts_first major minor ∷ minor_affix minor
 
--- The bytes of a title (RFC 7049, 2.1).
+-- The bytes of a title (RFC 7049, 2.1). For the major type 4 and `Two 256` they are `99 01 00`.
 abbrev pub title_bytes : Title → List ℕ
 title_bytes t = parts_bytes t.major t.minor
 
--- The parts are the parts of a title: the major type is below 8, and the number fits (RFC 7049, 2.1).
+-- The parts are the parts of a title: the major type is below 8, and the number fits (RFC 7049, 2.1). The parts 7 and
+-- `Open` are those of `ff`, and 8 and `Open` are of no title.
 pub record IsParts (t : Title) : Type 0 where
   pub major : t.major < 8
   pub minor : IsMinor t.minor

@@ -49,7 +49,8 @@ abbrev pub IsWritable : Kind → List ℕ → Type 0
 IsWritable Bytes front = Unit {0}
 IsWritable Text front = IsCharacters front
 
--- A copy may consume this many more bytes of a body than it writes: up to three of a text.
+-- A copy may consume this many more bytes of a body than it writes: none of a byte string, and up to 3 of a text, as
+-- `f0 9f 98` of `f0 9f 98 80`.
 abbrev pub most_kept : Kind → ℕ
 most_kept Bytes = 0
 most_kept Text = 3

@@ -11,7 +11,8 @@ use Rattle.ciborium_ll_grammar.specs.declared.hdr.Header.TheVariants as h
 use Rattle.ciborium_ll_grammar.specs.declared.hdr.Float.{Float}
 use Rattle.ciborium_ll_grammar.specs.declared.hdr.Float.TheVariants as f
 
--- The eight major types. The upper three bits of a first byte give the major type (RFC 7049, 2.1).
+-- The eight major types. The upper three bits of a first byte give the major type (RFC 7049, 2.1). In `61` they give
+-- `TextString`.
 pub data Major : Type 0 where
   Unsigned Negative ByteString TextString Array Map Tag Other : Major
 
@@ -40,7 +41,8 @@ first_byte major minor = byte_of (major_code major) minor
 pub data Size : Type 0 where
   Small One Two Four Eight : Size
 
--- The numbers of a size are below this limit: 24, 2^8, 2^16, 2^32 or 2^64 (RFC 7049, 2.1).
+-- The numbers of a size are below this limit: 24, 2^8, 2^16, 2^32 or 2^64 (RFC 7049, 2.1). For `One` it is 2^8, so
+-- `18 ff` has the greatest number.
 abbrev pub size_limit : Size → ℕ
 size_limit Small = 24
 size_limit One = 2 ^ 8
@@ -168,20 +170,21 @@ pub record IsStrictTitle (title : List ℕ) (header : Header) : Type 0 where
   pub shortest : title ≡ shortest_title header
   pub meant : IsSmallSimple header → ⊥
 
--- The length of the waiting header's shortest title, or 0 if no header waits.
+-- The length of the waiting header's shortest title, or 0 if no header waits. For the header of `19 01 00` it is 3.
 abbrev pub waiting_len : Option Header → ℕ
 waiting_len None = 0
 waiting_len (Some header) = title_len header
 
 -- ---- the numbers of a header are in the ranges of their types
 
--- The float's bits fit its width (RFC 7049, 2.3).
+-- The float's bits fit its width (RFC 7049, 2.3). The 16 bits of `Half` hold 65535, and not 65536.
 abbrev pub IsFloatInRange : Float → Type 0
 IsFloatInRange (f.Half n) = n < 2 ^ 16
 IsFloatInRange (f.Single n) = n < 2 ^ 32
 IsFloatInRange (f.Double n) = n < 2 ^ 64
 
--- Each number fits its Rust type: 8 bits for a simple value, otherwise 64 (RFC 7049, 2.1 and 2.3).
+-- Each number fits its Rust type: 8 bits for a simple value, the width of a float, and otherwise 64 bits (RFC 7049, 2.1
+-- and 2.3). The simple value 255 fits, and 256 does not.
 abbrev pub IsInRange : Header → Type 0
 IsInRange (h.Positive n) = n < 2 ^ 64
 IsInRange (h.Negative n) = n < 2 ^ 64
@@ -200,7 +203,8 @@ IsInRange (h.Map len) = IfSome len (λ n. n < 2 ^ 64)
 abbrev pub IsReserved : ℕ → Type 0
 IsReserved minor = (28 ≤ minor) × (minor ≤ 30)
 
--- The major type has no indefinite form: 0, 1 or 6 (RFC 7049, 2.2).
+-- The major type has no indefinite form: it is 0, 1 or 6 (RFC 7049, 2.2). So `df`, of the major type 6, begins no
+-- title.
 abbrev pub IsNeverOpen : ℕ → Type 0
 IsNeverOpen major = (major ≡ 0) ⊎ ((major ≡ 1) ⊎ (major ≡ 6))
 
@@ -231,11 +235,11 @@ abbrev pub IsCutTitle : List ℕ → Type 0
 IsCutTitle [] = Unit {0}
 IsCutTitle (byte ∷ rest) = length rest < affix_len (byte % 32)
 
--- Each element of the list is a byte: below 256.
+-- Each element of the list is a byte: 255 may be one, and 256 may not.
 abbrev pub AreBytes : List ℕ → Type 0
 AreBytes bytes = AllByRecursion (λ byte. byte < 256) bytes
 
--- The 27 refused bytes, in order (RFC 7049, 2.1 and 2.2).
+-- The 27 refused bytes, in order (RFC 7049, 2.1 and 2.2): `1c` is the first, and `fe` the last.
 abbrev pub refused_bytes : List ℕ
 refused_bytes =
     0x1c ∷ 0x1d ∷ 0x1e ∷ 0x1f ∷ 0x3c ∷ 0x3d ∷ 0x3e ∷ 0x3f ∷ 0x5c ∷ 0x5d ∷ 0x5e ∷ 0x7c ∷ 0x7d ∷ 0x7e ∷ 0x9c ∷ 0x9d ∷

@@ -6,7 +6,7 @@ use Rattle.ciborium_ll_grammar.specs.Strings.{Kind, Bytes, Text}
 use Rattle.ciborium_ll_grammar.specs.Elements.{Mark, Plain, Whole, Open, Piece, Close, open_marks}
 use Rattle.ciborium_ll_text.specs.Cuts.{IsNonempty, IsCut, IsFullCut}
 
--- The least limit of the kind: one byte, or for text the length of the longest character.
+-- The least limit of the kind: one byte, or for text the 4 bytes of the longest characters, as `f0 9f 98 80`.
 abbrev pub least_limit : Kind → ℕ
 least_limit Bytes = 1
 least_limit Text = 4
@@ -34,7 +34,8 @@ AreBytePieces limit value members = (value ≡ joined members) × AreFullPieces 
 abbrev pub AreTextPieces : ℕ → List ℕ → List (List ℕ) → Type 0
 AreTextPieces limit value members = IsFullCut value limit members
 
--- The pieces of a value that is longer than the limit, by its kind.
+-- The pieces of a value that is longer than the limit, by its kind. For the limit 4, `61 62 63 c3 a4` has the pieces
+-- `61 62 63 c3` and `a4` as bytes, and `61 62 63` and `c3 a4` as text.
 abbrev pub ArePieces : Kind → ℕ → List ℕ → List (List ℕ) → Type 0
 ArePieces Bytes limit value members = AreBytePieces limit value members
 ArePieces Text limit value members = AreTextPieces limit value members
@@ -62,7 +63,7 @@ abbrev pub segment_count : List Mark → ℕ
 segment_count marks = length (segments marks)
 
 -- The segments are texts, not empty, and joined they are the text. No cut of the text within the limit has fewer
--- members.
+-- members. For the limit 4, `61 62 63 c3 a4` needs two.
 pub record HasFewestSegments (limit : ℕ) (text : List ℕ) (marks : List Mark) : Type 0 where
   pub cut : IsCut text limit (segments marks)
   pub nonempty : AllByRecursion IsNonempty (segments marks)
