@@ -31,8 +31,8 @@ AppendsPart written written' bytes = (count : ℕ) × Appends written written' (
 abbrev pub ConsumesPart : Option (List ℕ) → Option (List ℕ) → List ℕ → Type 0
 ConsumesPart ahead ahead' bytes = (count : ℕ) × Consumes ahead ahead' (take count bytes) × (count < length bytes)
 
--- A slice that was lent to a writer: the name of the loan, and the bytes of the slice at that time. No call changes it,
--- so the lender of the slice knows that the writer is still on it after a generic call.
+-- A slice that was lent to a writer: the name of the loan, and the bytes of the slice at that time, as `00 00`. No call
+-- changes it, so the lender of the slice knows that the writer is still on it after a generic call.
 pub record Target : Type 0 where
   pub loan : GName
   pub before : List ℕ

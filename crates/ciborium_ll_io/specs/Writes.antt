@@ -19,7 +19,8 @@ module _ {W F : Type 0} (sink : Ghosts W F) where
     pub full : IfSome (sink.room old) (λ room. room < length bytes)
     pub failures : sink.failures new ≡ sink.failures old + 1
 
-  -- The effect of a write of these bytes, by its answer: all of them were appended, or a beginning.
+  -- The effect of a write of these bytes, by its answer: all of them were appended, or a beginning. An error of a write
+  -- of `82 01` after `00` may leave `00 82`.
   abbrev pub WritesBytes : {T : Type 0} → W → Result T F → List ℕ → W → Type 0
   WritesBytes old (Ok done) bytes new = WritesAll old bytes new
   WritesBytes old (Err fault) bytes new = WritesFront old bytes new
