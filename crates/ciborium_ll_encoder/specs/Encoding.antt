@@ -9,12 +9,13 @@ use Rattle.ciborium_ll_grammar.specs.Strings.{Kind, Text}
 use Rattle.ciborium_ll_grammar.specs.Elements.{Mark, spelling, pieces}
 use Rattle.ciborium_ll_grammar.specs.Values.{value_limit, ArePieces, IsWritten, HasFewestSegments}
 
--- The writer of the encoder.
+-- The writer of the encoder: for example, a `Discard` that took `82 01`.
 abbrev pub writer_of : {W : Type 0} → Encoder W → W
 writer_of encoder = encoder.writer
 
 module _ {W F : Type 0} (sink : Ghosts W F) where
-  -- A title was written, or a beginning of it, by the answer. The writer stays on its slice.
+  -- A title was written, or a beginning of it, by the answer: of `19 01 00` an error may leave `19`. The writer stays
+  -- on its slice.
   pub record WritesTitle {T : Type 0} (bytes : List ℕ) (old : W) (result : Result T F) (new : W) : Type 0 where
     pub title : WritesBytes sink old result bytes new
     pub target : sink.target new ≡ sink.target old
@@ -43,7 +44,8 @@ module _ {W F : Type 0} (sink : Ghosts W F) where
     pub written : IsWritten kind (value_limit kind segment value) value marks
     pub bytes : WritesBytes sink old result (spelling marks) new
 
-  -- The effect of `bytes` and `text`. The writer stays on its slice.
+  -- The effect of `bytes` and `text`. The writer stays on its slice. Without a limit, the text `61 62` is written as
+  -- `62 61 62`.
   pub record WritesString {T : Type 0} (kind : Kind) (segment : Option ℕ) (bytes : List ℕ) (old : W)
       (result : Result T F) (new : W) : Type 0 where
     pub value : WritesValue kind segment bytes old result new
