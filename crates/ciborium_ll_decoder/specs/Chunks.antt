@@ -28,11 +28,11 @@ IsSplit Text bytes front rest = IsFront bytes front rest
 -- ---- what a segment is to its callers
 
 module _ {R P : Type 0} {parser : Parser P} where
-  -- The decoder that the segment holds.
+  -- The decoder that the segment holds: at offset 1 after the title `42` at offset 0.
   abbrev pub segment_decoder : Segment R P parser → Decoder R
   segment_decoder s = s.decoder.now
 
-  -- The reference by which the segment holds its decoder.
+  -- The reference by which the segment holds its decoder. It is the same before and after a chunk `01`.
   abbrev pub segment_reference : Segment R P parser → GName
   segment_reference s = s.decoder.ghost_name
 
@@ -41,14 +41,14 @@ module _ {R P : Type 0} {parser : Parser P} where
   abbrev pub left_of : Segment R P parser → ℕ
   left_of s = s.unread + length (kept_bytes s.kept)
 
-  -- Nothing of the body was read.
+  -- Nothing of the body was read: after the title `42`, 2 bytes are unread.
   pub record IsWhole (body : Body) (s : Segment R P parser) : Type 0 where
     pub unread : s.unread ≡ body.length
     pub place : s.place ≡ body.place
     pub kept : kept_bytes s.kept ≡ []
     pub sound : s.damaged ≡ false
 
-  -- The segment is as it was, except for its decoder.
+  -- The segment is as it was, except for its decoder. If 2 bytes were unread, 2 still are.
   pub record KeepsSegment (old new : Segment R P parser) : Type 0 where
     pub unread : new.unread ≡ old.unread
     pub place : new.place ≡ old.place
@@ -68,7 +68,8 @@ module _ {R E : Type 0} (source : Ghosts R E) where
     pub reads : ReadsAll source old read new
     pub whole : filled ≡ front ++ read
 
-  -- The read of bytes after a front, up to the end of a slice, by its answer.
+  -- The read of bytes after a front, up to the end of a slice, by its answer. After the front `c3` in a slice of 3
+  -- bytes, it is a read of 2 bytes.
   abbrev pub FillsBehind : List ℕ → Decoder R → Result (Unit {0}) (Error E) → List ℕ → Decoder R → Type 0
   FillsBehind front old (Ok done) filled new = ReadsBehind front old filled new
   FillsBehind front old (Err (e.Io fault)) filled new = ReadFails source old (length filled - length front) new
@@ -83,7 +84,8 @@ module _ {R E P : Type 0} {parser : Parser P} (source : Ghosts R E) where
   abbrev pub rest : Segment R P parser → Option (List ℕ)
   rest s = prepend_known (kept_bytes s.kept) (option_map (take s.unread) (source.ahead s.decoder.now.reader))
 
-  -- The body has ended: no byte was unread or kept, and nothing changed.
+  -- The body has ended: no byte was unread or kept, and nothing changed. The body of `42 01 02` has ended after the
+  -- chunk `01 02`.
   pub record SegmentEnds (old new : Segment R P parser) : Type 0 where
     pub none_unread : old.unread ≡ 0
     pub none_kept : kept_bytes old.kept ≡ []
@@ -91,7 +93,7 @@ module _ {R E P : Type 0} {parser : Parser P} (source : Ghosts R E) where
     pub same : KeepsSegment old new
     pub decoder : new.decoder.now ≡ old.decoder.now
 
-  -- A read of `read_count` bytes.
+  -- A read of `read_count` bytes: of 2, for example, with room for 4 bytes, none kept and 2 unread.
   pub record ReadsOn (room : ℕ) (old : Segment R P parser) (read : List ℕ) (new : Segment R P parser) : Type 0 where
     pub some_unread : 0 < old.unread
     pub sound : old.damaged ≡ false
@@ -126,14 +128,14 @@ module _ {R E P : Type 0} {parser : Parser P} (source : Ghosts R E) where
     pub split : IsSplit parser.kind (kept_bytes old.kept ++ read) front left
     pub too_much : 3 < length left
 
-  -- The damage was found before.
+  -- The damage was found before: in the text body `ff 61 62 63`, for example, by a call into 4 bytes.
   pub record StaysDamaged (old new : Segment R P parser) : Type 0 where
     pub damaged-before : old.damaged ≡ true
     pub same : KeepsSegment old new
     pub decoder : new.decoder.now ≡ old.decoder.now
 
   -- The body is no text: it was damaged before, or bytes are kept at its end, or more than three bytes would have to be
-  -- kept. The place is the segment's, and nothing is kept.
+  -- kept. The place is the segment's, and nothing is kept. At its end the text body `61 c3` is damaged.
   pub record FindsDamage (room : ℕ) (old : Segment R P parser) (at : ℕ) (new : Segment R P parser) : Type 0 where
     pub place : at ≡ old.place
     pub same_place : new.place ≡ old.place
@@ -141,14 +143,14 @@ module _ {R E P : Type 0} {parser : Parser P} (source : Ghosts R E) where
     pub cause : StaysDamaged old new ⊎ (EndsInCharacter old new ⊎ KeepsTooMuch room old new)
     pub none_kept : StaysDamaged old new ⊎ (kept_bytes new.kept ≡ [])
 
-  -- The reader failed, and the segment is as it was.
+  -- The reader failed, and the segment is as it was: if only 1 of 2 unread bytes comes, 2 are still unread.
   pub record ChunkFails (room : ℕ) (old new : Segment R P parser) : Type 0 where
     pub some_unread : 0 < old.unread
     pub sound : old.damaged ≡ false
     pub fails : ReadFails source old.decoder.now (read_count room old) new.decoder.now
     pub same : KeepsSegment old new
 
-  -- The offset can't take the read, and the segment is as it was.
+  -- The offset can't take the read, and the segment is as it was. At the offset 2^64 - 2 it can't take 2 bytes.
   pub record ChunkPasses (room : ℕ) (old new : Segment R P parser) : Type 0 where
     pub some_unread : 0 < old.unread
     pub sound : old.damaged ≡ false
@@ -156,7 +158,8 @@ module _ {R E P : Type 0} {parser : Parser P} (source : Ghosts R E) where
     pub untouched : IsUntouched old.decoder.now new.decoder.now
     pub same : KeepsSegment old new
 
-  -- `pull` of a segment into `room` bytes, by its answer.
+  -- `pull` of a segment into `room` bytes, by its answer. With a `room` of 1, the byte string `42 01 02` gives the
+  -- chunks `01` and `02`.
   abbrev pub SegmentPullAnswer : ℕ → Segment R P parser → Result (Option (Bor (List ℕ))) (Error E) → Segment R P parser
       → Type 0
   SegmentPullAnswer room old (Ok None) new = SegmentEnds old new
@@ -167,7 +170,7 @@ module _ {R E P : Type 0} {parser : Parser P} (source : Ghosts R E) where
   SegmentPullAnswer room old (Err e.Waiting) new = ⊥
 
   -- `pull` of a segment, and the facts that it keeps. The bytes that were to come of the body are the chunk and then
-  -- the bytes that are still to come.
+  -- the bytes that are still to come. After the chunk `01` of the body `01 02`, `02` is still to come.
   pub record SegmentPull (room : ℕ) (old : Segment R P parser) (result : Result (Option (Bor (List ℕ))) (Error E))
       (new : Segment R P parser) : Type 0 where
     pub chunk : SegmentPullAnswer room old result new
@@ -177,7 +180,8 @@ module _ {R E P : Type 0} {parser : Parser P} (source : Ghosts R E) where
     pub moves_on : MovesOn source (segment_decoder old) (segment_decoder new)
 
 module _ {R E : Type 0} (source : Ghosts R E) (kind : Kind) (strict : Bool) where
-  -- `advance` gave this answer and left this decoder. The offset rose by at least one for each further open.
+  -- `advance` gave this answer and left this decoder. The offset rose by at least one for each further open. Over
+  -- `5f 41` it rose by 2, for one open.
   pub record GoesOnTo (progress : Progress) (old : Decoder R) (result : Result (Option Body) (Error E))
       (new : Decoder R) : Type 0 where
     pub after : Progress
@@ -186,13 +190,14 @@ module _ {R E : Type 0} (source : Ghosts R E) (kind : Kind) (strict : Bool) wher
     pub moves_on : MovesOn source old new
 
 module _ {R E P : Type 0} {parser : Parser P} (source : Ghosts R E) (kind : Kind) (strict : Bool) where
-  -- The segment is whole, and holds the decoder as `advance` left it.
+  -- The segment is whole, and holds the decoder as `advance` left it: after `42`, with 2 bytes unread.
   pub record LendsWhole (progress : Progress) (old : Decoder R) (segment : Segment R P parser) : Type 0 where
     pub body : Body
     pub goes_on : GoesOnTo source kind strict progress old (Ok (Some body)) segment.decoder.now
     pub whole : IsWhole body segment
 
-  -- `pull` of a string answers as `advance` does, with a whole segment in place of a body.
+  -- `pull` of a string answers as `advance` does, with a whole segment in place of a body: over `42`, with one of 2
+  -- bytes.
   abbrev pub SegmentsPull : Progress → Decoder R → Result (Option (Segment R P parser)) (Error E) → Type 0
   SegmentsPull progress old (Ok (Some segment)) = LendsWhole progress old segment
   SegmentsPull progress old (Ok None) = (new : Decoder R) × GoesOnTo source kind strict progress old (Ok None) new

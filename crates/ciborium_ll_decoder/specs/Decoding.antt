@@ -18,7 +18,7 @@ use Rattle.ciborium_ll_grammar.specs.Title.{shortest_title, title_len}
 use Rattle.ciborium_ll_grammar.specs.Parts.{IsMinor, IsParts, refused_when_strict, minor_code, minor_affix}
 use Rattle.ciborium_ll_grammar.specs.Parts.{title_bytes}
 
--- Every offset is below this number, so it is at most `usize::MAX`.
+-- Every offset is below this number, so it is at most 2^64 - 1, which is `usize::MAX`.
 abbrev pub offset_limit : ℕ
 offset_limit = 2 ^ 64
 
@@ -28,7 +28,8 @@ abbrev pub behind_waiting : Option Header → Option (List ℕ) → Option (List
 behind_waiting None ahead = ahead
 behind_waiting (Some header) ahead = prepend_known (shortest_title header) ahead
 
--- As a reader, a decoder tells its bytes only while no header waits.
+-- As a reader, a decoder tells its bytes only while no header waits: `01 02`, or nothing if the header of `82` waits
+-- before them.
 abbrev pub told_unless_waiting : Option Header → Option (List ℕ) → Option (List ℕ)
 told_unless_waiting None ahead = ahead
 told_unless_waiting (Some header) ahead = None
@@ -36,42 +37,45 @@ told_unless_waiting (Some header) ahead = None
 -- ---- what a decoder is to its callers
 
 module _ {R : Type 0} where
-  -- The reader that the decoder reads.
+  -- The reader that the decoder reads. After a `pull` over `82 01` it has `01` left.
   abbrev pub reader_of : Decoder R → R
   reader_of d = d.reader
 
-  -- How many bytes of titles and bodies were consumed, counted from the decoder's start.
+  -- The offset at the decoder's start plus the number of bytes of titles and bodies that were consumed. From the offset
+  -- 5 on, `19 01 00` leads to 8.
   abbrev pub offset_of : Decoder R → ℕ
   offset_of d = d.offset
 
-  -- The header that waits, if one does.
+  -- The header that waits, if one does: that of `82` after a `push` of it.
   abbrev pub waiting_of : Decoder R → Option Header
   waiting_of d = d.waiting
 
-  -- A header waits.
+  -- A header waits: it does after a `push` of the header of `82`, and not after the next `pull`.
   abbrev pub IsWaiting : Decoder R → Type 0
   IsWaiting d = IsSome d.waiting
 
-  -- Whether the decoder takes strict titles alone.
+  -- Whether the decoder takes strict titles alone: `01`, but not `18 01`.
   abbrev pub strict_of : Decoder R → Bool
   strict_of d = d.strict
 
-  -- `Holds` is true if the decoder is strict and no header waits.
+  -- `Holds` is true if the decoder is strict and no header waits. If the header of `82` waits, nothing is said of
+  -- `Holds`.
   abbrev pub Strictly : Decoder R → Type 0 → Type 0
   Strictly d Holds = IsTrue d.strict → d.waiting ≡ None → Holds
 
-  -- How many reads the decoder refused by itself.
+  -- How many reads the decoder refused by itself: 1 after a `read_exact` while a header waited.
   abbrev pub refusals_of : Decoder R → ℕ
   refusals_of d = d.refusals.count
 
-  -- The decoder refused the read, and nothing changed except its count of refusals.
+  -- The decoder refused the read, and nothing changed except its count of refusals. From the offset 3 on, it is still
+  -- at 3.
   pub record IsUntouched (old new : Decoder R) : Type 0 where
     pub reader : new.reader ≡ old.reader
     pub offset : new.offset ≡ old.offset
     pub waiting : new.waiting ≡ old.waiting
     pub mode : new.strict ≡ old.strict
 
-  -- The decoder is strict or not, as given, and nothing was pulled yet.
+  -- The decoder is strict or not, as given, and nothing was pulled yet. If the start is 5, its offset is 5.
   pub record IsFreshAs (strict : Bool) (r : R) (start : ℕ) (d : Decoder R) : Type 0 where
     pub mode : d.strict ≡ strict
     pub reader : d.reader ≡ r
@@ -79,12 +83,13 @@ module _ {R : Type 0} where
     pub none_waits : d.waiting ≡ None
     pub refusals : d.refusals.count ≡ 0
 
-  -- Nothing was pulled yet, and the decoder isn't strict.
+  -- Nothing was pulled yet, and the decoder isn't strict: it takes `18 01`, too.
   abbrev pub IsFresh : R → ℕ → Decoder R → Type 0
   IsFresh r start d = IsFreshAs false r start d
 
 module _ {E : Type 0} where
-  -- A decoder refuses a read by `Waiting` and `TooLong`. It counts these errors, and no others.
+  -- A decoder refuses a read by `Waiting` and `TooLong`. It counts these errors, and no others. After 2 refusals,
+  -- `TooLong` makes 3, and `Syntax(0)` leaves 2.
   abbrev pub CountsRefusal : Error E → ℕ → ℕ → Type 0
   CountsRefusal e.Waiting old new = new ≡ old + 1
   CountsRefusal e.TooLong old new = new ≡ old + 1
@@ -102,20 +107,21 @@ abbrev pub Begins : List ℕ → List ℕ → Type 0
 Begins front all = (rest : List ℕ) × (all ≡ front ++ rest)
 
 module _ {R E : Type 0} (source : Ghosts R E) where
-  -- The bytes that are due: the shortest title of a waiting header, and then the bytes that the reader has ahead.
+  -- The bytes that are due: the shortest title of a waiting header, and then the bytes that the reader has ahead. If
+  -- the header of `18 17` waits before `02`, these are `17 02`.
   abbrev pub view : Decoder R → Option (List ℕ)
   view d = behind_waiting d.waiting (source.ahead d.reader)
 
-  -- How often the decoder's reader failed.
+  -- How often the decoder's reader failed: 1 after a `pull` over `19 01` alone.
   abbrev pub failures_of : Decoder R → ℕ
   failures_of d = source.failures d.reader
 
-  -- The decoder's reader fails only if bytes are missing.
+  -- The decoder's reader fails only if bytes are missing: over `01 02 03`, a read of 2 bytes succeeds.
   abbrev pub IsSteady : Decoder R → Type 0
   IsSteady d = IsTrue (source.steady d.reader)
 
   -- A call that reads keeps a steady reader steady, and the decoder as strict as it was, whatever it answers. The
-  -- decoder refused nothing by itself, and its offset never falls.
+  -- decoder refused nothing by itself, and its offset never falls. From the offset 3 it may lead to 5, and not to 2.
   pub record MovesOn (old new : Decoder R) : Type 0 where
     pub steady : IsSteady old → IsSteady new
     pub mode : strict_of new ≡ strict_of old
@@ -193,7 +199,7 @@ module _ {R E : Type 0} (source : Ghosts R E) where
     pub none_waits : new.waiting ≡ None
     pub failures : failures_of new ≡ failures_of old
 
-  -- `pull`, by its answer.
+  -- `pull`, by its answer. Over `83` it gives the header of an array of three, and over `1c` the error `Syntax`.
   abbrev pub DecoderPullAnswer : Decoder R → Result Header (Error E) → Decoder R → Type 0
   DecoderPullAnswer old (Ok header) new = PullsTitle old header new
   DecoderPullAnswer old (Err (e.Io fault)) new = FailsAtTitle old new
@@ -201,7 +207,7 @@ module _ {R E : Type 0} (source : Ghosts R E) where
   DecoderPullAnswer old (Err e.TooLong) new = PassesOffset old new
   DecoderPullAnswer old (Err e.Waiting) new = ⊥
 
-  -- `pull`, and the facts that it keeps.
+  -- `pull`, and the facts that it keeps. Over `19 01 00` from the offset 0 on, it leads to the offset 3.
   pub record DecoderPull (old : Decoder R) (result : Result Header (Error E)) (new : Decoder R) : Type 0 where
     pub header : DecoderPullAnswer old result new
     -- The caller may push the header back.
@@ -210,7 +216,8 @@ module _ {R E : Type 0} (source : Ghosts R E) where
     pub full : old.waiting ≡ None → old.offset ≡ offset_limit - 1 → IsErrOf result e.TooLong
     pub moves_on : MovesOn old new
 
-  -- `pull_title` answers as `pull` does, with a title of the header in its parts.
+  -- `pull_title` answers as `pull` does, with a title of the header in its parts: over `f9 3c 00`, with the major type
+  -- 7 and `Two 15360`.
   pub record DecoderPullTitle (old : Decoder R) (result : Result (Header × Title) (Error E)) (new : Decoder R) : Type 0 where
     pub header : MatchResult result (λ pulled. PullsTitle old pulled.0 new) (λ error. DecoderPullAnswer old (Err error) new)
     pub parts : IfOk result (λ pulled. IsParts pulled.1)
@@ -243,7 +250,8 @@ module _ {R E : Type 0} (source : Ghosts R E) where
 
   -- ---- pull, push of what it gave, and pull again
 
-  -- `pull`, `push` of the header that it gave, and `pull` again, one after the other.
+  -- `pull`, `push` of the header that it gave, and `pull` again, one after the other. Over `18 18` both pulls give the
+  -- number 24.
   pub record PullsTwice (old : Decoder R) (header : Header) (new : Decoder R) : Type 0 where
     pub pulled : Decoder R
     pub pushed : Decoder R
@@ -255,12 +263,13 @@ module _ {R E : Type 0} (source : Ghosts R E) where
     pub offset : new.offset ≡ pulled.offset
     pub none_waits : new.waiting ≡ None
 
-  -- `pull`, `push` of the header that it gave, and `pull` again, by the last answer.
+  -- `pull`, `push` of the header that it gave, and `pull` again, by the last answer. Over `1c` the first `pull` fails,
+  -- and is the last.
   abbrev pub PullsAgain : Decoder R → Result Header (Error E) → Decoder R → Type 0
   PullsAgain old (Ok header) new = PullsTwice old header new
   PullsAgain old (Err error) new = DecoderPullAnswer old (Err error) new
 
-  -- `pull_again`, and the facts that it keeps.
+  -- `pull_again`, and the facts that it keeps. Over `82` from the offset 0 on, `Ok` leads to the offset 1.
   pub record PullsBack (old : Decoder R) (result : Result Header (Error E)) (new : Decoder R) : Type 0 where
     pub again : PullsAgain old result new
     pub moves_on : MovesOn old new
@@ -276,7 +285,7 @@ module _ {R E : Type 0} (source : Ghosts R E) where
     pub failures : failures_of new ≡ failures_of old
     pub mode : new.strict ≡ old.strict
 
-  -- The reader failed.
+  -- The reader failed: at a read of 3 bytes, for example, if it has only `01 02`.
   pub record ReadFails (old : Decoder R) (count : ℕ) (new : Decoder R) : Type 0 where
     pub offset : new.offset ≡ old.offset
     pub fitted : old.offset + count < offset_limit
@@ -288,7 +297,8 @@ module _ {R E : Type 0} (source : Ghosts R E) where
         × IfSome (source.ahead old.reader) (λ bytes. length bytes < count)
 
   -- `read_exact`, by its answer: a read of as many bytes as the list has. If the answer is `Ok`, the list holds the
-  -- bytes. Otherwise the reader failed, or a refusal left the decoder untouched.
+  -- bytes. Otherwise the reader failed, or a refusal left the decoder untouched. Over `01 02 03`, a read of 2 bytes may
+  -- give `01 02`.
   abbrev pub ReadsBytes : Decoder R → Result (Unit {0}) (Error E) → List ℕ → Decoder R → Type 0
   ReadsBytes old (Ok done) bytes new = ReadsAll old bytes new
   ReadsBytes old (Err (e.Io fault)) bytes new = ReadFails old (length bytes) new
@@ -297,7 +307,7 @@ module _ {R E : Type 0} (source : Ghosts R E) where
       × IsUntouched old new
   ReadsBytes old (Err (e.Syntax place)) bytes new = ⊥
 
-  -- `read_exact`, and the facts that it keeps. The decoder counts a refusal.
+  -- `read_exact`, and the facts that it keeps. The decoder counts a refusal: 1 more, if a header waits.
   pub record Reads (old : Decoder R) (result : Result (Unit {0}) (Error E)) (bytes : List ℕ) (new : Decoder R) :
       Type 0 where
     pub read : ReadsBytes old result bytes new
@@ -315,7 +325,7 @@ module _ {R E : Type 0} (source : Ghosts R E) where
     pub code : first % 32 ≡ minor_code read
     pub all : ReadsAll old (minor_affix read) new
 
-  -- The decoder read the affix. If the decoder is strict, it takes the number.
+  -- The decoder read the affix. If the decoder is strict, it takes the number: after `18` it takes 24, but not 23.
   pub record ReadsAffix (first : ℕ) (old : Decoder R) (read : Minor) (new : Decoder R) : Type 0 where
     pub holds : HoldsAffix first old read new
     pub taken : IsTrue old.strict → refused_when_strict (first / 32) read ≡ false
@@ -327,7 +337,7 @@ module _ {R E : Type 0} (source : Ghosts R E) where
     pub strict : IsTrue old.strict
     pub longer : refused_when_strict (first / 32) read ≡ true
 
-  -- The read of an affix, by its answer.
+  -- The read of an affix, by its answer. After `19` and over `01 00` it gives `Two 256`.
   abbrev pub ReadsMinor : ℕ → Decoder R → Result (Option Minor) (Error E) → Decoder R → Type 0
   ReadsMinor first old (Ok (Some read)) new = ReadsAffix first old read new
   ReadsMinor first old (Ok None) new = (IsReserved (first % 32) × (new ≡ old)) ⊎ RefusesAffix first old new

@@ -5,7 +5,7 @@ use Rattle.ciborium_ll_decoder.specs.declared.dec.Error.TheVariants as e
 use Rattle.ciborium_ll_decoder.specs.declared.copy.RecodeError.{RecodeError}
 use Rattle.ciborium_ll_decoder.specs.declared.copy.RecodeError.TheVariants as r
 
--- The front, and then a text, if the text is known.
+-- The front, and then a text, if the text is known. For "a: " and "b" it is "a: b".
 abbrev pub behind : List ℕ → Option (List ℕ) → Option (List ℕ)
 behind front None = None
 behind front (Some text) = Some (front ++ text)
@@ -19,7 +19,8 @@ error_text shown e.TooLong = Some (codes "the offset can't take the next read")
 error_text shown e.Waiting = Some (codes "a header waits in front of the bytes")
 
 -- The text that `{}` writes for an error of a copy: the decoder's error, or that the writer failed. `shown` and `told`
--- give the texts of the reader's and of the writer's own errors.
+-- give the texts of the reader's and of the writer's own errors. For `Write` of an error "full" it is "the writer
+-- failed: full".
 abbrev pub recode_error_text : {E F : Type 0} → (E → Option (List ℕ)) → (F → Option (List ℕ)) → RecodeError E F
     → Option (List ℕ)
 recode_error_text shown told (r.Read error) = error_text shown error

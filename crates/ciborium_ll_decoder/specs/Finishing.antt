@@ -46,7 +46,7 @@ module _ {R E : Type 0} (source : Ghosts R E) (kind : Kind) (kept : List ℕ) (u
     pub passed : ReadsPast source old read between
 
   -- After the bytes `read` of the rest `count` more bytes were read. With them the body of a text is no text, as a
-  -- whole or however it goes on (RFC 7049, 2.1).
+  -- whole or however it goes on (RFC 7049, 2.1). After `c3`, the byte `28` makes no text.
   pub record GivesNoText (read : List ℕ) (count : ℕ) (between new : Decoder R) : Type 0 where
     pub textual : kind ≡ Text
     pub last : List ℕ
@@ -55,7 +55,7 @@ module _ {R E : Type 0} (source : Ghosts R E) (kind : Kind) (kept : List ℕ) (u
     pub passed : ReadsPast source between last new
 
   -- The read of `count` bytes after the bytes `read` stops with this error: the reader failed, the body at this place
-  -- is no text, or the offset can't take that many bytes.
+  -- is no text, or the offset can't take that many bytes. At the offset 2^64 - 2 it can't take 2.
   abbrev pub StopsReading : List ℕ → ℕ → ℕ → Decoder R → Error E → Decoder R → Type 0
   StopsReading read place count between (e.Io fault) new = (0 < count) × ReadFails source between count new
   StopsReading read place count between (e.Syntax at) new = (at ≡ place) × GivesNoText read count between new
@@ -75,20 +75,20 @@ module _ {R E : Type 0} (source : Ghosts R E) (kind : Kind) (kept : List ℕ) (u
 
   -- `EndsBody source kind kept unread room place old result new`: the read of a body at this place to its end, through
   -- a buffer of `room` bytes, by its answer. At first `unread` bytes of the body are unread, and the bytes `kept` are
-  -- kept.
+  -- kept. After `42`, 2 bytes are unread, and none are kept.
   abbrev pub EndsBody : ℕ → ℕ → Decoder R → Result (Unit {0}) (Error E) → Decoder R → Type 0
   EndsBody room place old (Ok done) new = ReadsRest old new
   EndsBody room place old (Err error) new = StopsRest room place old error new
 
 module _ {R E P : Type 0} {parser : Parser P} (source : Ghosts R E) where
-  -- The segment was damaged before, and nothing is read.
+  -- The segment was damaged before, and nothing is read. For a segment with the place 3 the answer is `Syntax(3)`.
   pub record EndsDamaged (segment : Segment R P parser) (result : Result (Unit {0}) (Error E)) (new : Decoder R) :
       Type 0 where
     pub damaged : segment.damaged ≡ true
     pub answer : result ≡ Err (e.Syntax segment.place)
     pub same : new ≡ segment.decoder.now
 
-  -- The segment is sound so far, and the rest of its body is read.
+  -- The segment is sound so far, and the rest of its body is read: `02`, if the chunk `01` of the body `01 02` came.
   pub record EndsSound (room : ℕ) (segment : Segment R P parser) (result : Result (Unit {0}) (Error E))
       (new : Decoder R) : Type 0 where
     pub undamaged : segment.damaged ≡ false
@@ -96,17 +96,18 @@ module _ {R E P : Type 0} {parser : Parser P} (source : Ghosts R E) where
         segment.decoder.now result new
 
   -- `finish` of a segment through a buffer of `room` bytes, and the decoder afterwards. The rest is read to its end, or
-  -- the segment was damaged before and nothing is read.
+  -- the segment was damaged before and nothing is read. If 2 of 5 bytes came, it reads 3.
   abbrev pub Finishes : ℕ → Segment R P parser → Result (Unit {0}) (Error E) → Decoder R → Type 0
   Finishes room segment result new = EndsSound room segment result new ⊎ EndsDamaged segment result new
 
-  -- `finish` of a segment, and the facts that it keeps.
+  -- `finish` of a segment, and the facts that it keeps. If 3 bytes were unread, `Ok` raises the offset by 3.
   pub record SegmentFinish (room : ℕ) (segment : Segment R P parser) (result : Result (Unit {0}) (Error E))
       (new : Decoder R) : Type 0 where
     pub finishes : Finishes room segment result new
     pub moves_on : MovesOn source segment.decoder.now new
 
-  -- `finish` of a string reads the body that `advance` gave last, and the string goes on as before.
+  -- `finish` of a string reads the body that `advance` gave last, and the string goes on as before. In `5f 41 01 ff` it
+  -- reads `01`, and then `ff` is due.
   pub record FinishesBody (body : Body) (room : ℕ) (old : Segments R P parser) (result : Result (Unit {0}) (Error E))
       (new : Segments R P parser) : Type 0 where
     pub finishes : EndsBody source parser.kind [] body.length room body.place (string_decoder old) result

@@ -20,29 +20,30 @@ use Rattle.ciborium_ll_decoder.specs.Decoding.{ReadsPast, DecoderPullAnswer, Pul
 -- ---- what a string is to its callers
 
 module _ {R P : Type 0} {parser : Parser P} where
-  -- The decoder that the string holds.
+  -- The decoder that the string holds: at offset 2, if `5f 41` was read from offset 0 on.
   abbrev pub string_decoder : Segments R P parser → Decoder R
   string_decoder s = s.decoder.now
 
-  -- The reference by which the string holds its decoder.
+  -- The reference by which the string holds its decoder. `advance` over `5f 41` keeps it.
   abbrev pub string_reference : Segments R P parser → GName
   string_reference s = s.decoder.ghost_name
 
-  -- How far the string's titles were read.
+  -- How far the string's titles were read: to `Open(1)` after `5f 41`.
   abbrev pub progress_of : Segments R P parser → Progress
   progress_of s = s.progress
 
-  -- Whether the string is strict. A strict string takes no open within an open.
+  -- Whether the string is strict. A strict string takes no open within an open: it refuses the second title of `7f 7f`.
   abbrev pub string_strict : Segments R P parser → Bool
   string_strict s = s.strict
 
-  -- None of the string's titles was read.
+  -- None of the string's titles was read. Over `5f 41 01 ff` the title `5f` is due, and the progress is `Open(0)`.
   abbrev pub IsAtBeginning : Segments R P parser → Type 0
   IsAtBeginning s = s.progress ≡ p.Open 0
 
 module _ {R E P : Type 0} {parser : Parser P} (source : Ghosts R E) where
   -- `bytes` and `text` of a decoder give this string. Its header waits again, it is as strict as the decoder, and it
-  -- holds the decoder by this reference.
+  -- holds the decoder by this reference. After `58 02` was pulled from offset 0 on, the decoder is back at 1, as `42`
+  -- has one byte.
   pub record BeginsString (old : Decoder R) (header : Header) (reference : GName) (string : Segments R P parser) :
       Type 0 where
     pub back : TakesBack source old header (string_decoder string)
@@ -76,7 +77,8 @@ IsRefusedAt strict kind opens header =
     IsMisplacedAt kind opens header ⊎ ((0 < opens) × (strict ≡ true) × (header ≡ kind_header kind None))
 
 module _ {A E : Type 0} where
-  -- The string gives an answer that stays again: it has ended, it is damaged, or it is nested too deep.
+  -- The string gives an answer that stays again: it has ended, it is damaged, or it is nested too deep. After damage at
+  -- the place 2 this is `Syntax(2)`.
   abbrev pub GivesAgain : Progress → Result (Option A) (Error E) → Type 0
   GivesAgain (p.Open opens) result = Unit {0}
   GivesAgain p.Ended result = result ≡ Ok None
@@ -85,7 +87,7 @@ module _ {A E : Type 0} where
 
 module _ {R E : Type 0} (source : Ghosts R E) where
   -- `pull` gave a title at this offset whose header may not stand there. `FindsOther`, `StopsAtOther` and `MeetsOther`
-  -- say by which rule, and what came before.
+  -- say by which rule, and what came before. In `5f 61` from offset 0 on, the offset is 1.
   pub record PullsOther (IsRefused : Header → Type 0) (old : Decoder R) (at : ℕ) (new : Decoder R) : Type 0 where
     pub header : Header
     pub pulled : PullsTitle source old header new
@@ -107,7 +109,7 @@ module _ {R E : Type 0} (source : Ghosts R E) (kind : Kind) where
     pub last : opens ≡ 1
     pub after : progress ≡ p.Ended
 
-  -- A further open comes inside as many opens as can be counted.
+  -- A further open comes inside as many opens as can be counted: 2^64 - 1.
   pub record NestsTooDeep (opens : ℕ) (old : Decoder R) (progress : Progress) (new : Decoder R) : Type 0 where
     pub pulled : PullsTitle source old (kind_header kind None) new
     pub most : opens ≡ 2 ^ 64 - 1
@@ -126,7 +128,7 @@ module _ {R E : Type 0} (source : Ghosts R E) (kind : Kind) (strict : Bool) wher
     pub other : PullsOther source (IsRefusedAt strict kind opens) old at new
     pub after : progress ≡ p.Damaged at
 
-  -- The titles of a string lead to this answer, inside `opens` opens.
+  -- The titles of a string lead to this answer, inside `opens` opens. Inside one open `41` leads to a body of 1 byte.
   abbrev pub EndsAdvance : ℕ → Decoder R → Result (Option Body) (Error E) → Progress → Decoder R → Type 0
   EndsAdvance opens old (Ok (Some body)) progress new = FindsBody source kind opens old body progress new
   EndsAdvance opens old (Ok None) progress new = ClosesString source kind opens old progress new
@@ -147,7 +149,7 @@ module _ {R E : Type 0} (source : Ghosts R E) (kind : Kind) (strict : Bool) wher
     -- A strict string takes the first open alone.
     pub level : IsTrue strict → opens ≡ 0
 
-  -- One title of a string, as the loop takes it (RFC 7049, 2.2.2).
+  -- One title of a string, as the loop takes it (RFC 7049, 2.2.2). The title `5f` may lead from 0 opens to 1.
   abbrev pub StepsOver : ℕ → Decoder R → Result (Option Body) (Error E) → Progress → Decoder R → Type 0
   StepsOver opens old (Ok (Some body)) progress new = FindsBody source kind opens old body progress new
   StepsOver opens old (Ok None) progress new = ClosesString source kind opens old progress new ⊎
@@ -168,7 +170,7 @@ module _ {R E : Type 0} (source : Ghosts R E) (kind : Kind) (strict : Bool) wher
     pub ends : EndsAdvance left between result progress new
 
   -- `advance` from a progress. If titles are due, they lead on. Otherwise the string gives an answer that stays again,
-  -- and reads nothing.
+  -- and reads nothing. After all of `5f 41 01 ff` this answer is `Ok(None)`.
   abbrev pub AdvancesTo : Progress → Decoder R → Result (Option Body) (Error E) → Progress → Decoder R → Type 0
   AdvancesTo (p.Open opens) old result progress new = AdvancesFrom opens old result progress new
   AdvancesTo p.Ended old result progress new = (result ≡ Ok None) × (progress ≡ p.Ended) × (new ≡ old)

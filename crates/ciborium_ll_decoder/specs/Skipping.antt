@@ -57,7 +57,7 @@ module _ {R E : Type 0} (source : Ghosts R E) (kind : Kind) where
     pub other : PullsOther source (IsRefusedIn between.strict kind) between at new
 
   -- After that beginning the title of a segment came, and the read of its body failed. The body's place is the offset
-  -- of that title (RFC 7049, 2.2.2).
+  -- of that title (RFC 7049, 2.2.2). In `5f 42 01` from offset 0 on, this place is 1.
   pub record MeetsBody (room : ℕ) (old : Decoder R) (error : Error E) (new : Decoder R) : Type 0 where
     pub between : Decoder R
     pub part : SkipsInside old between
@@ -67,7 +67,8 @@ module _ {R E : Type 0} (source : Ghosts R E) (kind : Kind) where
     pub steady : IsSteady source old → IsSteady source titled
     pub ends : EndsBody source kind [] len room between.offset titled (Err error) new
 
-  -- The read of a string of indefinite length fails in one of these ways (RFC 7049, 2.2.2).
+  -- The read of a string of indefinite length fails in one of these ways (RFC 7049, 2.2.2). In `5f 1c` there is no
+  -- title, and in `5f 41` no whole body.
   abbrev pub StopsInside : ℕ → Decoder R → Error E → Decoder R → Type 0
   StopsInside room old (e.Io fault) new = MeetsNoTitle old (e.Io fault) new ⊎ MeetsBody room old (e.Io fault) new
   StopsInside room old (e.Syntax at) new = MeetsNoTitle old (e.Syntax at) new ⊎
@@ -76,14 +77,14 @@ module _ {R E : Type 0} (source : Ghosts R E) (kind : Kind) where
   StopsInside room old e.Waiting new = ⊥
 
   -- The decoder reads a string of this length to its end, through a buffer of `room` bytes. The place of a lone body is
-  -- the offset at which the header's shortest title would begin.
+  -- the offset at which the header's shortest title would begin. For `58 01 61` from offset 0 on, it is 1.
   abbrev pub SkipsString : Option ℕ → ℕ → Decoder R → Result (Unit {0}) (Error E) → Decoder R → Type 0
   SkipsString len room old (Ok done) new = SkipsWhole len old new
   SkipsString None room old (Err error) new = StopsInside room old error new
   SkipsString (Some len) room old (Err error) new =
       EndsBody source kind [] len room (old.offset - title_len (kind_header kind (Some len))) old (Err error) new
 
-  -- `skip_bytes` and `skip_text`, and the facts that they keep.
+  -- `skip_bytes` and `skip_text`, and the facts that they keep. After the header of `42`, `Ok` raises the offset by 2.
   pub record SkipsOver (len : Option ℕ) (room : ℕ) (old : Decoder R) (result : Result (Unit {0}) (Error E))
       (new : Decoder R) : Type 0 where
     pub skipped : SkipsString len room old result new
