@@ -36,7 +36,8 @@ module _ {E W F : Type 0} (sink : Writer W F) where
 
 -- `NextWrite count room before read whole next`: a copy of `count` elements goes through a buffer of `room` bytes. It
 -- read the bytes `before`, and then the bytes `read` of a body. It wrote the bytes `whole` for them, and the title or
--- chunk `next` is to be written next.
+-- chunk `next` is to be written next. For one element, a `room` of 4, and `01 02 03 04` read after `45`, `whole` is
+-- `45` and `next` is `01 02 03 04`.
 pub data NextWrite (count room : ℕ) : List ℕ → List ℕ → List ℕ → List ℕ → Type 0 where
   -- A title without a body, which is the last mark: that of an element, of the open of a string, or of its break.
   Alone : {before : List ℕ} (marks : List Mark) (mark : Mark) (header : Header)
@@ -56,7 +57,7 @@ pub data NextWrite (count room : ℕ) : List ℕ → List ℕ → List ℕ → L
       → NextWrite count room before (front ++ (chunk ++ kept)) (with_front marks kind len front) chunk
 
 module _ {R E W F : Type 0} (source : Reader R E) (sink : Writer W F) where
-  -- The copy read the bytes, and wrote the spelling of the marks.
+  -- The copy read the bytes, and wrote the spelling of the marks: it read `18 17`, for example, and wrote `17`.
   pub record Copied (old : Sides R W) (bytes : List ℕ) (marks : List Mark) (new : Sides R W) : Type 0 where
     pub passed : ReadsPast source old.decoder bytes new.decoder
     pub written : WritesAll sink old.writer (spelling marks) new.writer
@@ -70,7 +71,8 @@ module _ {R E W F : Type 0} (source : Reader R E) (sink : Writer W F) where
     -- A strict decoder's bytes are written again as they are.
     pub strict : Strictly old.decoder (IsStrictSpelling bytes marks [])
 
-  -- A copy of all elements. It wrote the same elements again, with the same marks, and no longer.
+  -- A copy of all elements. It wrote the same elements again, with the same marks, and no longer: `17`, if it read
+  -- `18 17`.
   pub record CopiesAll (count : ℕ) (old new : Sides R W) : Type 0 where
     pub elements : CopiesRun count old new
     pub again : IsRun count (spelling elements.marks) elements.marks
@@ -101,7 +103,8 @@ module _ {R E W F : Type 0} (source : Reader R E) (sink : Writer W F) where
     pub other : PullsOther source (IsRefusedIn between.strict kind) between at new.decoder
     pub strict : Strictly old.decoder (IsStrictSpelling bytes marks [])
 
-  -- There are more opens than can be counted, and at least as many bytes. The offset is then the greatest number.
+  -- There are more opens than can be counted, and at least as many bytes. The offset is then 2^64 - 1, the greatest
+  -- number.
   pub record StopsTooDeep (count : ℕ) (old new : Sides R W) : Type 0 where
     pub bytes : List ℕ
     pub marks : List Mark
@@ -130,7 +133,8 @@ module _ {R E W F : Type 0} (source : Reader R E) (sink : Writer W F) where
     pub strict : Strictly old.decoder
         (IsStrictSpelling bytes marks (shortest_title (kind_header kind (Some len))))
 
-  -- The writer failed at one title or one chunk. Everything before it was written, and at most a beginning of it.
+  -- The writer failed at one title or one chunk. Everything before it was written, and at most a beginning of it. With
+  -- room for 2 bytes, the copy of `01 43 02 03 04` failed at the body.
   pub record StopsWriting (count room : ℕ) (old new : Sides R W) : Type 0 where
     pub bytes : List ℕ
     pub read : List ℕ
@@ -142,7 +146,8 @@ module _ {R E W F : Type 0} (source : Reader R E) (sink : Writer W F) where
     pub written : WritesAll sink old.writer whole between
     pub fails : WritesFront sink between next new.writer
 
-  -- The copy of `count` elements through a buffer of `room` bytes stops with this error.
+  -- The copy of `count` elements through a buffer of `room` bytes stops with this error. For 2 elements of `82 1c` from
+  -- the offset 0 on, this is `Syntax(1)`.
   abbrev pub StopsCopy : ℕ → ℕ → Sides R W → RecodeError E F → Sides R W → Type 0
   StopsCopy count room old (r.Read (e.Io fault)) new =
       StopsAtTitle count old (e.Io fault) new ⊎ StopsInBody count room old (e.Io fault) new
@@ -154,14 +159,16 @@ module _ {R E W F : Type 0} (source : Reader R E) (sink : Writer W F) where
   StopsCopy count room old (r.Read e.Waiting) new = ⊥
   StopsCopy count room old (r.Write fault) new = StopsWriting count room old new
 
-  -- `recode` of `count` elements, by its answer: it copied all of them, or stopped.
+  -- `recode` of `count` elements, by its answer: it copied all of them, or stopped. Over `82 1c` it copied 1 element,
+  -- but stopped for 2.
   abbrev pub CopiesElements : ℕ → ℕ → Sides R W → Result (Unit {0}) (RecodeError E F) → Sides R W → Type 0
   CopiesElements count room old (Ok done) new = CopiesAll count old new
   CopiesElements count room old (Err error) new = StopsCopy count room old error new
 
   -- ---- the parts of the copy: each goes on from any copy that came so far
 
-  -- After a copy of `before` elements a further one is due, and the bytes of its title were read.
+  -- After a copy of `before` elements a further one is due, and the bytes of its title were read. If `before` is 1,
+  -- `01 43` may be read.
   pub record IsBehind (count before : ℕ) (title : List ℕ) (old now : Sides R W) : Type 0 where
     pub bytes : List ℕ
     pub marks : List Mark
@@ -170,17 +177,17 @@ module _ {R E W F : Type 0} (source : Reader R E) (sink : Writer W F) where
     pub copied : Copied old (bytes ++ title) marks now
     pub strict : Strictly old.decoder (IsStrictSpelling bytes marks [])
 
-  -- One element more is copied, or an error stops the copy.
+  -- One element more is copied, or an error stops the copy. If `before` is 1, `Ok` says that 2 are copied.
   abbrev pub GoesOn : ℕ → ℕ → ℕ → Sides R W → Result (Unit {0}) (RecodeError E F) → Sides R W → Type 0
   GoesOn count before room old (Ok done) new = CopiesRun (suc before) old new
   GoesOn count before room old (Err error) new = StopsCopy count room old error new
 
-  -- The copy of an element, which goes on from any copy that came so far.
+  -- The copy of an element, which goes on from any copy that came so far: of `02`, for example, after a copy of `01`.
   abbrev pub CopiesElement : ℕ → Sides R W → Result (Unit {0}) (RecodeError E F) → Sides R W → Type 0
   CopiesElement room now result new = (count before : ℕ) (old : Sides R W) → IsBehind count before [] old now
       → GoesOn count before room old result new
 
-  -- The copy of an element after its title.
+  -- The copy of an element after its title: of the body `01 02`, for example, after `42`.
   abbrev pub CopiesBehind : Header → ℕ → Sides R W → Result (Unit {0}) (RecodeError E F) → Sides R W → Type 0
   CopiesBehind header room now result new = (count before : ℕ) (old : Sides R W) (title : List ℕ)
       → IsTitle title header → Strictly old.decoder (IsStrictTitle title header) → IsBehind count before title old now
@@ -198,12 +205,12 @@ module _ {R E W F : Type 0} (source : Reader R E) (sink : Writer W F) where
     pub copied : Copied old (bytes ++ element) (marks ++ Open kind ∷ pieces kind bodies) new
     pub strict : Strictly old.decoder (IsStrictSpelling (bytes ++ element) (marks ++ open_marks kind bodies) [])
 
-  -- The copy comes to the last break of a string, or an error stops it.
+  -- The copy comes to the last break of a string, or an error stops it. In `5f 41 01 ff` this break is `ff`.
   abbrev pub GoesOnWithin : ℕ → ℕ → Kind → ℕ → Sides R W → Result (Unit {0}) (RecodeError E F) → Sides R W → Type 0
   GoesOnWithin count before kind room old (Ok done) new = ReadsString before kind old new
   GoesOnWithin count before kind room old (Err error) new = StopsCopy count room old error new
 
-  -- After a copy of `before` elements the open of a string was read and written.
+  -- After a copy of `before` elements the open of a string was read and written. If `before` is 1, `01 5f` may be read.
   pub record IsWithin (count before : ℕ) (kind : Kind) (old now : Sides R W) : Type 0 where
     pub bytes : List ℕ
     pub marks : List Mark
@@ -212,21 +219,23 @@ module _ {R E W F : Type 0} (source : Reader R E) (sink : Writer W F) where
     pub copied : Copied old (bytes ++ shortest_title (kind_header kind None)) (marks ++ Open kind ∷ []) now
     pub strict : Strictly old.decoder (IsStrictSpelling bytes marks [])
 
-  -- The copy of the segments of a string after its open.
+  -- The copy of the segments of a string after its open: of `41 01 ff`, for example, after `5f`.
   abbrev pub CopiesSegments : Kind → ℕ → Sides R W → Result (Unit {0}) (RecodeError E F) → Sides R W → Type 0
   CopiesSegments kind room now result new = (count before : ℕ) (old : Sides R W) → IsWithin count before kind old now
       → GoesOnWithin count before kind room old result new
 
   -- ---- the calls, with what they keep
 
-  -- `copy_element` goes on from any copy that came so far. The writer stays on its slice.
+  -- `copy_element` goes on from any copy that came so far. The writer stays on its slice. If it succeeds over `01 02`,
+  -- it copied `01`.
   pub record CopiesOne (room : ℕ) (old : Sides R W) (result : Result (Unit {0}) (RecodeError E F)) (new : Sides R W) :
       Type 0 where
     pub copied : CopiesElement room old result new
     pub moves_on : MovesOn source old.decoder new.decoder
     pub target : sink.target new.writer ≡ sink.target old.writer
 
-  -- `recode` of `count` elements through a buffer of `room` bytes, whatever fails. The writer stays on its slice.
+  -- `recode` of `count` elements through a buffer of `room` bytes, whatever fails. The writer stays on its slice. After
+  -- `Ok` for 2 elements of `01 02 03`, `01 02` was written.
   pub record Recodes (count room : ℕ) (old : Sides R W) (result : Result (Unit {0}) (RecodeError E F))
       (new : Sides R W) : Type 0 where
     pub copied : CopiesElements count room old result new

@@ -19,6 +19,7 @@ use Rattle.ciborium_ll_decoder.specs.BodyCopies.{Sides}
 -- `StopsAt marks point ahead written consumed`: after the marks a side failed at this point, with these bytes ahead.
 -- `written` is everything that is written: for a body under way its shortest title and a front of it. `consumed` counts
 -- the bytes ahead that are consumed: at most the first one of a title, and up to three more than are written of a text.
+-- At the body of `63`, with `61 c3` ahead, `written` may be `63 61` and `consumed` 2.
 abbrev pub StopsAt : List Mark → Point → List ℕ → List ℕ → ℕ → Type 0
 StopsAt marks Due ahead written consumed = (written ≡ spelling marks) × (consumed ≤ min 1 (length ahead))
 StopsAt marks (In kind) ahead written consumed = (written ≡ spelling marks) × (consumed ≤ min 1 (length ahead))
@@ -28,7 +29,7 @@ StopsAt marks (BodyDue kind len start) ahead written consumed =
     × (consumed ≤ min len (length ahead))
 
 -- A copy of `count` elements stops after a part of them, since no more can be read. `written` is everything that is
--- written of that part.
+-- written of that part. For one element of `43 01 02`, this may be `43 01`.
 pub record StopInReading (count : ℕ) (bytes : List ℕ) : Type 0 where
   pub before : List ℕ
   pub marks : List Mark
@@ -42,7 +43,8 @@ pub record StopInReading (count : ℕ) (bytes : List ℕ) : Type 0 where
 
 -- The writer stops a copy of `count` elements through a buffer of `room` bytes, at one title or one chunk. All elements
 -- were read, or a part. Everything before the title or chunk is written, and a beginning of it. The bytes that were
--- read and are not written are of the chunk's body.
+-- read and are not written are of the chunk's body. For one element of `45 01 02 03 04 05` and a `room` of 4, `45 01`
+-- may be written and `05` not be read.
 pub record StopInWriting (count room : ℕ) (bytes : List ℕ) : Type 0 where
   pub before : List ℕ
   pub read : List ℕ
@@ -56,7 +58,8 @@ pub record StopInWriting (count room : ℕ) (bytes : List ℕ) : Type 0 where
 
 module _ {R E W F : Type 0} (source : Reader R E) (sink : Writer W F) where
   -- The bytes that are due and those that were written are told. The decoder is strict or not, as given. No header may
-  -- wait on a strict decoder, which never read that header itself.
+  -- wait on a strict decoder, which never read that header itself. If the header of `82` waits before `01 02`, the
+  -- bytes that are due are `82 01 02`.
   pub record IsTold (strict : Bool) (now : Sides R W) (due written : List ℕ) : Type 0 where
     pub mode : now.decoder.strict ≡ strict
     pub due-told : view source now.decoder ≡ Some due
@@ -65,7 +68,7 @@ module _ {R E W F : Type 0} (source : Reader R E) (sink : Writer W F) where
 
   -- The reader gives the bytes that it tells. The offset fits the bytes that are due, with 8 and with the buffer's
   -- length to spare. The writer has room for the elements' spelling if that many are next, and otherwise for as many
-  -- bytes as are due.
+  -- bytes as are due. For two elements of `18 17 01`, this is room for 2 bytes.
   pub record IsReady (strict : Bool) (count room-in : ℕ) (now : Sides R W)
       (due written : List ℕ) : Type 0 where
     pub steady : IsSteady source now.decoder
@@ -104,7 +107,7 @@ module _ {R E W F : Type 0} (source : Reader R E) (sink : Writer W F) where
     pub offset : new.decoder.offset ≡ old.offset + length fault.before + fault.consumed
 
   -- `recode` if no side fails by itself: it copies all elements, or the first fault stops it. The relation says which
-  -- bytes are written and left, and the offset.
+  -- bytes are written and left, and the offset. For one element of `01 02`, `01` was written and `02` is left.
   abbrev pub RecodesTold : Bool → ℕ → List ℕ → List ℕ → Decoder R → Result (Unit {0}) (RecodeError E F) → Sides R W
       → Type 0
   RecodesTold strict count due written old (Ok done) new = CopiesFront strict count due written old new
@@ -118,13 +121,13 @@ module _ {R E W F : Type 0} (source : Reader R E) (sink : Writer W F) where
 
   -- ---- where a side may fail by itself
 
-  -- The reader failed, or the offset is full.
+  -- The reader failed, or the offset is full. For one element of `43 01 02`, `43 01` may be written.
   pub record StopsShort (count : ℕ) (due written : List ℕ) (old : Decoder R) (new : Sides R W) : Type 0 where
     pub stop : StopInReading count due
     pub output : sink.written new.writer ≡ Some (written ++ stop.written)
     pub offset : new.decoder.offset ≡ old.offset + length stop.before + stop.consumed
 
-  -- The writer failed.
+  -- The writer failed. For one element of `43 01 02 03`, `43 01` may be written.
   pub record StopsUnwritten (count room-in : ℕ) (due written : List ℕ) (old : Decoder R) (new : Sides R W) :
       Type 0 where
     pub stop : StopInWriting count room-in due
@@ -133,6 +136,7 @@ module _ {R E W F : Type 0} (source : Reader R E) (sink : Writer W F) where
     pub offset : new.decoder.offset ≡ old.offset + length stop.before + length stop.read
 
   -- `recode` through a buffer of `room-in` bytes, whatever fails. `Ok` and `Syntax` mean the same as if nothing failed.
+  -- After `Ok` for one element of `01 02`, `02` is left.
   abbrev pub RecodesAnyhow : Bool → ℕ → ℕ → List ℕ → List ℕ → Decoder R → Result (Unit {0}) (RecodeError E F)
       → Sides R W → Type 0
   RecodesAnyhow strict count room-in due written old (Ok done) new = CopiesFront strict count due written old new
