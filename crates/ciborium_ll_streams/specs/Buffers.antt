@@ -21,15 +21,15 @@ abbrev pub window_room : Window → ℕ
 window_room w = length w.space.now - w.end
 
 module _ {T : Type 0} where
-  -- The inner reader.
+  -- The inner reader. If `01` of `01 02 03` was read ahead, it has `02 03` left.
   abbrev pub buffered_source : BufferedReader T → T
   buffered_source r = r.source
 
-  -- The bytes that were read ahead and that no caller got.
+  -- The bytes that were read ahead and that no caller got: `02` if `01 02` was read and a caller got `01`.
   abbrev pub buffered_read_ahead : BufferedReader T → List ℕ
   buffered_read_ahead r = held r.window
 
-  -- The number of bytes of a reader's lent slice.
+  -- The number of bytes of a reader's lent slice: 4 for `00 01 02 00`.
   abbrev pub buffered_read_capacity : BufferedReader T → ℕ
   buffered_read_capacity r = window_capacity r.window
 
@@ -38,31 +38,31 @@ module _ {T : Type 0} where
   abbrev pub buffered_ahead : (T → Option (List ℕ)) → BufferedReader T → Option (List ℕ)
   buffered_ahead remaining r = prepend_known (held r.window) (remaining r.source)
 
-  -- The fault of the last read that failed, if the reader keeps it.
+  -- The fault of the last read that failed, if the reader keeps it: `End` if the inner reader gave 0 bytes.
   abbrev pub buffered_read_fault : BufferedReader T → Option ReadFault
   buffered_read_fault r = r.fault
 
-  -- The reader is never steady.
+  -- The reader is never steady: the answer is `false`.
   abbrev pub buffered_steady : BufferedReader T → Bool
   buffered_steady r = false
 
-  -- The number of reads that failed so far.
+  -- The number of reads that failed so far: 2 after two reads past the end.
   abbrev pub buffered_read_failures : BufferedReader T → ℕ
   buffered_read_failures r = r.failures.count
 
-  -- The inner writer.
+  -- The inner writer. If `03` of `01 02 03` is kept back, it has `01 02`.
   abbrev pub buffered_sink : BufferedWriter T → T
   buffered_sink w = w.sink
 
-  -- The bytes that were kept back and not passed on.
+  -- The bytes that were kept back and not passed on: `02` if `01` of `01 02` was passed on.
   abbrev pub buffered_kept_back : BufferedWriter T → List ℕ
   buffered_kept_back w = held w.window
 
-  -- The number of bytes of a writer's lent slice.
+  -- The number of bytes of a writer's lent slice: 4 for `00 00 00 00`.
   abbrev pub buffered_capacity : BufferedWriter T → ℕ
   buffered_capacity w = window_capacity w.window
 
-  -- The number of bytes that fit after the bytes kept back.
+  -- The number of bytes that fit after the bytes kept back: 2 if the slice has 4 bytes and they end at 2.
   abbrev pub buffered_space : BufferedWriter T → ℕ
   buffered_space w = window_room w.window
 
@@ -71,15 +71,15 @@ module _ {T : Type 0} where
   abbrev pub buffered_written : (T → Option (List ℕ)) → BufferedWriter T → Option (List ℕ)
   buffered_written contents w = append_known (contents w.sink) (held w.window)
 
-  -- The fault of the last write or flush that failed, if the writer keeps it.
+  -- The fault of the last write or flush that failed, if the writer keeps it: `Zero` if the inner writer took 0 bytes.
   abbrev pub buffered_write_fault : BufferedWriter T → Option WriteFault
   buffered_write_fault w = w.fault
 
-  -- The writer tells no room.
+  -- The writer tells no room: the answer is `None`.
   abbrev pub buffered_room : BufferedWriter T → Option ℕ
   buffered_room w = None
 
-  -- The number of writes and flushes that failed so far.
+  -- The number of writes and flushes that failed so far: 2 after a write and a flush that failed.
   abbrev pub buffered_write_failures : BufferedWriter T → ℕ
   buffered_write_failures w = w.failures.count
 
