@@ -42,14 +42,14 @@ module _ {R E W F : Type 0} (source : Reader R E) (sink : Writer W F) where
     pub passed : ReadsPast source old.decoder bytes new.decoder
     pub written : WritesAll sink old.writer (shortest_titles headers) new.writer
 
-  -- All headers were copied. The bytes written are titles of the same headers.
+  -- All headers were copied. The bytes written are titles of the same headers: `81 17`, if `81 18 17` was read.
   pub record CopiesEach (count : ℕ) (old new : Sides R W) : Type 0 where
     pub headers : List Header
     pub all : length headers ≡ count
     pub copied : Copies headers old new
     pub again : AreTitles (shortest_titles headers) headers
 
-  -- After fewer headers, `pull` failed with this error.
+  -- After fewer headers, `pull` failed with this error. If `count` is 2, over `01 1c` it failed at `1c`.
   pub record StopsAtPull (count : ℕ) (old : Sides R W) (error : Error E) (new : Sides R W) : Type 0 where
     pub headers : List Header
     pub fewer : length headers < count
@@ -57,7 +57,8 @@ module _ {R E W F : Type 0} (source : Reader R E) (sink : Writer W F) where
     pub copied : Copies headers old (sides between new.writer)
     pub stopped : DecoderPullAnswer source between (Err error) new.decoder
 
-  -- After fewer headers, `push` of the next header failed.
+  -- After fewer headers, `push` of the next header failed. With room for 1 byte, over `01 02` this is the header of
+  -- `02`.
   pub record StopsAtPush (count : ℕ) (old new : Sides R W) : Type 0 where
     pub headers : List Header
     pub fewer : length headers < count
@@ -67,13 +68,15 @@ module _ {R E W F : Type 0} (source : Reader R E) (sink : Writer W F) where
     pub pulled : DecoderPullAnswer source between.decoder (Ok last) new.decoder
     pub stopped : WritesFront sink between.writer (shortest_title last) new.writer
 
-  -- The effect of `copy_headers` with `count` headers, by its answer.
+  -- The effect of `copy_headers` with `count` headers, by its answer. Over `01 1c` it is `Ok` for 1 header, and an
+  -- error for 2.
   abbrev pub CopiesHeaders : ℕ → Sides R W → Result (Unit {0}) (RecodeError E F) → Sides R W → Type 0
   CopiesHeaders count old (Ok done) new = CopiesEach count old new
   CopiesHeaders count old (Err (r.Read error)) new = StopsAtPull count old error new
   CopiesHeaders count old (Err (r.Write fault)) new = StopsAtPush count old new
 
   -- The effect of `copy_headers` if any call may fail, with the facts that it keeps. The writer stays on its slice.
+  -- After `Ok` for 2 headers of `01 02 03`, `01 02` was written.
   pub record CopiesByHeaders (count : ℕ) (old : Sides R W) (result : Result (Unit {0}) (RecodeError E F))
       (new : Sides R W) : Type 0 where
     pub copied : CopiesHeaders count old result new
@@ -83,7 +86,7 @@ module _ {R E W F : Type 0} (source : Reader R E) (sink : Writer W F) where
   -- ---- over bytes that are told
 
   -- The decoder is not strict, and the reader gives the bytes that it tells. The writer has room for as many bytes, and
-  -- the offset fits, with 8 to spare.
+  -- the offset fits, with 8 to spare. If `18 17` is due, this is room for 2 bytes.
   pub record IsReadyForTitles (now : Sides R W) (due written : List ℕ) : Type 0 where
     pub lenient : now.decoder.strict ≡ false
     pub steady : IsSteady source now.decoder
@@ -136,7 +139,8 @@ module _ {R E W F : Type 0} (source : Reader R E) (sink : Writer W F) where
       pub offset : new.decoder.offset ≡ place + 1
 
   -- The effect of `copy_headers` over such bytes: it ends after all titles, or at the first place without a title. Each
-  -- case gives the titles copied, the bytes left and the offset.
+  -- case gives the titles copied, the bytes left and the offset. If `01 1c` is due and `count` is 2, `01` was copied
+  -- and nothing is left.
   abbrev pub CopiesTold : ℕ → List ℕ → List ℕ → Decoder R → Result (Unit {0}) (RecodeError E F) → Sides R W → Type 0
   CopiesTold count due written old (Ok done) new = CopiesSoMany count due written old new
   CopiesTold count due written old (Err (r.Read (e.Io fault))) new = MeetsCutTitle count due written old new

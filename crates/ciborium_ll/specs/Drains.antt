@@ -56,7 +56,7 @@ module _ {R E P W F : Type 0} {parser : Parser P} (source : Reader R E) (sink : 
         → MovesOn source (segment_decoder between) (segment_decoder new) → WritesAll sink now chunk writer'
         → DrainsEach (sizes ++ size ∷ []) old writer new writer'
 
-  -- The sizes are the sizes used so far, the next size, and others.
+  -- The sizes are the sizes used so far, the next size, and others. If 4 of the sizes 4, 2 and 8 was used, 2 is next.
   pub record DrainsUpTo (sizes : List ℕ) (old : Segment R P parser) (writer : W) (size : ℕ) (new : Segment R P parser)
       (writer' : W) : Type 0 where
     pub before : List ℕ
@@ -73,13 +73,13 @@ module _ {R E P W F : Type 0} {parser : Parser P} (source : Reader R E) (sink : 
     pub counted : calls ≡ length comes.before + 1
     pub ends : SegmentEnds source between new
 
-  -- Each size was used.
+  -- Each size was used: 2 and 2, for example, in 2 calls.
   pub record DrainsSizes (sizes : List ℕ) (old : Segment R P parser) (writer : W) (calls : ℕ)
       (new : Segment R P parser) (writer' : W) : Type 0 where
     pub each : DrainsEach sizes old writer new writer'
     pub counted : calls ≡ length sizes
 
-  -- The call with the next size failed.
+  -- The call with the next size failed. If only 2 of 4 bytes come, this is the second call with the sizes 2 and 2.
   pub record DrainFails (sizes : List ℕ) (old : Segment R P parser) (writer : W) (error : Error E)
       (new : Segment R P parser) (writer' : W) : Type 0 where
     pub size : ℕ
@@ -87,7 +87,8 @@ module _ {R E P W F : Type 0} {parser : Parser P} (source : Reader R E) (sink : 
     pub comes : DrainsUpTo sizes old writer size between writer'
     pub fails : SegmentPullAnswer source size between (Err error) new
 
-  -- The call with the next size gave a chunk, and the write of it failed.
+  -- The call with the next size gave a chunk, and the write of it failed. With the sizes 2 and 2 and room for 3 bytes,
+  -- this is the second chunk.
   pub record DrainUnwritten (sizes : List ℕ) (old : Segment R P parser) (writer : W) (new : Segment R P parser)
       (writer' : W) : Type 0 where
     pub size : ℕ
@@ -98,19 +99,22 @@ module _ {R E P W F : Type 0} {parser : Parser P} (source : Reader R E) (sink : 
     pub gives : GivesChunk source size between chunk new
     pub stopped : WritesFront sink writer-between chunk writer'
 
-  -- The end of a drain without an error.
+  -- The end of a drain without an error. A body of 2 bytes ends with `Ended` for the sizes 2 and 2, and with
+  -- `OutOfSizes` for 2 alone.
   abbrev pub EndsDrain : List ℕ → Segment R P parser → W → ℕ → End → Segment R P parser → W → Type 0
   EndsDrain sizes old writer calls end.Ended new writer' = DrainsAll sizes old writer calls new writer'
   EndsDrain sizes old writer calls end.OutOfSizes new writer' = DrainsSizes sizes old writer calls new writer'
 
-  -- The effect of `drain_bytes` and `drain_text`, by their answer.
+  -- The effect of `drain_bytes` and `drain_text`, by their answer. With the sizes 4 and 4, a body of 3 bytes takes 2
+  -- calls.
   abbrev pub Drains : List ℕ → Segment R P parser → W → Result Drained (RecodeError E F) → Segment R P parser → W
       → Type 0
   Drains sizes old writer (Ok drained) new writer' = EndsDrain sizes old writer drained.calls drained.end new writer'
   Drains sizes old writer (Err (r.Read error)) new writer' = DrainFails sizes old writer error new writer'
   Drains sizes old writer (Err (r.Write fault)) new writer' = DrainUnwritten sizes old writer new writer'
 
-  -- The effect of `drain_bytes` and `drain_text`, with the facts that both keep. The writer stays on its slice.
+  -- The effect of `drain_bytes` and `drain_text`, with the facts that both keep. The writer stays on its slice. A drain
+  -- of the whole body `01 02` raises the offset by 2.
   pub record DrainsSegment (sizes : List ℕ) (old : Segment R P parser) (writer : W)
       (result : Result Drained (RecodeError E F)) (new : Segment R P parser) (writer' : W) : Type 0 where
     pub drains : Drains sizes old writer result new writer'
@@ -143,7 +147,7 @@ module _ {R E P W F : Type 0} {parser : Parser P} (source : Reader R E) (sink : 
   -- ---- over bytes that are told, if no side fails by itself
 
   -- The body is told and whole, and no fault of it was found. The reader is steady, the offset fits, and the writer has
-  -- room for the body.
+  -- room for the body. If 3 bytes of it are left and only `01 02` is ahead, the body is not whole.
   pub record IsDrainable (segment : Segment R P parser) (writer : W) (body written : List ℕ) : Type 0 where
     pub sound : segment.damaged ≡ false
     pub steady : IsSteady source segment.decoder.now
@@ -191,12 +195,14 @@ module _ {R E P W F : Type 0} {parser : Parser P} (source : Reader R E) (sink : 
     pub sound : IsCharacters given
     pub output : sink.written writer' ≡ Some (written ++ given)
 
-  -- The end of a drain without an error.
+  -- The end of a drain without an error. The body `01` ends with `Ended` for the sizes 1 and 1, and with `OutOfSizes`
+  -- for 1 alone.
   abbrev pub EndsTold : List ℕ → List ℕ → List ℕ → Segment R P parser → ℕ → End → Segment R P parser → W → Type 0
   EndsTold sizes body written old calls end.Ended new writer' = WritesBody sizes body written calls new writer'
   EndsTold sizes body written old calls end.OutOfSizes new writer' = LeavesRest sizes body written calls old new writer'
 
   -- The effect of a drain over such bytes: the body is written, or the sizes are not enough, or the body is no text.
+  -- The sizes 4 and 4 find that `61 ff` is no text.
   abbrev pub DrainsTold : List ℕ → List ℕ → List ℕ → Segment R P parser → Result Drained (RecodeError E F)
       → Segment R P parser → W → Type 0
   DrainsTold sizes body written old (Ok drained) new writer' =
@@ -207,7 +213,7 @@ module _ {R E P W F : Type 0} {parser : Parser P} (source : Reader R E) (sink : 
   DrainsTold sizes body written old (Err (r.Read e.Waiting)) new writer' = ⊥
   DrainsTold sizes body written old (Err (r.Write fault)) new writer' = ⊥
 
--- The answer says that the body has ended.
+-- The answer says that the body has ended. `Ok` with 3 calls and `Ended` says so, and with `OutOfSizes` it does not.
 abbrev pub SaysEnded : {E F : Type 0} → Result Drained (RecodeError E F) → Type 0
 SaysEnded (Ok drained) = drained.end ≡ end.Ended
 SaysEnded (Err error) = ⊥

@@ -12,7 +12,8 @@ use Rattle.ciborium_ll_grammar.specs.Values.{value_limit, IsWritten, segments}
 use Rattle.ciborium_ll_decoder.specs.Decoding.{view}
 use Rattle.ciborium_ll_io.specs.Writes.{WritesAll, WritesBytes, WritesFront}
 
--- A header piece begins no string: strings are written as values of bytes and of text.
+-- A header piece begins no string: strings are written as values of bytes and of text. So it may be the header of `82`,
+-- but not that of `42`.
 abbrev pub IsPlainPiece : Piece → Type 0
 IsPlainPiece (p.Header header) = IsPlain header
 IsPlainPiece (p.Bytes value segment) = Unit {0}
@@ -39,7 +40,8 @@ pub data HaveMarks : List Piece → List Mark → Type 0 where
       → HaveMarks rest others
       → HaveMarks (piece ∷ rest) (marks ++ others)
 
--- Marks of the pieces, whose spelling is one element for each piece.
+-- Marks of the pieces, whose spelling is one element for each piece. For the header of `82` and the bytes `01` the
+-- spelling is `82 41 01`.
 pub record HaveSpelling (pieces : List Piece) : Type 0 where
   pub marks : List Mark
   pub have_marks : HaveMarks pieces marks
@@ -47,6 +49,7 @@ pub record HaveSpelling (pieces : List Piece) : Type 0 where
 
 module _ {W F : Type 0} (sink : Ghosts W F) where
   -- The spelling of one piece, which is one element, was written, or a beginning of it. The writer stays on its slice.
+  -- For the header of `18 17` this is `17`.
   pub record WritesMarked {T : Type 0} (are_marks : List Mark → Type 0) (old : W) (result : Result T F) (new : W) :
       Type 0 where
     pub marks : List Mark
@@ -55,12 +58,13 @@ module _ {W F : Type 0} (sink : Ghosts W F) where
     pub bytes : WritesBytes sink old result (spelling marks) new
     pub target : sink.target new ≡ sink.target old
 
-  -- Each piece was written, as one element.
+  -- Each piece was written, as one element: `a0 61 61` for the header of `a0` and the text `61`.
   pub record WritesEach (pieces : List Piece) (old new : W) : Type 0 where
     pub spelled : HaveSpelling pieces
     pub written : WritesAll sink old (spelling spelled.marks) new
 
-  -- The writer failed at one of the pieces. The pieces before it were written, and a beginning of its spelling.
+  -- The writer failed at one of the pieces. The pieces before it were written, and a beginning of its spelling. With
+  -- room for 2 bytes, this is the second of the headers of `01` and `19 01 00`.
   pub record StopsAtPiece (pieces : List Piece) (old new : W) : Type 0 where
     pub front : List Piece
     pub piece : Piece
@@ -72,12 +76,14 @@ module _ {W F : Type 0} (sink : Ghosts W F) where
     pub is_piece : IsPiece piece marks
     pub stopped : WritesFront sink between (spelling marks) new
 
-  -- The effect of `write_pieces`, by its answer: all pieces were written, or the pieces before one of them.
+  -- The effect of `write_pieces`, by its answer: all pieces were written, or the pieces before one of them. With room
+  -- for 1 byte, of the headers of `01` and `02` only the first was written.
   abbrev pub WritesElements : {T : Type 0} → List Piece → W → Result T F → W → Type 0
   WritesElements pieces old (Ok done) new = WritesEach pieces old new
   WritesElements pieces old (Err fault) new = StopsAtPiece pieces old new
 
-  -- The effect of `write_pieces`, with the fact that the writer stays on its slice.
+  -- The effect of `write_pieces`, with the fact that the writer stays on its slice. After `00`, the header of `80`
+  -- makes `00 80`.
   pub record WritesPieceList {T : Type 0} (pieces : List Piece) (old : W) (result : Result T F) (new : W) : Type 0 where
     pub elements : WritesElements pieces old result new
     pub target : sink.target new ≡ sink.target old
