@@ -18,19 +18,19 @@ IsRemaining (h.Map None) count r.OpenPairs = (pairs : ℕ) × (count ≡ 2 * pai
 IsRemaining (h.Map None) count r.OpenValue = (pairs : ℕ) × (count ≡ 2 * pairs + 1)
 IsRemaining header count remaining = ⊥
 
--- Whether nothing is due.
+-- Whether nothing is due: it is so after `82 01 02`, and not after `82 01`.
 abbrev pub is_done : Remaining → Bool
 is_done (r.Items zero) = true
 is_done (r.Pairs zero) = true
 is_done remaining = false
 
--- Whether a break may stand in place of the next item.
+-- Whether a break may stand in place of the next item. It may after `9f 01`, and not after `82 01`.
 abbrev pub closes : Remaining → Bool
 closes r.OpenItems = true
 closes r.OpenPairs = true
 closes remaining = false
 
--- Whether the next item is the value of a pair.
+-- Whether the next item is the value of a pair. It is after `a1 01`, and not after `a1`.
 abbrev pub is_value : Remaining → Bool
 is_value (r.Value count) = true
 is_value r.OpenValue = true

@@ -15,13 +15,14 @@ use Rattle.cbor_skip.specs.declared.SkipError.{SkipError}
 use Rattle.cbor_skip.specs.declared.SkipError.TheVariants as s
 use Rattle.cbor_skip.specs.Due.{IsNest, TakesMore, may_close, item_count, ItemDue}
 
--- Whether a decoder takes only the shortest spelling. It gives a header that waits as it was pushed, so a strict
--- decoder does so if no header waits.
+-- Whether a decoder takes only the shortest spelling: a strict decoder does so if no header waits. It gives a header
+-- that waits as it was pushed, even that of `f8 18`.
 abbrev pub strict_unless_waiting : Option Header → Bool → Bool
 strict_unless_waiting None strict = strict
 strict_unless_waiting (Some header) strict = false
 
--- Whether only the shortest spelling is taken (RFC 7049, 3.9): by a strict decoder on which no header waits.
+-- Whether only the shortest spelling is taken (RFC 7049, 3.9): by a strict decoder on which no header waits. If so,
+-- `01` is taken, and `18 01` is not.
 abbrev pub strictness : {R : Type 0} → Decoder R → Bool
 strictness decoder = strict_unless_waiting decoder.waiting decoder.strict
 
@@ -34,7 +35,7 @@ BeginsNest header (b.Items count) = item_count header ≡ Some count
 BeginsNest header (b.Nest nest) = nest ≡ header
 
 module _ {R E : Type 0} (source : Ghosts R E) where
-  -- The title of a string came, and the read of the string failed after it.
+  -- The title of a string came, and the read of the string failed after it: after `42`, if only `42 01` is due.
   pub record MeetsString (room : ℕ) (between : Decoder R) (error : Error E) (new : Decoder R) : Type 0 where
     pub kind : Kind
     pub len : Option ℕ
@@ -43,17 +44,18 @@ module _ {R E : Type 0} (source : Ghosts R E) where
     pub steady : IsSteady source between → IsSteady source titled
     pub fails : SkipsString source kind len room titled (Err error) new
 
-  -- No title came, or the title of a string came and then no whole string.
+  -- No title came, or the title of a string came and then no whole string. At `1c` no title came.
   abbrev pub StopsTitle : ℕ → Decoder R → Error E → Decoder R → Type 0
   StopsTitle room between error new = DecoderPullAnswer source between (Err error) new ⊎ MeetsString room between error new
 
-  -- A break came at this offset, and none may stand there.
+  -- A break came at this offset, and none may stand there. In `bf 01 ff` from the offset 0 on, this is at 2.
   pub record MeetsBreak (closable : Bool) (between : Decoder R) (at : ℕ) (new : Decoder R) : Type 0 where
     pub not_closable : closable ≡ false
     pub place : at ≡ between.offset
     pub pulled : PullsTitle source between h.Break new
 
-  -- The title of a tag, an array or a map came at this offset, and no level is left.
+  -- The title of a tag, an array or a map came at this offset, and no level is left. With depth 1, in `81 c1 00` from
+  -- the offset 0 on, this is at 1.
   pub record MeetsNest (levels : ℕ) (between : Decoder R) (at : ℕ) (new : Decoder R) : Type 0 where
     pub none_left : levels ≡ 0
     pub place : at ≡ between.offset
@@ -61,13 +63,15 @@ module _ {R E : Type 0} (source : Ghosts R E) where
     pub is_nest : IsNest header
     pub pulled : PullsTitle source between header new
 
-  -- The read fails while an item to `levels` levels is due: no title came, or one of the three things above.
+  -- The read fails while an item to `levels` levels is due: no title came, or one of the three things above. If
+  -- `levels` is 0, it fails at `80`, and not at `60`.
   abbrev pub StopsDue : ℕ → Bool → ℕ → Decoder R → SkipError E → Decoder R → Type 0
   StopsDue levels closable room between (s.Read error) new = StopsTitle room between error new
   StopsDue levels closable room between (s.Break at) new = MeetsBreak closable between at new
   StopsDue levels closable room between (s.Deep at) new = MeetsNest levels between at new
 
-  -- A beginning of an item was read, and the read failed at the next item that is due.
+  -- A beginning of an item was read, and the read failed at the next item that is due. With depth 1, in `82 01 1c` this
+  -- is after `82 01`.
   pub record StopsItem (outer : Bool) (depth room : ℕ) (old : Decoder R) (error : SkipError E) (new : Decoder R)
       : Type 0 where
     pub bytes : List ℕ
@@ -99,7 +103,8 @@ module _ {R E : Type 0} (source : Ghosts R E) where
     pub are_items : AreItems (strictness old) depth count items
     pub passed : ReadsPast source old items new
 
-  -- The decoder read some of `count` items, and a beginning of one more.
+  -- The decoder read some of `count` items, and a beginning of one more. With depth 1, of 2 items in `01 81 1c` these
+  -- are `01` and `81`.
   pub record StopsCounted (count depth room : ℕ) (old : Decoder R) (error : SkipError E) (new : Decoder R)
       : Type 0 where
     pub before : ℕ
@@ -110,13 +115,13 @@ module _ {R E : Type 0} (source : Ghosts R E) where
     pub passed : ReadsPast source old items between
     pub stops : StopsItem false depth room between error new
 
-  -- The read of `count` items, by its answer.
+  -- The read of `count` items, by its answer. If `count` is 2, over `01 02` it is `Ok`, and over `01 ff` an error.
   abbrev pub SkipsCounted : ℕ → ℕ → ℕ → Decoder R → Result (Unit {0}) (SkipError E) → Decoder R → Type 0
   SkipsCounted count depth room old (Ok done) new = ReadsCounted count depth old new
   SkipsCounted count depth room old (Err error) new = StopsCounted count depth room old error new
 
   -- `skip_item` through a buffer of `room` bytes, by its answer: it read an item, or stopped after a beginning of one.
-  -- The spelling is as the old decoder's `strictness` says.
+  -- The spelling is as the old decoder's `strictness` says. With depth 1, over `81 ff` it stopped after `81`.
   abbrev pub SkipsItem : ℕ → ℕ → Decoder R → Result (Unit {0}) (SkipError E) → Decoder R → Type 0
   SkipsItem depth room old (Ok done) new = ReadsItem depth old new
   SkipsItem depth room old (Err error) new = StopsItem false depth room old error new
@@ -139,12 +144,12 @@ module _ {R E : Type 0} (source : Ghosts R E) where
     pub passed : ReadsPast source old items between
     pub stops : StopsItem (may_close header count) depth room between error new
 
-  -- The read of a nest's contents, by its answer.
+  -- The read of a nest's contents, by its answer. After `9f` it is `Ok` over `01 ff`, and an error over `01 1c`.
   abbrev pub SkipsWithin : Header → ℕ → ℕ → Decoder R → Result (Unit {0}) (SkipError E) → Decoder R → Type 0
   SkipsWithin header depth room old (Ok done) new = ReadsWithin header depth old new
   SkipsWithin header depth room old (Err error) new = StopsWithin header depth room old error new
 
-  -- `skip_item`, whatever fails, and the facts that it keeps.
+  -- `skip_item`, whatever fails, and the facts that it keeps. If it skips `01` at the offset 3, the offset is then 4.
   pub record SkipsOne (depth room : ℕ) (old : Decoder R) (result : Result (Unit {0}) (SkipError E)) (new : Decoder R) :
       Type 0 where
     pub skipped : SkipsItem depth room old result new

@@ -11,7 +11,7 @@ use Rattle.cbor_skip.specs.ItemFaults.{HasDeepNest, HasEarlyBreak, HasItemFault,
 
 module _ {R E : Type 0} (source : Ghosts R E) where
   -- The reader gives the bytes that it tells. The offset fits the bytes that are due, with 8 and with the buffer's
-  -- length to spare. No header waits on a strict decoder.
+  -- length to spare. No header waits on a strict decoder. With `01` due and a buffer of 64 bytes, the offset 0 fits.
   pub record IsReadyToSkip (room : ℕ) (decoder : Decoder R) (due : List ℕ) : Type 0 where
     pub none_waits : decoder.strict ≡ true → decoder.waiting ≡ None
     pub steady : IsSteady source decoder
@@ -53,7 +53,7 @@ module _ {R E : Type 0} (source : Ghosts R E) where
       pub offset : new.offset ≡ at + length fault.title
 
   -- `skip_item` skips one item, in any spelling or in the shortest, or meets the fault that stops it. The relation says
-  -- which bytes are left, and the offset.
+  -- which bytes are left, and the offset. If `01 1c` is due, it skips `01` and leaves `1c`.
   abbrev pub SkipsTold : Bool → ℕ → List ℕ → Decoder R → Result (Unit {0}) (SkipError E) → Decoder R → Type 0
   SkipsTold strict depth due old (Ok done) new = SkipsFront strict depth due old new
   SkipsTold strict depth due old (Err (s.Break at)) new = FindsBreak strict depth due old at new
