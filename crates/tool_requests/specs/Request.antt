@@ -10,7 +10,7 @@ use Rattle.tool_requests.specs.declared.request.Request.TheVariants.{Bytes, Chun
 use Rattle.tool_requests.specs.declared.request.Request.TheVariants.{Strict, Text}
 use Rattle.tool_requests.specs.declared.request.Numbered.{Numbered}
 
--- The byte between two words.
+-- The byte between two words: `20`.
 abbrev pub space : ℕ
 space = 32
 
@@ -24,7 +24,7 @@ abbrev pub SpellsLimited : List ℕ → Limited → Type 0
 SpellsLimited words asked = (first : List ℕ) × (word : List ℕ) × (words ≡ first ++ (space ∷ word))
     × IsLimit first asked.limit × (bytes_of_word word ≡ Some asked.bytes.items)
 
--- The first word of a line with this command.
+-- The first word of a line with this command: `heads` for `Heads`.
 abbrev pub name_of : Command → List ℕ
 name_of command.Heads = codes "heads"
 name_of command.Chunks = codes "chunks"
@@ -34,7 +34,7 @@ name_of command.Recode = codes "recode"
 name_of command.Strict = codes "strict"
 name_of command.Skip = codes "skip"
 
--- The command of a request.
+-- The command of a request: `Text` for the request of `text 2 6162`.
 abbrev pub command_of : Request → Command
 command_of (Heads bytes) = command.Heads
 command_of (Chunks asked) = command.Chunks
@@ -44,7 +44,7 @@ command_of (Recode asked) = command.Recode
 command_of (Strict asked) = command.Strict
 command_of (Skip asked) = command.Skip
 
--- The words after the first word of this request.
+-- The words after the first word of this request: `2 8101` for a copy of two elements of `81 01`.
 abbrev pub Spells : List ℕ → Request → Type 0
 Spells words (Heads bytes) = bytes_of_word words ≡ Some bytes.items
 Spells words (Chunks asked) = SpellsNumbered most_size words asked

@@ -5,15 +5,15 @@ use Rattle.std.specs.List.{AllPass}
 use Rattle.hex.specs.Hex.{decode_of, encode_lower, is_hex_digit}
 use Rattle.hex.specs.declared.error.FromHexError.{FromHexError}
 
--- The word that stands for no bytes.
+-- The word that stands for no bytes: `-`, as in `heads -`.
 abbrev pub no_bytes : List ℕ
 no_bytes = codes "-"
 
--- The word is `-`, or an even number of hexadecimal digits, at least two.
+-- The word is `-`, or an even number of hexadecimal digits, at least two: `0aff` is one, and `0af` is none.
 abbrev pub IsHexWord : List ℕ → Type 0
 IsHexWord word = (word ≡ no_bytes) ⊎ ((0 < length word) × (length word % 2 ≡ 0) × AllPass is_hex_digit word)
 
--- The bytes that were decoded, if they were.
+-- The bytes that were decoded, if they were: `0a ff` for `Ok` of `0a ff`, and none for an error.
 abbrev pub decoded : Result (List ℕ) FromHexError → Option (List ℕ)
 decoded (Ok bytes) = Some bytes
 decoded (Err e) = None
