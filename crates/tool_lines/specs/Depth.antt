@@ -4,7 +4,8 @@ use Rattle.tool_requests.specs.declared.request.Request.{Request}
 use Rattle.tool_requests.specs.declared.request.Request.TheVariants.{Bytes, Chunks, Heads, Recode, Skip}
 use Rattle.tool_requests.specs.declared.request.Request.TheVariants.{Strict, Text}
 
--- If the request asks for a skip, its depth is one that a skip takes.
+-- If the request asks for a skip, its depth is one that a skip takes: `skip 256 80` is within it, and a depth of 257 is
+-- not.
 abbrev pub IsWithinDepth : Request → Type 0
 IsWithinDepth (Heads bytes) = Unit {0}
 IsWithinDepth (Chunks asked) = Unit {0}

@@ -11,18 +11,19 @@ use Rattle.ciborium_ll_streams.specs.declared.streams.WriteFault.TheVariants as 
 use Rattle.ciborium_ll_decoder.specs.declared.copy.RecodeError.{RecodeError}
 use Rattle.ciborium_ll_decoder.specs.declared.copy.RecodeError.TheVariants as r
 
--- The fault of an error that ended a run.
+-- The fault of an error that ended a run: `Write` for an error of the writer.
 abbrev pub fault_of : ToolError → Fault
 fault_of e.Memory = f.Memory
 fault_of (e.Read error) = f.Read
 fault_of (e.Write error) = f.Write
 
--- The error of a run whose write failed: the writer's own, if it has one.
+-- The error of a run whose write failed: the writer's own, if it has one. After `Zero`, which has none, it is any error
+-- with the fault `Write`.
 abbrev pub IsWriteError : WriteFault → ToolError → Type 0
 IsWriteError w.Zero error = fault_of error ≡ f.Write
 IsWriteError (w.Failed own) error = error ≡ e.Write own
 
--- The fault of an error that ended a copy of raw bytes.
+-- The fault of an error that ended a copy of raw bytes: `Syntax(1)` if the decoder refused `1c` at the offset 1.
 abbrev pub fault_of_copy : RecodeError ReadFault WriteFault → Fault
 fault_of_copy (r.Read (d.Io error)) = f.Read
 fault_of_copy (r.Read (d.Syntax place)) = f.Syntax place
@@ -38,7 +39,8 @@ fault_text f.Read = codes "read"
 fault_text f.Write = codes "write"
 fault_text f.Memory = codes "memory"
 
--- The text that `{}` writes of the error of a run. The text of std's own error is open (`None`).
+-- The text that `{}` writes of the error of a run: "there is no memory left" for `Memory`. The text of std's own error
+-- is open (`None`).
 abbrev pub tool_error_text : ToolError → Option (List ℕ)
 tool_error_text e.Memory = Some (codes "there is no memory left")
 tool_error_text (e.Read error) = None

@@ -11,14 +11,16 @@ use Rattle.cbor_copier.specs.declared.progress.Progress.{Progress}
 use Rattle.cbor_copier.specs.declared.progress.Progress.TheVariants as p
 use Rattle.cbor_copier.specs.Telling.{TellsWhole}
 
--- The writer tells the bytes that it had, and then a beginning of these. Some may be lost at the end.
+-- The writer tells the bytes that it had, and then a beginning of these. Some may be lost at the end. If it had `00`
+-- and these are `81 01`, it may tell `00 81`.
 pub record TellsSome {W : Type 0} (told : W → Option (List ℕ)) (written output : List ℕ) (writer : W) : Type 0 where
   pub front : List ℕ
   pub lost : List ℕ
   pub parted : output ≡ front ++ lost
   pub tells : told writer ≡ Some (written ++ front)
 
--- The writer tells the bytes that it had, and then exactly these.
+-- The writer tells the bytes that it had, and then exactly these. If it had `00` and these are `81 01`, it tells
+-- `00 81 01`.
 abbrev pub TellsAll : {W : Type 0} → (W → Option (List ℕ)) → List ℕ → List ℕ → W → Type 0
 TellsAll told written output writer = told writer ≡ Some (written ++ output)
 
@@ -37,20 +39,20 @@ pub record Stands {R : Type 0} (left : R → Option (List ℕ)) (most count : �
   pub told : TellsWhole count fed output says
 
 module _ {R W : Type 0} (left : R → Option (List ℕ)) (got : W → Option (List ℕ)) (most : ℕ) where
-  -- The copy came so far, and all output is written.
+  -- The copy came so far, and all output is written: `01`, if the first of two elements of `01 02` came.
   pub record Comes (count : ℕ) (due written : List ℕ) (says : Progress) (reader : R) (writer : W) : Type 0 where
     pub output : List ℕ
     pub stands : Stands left most count due says output reader
     pub all : TellsAll got written output writer
 
-  -- The copy came so far, and a beginning of the output is written.
+  -- The copy came so far, and a beginning of the output is written: `82`, for example, if the output is `82 01`.
   pub record Breaks (count : ℕ) (due written : List ℕ) (reader : R) (writer : W) : Type 0 where
     pub output : List ℕ
     pub says : Progress
     pub stands : Stands left most count due says output reader
     pub some : TellsSome got written output writer
 
-  -- What an answer of a copy says.
+  -- The meaning of an answer of a copy. For one element of `01 02`, `Ok` says that `01` is written.
   --
   -- `Ok`: the bytes taken are that many elements, and their shortest spelling is written. `End`: the input ended within
   -- them. `Failed`: a read failed within them. `Syntax`: no list of that many elements begins so. `TooLong`: as many
