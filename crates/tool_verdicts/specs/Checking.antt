@@ -27,7 +27,8 @@ use Rattle.tool_verdicts.specs.declared.verdict.Verdict.TheVariants as v
 
 -- ---- the answers of the libraries, as the program says them
 
--- The verdict for an error that stopped the read of an item. A read that failed stopped at this offset.
+-- The verdict for an error that stopped the read of an item. A read that failed stopped at this offset. For `Io` and
+-- the offset 2 it is `Short(2)`.
 abbrev pub fault_said : {E : Type 0} → SkipError E → ℕ → Verdict
 fault_said (s.Break place) offset = v.Break place
 fault_said (s.Deep place) offset = v.Deep place
@@ -36,60 +37,64 @@ fault_said (s.Read (e.Io error)) offset = v.Short offset
 fault_said (s.Read e.TooLong) offset = v.TooLong
 fault_said (s.Read e.Waiting) offset = v.TooLong
 
--- The verdict for the answer of `check`.
+-- The verdict for the answer of `check`. For the sequence `01 81 02` it is `Well` with 2 items and 3 bytes.
 abbrev pub sequence_said : {E : Type 0} → Result (Sequence E) (Stopped E) → ℕ → Verdict
 sequence_said (Ok sequence) offset = v.Well sequence.items sequence.bytes
 sequence_said (Err stopped) offset = fault_said stopped.error offset
 
--- The verdict for the answer of `check_one`.
+-- The verdict for the answer of `check_one`. For `01 81 02` from the offset 0 on it is `More(1)`.
 abbrev pub single_said : {E : Type 0} → Result (Sequence E) (NotOne E) → ℕ → Verdict
 single_said (Ok sequence) offset = v.Well sequence.items sequence.bytes
 single_said (Err (n.Item error)) offset = fault_said error offset
 single_said (Err (n.More place next)) offset = v.More place
 
 module _ {R E : Type 0} (source : Ghosts R E) where
-  -- `check` gave an answer, and the verdict says it.
+  -- `check` gave an answer, and the verdict says it: for `01 02`, for example, 2 items in 2 bytes.
   pub record SaysItems (depth room : ℕ) (old : Decoder R) (verdict : Verdict) (new : Decoder R) : Type 0 where
     pub answer : Result (Sequence E) (Stopped E)
     pub checks : ChecksItems source depth room old answer new
     pub said : verdict ≡ sequence_said answer new.offset
 
-  -- `check_one` gave an answer, and the verdict says it.
+  -- `check_one` gave an answer, and the verdict says it: for `01 02` from the offset 0 on, for example, `More(1)`.
   pub record SaysOne (depth room : ℕ) (old : Decoder R) (verdict : Verdict) (new : Decoder R) : Type 0 where
     pub answer : Result (Sequence E) (NotOne E)
     pub checks : ChecksOne source depth room old answer new
     pub said : verdict ≡ single_said answer new.offset
 
-  -- The verdict says the answer of `check_one` or of `check`, as is wanted.
+  -- The verdict says the answer of `check_one` or of `check`, as is wanted. For `01` both say 1 item in 1 byte.
   abbrev pub SaysVerdict : Bool → ℕ → ℕ → Decoder R → Verdict → Decoder R → Type 0
   SaysVerdict true depth room old verdict new = SaysOne depth room old verdict new
   SaysVerdict false depth room old verdict new = SaysItems depth room old verdict new
 
--- A read that failed for another reason than the end takes precedence over what is found.
+-- A read that failed for another reason than the end takes precedence over what is found. At the end of `82 01` the
+-- verdict `Short(2)` stays.
 abbrev pub unless_failed : Option ReadFault → Verdict → Verdict
 unless_failed None verdict = verdict
 unless_failed (Some r.End) verdict = verdict
 unless_failed (Some (r.Failed error)) verdict = v.Failed error
 
--- The answer of `dump` and `diag` after whole items: the end, or a read that failed for another reason.
+-- The answer of `dump` and `diag` after whole items: the end, or a read that failed for another reason. `End` gives
+-- `Ok`, and `Failed` gives an error.
 abbrev pub end_said : Option ReadFault → Result (Unit {0}) Verdict
 end_said None = Ok tt
 end_said (Some r.End) = Ok tt
 end_said (Some (r.Failed error)) = Err (v.Failed error)
 
--- A dump stopped since its reader failed within an item.
+-- A dump stopped since its reader failed within an item. At the end of `82 01` it did so, and at `1c` it stopped for
+-- another reason.
 abbrev pub IsCutShort : {E F : Type 0} → Result E (DumpError E F) → Type 0
 IsCutShort (Err (u.Item (s.Read (e.Io error)))) = Unit {0}
 IsCutShort outcome = ⊥
 
--- The verdict for the answer of `dump`.
+-- The verdict for the answer of `dump`: `Break(1)` for `Item` of `Break(1)`, if no read failed.
 abbrev pub dump_said : {E : Type 0} → Result E (DumpError E Error) → Option ReadFault → ℕ
     → Result (Unit {0}) Verdict
 dump_said (Ok ended) fault offset = end_said fault
 dump_said (Err (u.Item error)) fault offset = Err (unless_failed fault (fault_said error offset))
 dump_said (Err (u.Rows error)) fault offset = Err (v.Output error)
 
--- The verdict for the answer of `diag`, or the error of its writer.
+-- The verdict for the answer of `diag`, or the error of its writer: `Deep(1)` for `Read` of `Deep(1)`, if no read
+-- failed.
 abbrev pub diag_said : {E F : Type 0} → Result E (DiagError E F) → Option ReadFault → ℕ
     → Result (Result (Unit {0}) Verdict) F
 diag_said (Ok ended) fault offset = Ok (end_said fault)
@@ -98,7 +103,7 @@ diag_said (Err (d.Write error)) fault offset = Err error
 
 -- ---- verdicts on bytes that are told
 
--- All is well.
+-- All is well: with 2 items in 3 bytes it is, and with `Short(2)` it is not.
 abbrev pub FoundWell : Verdict → Type 0
 FoundWell (v.Well items bytes) = Unit {0}
 FoundWell verdict = ⊥
@@ -141,18 +146,20 @@ abbrev pub FindsAll : Bool → ℕ → List ℕ → ℕ → Verdict → Type 0
 FindsAll strict depth due start (v.Well items bytes) = AreItems strict depth items due × (bytes ≡ length due)
 FindsAll strict depth due start verdict = (count : ℕ) × StopsBehind strict depth count due start verdict
 
--- The verdict after the rows of a dump: the end of a sequence, or its first fault.
+-- The verdict after the rows of a dump: the end of a sequence, or its first fault. For `01 02` it is the end, and for
+-- `01 1c` from the offset 0 on it is `Syntax(1)`.
 abbrev pub FindsBehindRows : Bool → ℕ → List ℕ → ℕ → Result (Unit {0}) Verdict → Type 0
 FindsBehindRows strict depth due start (Ok done) = IsSequence strict depth due
 FindsBehindRows strict depth due start (Err verdict) = (count : ℕ) × StopsBehind strict depth count due start verdict
 
--- The verdict if one item is wanted.
+-- The verdict if one item is wanted. For `01 80` from the offset 0 on it is `More(1)`.
 abbrev pub FindsOne : Bool → ℕ → List ℕ → ℕ → Verdict → Type 0
 FindsOne strict depth due start (v.Well items bytes) = (items ≡ 1) × IsItem strict depth due × (bytes ≡ length due)
 FindsOne strict depth due start (v.More place) = IsFollowed strict depth due start place
 FindsOne strict depth due start verdict = StopsBehind strict depth 0 due start verdict
 
--- The verdict on one item or on a sequence, as is wanted.
+-- The verdict on one item or on a sequence, as is wanted. From the offset 0 on, `01 02` has 2 items, or gives `More(1)`
+-- if one item is wanted.
 abbrev pub Finds : Bool → Bool → ℕ → List ℕ → ℕ → Verdict → Type 0
 Finds true strict depth due start verdict = FindsOne strict depth due start verdict
 Finds false strict depth due start verdict = FindsAll strict depth due start verdict

@@ -19,25 +19,27 @@ use Rattle.cbor_dump.specs.Sequences.{IsEnd, ReadsItems}
 use Rattle.cbor_diag.specs.declared.strings.TheConstants.{BUFFER_SIZE}
 
 module _ {E F : Type 0} where
-  -- The error says that the reader failed before a byte of an item came.
+  -- The error says that the reader failed before a byte of an item came: `Io` for an item at the offset 2, if the read
+  -- stopped at 2.
   abbrev pub IsEndOfItems : DiagError E F → ℕ → ℕ → Type 0
   IsEndOfItems (d.Read error) place stop = IsEnd error place stop
   IsEndOfItems (d.Write fault) place stop = ⊥
 
-  -- The answer to an error after whole items, of a show that began at the place and stopped at `stop`.
+  -- The answer to an error after whole items, of a show that began at the place and stopped at `stop`. For `Io` and the
+  -- place 2 it is the end if `stop` is 2, and an error if `stop` is 3.
   abbrev pub EndsShow : DiagError E F → ℕ → ℕ → Result E (DiagError E F) → Type 0
   EndsShow error place stop (Ok fault) = (error ≡ d.Read (s.Read (e.Io fault))) × (stop ≡ place)
   EndsShow error place stop (Err other) = (other ≡ error) × (IsEndOfItems error place stop → ⊥)
 
   -- How often the reader failed, by the answer: once at the end, and before the end once if the error of the read says
-  -- so.
+  -- so. At the end after 2 failures there are 3.
   abbrev pub CountsItems : Result E (DiagError E F) → ℕ → ℕ → Type 0
   CountsItems (Ok fault) old new = new ≡ old + 1
   CountsItems (Err error) old new = CountsShown {T = Unit {0}} (Err error) old new
 
 module _ {W F : Type 0} (sink : Sink W F) where
   -- A line feed was written, and the writer passed on what it had kept back. A writer that tells its room keeps nothing
-  -- back, and so has exactly that byte more.
+  -- back, and so has exactly that byte more. After `31` it then has `31 0a`.
   pub record EndsLine (old new : W) : Type 0 where
     pub between : W
     pub ends : WritesAll sink old (10 ∷ []) between
@@ -45,7 +47,7 @@ module _ {W F : Type 0} (sink : Sink W F) where
     pub just : IsSome (sink.room old) → WritesAll sink old (10 ∷ []) new
 
   -- A line feed was written, and the writer did not pass on what it had kept back. If the writer tells its room, the
-  -- bytes and the room are as the line feed left them.
+  -- bytes and the room are as the line feed left them. After `31` the bytes are then `31 0a`.
   pub record KeepsLine (old new : W) : Type 0 where
     pub between : W
     pub ends : WritesAll sink old (10 ∷ []) between
@@ -54,13 +56,14 @@ module _ {W F : Type 0} (sink : Sink W F) where
     pub room : IsSome (sink.room old) → sink.room new ≡ sink.room between
 
   -- The end of a line, by the answer. If one of the two calls failed, it was the last call: the line feed was not
-  -- written, or it was written and kept back.
+  -- written, or it was written and kept back. With room for no byte, after `31` the line feed was not written.
   abbrev pub EndsOrFails : {T : Type 0} → W → Result T F → W → Type 0
   EndsOrFails old (Ok done) new = EndsLine old new
   EndsOrFails old (Err fault) new = WritesFront sink old (10 ∷ []) new ⊎ KeepsLine old new
 
 module _ {R E : Type 0} (source : Ghosts R E) where
-  -- Items were read, and the reader failed at a further item before it consumed a byte.
+  -- Items were read, and the reader failed at a further item before it consumed a byte: for example, after both items
+  -- of `01 02`.
   pub record EndsItems (depth : ℕ) (old : Decoder R) (fault : E) (new : Decoder R) : Type 0 where
     pub count : ℕ
     pub between : Decoder R
@@ -68,7 +71,8 @@ module _ {R E : Type 0} (source : Ghosts R E) where
     pub fails : SkipsItem source depth BUFFER_SIZE between (Err (s.Read (e.Io fault))) new
     pub still : new.offset ≡ between.offset
 
-  -- Items were read, and the read of a further item failed. The failure is not an end.
+  -- Items were read, and the read of a further item failed. The failure is not an end: in `01 82`, for example, it is
+  -- within an array.
   pub record StopsItems (depth : ℕ) (old : Decoder R) (error : SkipError E) (new : Decoder R) : Type 0 where
     pub count : ℕ
     pub between : Decoder R
@@ -77,21 +81,23 @@ module _ {R E : Type 0} (source : Ghosts R E) where
     pub no_end : IsEnd error between.offset new.offset → ⊥
 
   -- The show of a sequence, by its answer: whole items, up to the end or to a further item whose read failed (RFC
-  -- 8742).
+  -- 8742). Over `01 02` it ends after two items, and over `01 1c` at `1c`.
   abbrev pub ShowsItems : {F : Type 0} → ℕ → Decoder R → Result E (DiagError E F) → Decoder R → Type 0
   ShowsItems depth old (Ok fault) new = EndsItems depth old fault new
   ShowsItems depth old (Err (d.Read error)) new = StopsItems depth old error new
   ShowsItems depth old (Err (d.Write fault)) new = Unit {0}
 
 module _ {R E W F : Type 0} (source : Ghosts R E) (sink : Sink W F) (layout : Layout) where
-  -- `count` items were shown, each on a line of its own: its text, and an end of the line.
+  -- `count` items were shown, each on a line of its own: its text, and an end of the line. The items of `01 02` make
+  -- the lines `1` and `2`.
   pub data ShowsLines : ℕ → Sides R W → Sides R W → Type 0 where
     none : {now : Sides R W} → ShowsLines zero now now
     more : {count : ℕ} {old now : Sides R W} {between : Decoder R} {shown new : W} → ShowsLines count old now
         → ItemShown source sink layout now (sides between shown) → EndsLine sink shown new
         → ShowsLines (suc count) old (sides between new)
 
-  -- After whole lines the show of one more item ended with this error, or its line could not be ended.
+  -- After whole lines the show of one more item ended with this error, or its line could not be ended. Over `01 1c`
+  -- this is after the line `1`.
   pub data StopsLines (old : Sides R W) (error : DiagError E F) (new : Sides R W) : Type 0 where
     at_item : (count : ℕ) (between : Sides R W) → ShowsLines count old between
         → ItemStops source sink layout between error new → StopsLines old error new
@@ -100,7 +106,8 @@ module _ {R E W F : Type 0} (source : Ghosts R E) (sink : Sink W F) (layout : La
         → EndsOrFails sink {T = Unit {0}} shown (Err fault) new.writer → error ≡ d.Write fault
         → StopsLines old error new
 
-  -- The show of a sequence, by its answer. The fault of a read that consumed nothing is that of a further item.
+  -- The show of a sequence, by its answer. The fault of a read that consumed nothing is that of a further item. Over
+  -- `01 02` the answer is the fault after both lines.
   abbrev pub WritesItems : Sides R W → Result E (DiagError E F) → Sides R W → Type 0
   WritesItems old (Ok fault) new = StopsLines old (d.Read (s.Read (e.Io fault))) new
   WritesItems old (Err error) new = StopsLines old error new

@@ -11,7 +11,7 @@ use Rattle.tool_verdicts.specs.declared.verdict.Status.TheVariants as s
 use Rattle.tool_verdicts.specs.declared.verdict.Verdict.{Verdict}
 use Rattle.tool_verdicts.specs.declared.verdict.Verdict.TheVariants as v
 
--- The number that a script sees.
+-- The number that a script sees: 0 for `Well`, and 1 for `Malformed`.
 abbrev pub status_code : Status → ℕ
 status_code s.Well = 0
 status_code s.Malformed = 1
@@ -24,7 +24,8 @@ abbrev pub output_status : ErrorKind → Status
 output_status k.BrokenPipe = s.Gone
 output_status kind = s.Failed
 
--- How the program ends. Malformed input is malformed by its own bytes. After a failure this is not known.
+-- How the program ends. Malformed input is malformed by its own bytes. After a failure this is not known. For
+-- `Short(2)` this is `Malformed`, and for `TooLong` it is `Failed`.
 abbrev pub verdict_status : Verdict → Status
 verdict_status (v.Well items bytes) = s.Well
 verdict_status (v.Syntax place) = s.Malformed
@@ -37,7 +38,7 @@ verdict_status (v.Failed error) = s.Failed
 verdict_status (v.Text fault) = s.Malformed
 verdict_status (v.Output error) = output_status (error_kind error)
 
--- The text of a reason why a text spells no bytes.
+-- The text of a reason why a text spells no bytes: "half a byte" for `HalfByte`.
 abbrev pub reason_text : TextReason → List ℕ
 reason_text t.NoDigit = codes "no hexadecimal digit"
 reason_text t.HalfByte = codes "half a byte"
