@@ -25,12 +25,14 @@ abbrev pub id_claim : Option (Bor (List ℕ)) → List ℕ
 id_claim None = []
 id_claim (Some bytes) = shortest_title (h.Positive 7) ++ body_spelling Bytes bytes.now
 
--- The claims that are texts, joined: `iss`, `sub` and `aud` with the keys 1, 2 and 3 (RFC 8392, 4).
+-- The claims that are texts, joined: `iss`, `sub` and `aud` with the keys 1, 2 and 3 (RFC 8392, 4). With the issuer `a`
+-- alone they are `01 61 61`.
 unfoldable pub names_bytes : Claims → List ℕ
 names_bytes claims =
     name_claim 1 claims.issuer ++ (name_claim 2 claims.subject ++ name_claim 3 claims.audience)
 
--- The claims that are times, joined: `exp`, `nbf` and `iat` with the keys 4, 5 and 6 (RFC 8392, 4).
+-- The claims that are times, joined: `exp`, `nbf` and `iat` with the keys 4, 5 and 6 (RFC 8392, 4). With the expiry 5
+-- alone they are `04 05`.
 unfoldable pub times_bytes : Claims → List ℕ
 times_bytes claims =
     time_claim 4 claims.expires ++ (time_claim 5 claims.not_before ++ time_claim 6 claims.issued_at)
@@ -39,7 +41,7 @@ times_bytes claims =
 abbrev pub one_of : {A : Type 0} → Option A → ℕ
 one_of claim = if is_some claim then 1 else 0
 
--- The number of claims that are there.
+-- The number of claims that are there: 2 for an issuer and an expiry alone.
 abbrev pub claim_count : Claims → ℕ
 claim_count claims =
     one_of claims.issuer + one_of claims.subject + one_of claims.audience + one_of claims.expires

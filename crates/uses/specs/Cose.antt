@@ -74,7 +74,7 @@ BeginsPayload header = (header ≡ h.Simple 22) ⊎ BeginsBytes header
 abbrev pub BeginsMap : Header → Type 0
 BeginsMap header = (len : Option ℕ) × (header ≡ h.Map len)
 
--- The part that is due next.
+-- The part that is due next: `TagDue` at first, and `ArrayDue` after `d2`.
 pub data Due : Type 0 where
   TagDue : Due
   ArrayDue : Due
@@ -106,7 +106,7 @@ pub data ReachesPart : List ℕ → Due → Type 0 where
       → IsPayload bytes (length before) span → ReachesPart (before ++ bytes) SignatureDue
 
 -- The meaning of the error of a map's item that begins at the place. A break there ends the map, if it may (RFC 7049,
--- 2.2.1).
+-- 2.2.1). At the place 5, `Break(5)` ends a map that may be closed, and `Break(6)` is an error.
 abbrev pub EndsPairs : {E : Type 0} → Bool → ℕ → SkipError E → Result (Unit {0}) (SkipError E) → Type 0
 EndsPairs closes place error (Ok done) = (closes ≡ true) × (error ≡ s.Break place)
 EndsPairs closes place error (Err other) = (other ≡ error) × (closes ≡ true → error ≡ s.Break place → ⊥)
@@ -114,14 +114,14 @@ EndsPairs closes place error (Err other) = (other ≡ error) × (closes ≡ true
 module _ {R E : Type 0} (source : Ghosts R E) where
   -- ---- what was read
 
-  -- These bytes were taken, and no header waits.
+  -- These bytes were taken, and no header waits. With `42 01 02` the offset rose by 3.
   pub record Took (old : Decoder R) (bytes : List ℕ) (new : Decoder R) : Type 0 where
     pub consumed : Consumes (view source old) (view source new) bytes
     pub offset : new.offset ≡ old.offset + length bytes
     pub none_waits : new.waiting ≡ None
     pub mode : new.strict ≡ old.strict
 
-  -- A body of this length was taken.
+  -- A body of this length was taken. At the offset 3, `01 02` has the span from 3 up to 5.
   pub record TookBody (len : ℕ) (old : Decoder R) (span : Span) (new : Decoder R) : Type 0 where
     pub body : List ℕ
     pub all : length body ≡ len
@@ -129,19 +129,19 @@ module _ {R E : Type 0} (source : Ghosts R E) where
     pub starts : span.start ≡ old.offset
     pub ends : span.end ≡ new.offset
 
-  -- A byte string was taken.
+  -- A byte string was taken. At the offset 0, `41 0b` has the span from 1 up to 2.
   pub record TookString (old : Decoder R) (span : Span) (new : Decoder R) : Type 0 where
     pub bytes : List ℕ
     pub is_string : IsByteString bytes old.offset span
     pub took : Took old bytes new
 
-  -- A payload was taken.
+  -- A payload was taken: `f6`, for example, which has no span.
   pub record TookPayload (old : Decoder R) (span : Option Span) (new : Decoder R) : Type 0 where
     pub bytes : List ℕ
     pub is_payload : IsPayload bytes old.offset span
     pub took : Took old bytes new
 
-  -- A map was taken.
+  -- A map was taken. At the offset 4, `a0` has the span from 4 up to 5.
   pub record TookMap (old : Decoder R) (span : Span) (new : Decoder R) : Type 0 where
     pub bytes : List ℕ
     pub is_map : IsMap bytes old.offset span
@@ -149,7 +149,8 @@ module _ {R E : Type 0} (source : Ghosts R E) where
 
   -- ---- the reasons that a read stops
 
-  -- A beginning of a body of this length was read, and the read of at most 64 further bytes failed.
+  -- A beginning of a body of this length was read, and the read of at most 64 further bytes failed. In a body of 100
+  -- bytes, this may be the read of the last 36.
   pub record BodyFails (len : ℕ) (old : Decoder R) (error : Error E) (new : Decoder R) : Type 0 where
     pub read : List ℕ
     pub asked : List ℕ
@@ -162,12 +163,13 @@ module _ {R E : Type 0} (source : Ghosts R E) where
 
   -- The effect of the read of a map after its title, by its answer: the rest of the map was read, or the read stopped
   -- after a beginning of its items. If the decoder is strict and no header waits, both are in the shortest spelling
-  -- (RFC 7049, 3.9).
+  -- (RFC 7049, 3.9). After `a1` the rest may be `01 02`.
   abbrev pub SkipsPairs : Option ℕ → Decoder R → Result (Unit {0}) (SkipError E) → Decoder R → Type 0
   SkipsPairs len old result new = SkipsWithin source (h.Map len) (MAP_DEPTH - 1) 64 old result new
 
   module _ (IsDue : Header → Type 0) where
-    -- The title of a byte string came that may stand here, and the read of its body failed.
+    -- The title of a byte string came that may stand here, and the read of its body failed: after `42`, if only `42 01`
+    -- is due.
     pub record StopsInBytes (old : Decoder R) (error : Error E) (new : Decoder R) : Type 0 where
       pub len : ℕ
       pub titled : Decoder R
@@ -175,7 +177,8 @@ module _ {R E : Type 0} (source : Ghosts R E) where
       pub pulled : PullsTitle source old (h.Bytes (Some len)) titled
       pub fails : BodyFails len titled error new
 
-    -- The title of a map came that may stand here, and the read of its items failed.
+    -- The title of a map came that may stand here, and the read of its items failed: in `a1 01 1c`, for example, at
+    -- `1c`.
     pub record StopsInMap (old : Decoder R) (error : SkipError E) (new : Decoder R) : Type 0 where
       pub len : Option ℕ
       pub titled : Decoder R
@@ -184,7 +187,7 @@ module _ {R E : Type 0} (source : Ghosts R E) where
       pub fails : SkipsPairs len titled (Err error) new
 
     -- The reason that a part was not read if `IsDue` says which header is due: no title came, another title came, or
-    -- the part is cut or broken after its title.
+    -- the part is cut or broken after its title. If a map is due, `80` is another title.
     abbrev pub StopsAtPart : Decoder R → CoseError E → Decoder R → Type 0
     StopsAtPart old (c.Read error) new = DecoderPullAnswer source old (Err error) new ⊎ StopsInBytes old error new
     StopsAtPart old (c.Skip error) new = StopsInMap old error new
@@ -192,7 +195,7 @@ module _ {R E : Type 0} (source : Ghosts R E) where
 
   -- The reason that no COSE_Sign1 was read. The bytes begin as a COSE_Sign1 does, and a strict decoder failed at the
   -- part that is due after them. The decoder has consumed exactly these bytes, and its reader fails only if bytes are
-  -- missing.
+  -- missing. In `d2 84 40 80` the decoder failed at `80`, because a map is due there.
   pub record StopsSign1 (bytes : List ℕ) (error : CoseError E) : Type 0 where
     pub before : List ℕ
     pub rest : List ℕ

@@ -49,18 +49,19 @@ pub record IsSign1 (item protected unprotected signature : List ℕ) (payload : 
   pub is_payload : IsPayloadOf third payload
   pub is_signature : IsBytesOf fourth signature
 
--- The bytes of the payload, if there is one.
+-- The bytes of the payload, if there is one: `01` for the payload `41 01`, and none for `f6`.
 abbrev pub payload_body : Option (Bor (List ℕ)) → Option (List ℕ)
 payload_body None = None
 payload_body (Some body) = Some body.now
 
--- The item is a COSE_Sign1, and the message has its parts.
+-- The item is a COSE_Sign1, and the message has its parts. The message of `d2 84 40 a0 f6 40` has no payload.
 abbrev pub IsMessage : List ℕ → Message → Type 0
 IsMessage item message =
     IsSign1 item message.protected.now (item_bytes message.unprotected) message.signature.now
     (payload_body message.payload)
 
--- The bytes begin with an item to the depth that has this property.
+-- The bytes begin with an item to the depth that has this property. If the property is to have one byte, `80 05` begins
+-- so, and `81 05` does not.
 pub record BeginsToDepth (Has : List ℕ → Type 0) (bytes : List ℕ) : Type 0 where
   pub item : List ℕ
   pub rest : List ℕ
@@ -68,16 +69,17 @@ pub record BeginsToDepth (Has : List ℕ → Type 0) (bytes : List ℕ) : Type 0
   pub is_item : IsItem false MESSAGE_DEPTH item
   pub has : Has item
 
--- The bytes begin with a COSE_Sign1, and the message has its parts (RFC 9052, 4.2).
+-- The bytes begin with a COSE_Sign1, and the message has its parts (RFC 9052, 4.2). In `d2 84 40 a0 f6 40 05` the byte
+-- `05` follows it.
 abbrev pub BeginsMessage : List ℕ → Message → Type 0
 BeginsMessage bytes message = BeginsToDepth (λ item. IsMessage item message) bytes
 
--- The item is no COSE_Sign1 with its tag.
+-- The item is no COSE_Sign1 with its tag: `84 40 a0 f6 40`, for example, which has no tag.
 abbrev pub IsNoSign1 : List ℕ → Type 0
 IsNoSign1 item = (protected unprotected signature : List ℕ) (payload : Option (List ℕ))
     → IsSign1 item protected unprotected signature payload → ⊥
 
--- The reason that the bytes begin with no COSE_Sign1.
+-- The reason that the bytes begin with no COSE_Sign1: `NoSign1` for `d2 80`.
 abbrev pub FailsMessage : List ℕ → MessageError → Type 0
 FailsMessage bytes (m.Item fault) = HasFault MESSAGE_DEPTH bytes fault
 FailsMessage bytes m.NoSign1 = BeginsToDepth IsNoSign1 bytes

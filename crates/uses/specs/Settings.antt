@@ -48,7 +48,7 @@ settings_bytes host port =
     ++ (shortest_title (h.Positive 2) ++ shortest_title (h.Positive port))))
 
 module _ {R E : Type 0} (source : Ghosts R E) where
-  -- An entry was read.
+  -- An entry was read: `02 05`, for example, after which the port is 5.
   pub record ReadsEntry (old : Decoder R) (before : Settings) (new : Decoder R) (after : Settings) : Type 0 where
     pub bytes : List ℕ
     pub is_entry : IsEntry bytes before after
@@ -61,12 +61,12 @@ module _ {R E : Type 0} (source : Ghosts R E) where
     pub no_host : number ≡ 1 → ⊥
     pub no_port : number ≡ 2 → ⊥
 
-  -- An entry with a known key was read, or another key alone, which changes no settings.
+  -- An entry with a known key was read, or another key alone, which changes no settings. In `03 80` only `03` was read.
   abbrev pub ReadsKnown : Decoder R → Settings → Bool → Decoder R → Settings → Type 0
   ReadsKnown old before true new after = ReadsEntry old before new after
   ReadsKnown old before false new after = ReadsOtherKey old new × (after ≡ before)
 
-  -- The entries of a map were read, as many as its header counts.
+  -- The entries of a map were read, as many as its header counts: after `a2`, for example, `01 61 61` and `02 05`.
   pub record ReadsEntries (count : ℕ) (old : Decoder R) (before : Settings) (new : Decoder R) (after : Settings)
       : Type 0 where
     pub bytes : List ℕ

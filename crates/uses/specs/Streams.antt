@@ -17,7 +17,8 @@ use Rattle.ciborium_ll.specs.Sides.{sides}
 -- ---- over any reader and writer
 
 module _ {W F : Type 0} (sink : Writer W F) where
-  -- The writer was flushed, with this answer. A writer that tells its room keeps its bytes.
+  -- The writer was flushed, with this answer. A writer that tells its room keeps its bytes. After 2 failures, an error
+  -- makes 3.
   pub record Flushes (old : W) (result : Result (Unit {0}) F) (new : W) : Type 0 where
     pub flushed : OnOk result (sink.flushed old new)
     pub ok : OnOk result (sink.failures new ≡ sink.failures old)
@@ -26,7 +27,8 @@ module _ {W F : Type 0} (sink : Writer W F) where
     pub room : IsSome (sink.room old) → sink.room new ≡ sink.room old
     pub target : sink.target new ≡ sink.target old
 
-  -- The writer was flushed, and an error is the error of the flush.
+  -- The writer was flushed, and an error is the error of the flush. If the writer tells its room and has `01 02`, it
+  -- keeps them after an error.
   abbrev pub FlushesSo : {E : Type 0} → W → Result (Unit {0}) (RecodeError E F) → W → Type 0
   FlushesSo old (Ok done) new = Flushes old (Ok done) new
   FlushesSo old (Err (r.Write fault)) new = Flushes old (Err fault) new
@@ -34,7 +36,7 @@ module _ {W F : Type 0} (sink : Writer W F) where
 
 module _ {R E W F : Type 0} (source : Reader R E) (sink : Writer W F) where
   -- `recode` copied `count` elements to the writer, with this answer, by a new decoder over the reader and a buffer of
-  -- 64 bytes. The reader is as that decoder left it.
+  -- 64 bytes. The reader is as that decoder left it. After `Ok` for one element of `01 05`, it has `05` left.
   pub record RecodesFrom (count : ℕ) (reader : R) (writer : W) (result : Result (Unit {0}) (RecodeError E F))
       (reader' : R) (writer' : W) : Type 0 where
     pub decoder : Decoder R
@@ -43,14 +45,16 @@ module _ {R E W F : Type 0} (source : Reader R E) (sink : Writer W F) where
     pub recodes : Recodes source sink count 64 (sides decoder writer) result (sides behind writer')
     pub left : reader' ≡ reader_of behind
 
-  -- All elements were copied, and then the writer was flushed, with this answer.
+  -- All elements were copied, and then the writer was flushed, with this answer. For one element of `01 05`, `01` was
+  -- copied.
   pub record FlushesBehind (count : ℕ) (reader : R) (writer : W) (result : Result (Unit {0}) F) (reader' : R)
       (writer' : W) : Type 0 where
     pub between : W
     pub copies : RecodesFrom count reader writer (Ok tt) reader' between
     pub flushes : Flushes sink between result writer'
 
-  -- The effect of `normalise`, by its answer: a copy and then a flush, or a copy that failed.
+  -- The effect of `normalise`, by its answer: a copy and then a flush, or a copy that failed. For one element of `1c`,
+  -- the copy failed, and no flush came.
   abbrev pub CopiesAndFlushes : ℕ → R → W → Result (Unit {0}) (RecodeError E F) → R → W → Type 0
   CopiesAndFlushes count reader writer (Ok done) reader' writer' =
       FlushesBehind count reader writer (Ok done) reader' writer'
@@ -62,13 +66,14 @@ module _ {R E W F : Type 0} (source : Reader R E) (sink : Writer W F) where
 
   -- ---- the premises over bytes that are told
 
-  -- The reader tells its bytes, and the writer tells the bytes written.
+  -- The reader tells its bytes, and the writer tells the bytes written: `02`, for example, and `01`.
   pub record TellBytes (reader : R) (writer : W) (due written : List ℕ) : Type 0 where
     pub ahead : source.ahead reader ≡ Some due
     pub output : sink.written writer ≡ Some written
 
   -- Both tell their bytes, the reader fails only if bytes are missing, the offset fits, and the writer has room. The
-  -- room covers the spelling of the elements if they are next, and otherwise all bytes due.
+  -- room covers the spelling of the elements if they are next, and otherwise all bytes due. For one element of
+  -- `18 17 05`, a room of 1 byte is enough.
   pub record AreReady (count : ℕ) (reader : R) (writer : W) (due written : List ℕ) : Type 0 where
     pub tell : TellBytes reader writer due written
     pub steady : IsTrue (source.steady reader)
@@ -96,12 +101,14 @@ module _ {R E W F : Type 0} (source : Reader R E) (sink : Writer W F) where
     pub output : sink.written writer ≡ Some (written ++ fault.written)
     pub left : source.ahead reader ≡ Some (drop fault.consumed fault.ahead)
 
-  -- The reader failed, or the offset is full. A part of the elements was read, and written but for the kept bytes.
+  -- The reader failed, or the offset is full. A part of the elements was read, and written but for the kept bytes. For
+  -- one element of `43 01 02`, `43 01` may be written.
   pub record FailsToRead (count : ℕ) (due written : List ℕ) (writer : W) : Type 0 where
     pub stop : StopInReading count due
     pub output : sink.written writer ≡ Some (written ++ stop.written)
 
-  -- A write failed. A part of the elements was read, and a beginning of its spelling was written.
+  -- A write failed. A part of the elements was read, and a beginning of its spelling was written. For one element of
+  -- `43 01 02 03`, `43 01` may be written.
   pub record FailsToWrite (count : ℕ) (due written : List ℕ) (reader : R) (writer : W) : Type 0 where
     pub stop : StopInWriting count 64 due
     pub output : sink.written writer ≡ Some (written ++ stop.written)
@@ -109,13 +116,14 @@ module _ {R E W F : Type 0} (source : Reader R E) (sink : Writer W F) where
 
   -- ---- the flush after the copy
 
-  -- All elements were copied, and their writer was flushed.
+  -- All elements were copied, and their writer was flushed: with `17`, for one element of `18 17`.
   pub record Normalises (count : ℕ) (due written : List ℕ) (reader : R) (writer : W) : Type 0 where
     pub copied : W
     pub copies : CopiesSo count due written reader copied
     pub flushed : sink.flushed copied writer
 
-  -- All elements were copied, and the flush failed. A writer that tells its room still has them.
+  -- All elements were copied, and the flush failed. A writer that tells its room still has them. After one element of
+  -- `18 17` it has `17`.
   pub record FailsToFlush (count : ℕ) (due written : List ℕ) (reader : R) (writer : W) : Type 0 where
     pub copied : W
     pub copies : CopiesSo count due written reader copied
@@ -124,7 +132,7 @@ module _ {R E W F : Type 0} (source : Reader R E) (sink : Writer W F) where
   -- ---- the copy and the flush, by the answer
 
   -- The effect of `normalise` if all is ready. An error `Read` names the first fault, and an error `Write` is the error
-  -- of the flush.
+  -- of the flush. For two elements of `01 1c` the answer is `Syntax(1)`.
   abbrev pub IsNormalised : ℕ → List ℕ → List ℕ → Result (Unit {0}) (RecodeError E F) → R → W → Type 0
   IsNormalised count due written (Ok done) reader writer = Normalises count due written reader writer
   IsNormalised count due written (Err (r.Read (e.Io fault))) reader writer =
@@ -135,7 +143,7 @@ module _ {R E W F : Type 0} (source : Reader R E) (sink : Writer W F) where
   IsNormalised count due written (Err (r.Read e.Waiting)) reader writer = ⊥
   IsNormalised count due written (Err (r.Write fault)) reader writer = CopiesSo count due written reader writer
 
-  -- The effect of `normalise` if any call may fail.
+  -- The effect of `normalise` if any call may fail. After `Ok` for one element of `18 17`, `17` was written.
   abbrev pub NormalisesAnyhow : ℕ → List ℕ → List ℕ → Result (Unit {0}) (RecodeError E F) → R → W → Type 0
   NormalisesAnyhow count due written (Ok done) reader writer = Normalises count due written reader writer
   NormalisesAnyhow count due written (Err (r.Read (e.Io fault))) reader writer = FailsToRead count due written writer

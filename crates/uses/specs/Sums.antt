@@ -59,14 +59,16 @@ module _ {R E : Type 0} (source : Ghosts R E) where
     pub is_integer : IsInteger header number
     pub no_room : FitsSigned w64 (total +ℤ number) → ⊥
 
-  -- There is no sum with the next integer. `closable` says if a break may end the array.
+  -- There is no sum with the next integer. `closable` says if a break may end the array. If none may, `ff` gives
+  -- `NoNumber`.
   abbrev pub StopsNext : Bool → ℤ → Decoder R → SumError E → Decoder R → Type 0
   StopsNext closable total old (s.Read error) new = DecoderPullAnswer source old (Err error) new
   StopsNext closable total old (s.NoArray at) new = ⊥
   StopsNext closable total old (s.NoNumber at) new = MeetsNoInteger closable old at new
   StopsNext closable total old (s.OutOfRange at) new = PassesRange total old at new
 
-  -- The sum with the next integer, or a break (RFC 7049, 2.1 and 2.2.1).
+  -- The sum with the next integer, or a break (RFC 7049, 2.1 and 2.2.1). If the total is 3, `02` gives 5, and `ff`
+  -- gives `None`.
   abbrev pub AddsNext : ℤ → Decoder R → Result (Option ℤ) (SumError E) → Decoder R → Type 0
   AddsNext total old (Ok (Some sum)) new = AddsInteger total old sum new
   AddsNext total old (Ok None) new = PullsTitle source old h.Break new
@@ -74,7 +76,8 @@ module _ {R E : Type 0} (source : Ghosts R E) where
 
   -- ---- the integers of an array
 
-  -- Titles of `count` integers were read, whose sum is the total.
+  -- Titles of `count` integers were read, whose sum is the total: for example, `01 20` with a `count` of 2 and a total
+  -- of 0.
   pub record ReadsIntegers (old : Decoder R) (count : ℕ) (total : ℤ) (new : Decoder R) : Type 0 where
     pub bytes : List ℕ
     pub have_sum : HaveSum count bytes total
@@ -93,14 +96,15 @@ module _ {R E : Type 0} (source : Ghosts R E) where
   ArrayGoesOn (h.Array None) count = Unit {0}
   ArrayGoesOn header count = ⊥
 
-  -- All integers of the array were read (RFC 7049, 2.1 and 2.2.1).
+  -- All integers of the array were read (RFC 7049, 2.1 and 2.2.1). After `82`, over `01 02` the total is 3.
   pub record SumsAll (header : Header) (old : Decoder R) (total : ℤ) (new : Decoder R) : Type 0 where
     pub count : ℕ
     pub between : Decoder R
     pub reads : ReadsIntegers old count total between
     pub ends : EndsArray header count between new
 
-  -- Some integers were read, and there is no sum with the next (RFC 7049, 2.1 and 2.2.1).
+  -- Some integers were read, and there is no sum with the next (RFC 7049, 2.1 and 2.2.1). After `82`, over `01 60` this
+  -- is at `60`.
   pub record SumStops (header : Header) (old : Decoder R) (error : SumError E) (new : Decoder R) : Type 0 where
     pub count : ℕ
     pub total : ℤ
@@ -109,12 +113,12 @@ module _ {R E : Type 0} (source : Ghosts R E) where
     pub reads : ReadsIntegers old count total between
     pub stops : StopsNext (is_closable header) total between error new
 
-  -- The sum of the integers after the header of an array, by the answer.
+  -- The sum of the integers after the header of an array, by the answer. After `9f`, over `05 24 ff` it is 0.
   abbrev pub SumsBehind : Header → Decoder R → Result ℤ (SumError E) → Decoder R → Type 0
   SumsBehind header old (Ok total) new = SumsAll header old total new
   SumsBehind header old (Err error) new = SumStops header old error new
 
-  -- The header of an array came, and the result is the sum of the integers after it.
+  -- The header of an array came, and the result is the sum of the integers after it. For `81 05` it is 5.
   pub record OpensArray (old : Decoder R) (result : Result ℤ (SumError E)) (new : Decoder R) : Type 0 where
     pub len : Option ℕ
     pub opened : Decoder R
@@ -138,7 +142,7 @@ module _ {R E : Type 0} (source : Ghosts R E) where
   SumsOrStops old (Err (s.OutOfRange at)) new = OpensArray old (Err (s.OutOfRange at)) new
 
   -- The effect of `sum_numbers`, with the facts that it keeps: the decoder stays as strict as it was, and its offset
-  -- never falls.
+  -- never falls. For `80` the sum is 0, and the offset rises by 1.
   pub record SumsArray (old : Decoder R) (result : Result ℤ (SumError E)) (new : Decoder R) : Type 0 where
     pub sums : SumsOrStops old result new
     pub moves_on : MovesOn source old new

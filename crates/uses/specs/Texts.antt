@@ -56,7 +56,8 @@ module _ {R E : Type 0} (source : Ghosts R E) where
         → (reads : ReadsRest source Text [] body.length titled new)
         → Gathers progress old (bodies ++ reads.read ∷ []) announced.after new
 
-  -- After these bodies `advance` gave this answer and left this decoder.
+  -- After these bodies `advance` gave this answer and left this decoder. In `7f 61 61 ff`, after the body `61` it gave
+  -- `None`.
   pub record AdvancesBehind (progress : Progress) (old : Decoder R) (bodies : List (List ℕ))
       (answer : Result (Option Body) (Error E)) (new : Decoder R) : Type 0 where
     pub last : Progress
@@ -65,7 +66,7 @@ module _ {R E : Type 0} (source : Ghosts R E) where
     pub advances : GoesOnTo source Text old.strict last now answer new
 
   -- The bodies up to the end of the string were read. Joined, they are the text, and there are no more than the limit
-  -- allows.
+  -- allows. In `7f 61 61 61 62 ff` there are two.
   pub record GathersAll (limit : ℕ) (progress : Progress) (old : Decoder R) (text : List ℕ) (new : Decoder R) : Type 0
     where
       pub bodies : List (List ℕ)
@@ -73,7 +74,7 @@ module _ {R E : Type 0} (source : Ghosts R E) where
       pub few : length bodies ≤ most_segments limit
       pub ends : AdvancesBehind progress old bodies (Ok None) new
 
-  -- The header of a text came and was given back, and then `Done` happened.
+  -- The header of a text came and was given back, and then `Done` happened. In `61 61` the header of `61` waits again.
   pub record IsBehindHeader (Done : Decoder R → Decoder R → Type 0) (old new : Decoder R) : Type 0 where
     pub len : Option ℕ
     pub titled : Decoder R
@@ -82,13 +83,14 @@ module _ {R E : Type 0} (source : Ghosts R E) where
     pub back : TakesBack source titled (h.Text len) pushed
     pub done : Done pushed new
 
-  -- The header of a text came, and its segments were read up to the end of the string (RFC 7049, 2.1 and 2.2.2).
+  -- The header of a text came, and its segments were read up to the end of the string (RFC 7049, 2.1 and 2.2.2). Over
+  -- `7f 61 61 61 62 ff` the text is `61 62`.
   abbrev pub GathersText : ℕ → Decoder R → List ℕ → Decoder R → Type 0
   GathersText limit old text new = IsBehindHeader (λ pushed left. GathersAll limit (p.Open 0) pushed text left) old new
 
   -- ---- the reasons that no text was read
 
-  -- `advance` failed after the bodies that were read.
+  -- `advance` failed after the bodies that were read: in `7f 61 61 1c`, for example, after `61`.
   pub record FailsAtTitle (progress : Progress) (old : Decoder R) (error : Error E) (new : Decoder R) : Type 0 where
     pub bodies : List (List ℕ)
     pub fails : AdvancesBehind progress old bodies (Err error) new
@@ -109,19 +111,21 @@ module _ {R E : Type 0} (source : Ghosts R E) where
     pub gathers : Gathers progress old bodies last new
     pub too_many : most_segments limit < length bodies
 
-  -- A beginning of a body was read, of at least one byte, and there was no memory for the text with it.
+  -- A beginning of a body was read, of at least one byte, and there was no memory for the text with it. Both bytes of
+  -- the body `61 62` may have been read.
   pub record LacksMemory (len : ℕ) (old new : Decoder R) : Type 0 where
     pub begins : BeginsRest source Text [] len old new
     pub some : 0 < length begins.read
 
-  -- The reason that a body was not read whole, or not appended.
+  -- The reason that a body was not read whole, or not appended. After `62`, if only `61` is due, the read failed.
   abbrev pub BodyStops : Body → Decoder R → TextError E → Decoder R → Type 0
   BodyStops body old (t.Read error) new = EndsBody source Text [] body.length 64 body.place old (Err error) new
   BodyStops body old (t.NoText at) new = ⊥
   BodyStops body old t.TooLong new = ⊥
   BodyStops body old t.Memory new = LacksMemory body.length old new
 
-  -- `advance` announced a body, which was not read whole or not appended.
+  -- `advance` announced a body, which was not read whole or not appended: in `7f 61 61 61 ff`, for example, the body
+  -- `ff`, which is no text.
   pub record StopsInSegment (progress : Progress) (old : Decoder R) (error : TextError E) (new : Decoder R) : Type 0 where
     pub bodies : List (List ℕ)
     pub body : Body
@@ -129,7 +133,8 @@ module _ {R E : Type 0} (source : Ghosts R E) where
     pub goes_on : AdvancesBehind progress old bodies (Ok (Some body)) titled
     pub stops : BodyStops body titled error new
 
-  -- The reason that the segments of a text were not read whole (RFC 7049, 2.2.2).
+  -- The reason that the segments of a text were not read whole (RFC 7049, 2.2.2). With a limit of 3, the title `64`
+  -- gives `TooLong`.
   abbrev pub SegmentsStop : ℕ → Progress → Decoder R → TextError E → Decoder R → Type 0
   SegmentsStop limit progress old (t.Read error) new =
       FailsAtTitle progress old error new ⊎ StopsInSegment progress old (t.Read error) new
@@ -138,13 +143,13 @@ module _ {R E : Type 0} (source : Ghosts R E) where
       MeetsLongBody limit progress old new ⊎ MeetsTooMany limit progress old new
   SegmentsStop limit progress old t.Memory new = StopsInSegment progress old t.Memory new
 
-  -- The header of a text came, and its segments were not read whole.
+  -- The header of a text came, and its segments were not read whole. For `61 ff`, the body is no text.
   abbrev pub StopsInText : ℕ → Decoder R → TextError E → Decoder R → Type 0
   StopsInText limit old error new =
       IsBehindHeader (λ pushed left. SegmentsStop limit (p.Open 0) pushed error left) old new
 
   -- The reason that `read_string` gave no text: `pull` failed, a header came that begins no text, or its segments were
-  -- not read whole (RFC 7049, 2.1).
+  -- not read whole (RFC 7049, 2.1). For `41 61` from the offset 0 on, this is `NoText(0)`.
   abbrev pub StopsText : ℕ → Decoder R → TextError E → Decoder R → Type 0
   StopsText limit old (t.Read error) new =
       DecoderPullAnswer source old (Err error) new ⊎ StopsInText limit old (t.Read error) new

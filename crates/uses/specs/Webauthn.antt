@@ -54,28 +54,33 @@ pub record IsMapAt (value : List ℕ) (place : ℕ) (span : Span) : Type 0 where
   pub starts : span.start ≡ place
   pub ends : span.end ≡ place + length value
 
--- The bytes are a map, and the value of the first key that is this text stands in this span.
+-- The bytes are a map, and the value of the first key that is this text stands in this span. In `a1 61 61 a0` the map
+-- of the key `a` stands in the span from 3 up to 4.
 pub record HasPart (StandsAt : List ℕ → ℕ → Span → Type 0) (depth : ℕ) (key bytes : List ℕ) (span : Span) : Type 0 where
   pub place : ℕ
   pub value : List ℕ
   pub has_value : HasValueAt depth key bytes place value
   pub stands : StandsAt value place span
 
--- The map has a format: a text with the key `fmt` (W3C Web Authentication, 6.5.4).
+-- The map has a format: a text with the key `fmt` (W3C Web Authentication, 6.5.4). In `a1 63 66 6d 74 61 61` its span
+-- is from 6 up to 7.
 abbrev pub HasFormat : ℕ → List ℕ → Span → Type 0
 HasFormat depth bytes span = HasPart (IsBodyAt IsTextOf) depth (codes "fmt") bytes span
 
--- The map has an attestation statement: a map with the key `attStmt` (W3C Web Authentication, 6.5.4).
+-- The map has an attestation statement: a map with the key `attStmt` (W3C Web Authentication, 6.5.4). If its value is
+-- `a0`, the span has 1 byte.
 abbrev pub HasStatement : ℕ → List ℕ → Span → Type 0
 HasStatement depth bytes span = HasPart IsMapAt depth (codes "attStmt") bytes span
 
--- The map has authenticator data: a byte string with the key `authData` (W3C Web Authentication, 6.5.4).
+-- The map has authenticator data: a byte string with the key `authData` (W3C Web Authentication, 6.5.4). If its value
+-- is `41 01`, the span has 1 byte.
 abbrev pub HasAuthData : ℕ → List ℕ → Span → Type 0
 HasAuthData depth bytes span = HasPart (IsBodyAt IsBytesOf) depth (codes "authData") bytes span
 
 -- ---- the object
 
--- The bytes begin with an item that has this property.
+-- The bytes begin with an item that has this property. If the property is to be a map, `a0 01` begins so, and `01 a0`
+-- does not.
 pub record BeginsWith (Has : List ℕ → Type 0) (bytes : List ℕ) : Type 0 where
   pub item : List ℕ
   pub rest : List ℕ
@@ -83,13 +88,15 @@ pub record BeginsWith (Has : List ℕ → Type 0) (bytes : List ℕ) : Type 0 wh
   pub is_item : IsItem false ATTESTATION_DEPTH item
   pub has : Has item
 
--- The item is a map with the three parts, in these spans (W3C Web Authentication, 6.5.4).
+-- The item is a map with the three parts, in these spans (W3C Web Authentication, 6.5.4). Its title may be `a3` or
+-- `bf`.
 pub record IsAttestation (parts : Attestation) (item : List ℕ) : Type 0 where
   pub format : HasFormat ATTESTATION_DEPTH item parts.format
   pub statement : HasStatement ATTESTATION_DEPTH item parts.statement
   pub auth_data : HasAuthData ATTESTATION_DEPTH item parts.auth_data
 
--- The bytes begin with an attestation object, whose parts stand in these spans (W3C Web Authentication, 6.5.4).
+-- The bytes begin with an attestation object, whose parts stand in these spans (W3C Web Authentication, 6.5.4). It may
+-- begin with `a3`, but not with `a2`.
 abbrev pub BeginsAttestation : List ℕ → Attestation → Type 0
 BeginsAttestation bytes parts = BeginsWith (IsAttestation parts) bytes
 
@@ -97,18 +104,19 @@ BeginsAttestation bytes parts = BeginsWith (IsAttestation parts) bytes
 abbrev pub LacksFormat : List ℕ → Type 0
 LacksFormat item = (span : Span) → HasFormat ATTESTATION_DEPTH item span → ⊥
 
--- The item has a format, but no statement.
+-- The item has a format, but no statement: `a1 63 66 6d 74 60`, which is a map of `fmt` to an empty text.
 abbrev pub LacksStatement : List ℕ → Type 0
 LacksStatement item = ((span : Span) × HasFormat ATTESTATION_DEPTH item span)
     × ((span : Span) → HasStatement ATTESTATION_DEPTH item span → ⊥)
 
--- The item has a format and a statement, but no authenticator data.
+-- The item has a format and a statement, but no authenticator data: for example, a map of `fmt` to `60` and of
+-- `attStmt` to `a0`.
 abbrev pub LacksAuthData : List ℕ → Type 0
 LacksAuthData item = ((span : Span) × HasFormat ATTESTATION_DEPTH item span)
     × ((span : Span) × HasStatement ATTESTATION_DEPTH item span)
     × ((span : Span) → HasAuthData ATTESTATION_DEPTH item span → ⊥)
 
--- The reason that the bytes begin with no attestation object.
+-- The reason that the bytes begin with no attestation object: `NoFormat` for `a0`.
 abbrev pub FailsAttestation : List ℕ → AttestationError → Type 0
 FailsAttestation bytes (w.Item fault) = HasFault ATTESTATION_DEPTH bytes fault
 FailsAttestation bytes w.NoFormat = BeginsWith LacksFormat bytes
