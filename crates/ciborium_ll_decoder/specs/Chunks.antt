@@ -135,7 +135,8 @@ module _ {R E P : Type 0} {parser : Parser P} (source : Ghosts R E) where
     pub decoder : new.decoder.now ≡ old.decoder.now
 
   -- The body is no text: it was damaged before, or bytes are kept at its end, or more than three bytes would have to be
-  -- kept. The place is the segment's, and nothing is kept. At its end the text body `61 c3` is damaged.
+  -- kept. The place is the segment's. If the damage is new, nothing is kept after it. At its end the text body `61 c3`
+  -- is damaged.
   pub record FindsDamage (room : ℕ) (old : Segment R P parser) (at : ℕ) (new : Segment R P parser) : Type 0 where
     pub place : at ≡ old.place
     pub same_place : new.place ≡ old.place

@@ -67,8 +67,8 @@ module _ {R : Type 0} where
   abbrev pub refusals_of : Decoder R → ℕ
   refusals_of d = d.refusals.count
 
-  -- The decoder refused the read, and nothing changed except its count of refusals. From the offset 3 on, it is still
-  -- at 3.
+  -- The reader, the offset, the waiting header and the strictness are as they were. The count of refusals may differ.
+  -- From the offset 3 on, the decoder is still at 3.
   pub record IsUntouched (old new : Decoder R) : Type 0 where
     pub reader : new.reader ≡ old.reader
     pub offset : new.offset ≡ old.offset
