@@ -79,8 +79,8 @@ pub fn check<R: Read>(
     }
 }
 
-/// Answers the error that ended the read. The first item begins at `start`, and the last one at `place`. The read
-/// failed at the offset `stop`.
+/// Answers the error that ended the read. The items stand from the offset `start` to `place`, and the read failed at
+/// the offset `stop`.
 fn ended<E>(
     error: SkipError<E>,
     items: usize,
