@@ -61,12 +61,13 @@ module _ {R E : Type 0} (source : Ghosts R E) where
     pub no_host : number ≡ 1 → ⊥
     pub no_port : number ≡ 2 → ⊥
 
-  -- An entry with a known key was read, or another key alone, which changes no settings. In `03 80` only `03` was read.
+  -- By the answer, an entry was read, or a key alone that is neither the host's nor the port's and changes no settings.
+  -- Over `02 05` the entry is read, and over `03 80` only `03`.
   abbrev pub ReadsKnown : Decoder R → Settings → Bool → Decoder R → Settings → Type 0
   ReadsKnown old before true new after = ReadsEntry old before new after
   ReadsKnown old before false new after = ReadsOtherKey old new × (after ≡ before)
 
-  -- The entries of a map were read, as many as its header counts: after `a2`, for example, `01 61 61` and `02 05`.
+  -- `count` entries of a map were read: 2, for example, if `02 05 03 80` was read.
   pub record ReadsEntries (count : ℕ) (old : Decoder R) (before : Settings) (new : Decoder R) (after : Settings)
       : Type 0 where
     pub bytes : List ℕ

@@ -107,8 +107,8 @@ module _ {R E W F : Type 0} (source : Reader R E) (sink : Writer W F) where
     pub stop : StopInReading count due
     pub output : sink.written writer ≡ Some (written ++ stop.written)
 
-  -- A write failed. A part of the elements was read, and a beginning of its spelling was written. For one element of
-  -- `43 01 02 03`, `43 01` may be written.
+  -- A write failed. The elements or a part of them were read, and a beginning of their spelling was written. For one
+  -- element of `43 01 02 03 05`, `43 01` may be written and `05` left.
   pub record FailsToWrite (count : ℕ) (due written : List ℕ) (reader : R) (writer : W) : Type 0 where
     pub stop : StopInWriting count 64 due
     pub output : sink.written writer ≡ Some (written ++ stop.written)

@@ -118,7 +118,7 @@ module _ {R E : Type 0} (source : Ghosts R E) where
   SumsBehind header old (Ok total) new = SumsAll header old total new
   SumsBehind header old (Err error) new = SumStops header old error new
 
-  -- The header of an array came, and the result is the sum of the integers after it. For `81 05` it is 5.
+  -- The header of an array came, and the result is that of the integers after it: `Ok(5)`, for example, for `81 05`.
   pub record OpensArray (old : Decoder R) (result : Result ℤ (SumError E)) (new : Decoder R) : Type 0 where
     pub len : Option ℕ
     pub opened : Decoder R
