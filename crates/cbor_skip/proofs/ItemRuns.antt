@@ -7,16 +7,13 @@ use Rattle.ciborium_ll_decoder.specs.declared.dec.Decoder.{Decoder}
 use Rattle.ciborium_ll_grammar.specs.Items.{AreItems, IsItem, more_items, no_items}
 use Rattle.ciborium_ll_decoder.specs.Decoding.{IsSteady, MovesOn, PullsTitle}
 use Rattle.ciborium_ll_decoder.proofs.DecodingLaws.{ReadsPast-none, ReadsPast-then}
+use Rattle.ciborium_ll_grammar.proofs.ItemJoins.{item_before}
 use Rattle.cbor_skip.specs.declared.SkipError.{SkipError}
 use Rattle.cbor_skip.specs.Due.{IsNest, TakesMore, item_count, may_close}
 use Rattle.cbor_skip.specs.Skipping.{ReadsItem, ReadsCounted, SkipsCounted, SkipsWithin, StopsItem, StopsCounted}
 use Rattle.cbor_skip.specs.Skipping.{SkipsItem, strictness}
 use Rattle.cbor_skip.proofs.ItemSteps.{counted_completes, reads_nest, stops_nest, no_items_read}
 use Rattle.cbor_skip.proofs.StrictnessLaws.{items_looser, due_looser, passed_keeps}
-
--- An item and then other items are items.
-item_first : (s : Bool) (d n : ℕ) (u v : List ℕ) → IsItem s d u → AreItems s d n v → AreItems s d (suc n) (u ++ v)
-item_first s d n u v (more_items p g c no_items) i = simp (append_assoc, append-nil) (more_items p g c i)
 
 -- A header that counts items begins a nest.
 pub counted_nest : (x : Header) (n : ℕ) → item_count x ≡ Some n → IsNest x
@@ -53,11 +50,11 @@ module _ {R E : Type 0} (source : Ghosts R E) where
       → SkipsCounted source n d room now result new → SkipsCounted source (suc n) d room old result new
   item_then n d room old now first (Ok done) new others =
       let items = items_looser _ _ (passed_keeps source first.passed) _ _ _ others.are_items in
-      search (item_first _ _ _ _ _ first.is_item items, ReadsPast-then source _ _ _ _ _ first.passed others.passed)
+      search (item_before _ _ _ _ _ first.is_item items, ReadsPast-then source _ _ _ _ _ first.passed others.passed)
   item_then n d room old now first (Err error) new others =
       let items = items_looser _ _ (passed_keeps source first.passed) _ _ _ others.are_items in
       let more : suc others.before < suc n = omega arith in
-      search (item_first _ _ _ _ _ first.is_item items, ReadsPast-then source _ _ _ _ _ first.passed others.passed)
+      search (item_before _ _ _ _ _ first.is_item items, ReadsPast-then source _ _ _ _ _ first.passed others.passed)
 
   pub item_decides : {room left after levels count depth : ℕ} {now next old : Decoder R} → suc after ≡ left
       → Decides room left levels now count depth old → ReadsItem source levels now next

@@ -17,6 +17,7 @@ use Rattle.ciborium_ll_decoder.specs.Decoding.{ReadsPast, DecoderPullAnswer, Pul
 use Rattle.ciborium_ll_decoder.specs.Skipping.{IsTakenBehind, SkipsWhole}
 use Rattle.std.proofs.lemmas.List.{append_cancel_right}
 use Rattle.ciborium_ll_grammar.proofs.TitleLaws.{IsTitle-shortest, title_in_range}
+pub use Rattle.ciborium_ll_grammar.proofs.ItemJoins.{item_of, items_item}
 use Rattle.ciborium_ll_grammar.proofs.StringLaws.{fronts}
 use Rattle.ciborium_ll_decoder.proofs.NestLaws.{alone_bytes}
 use Rattle.ciborium_ll_decoder.proofs.DecodingLaws.{ReadsPast-none, ReadsPast-pull, ReadsPast-pulled, ReadsPast-then}
@@ -32,17 +33,6 @@ use Rattle.cbor_skip.proofs.StrictnessLaws.{completes_looser, items_looser, due_
 use Rattle.cbor_skip.proofs.StrictnessLaws.{pulled_keeps, passed_keeps}
 
 -- ---- lists of items
-
--- A title and the bytes that complete its header are an item.
-pub item_of : (s : Bool) (d : ℕ) (t rest : List ℕ) (x : Header) → IsTitle t x → IsTakenTitle s t x
-    → Completes s d x rest → IsItem s d (t ++ rest)
-item_of s d t rest x p g c = rw append-nil at (more_items p g c no_items)
-
--- Items and then one more item are items.
-pub items_item : (s : Bool) (d n : ℕ) (u v : List ℕ) → AreItems s d n u → IsItem s d v → AreItems s d (suc n) (u ++ v)
-items_item s d n u v no_items i = i
-items_item s d n u v (more_items {count = m} {others = a} p g c others) i =
-    simp append_assoc (more_items p g c (items_item s d m a v others i))
 
 -- Fewer than one item are no bytes.
 pub no_items_read : (s : Bool) (d count : ℕ) (items : List ℕ) → count < 1 → AreItems s d count items → items ≡ []

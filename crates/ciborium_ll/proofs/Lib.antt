@@ -15,7 +15,9 @@ pub use Rattle.ciborium_ll_grammar.proofs.ElementLaws
 pub use Rattle.ciborium_ll_grammar.proofs.HaltLaws
 pub use Rattle.ciborium_ll_grammar.proofs.FaultLaws
 pub use Rattle.ciborium_ll_grammar.proofs.StrictFaultLaws
+pub use Rattle.ciborium_ll_grammar.proofs.ItemJoins
 pub use Rattle.ciborium_ll_grammar.proofs.ItemLaws
+pub use Rattle.ciborium_ll_grammar.proofs.RunJoins
 pub use Rattle.ciborium_ll_grammar.proofs.StepLaws
 pub use Rattle.ciborium_ll_encoder.proofs.EncodingLaws
 pub use Rattle.ciborium_ll_decoder.proofs.BodyCopyLaws

@@ -3,10 +3,12 @@ pub mod AloneLaws
 pub mod ElementLaws
 pub mod FaultLaws
 pub mod HaltLaws
+pub mod ItemJoins
 pub mod ItemLaws
 pub mod LongerLaws
 pub mod OpenStrings
 pub mod PartsLaws
+pub mod RunJoins
 pub mod SpelledLaws
 pub mod StartLaws
 pub mod StepLaws
