@@ -1,16 +1,17 @@
 -- The items of an array and the pairs of a map, one by one.
-use Rattle.std.proofs.Common.{◌≡◌, ℕ, zero, suc, ◌+◌, ◌-◌, ◌*◌, ◌<◌, false, List, [], ◌∷◌, ◌++◌, length, take, refl}
-use Rattle.std.proofs.Common.{Option, Some, None, IfSome, sym, ◌∙◌, ap, subst, append_assoc, append-nil, arith}
+use Rattle.std.proofs.Common.{◌≡◌, ℕ, zero, suc, ◌-◌, ◌*◌, ◌<◌, false, List, [], ◌∷◌, ◌++◌, length, take, refl}
+use Rattle.std.proofs.Common.{Option, Some, None, IfSome, ◌≤◌, sym, ◌∙◌, ap, subst, arith}
 use Rattle.std.proofs.Common.{length-append, true}
 use Rattle.std.proofs.lemmas.Grind.{not_there}
 use Rattle.std.proofs.Math.Logic.{∥∥₁_map, ∥∥₁_elim}
 use Rattle.std.proofs.Math.Seq.{take-append_seam}
 use Rattle.std.proofs.Props.{props}
 use Rattle.ciborium_ll_grammar.specs.declared.hdr.Header.TheVariants as h
+use Rattle.ciborium_ll_grammar.specs.Title.{IsTitle}
 use Rattle.ciborium_ll_grammar.specs.Items.{Completes, array, pairs, open_array, open_pairs}
 use Rattle.ciborium_ll_grammar.specs.Items.{AreItems, no_items, more_items, IsItem}
-use Rattle.ciborium_ll_grammar.proofs.AloneLaws.{title_some}
-use Rattle.ciborium_ll_grammar.proofs.ItemLaws.{one_item}
+use Rattle.ciborium_ll_grammar.proofs.ItemJoins.{FirstOf, first_of, others_of, some_joined}
+use Rattle.ciborium_ll_grammar.proofs.TitleLaws.{one_title}
 use Rattle.ciborium_ll_text.proofs.Lists.{same_front}
 use Rattle.cbor_skip.specs.ItemFaults.{BeginsWithItem}
 use Rattle.cbor_view.specs.Views.{HasItems, HasPairs, closed, one_less}
@@ -19,33 +20,21 @@ use Rattle.cbor_view.specs.Nexts.{CountsDown}
 -- ---- the first item
 
 -- The first of some items, and the others.
-pub record FirstItem (e n : ℕ) (w : List ℕ) : Type 0 where
-  pub first : List ℕ
-  pub others : List ℕ
-  pub is_item : IsItem false e first
-  pub are : AreItems false e (n - 1) others
-  pub whole : w ≡ first ++ others
+abbrev pub FirstItem : ℕ → ℕ → List ℕ → Type 0
+FirstItem e n w = FirstOf false e (n - 1) w
+
+at_least_one : (e n : ℕ) (w : List ℕ) → AreItems false e n w → 0 < n → AreItems false e (suc (n - 1)) w
+at_least_one e n w i l = let is : n ≡ suc (n - 1) = omega arith in subst (λ (d : ℕ). AreItems false e d w) is i
 
 pub first_item : (e n : ℕ) (w : List ℕ) → AreItems false e n w → 0 < n → FirstItem e n w
-first_item e n w no_items l = absurd (omega arith)
-first_item e n w (more_items {count = m} {title = t} {rest = r} {others = a} p k c i) l =
-    let less : m ≡ suc m - 1 = omega arith in
-    record {
-      first = t ++ r;
-      others = a;
-      is_item = subst (λ (v : List ℕ). IsItem false e (t ++ v)) (append-nil r) (more_items p k c no_items);
-      are = subst (λ (d : ℕ). AreItems false e d a) less i;
-      whole = sym (append_assoc t r a);
-    }
+first_item e n w i l = first_of false e (n - 1) w (at_least_one e n w i l)
 
 pub some_items : (e n : ℕ) (w : List ℕ) → AreItems false e n w → 0 < length w → 0 < n
 some_items e n w no_items l = absurd (omega arith)
 some_items e n w (more_items p k c i) l = omega arith
 
 pub items_some : (e n : ℕ) (w : List ℕ) → AreItems false e n w → 0 < n → 0 < length w
-items_some e n w no_items l = absurd (omega arith)
-items_some e n w (more_items {title = t} {rest = r} {others = a} {header = x} p k c i) l =
-    omega (arith, title_some t x p, length-append t (r ++ a))
+items_some e n w i l = some_joined false e n w i l
 
 pub in_front : (e n : ℕ) (w : List ℕ) → AreItems false e n w → 0 < n → BeginsWithItem false e w
 in_front e n w i l =
@@ -55,9 +44,7 @@ in_front e n w i l =
 pub others_left : (e n : ℕ) (w item rest : List ℕ) → AreItems false e n w → 0 < n → IsItem false e item
     → w ≡ item ++ rest → AreItems false e (n - 1) rest
 others_left e n w item rest i l is z =
-    let f = first_item e n w i l in
-    let one = one_item false false e e item f.first rest f.others is f.is_item (sym z ∙ f.whole) in
-    subst (λ (v : List ℕ). AreItems false e (n - 1) v) (sym one.1) f.are
+    others_of false false e e (n - 1) w item rest (at_least_one e n w i l) is z
 
 -- An item has at least one byte.
 pub item_takes : (e : ℕ) (w item rest : List ℕ) → IsItem false e item → w ≡ item ++ rest → length rest < length w
@@ -222,6 +209,25 @@ pub same_before : (items rest : List ℕ) → items ++ 0xff ∷ [] ≡ rest ++ 0
 same_before items rest z =
     (same_front items rest (0xff ∷ []) (0xff ∷ [])
     (omega (arith, ap length z, length-append items (0xff ∷ []), length-append rest (0xff ∷ []))) z).0
+
+-- Without the break of an indefinite form, the items are the same.
+same_closed : (due : Option ℕ) (items rest : List ℕ) → closed due items ≡ closed due rest → items ≡ rest
+same_closed (Some n) items rest z = z
+same_closed None items rest z = same_before items rest z
+
+-- With the break of an indefinite form, items are no shorter.
+pub closed_longer : (due : Option ℕ) (items : List ℕ) → length items ≤ length (closed due items)
+closed_longer (Some n) items = omega arith
+closed_longer None items = omega (arith, length-append items (0xff ∷ []))
+
+-- The same bytes are one map, with one title, one count and one sequence of pairs.
+pub one_map : (t t' items rest : List ℕ) (count due : Option ℕ) → IsTitle t (h.Map count) → IsTitle t' (h.Map due)
+    → t ++ closed count items ≡ t' ++ closed due rest → (t ≡ t') × (count ≡ due) × (items ≡ rest)
+one_map t t' items rest count due p p' z =
+    let one = one_title t t' (closed count items) (closed due rest) (h.Map count) (h.Map due) p p' z in
+    let same = one.1 in
+    let counted : count ≡ due = cc in
+    (one.0, counted, same_closed due items rest (rw counted at one.2))
 
 array_flat : (due : Option ℕ) (w : List ℕ) → Completes false zero (h.Array due) w → ⊥
 array_flat due w c = elim c [ ]

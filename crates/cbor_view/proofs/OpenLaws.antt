@@ -1,6 +1,6 @@
 -- The title and the contents of a checked item.
-use Rattle.std.proofs.Common.{◌≡◌, ℕ, zero, suc, ◌-◌, ◌<◌, false, List, [], ◌∷◌, ◌++◌, length, Option, Some, None, refl}
-use Rattle.std.proofs.Common.{sym, ◌∙◌, ap, subst, append_assoc, append-nil, arith, length-append, Bool, true, nat_eq}
+use Rattle.std.proofs.Common.{◌≡◌, ℕ, zero, suc, ◌-◌, ◌<◌, false, List, [], ◌++◌, length, Some, refl}
+use Rattle.std.proofs.Common.{sym, ◌∙◌, ap, subst, append-nil, arith, Bool, true, nat_eq}
 use Rattle.std.proofs.Common.{◌⊎◌, inl, inr}
 use Rattle.std.proofs.lemmas.Grind.{not_there}
 use Rattle.std.proofs.lemmas.Bool.Decides.{nat_tests}
@@ -9,8 +9,10 @@ use Rattle.ciborium_ll_grammar.specs.declared.hdr.Header.{Header}
 use Rattle.ciborium_ll_grammar.specs.declared.hdr.Header.TheVariants as h
 use Rattle.ciborium_ll_grammar.specs.declared.hdr.Float.{Float}
 use Rattle.ciborium_ll_grammar.specs.Title.{IsTitle}
-use Rattle.ciborium_ll_grammar.specs.Items.{Completes, positive, negative, float, simple, byte_string, text_string, tag}
+use Rattle.ciborium_ll_grammar.specs.Items.{Completes, positive, negative, float, simple, text_string, tag}
 use Rattle.ciborium_ll_grammar.specs.Items.{AreItems, no_items, more_items, IsItem}
+use Rattle.ciborium_ll_grammar.specs.Strings.{Bytes, Text}
+use Rattle.ciborium_ll_grammar.proofs.ItemJoins.{body_length, none_joined}
 use Rattle.ciborium_ll_grammar.proofs.TitleLaws.{one_title}
 use Rattle.ciborium_ll_text.specs.Text.{IsCharacters}
 use Rattle.ciborium_ll_text.proofs.Lists.{length_zero}
@@ -26,16 +28,12 @@ titled_go e n w (more_items {title = t} {rest = r} {others = a} {header = x} p k
 pub checked_title : (e : ℕ) (w : List ℕ) → ∥ IsItem false e w ∥₁ → ((x : Header) → IsOpenedBy w x → ⊥) → ⊥
 checked_title e w t f = not_there t (λ i. titled_go e (suc zero) w i (omega arith) f)
 
-no_more : (e n : ℕ) (w : List ℕ) → AreItems false e n w → n ≡ 0 → w ≡ []
-no_more e n w no_items z = refl
-no_more e n w (more_items p k c i) z = absurd (omega arith)
-
 completes_go : (e n : ℕ) (w t rest : List ℕ) (x : Header) → AreItems false e n w → n ≡ 1 → IsTitle t x
     → w ≡ t ++ rest → Completes false e x rest
 completes_go e n w t rest x no_items one q z = absurd (omega arith)
 completes_go e n w t rest x (more_items {count = m} {title = o} {rest = r} {others = a} {header = y} p k c i) one q z =
     let same = one_title o t (r ++ a) rest y x p q z in
-    let none : a ≡ [] = no_more e m a i (omega arith) in
+    let none : a ≡ [] = none_joined false e m a i (omega arith) in
     let is : r ≡ rest = sym (append-nil r) ∙ ap (λ (v : List ℕ). r ++ v) (sym none) ∙ same.2 in
     subst (λ (v : List ℕ). Completes false e x v) is (subst (λ (k : Header). Completes false e k r) same.1 c)
 
@@ -112,19 +110,13 @@ float_item e n w rest o = value_item e w rest (h.Float n) o (float_go e n rest)
 
 -- ---- strings of definite length
 
-bytes_go : (len e : ℕ) (w : List ℕ) → Completes false e (h.Bytes (Some len)) w → length w ≡ len
-bytes_go len e w (byte_string l) = l
-
-text_go : (len e : ℕ) (w : List ℕ) → Completes false e (h.Text (Some len)) w → length w ≡ len
-text_go len e w (text_string l k) = l
-
 text_valid : (len e : ℕ) (w : List ℕ) → Completes false e (h.Text (Some len)) w → IsCharacters w
 text_valid len e w (text_string l k) = k
 
 pub bytes_of : (e len : ℕ) (w rest : List ℕ) → Opens e w (h.Bytes (Some len)) rest → IsBytesOf w rest
 bytes_of e len w rest o =
     let l : length rest ≡ len =
-    len_is (length rest) len (λ n. not_there o.completes (λ c. n (bytes_go len e rest c))) in
+    len_is (length rest) len (λ n. not_there o.completes (λ c. n (body_length false e Bytes len rest c))) in
     record {
       title = o.title;
       is_title = subst (λ (k : ℕ). IsTitle o.title (h.Bytes (Some k))) (sym l) o.is_title;
@@ -134,7 +126,7 @@ bytes_of e len w rest o =
 pub text_is : (e len : ℕ) (w rest : List ℕ) → Opens e w (h.Text (Some len)) rest → IsTextOf w rest
 text_is e len w rest o =
     let l : length rest ≡ len =
-    len_is (length rest) len (λ n. not_there o.completes (λ c. n (text_go len e rest c))) in
+    len_is (length rest) len (λ n. not_there o.completes (λ c. n (body_length false e Text len rest c))) in
     record {
       title = o.title;
       is_title = subst (λ (k : ℕ). IsTitle o.title (h.Text (Some k))) (sym l) o.is_title;

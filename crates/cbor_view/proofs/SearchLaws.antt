@@ -1,24 +1,21 @@
 -- The first pair with a key, and the keys that are the same text.
-use Rattle.std.proofs.Common.{◌≡◌, ℕ, zero, suc, ◌+◌, ◌-◌, ◌<◌, Bool, true, false, List, [], ◌∷◌, ◌++◌, length}
+use Rattle.std.proofs.Common.{◌≡◌, ℕ, zero, suc, ◌+◌, ◌-◌, ◌<◌, Bool, true, false, List, [], ◌++◌, length}
 use Rattle.std.proofs.Common.{Option, Some, None, MatchOption, IsTrue, refl, sym, ◌∙◌, ap, subst, arith, length-append}
-use Rattle.std.proofs.Common.{append-nil}
 use Rattle.std.specs.List.{concat, IsSplitAt}
 use Rattle.std.proofs.lemmas.Grind.{not_there}
 use Rattle.std.proofs.Math.Logic.{∥∥₁_map}
-use Rattle.ciborium_ll_grammar.specs.declared.hdr.Header.{Header}
 use Rattle.ciborium_ll_grammar.specs.declared.hdr.Header.TheVariants as h
 use Rattle.ciborium_ll_grammar.specs.Title.{IsTitle}
 use Rattle.ciborium_ll_grammar.specs.Items.{IsItem}
 use Rattle.ciborium_ll_grammar.specs.Strings.{Kind, Text, IsString}
 use Rattle.ciborium_ll_grammar.proofs.ItemLaws.{one_item}
 use Rattle.ciborium_ll_grammar.proofs.TitleLaws.{one_title}
-use Rattle.ciborium_ll_text.proofs.Lists.{same_front, length_zero}
+use Rattle.ciborium_ll_text.proofs.Lists.{same_front}
 use Rattle.cbor_view.specs.declared.item.Item.{Item}
-use Rattle.cbor_view.specs.Views.{Opens, IsOpenedBy, closed}
-use Rattle.cbor_view.specs.Segments.{AreSegments, HasSegments, IsFirstSegment, IsStringItem, IsSegmented, SpellsText}
+use Rattle.cbor_view.specs.Views.{Opens, closed}
+use Rattle.cbor_view.specs.Segments.{AreSegments, IsFirstSegment, IsSegmented, SpellsText}
 use Rattle.cbor_view.specs.Pairs.{IsPairOf, first_pair, later_pair, IsFirstPair, here, later, HasFirst, HasNone}
-use Rattle.cbor_view.proofs.NestLaws.{items_some, false_true, same_before}
-use Rattle.cbor_view.proofs.OpenLaws.{one_opening, opened_by}
+use Rattle.cbor_view.proofs.NestLaws.{items_some, false_true, one_map}
 use Rattle.cbor_view.proofs.TitleLaws.{split_whole}
 
 -- ---- pairs one by one
@@ -54,13 +51,6 @@ no_pair e w k v (later_pair {other = a} {another = b} {others = o} p q r) z =
 
 -- ---- a map
 
-same_count : (count due : Option ℕ) → h.Map count ≡ h.Map due → count ≡ due
-same_count count due z = cc
-
-same_closed : (due : Option ℕ) (pairs rest : List ℕ) → closed due pairs ≡ closed due rest → pairs ≡ rest
-same_closed (Some n) pairs rest z = z
-same_closed None pairs rest z = same_before pairs rest z
-
 module _ (Matches : List ℕ → Type 0) where
   pub map_first : (e d : ℕ) (w rest value : List ℕ) (due : Option ℕ) → Opens e w (h.Map due) (closed due rest)
       → e ≡ d + 1 → IsFirstPair Matches d rest value → HasFirst Matches e w value
@@ -76,13 +66,10 @@ module _ (Matches : List ℕ → Type 0) where
   pub map_none : (e d : ℕ) (w rest : List ℕ) (due : Option ℕ) → Opens e w (h.Map due) (closed due rest) → e ≡ d + 1
       → ((k v : List ℕ) → IsPairOf d rest k v → Matches k → ⊥) → HasNone Matches e w
   map_none e d w rest due o s none = λ count pairs k v p q m.
-      let one = one_opening e w (closed count pairs) (closed due rest) (h.Map count) (h.Map due) p o in
-      let counted = same_count count due one.0 in
-      let is : pairs ≡ rest =
-      same_closed due pairs rest
-      (subst (λ (c : Option ℕ). closed c pairs ≡ closed due rest) counted one.1) in
+      let one = one_map p.title o.title pairs rest count due p.is_title o.is_title (sym p.whole ∙ o.whole) in
       let less : e - 1 ≡ d = omega arith in
-      none k v (subst (λ (n : ℕ). IsPairOf n rest k v) less (subst (λ (u : List ℕ). IsPairOf (e - 1) u k v) is q)) m
+      none k v (subst (λ (n : ℕ). IsPairOf n rest k v) less
+      (subst (λ (u : List ℕ). IsPairOf (e - 1) u k v) one.2 q)) m
 
   pub map_found : (e d : ℕ) (w rest : List ℕ) (due : Option ℕ) (r : Option Item)
       → Opens e w (h.Map due) (closed due rest) → e ≡ d + 1
