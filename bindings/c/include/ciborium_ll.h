@@ -124,6 +124,13 @@ extern "C" {
 typedef struct { uint64_t value; uint8_t kind; uint8_t indefinite; } cll_header;
 
 /*
+ * A header, and the place of its title. `value`, `kind` and `indefinite` are those of a cll_header. `start` and `end`
+ * are the offsets in `data` at which the title starts and ends. The body of a string of a definite length begins at
+ * `end`.
+ */
+typedef struct { uint64_t value, start, end; uint8_t kind, indefinite; } cll_title;
+
+/*
  * How far a call came. The section REPORTS at the top of this header says what each number means.
  */
 typedef struct { uint64_t consumed, written, place, elements, whole, spelled; } cll_report;
@@ -202,6 +209,25 @@ uint32_t cll_version(void);
  * After CLL_SHORT and CLL_SYNTAX `header` is as it was, and `consumed` counts the first byte, if there is one.
  */
 CLL_NODISCARD cll_answer cll_pull(const uint8_t *data, size_t len, cll_header *header, size_t *consumed);
+
+/*
+ * Fills `titles` with the headers and the places of the titles of `data`, one after the other, as cll_pull reads them.
+ * The call passes over the body of each string of a definite length. The body has to be there whole, and that of a text
+ * has to be UTF-8. The call says nothing about how the titles nest, so a break may stand anywhere.
+ *
+ * `written` is how many titles were filled. The others are as they were. `consumed` is the end of the last title that
+ * was filled, with its body. So a further call goes on at `data + consumed`, and counts its offsets from there.
+ *
+ * Returns:
+ *
+ * CLL_OK: all `titles_len` titles were filled, or `data` ends after a title and its body.
+ * CLL_SHORT: `data` ends inside the title or the body that comes next. `place` is how many bytes are due.
+ * CLL_SYNTAX: at `place` no title begins, or the body that comes next is a text that is not UTF-8.
+ *
+ * If a text is not UTF-8 and `data` ends within it, the answer is CLL_SHORT or CLL_SYNTAX, as of cll_skip.
+ */
+CLL_NODISCARD cll_answer cll_headers(const uint8_t *data, size_t len, cll_title *titles, size_t titles_len,
+    cll_report *report);
 
 /*
  * Writes the shortest title of a header to the start of `out`, whole or not at all. `written` is the title's length, at
