@@ -11,4 +11,6 @@ pub mod PullLaws
 pub mod SkipLaws
 pub mod TextFronts
 pub mod TitleParts
+pub mod TitleReads
+pub mod TitleRuns
 pub mod WideLaws

@@ -12,4 +12,5 @@ pub mod Pulling
 pub mod Pushing
 pub mod Skipping
 pub mod Texts
+pub mod Titles
 pub mod Widths

@@ -2,7 +2,7 @@
 //! The calls that `capi_export` exports for C. Tests use this crate, since a static library is for C alone.
 #![tactic(auto)]
 
-ghost use Rattle.std.specs.Prelude.{◌≡◌, ◌↔◌, ◌≤◌, ◌<◌, ◌⊎◌, List, ◌++◌, drop, length, Bool, true, false, ℕ};
+ghost use Rattle.std.specs.Prelude.{◌≡◌, ◌≢◌, ◌↔◌, ◌≤◌, ◌<◌, ◌⊎◌, List, ◌++◌, drop, length, Bool, true, false, ℕ};
 ghost use Rattle.cbor_copier.specs.Copying.{IsCopiedTo};
 ghost use Rattle.cbor_copier.specs.Spots.{Spot as CopySpot};
 ghost use Rattle.cbor_deterministic.specs.declared.Order.{Order as AnyOrder};
@@ -20,6 +20,7 @@ ghost use Rattle.ciborium_ll_text.specs.Text.{IsCharacters};
 ghost use Rattle.cbor_skip.specs.ItemFaults.{BeginsWithItem};
 ghost use Rattle.capi.specs.declared.answer.CllAnswer.{CllAnswer};
 ghost use Rattle.capi.specs.declared.answer.CllAnswer.TheVariants as a;
+ghost use Rattle.capi.specs.declared.titles.CllTitle.{CllTitle as AnyTitle};
 ghost use Rattle.capi.specs.Answers.{IsCode, Reports, code, version_code};
 ghost use Rattle.capi.specs.Checking.{Checks};
 ghost use Rattle.capi.specs.Copying.{CopiesInto, CopiesAnyhow, HasRoom, copy_answer, copy_place};
@@ -34,6 +35,7 @@ ghost use Rattle.capi.specs.Pulling.{CllPull, BeginsWithTitle};
 ghost use Rattle.capi.specs.Pushing.{CllPush, Puts};
 ghost use Rattle.capi.specs.Skipping.{Skips, skip_answer, skip_place};
 ghost use Rattle.capi.specs.Texts.{FindsText};
+ghost use Rattle.capi.specs.Titles.{FillsTitles, Gives, HasTitles, StopsTitles};
 ghost use Rattle.capi.specs.Widths.{PushesWide};
 ghost use Rattle.ciborium_ll_grammar.specs.declared.limits.TheConstants.{LEAST_BUFFER, MOST_LEVELS};
 
@@ -45,6 +47,7 @@ mod due;
 mod header;
 mod item_copier;
 mod tally;
+mod titles;
 mod wide;
 
 pub use self::answer::{CllAnswer, CllReport};
@@ -55,6 +58,7 @@ use self::due::{due_behind, item_len};
 pub use self::header::CllHeader;
 pub use self::item_copier::CllItemCopier;
 use self::tally::{Tally, copy_counted};
+pub use self::titles::CllTitle;
 use self::wide::title_in;
 use cbor_skip::{SkipError, skip_item};
 use ciborium_ll::io::{Discard, EndOfFile, OutOfSpace, Read, SliceReader, SliceWriter, Write};
@@ -107,6 +111,18 @@ pub fn cll_pull(bytes: &[u8], header: &mut CllHeader, consumed: &mut usize) -> u
         × CllPull bytes.now answer header.old header.new consumed.new }
 {
     pull(bytes, header, consumed).code()
+}
+
+/// Fills `titles` with the headers of the bytes (RFC 7049, 2.1 to 2.3), one after the other, and their places.
+pub fn cll_headers(bytes: &[u8], titles: &mut [CllTitle], report: &mut CllReport) -> u32
+    ensures exactly { (taken : ℕ) (entries : List AnyTitle) → (HasTitles (length titles.old) bytes.now taken entries
+        ↔ (result ≡ code a.Ok) × Gives titles.old taken entries titles.new report.new) }
+    ensures stopped { (taken : ℕ) (entries : List AnyTitle) → (StopsTitles (length titles.old) bytes.now taken entries
+        ↔ (result ≢ code a.Ok) × Gives titles.old taken entries titles.new report.new) }
+    ensures filled { (answer : CllAnswer) × (result ≡ code answer)
+        × FillsTitles bytes.now titles.old answer titles.new report.new }
+{
+    titles::fill(bytes, titles, report).code()
 }
 
 /// Writes a title to the start of the output, whole or not at all.
