@@ -81,6 +81,7 @@ pub fn cll_version() -> u32
 }
 
 /// Reads the title with which the bytes begin.
+#[inline(always)]
 fn pull(bytes: &[u8], header: &mut CllHeader, consumed: &mut usize) -> CllAnswer
     ensures { CllPull bytes.now result header.old header.new consumed.new }
 {

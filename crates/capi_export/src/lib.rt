@@ -18,7 +18,7 @@
 //! is the end of the title less the length of the shortest title. This may lie inside the title.
 #![tactic(auto)]
 
-ghost use Rattle.std.specs.Prelude.{◌≡◌, ◌↔◌, ◌≤◌, ◌<◌, ◌⊎◌, List, ◌++◌, drop, length, Bool, true, false, ℕ};
+ghost use Rattle.std.specs.Prelude.{◌≡◌, ◌≢◌, ◌↔◌, ◌≤◌, ◌<◌, ◌⊎◌, List, ◌++◌, drop, length, Bool, true, false, ℕ};
 ghost use Rattle.cbor_copier.specs.Copying.{IsCopiedTo};
 ghost use Rattle.cbor_copier.specs.Spots.{Spot as CopySpot};
 ghost use Rattle.cbor_deterministic.specs.declared.Order.{Order as AnyOrder};
@@ -32,6 +32,7 @@ ghost use Rattle.ciborium_ll_text.specs.Text.{IsCharacters};
 ghost use Rattle.cbor_skip.specs.ItemFaults.{BeginsWithItem};
 ghost use Rattle.capi.specs.declared.answer.CllAnswer.{CllAnswer};
 ghost use Rattle.capi.specs.declared.answer.CllAnswer.TheVariants as a;
+ghost use Rattle.capi.specs.declared.titles.CllTitle.{CllTitle as AnyTitle};
 ghost use Rattle.capi.specs.Answers.{IsCode, Reports, code, version_code};
 ghost use Rattle.capi.specs.Checking.{Checks};
 ghost use Rattle.capi.specs.Copying.{CopiesInto, CopiesAnyhow, HasRoom};
@@ -46,10 +47,11 @@ ghost use Rattle.capi.specs.Pulling.{CllPull, BeginsWithTitle};
 ghost use Rattle.capi.specs.Pushing.{CllPush};
 ghost use Rattle.capi.specs.Skipping.{Skips};
 ghost use Rattle.capi.specs.Texts.{FindsText};
+ghost use Rattle.capi.specs.Titles.{FillsTitles, Gives, HasTitles, StopsTitles};
 ghost use Rattle.capi.specs.Widths.{PushesWide};
 ghost use Rattle.ciborium_ll.specs.Limits.{MOST_LEVELS};
 
-pub use capi::{CllAnswer, CllChecker, CllCopier, CllHeader, CllItemCopier, CllReport};
+pub use capi::{CllAnswer, CllChecker, CllCopier, CllHeader, CllItemCopier, CllReport, CllTitle};
 
 /// Returns the version, which is 0.1.0: 65536 times its major number, 256 times its minor one, and its patch number.
 #[unsafe(no_mangle)]
@@ -75,6 +77,31 @@ pub extern "C" fn cll_pull(bytes: &[u8], header: &mut CllHeader, consumed: &mut 
         × CllPull bytes.now answer header.old header.new consumed.new }
 {
     capi::cll_pull(bytes, header, consumed)
+}
+
+/// Fills `titles` with the headers of the bytes (RFC 7049, 2.1 to 2.3) and the offsets of their titles, one after the
+/// other. The body of a string of a definite length is passed over. It has to be there whole, and a text has to be
+/// UTF-8. The call says nothing about how the titles nest.
+///
+/// `written` is how many titles were filled, and `consumed` the end of the last one with its body. The other titles are
+/// as they were.
+///
+/// # Errors
+///
+/// An error comes after the titles before it were filled.
+///
+/// - `Short`: the bytes end inside the title or the body that comes next. The place is how many bytes are due.
+/// - `Syntax`: no title begins there, or the body that comes next is a text that is not UTF-8.
+#[unsafe(no_mangle)]
+pub extern "C" fn cll_headers(bytes: &[u8], titles: &mut [CllTitle], report: &mut CllReport) -> u32
+    ensures exactly { (taken : ℕ) (entries : List AnyTitle) → (HasTitles (length titles.old) bytes.now taken entries
+        ↔ (result ≡ code a.Ok) × Gives titles.old taken entries titles.new report.new) }
+    ensures stopped { (taken : ℕ) (entries : List AnyTitle) → (StopsTitles (length titles.old) bytes.now taken entries
+        ↔ (result ≢ code a.Ok) × Gives titles.old taken entries titles.new report.new) }
+    ensures filled { (answer : CllAnswer) × (result ≡ code answer)
+        × FillsTitles bytes.now titles.old answer titles.new report.new }
+{
+    capi::cll_headers(bytes, titles, report)
 }
 
 /// Writes the shortest title of a header to the start of `out` (RFC 7049, 3.9), whole or not at all.
