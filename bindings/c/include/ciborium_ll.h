@@ -12,9 +12,9 @@
  * also fill in a report, as the next section says. cll_pull gives one number of bytes in place of a report, since a
  * program calls it for each title. The calls that set something up have no report.
  *
- * Arguments. `data` and `out` may be null if their length is 0. No other pointer may be null. What a call writes must
- * not overlap anything else that the caller gives it, so no call works in place. cll_overlap tells whether two pieces
- * of memory overlap.
+ * Arguments. `data`, `out` and `titles` may be null if their length is 0. No other pointer may be null. What a call
+ * writes must not overlap anything else that the caller gives it, so no call works in place. cll_overlap tells whether
+ * two pieces of memory overlap.
  *
  * Threads. Only a cll_checker, a cll_copier and a cll_item_copier keep anything between calls, in the caller's own
  * memory. So calls may run in several threads at once, if no call writes what another call uses.
@@ -22,9 +22,11 @@
  * REPORTS. Each call that has a report fills in all six numbers of it. A number that has no meaning for a call is 0.
  * With CLL_ARGUMENT all six are 0.
  *
- * `consumed` is how many bytes of `data` the call consumed. With CLL_SHORT it says where the read stopped.
+ * `consumed` is how many bytes of `data` the call consumed. With CLL_SHORT it says where the read stopped. Of
+ * cll_headers it counts whole titles and their bodies alone.
  *
- * `written` is how many bytes the call wrote to the start of `out`. After these bytes `out` is as it was.
+ * `written` is how many bytes the call wrote to the start of `out`. After these bytes `out` is as it was. Of
+ * cll_headers it is how many titles were filled.
  *
  * `place` depends on the answer. With CLL_SYNTAX, CLL_BREAK_DUE, CLL_TOO_DEEP and the four answers of cll_deterministic
  * alone it is the offset of the fault. With CLL_SHORT it is how many bytes are due, if the call says that. With CLL_OK
@@ -37,11 +39,12 @@
  * place is the end of the string's title less the length of the shortest title. So the place lies inside a title that
  * is longer than the shortest.
  *
- * The bytes that are due: cll_recode, cll_strict, cll_skip, and the calls of a checker and of a copier of an item say
- * with CLL_SHORT how many more bytes are due, in `place`. Whatever follows the bytes so far and completes what the
- * caller asked for has at least that many bytes. So a reader may ask for that many bytes, and none of them follows the
- * item or the elements. Then give cll_recode, cll_strict and cll_skip all bytes again, and a feed the new bytes. With
- * CLL_SHORT of the other calls `place` is 0, and promises nothing.
+ * The bytes that are due: cll_headers, cll_recode, cll_strict, cll_skip, and the calls of a checker and of a copier of
+ * an item say with CLL_SHORT how many more bytes are due, in `place`. Whatever follows the bytes so far and completes
+ * what the caller asked for has at least that many bytes. For cll_headers it completes the title and the body that come
+ * next. So a reader may ask for that many bytes, and none of them follows the item or the elements. Then give
+ * cll_recode, cll_strict and cll_skip all bytes again, cll_headers those from `consumed` on, and a feed the new bytes.
+ * With CLL_SHORT of the other calls `place` is 0, and promises nothing.
  *
  * If a title was cut, its rest is due. If a body was cut, its rest is due. If a body is about to begin, all of its
  * bytes are due: 65,536 after `5a 00 01 00 00`, and 65,535 after `5a 00 01 00 00 61`. If a title is about to begin, 1
@@ -76,7 +79,8 @@
  * cll_checker_init, cll_checker_init_strict, cll_checker_end and cll_copier_init take less than 128 bytes.
  * cll_checker_feed, cll_copier_feed, cll_copier_end and cll_item_copier_end take less than 1 KiB. cll_recode and
  * cll_strict take less than 2 KiB, and less than 4.5 KiB if the bytes end too early. cll_item_copier_init and
- * cll_item_copier_init_strict take less than 3 KiB. cll_item_copier_feed takes less than 4 KiB.
+ * cll_item_copier_init_strict take less than 3 KiB. cll_item_copier_feed takes less than 4 KiB. cll_headers takes less
+ * than 256 bytes if it answers CLL_OK, and otherwise less than 4.5 KiB.
  *
  * cll_skip takes less than 4 KiB if the bytes begin with an item. Otherwise it takes less than 4 KiB, or less than 2
  * KiB and 328 bytes for each level that it goes down, whichever is more: 8 KiB at 16 levels, 23 KiB at 64, and 84 KiB
@@ -211,20 +215,22 @@ uint32_t cll_version(void);
 CLL_NODISCARD cll_answer cll_pull(const uint8_t *data, size_t len, cll_header *header, size_t *consumed);
 
 /*
- * Fills `titles` with the headers and the places of the titles of `data`, one after the other, as cll_pull reads them.
+ * Fills `titles` with the titles of `data`, one after the other: what each means, as of cll_pull, and where it stands.
  * The call passes over the body of each string of a definite length. The body has to be there whole, and that of a text
  * has to be UTF-8. The call says nothing about how the titles nest, so a break may stand anywhere.
  *
- * `written` is how many titles were filled. The others are as they were. `consumed` is the end of the last title that
- * was filled, with its body. So a further call goes on at `data + consumed`, and counts its offsets from there.
+ * `written` is how many of the `titles_len` titles were filled, and the others are as they were. `consumed` is the end
+ * of the last title that was filled, with its body. A further call may go on at `data + consumed`, and counts its
+ * offsets from there.
  *
  * Returns:
  *
- * CLL_OK: all `titles_len` titles were filled, or `data` ends after a title and its body.
+ * CLL_OK: all of `titles` were filled, or `data` has no more bytes.
  * CLL_SHORT: `data` ends inside the title or the body that comes next. `place` is how many bytes are due.
  * CLL_SYNTAX: at `place` no title begins, or the body that comes next is a text that is not UTF-8.
  *
- * If a text is not UTF-8 and `data` ends within it, the answer is CLL_SHORT or CLL_SYNTAX, as of cll_skip.
+ * CLL_SHORT and CLL_SYNTAX come after all titles before the fault were filled. If a text is not UTF-8 and `data` ends
+ * within it, the answer is one of the two, as of cll_skip.
  */
 CLL_NODISCARD cll_answer cll_headers(const uint8_t *data, size_t len, cll_title *titles, size_t titles_len,
     cll_report *report);

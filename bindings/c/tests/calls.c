@@ -26,6 +26,8 @@ static int takes_null(void)
     cll_header header = {5, CLL_POSITIVE, 0};
     size_t consumed = 7;
     return cll_pull(NULL, 0, &header, &consumed) == CLL_SHORT && consumed == 0 && header.value == 5
+        && told(cll_headers(NULL, 0, NULL, 0, &report), CLL_OK, 0, 0, 0)
+        && told(cll_headers(one, 1, NULL, 0, &report), CLL_OK, 0, 0, 0)
         && told(cll_push(&header, NULL, 0, &report), CLL_ROOM, 0, 0, 0)
         && told(cll_push_wide(&header, 0, NULL, 0, &report), CLL_ROOM, 0, 0, 0)
         && told(cll_recode(NULL, 0, 0, NULL, 0, &report), CLL_OK, 0, 0, 0)
@@ -529,6 +531,73 @@ static int checks_deterministic(void)
         && CLL_NOT_SHORTEST == 8 && CLL_INDEFINITE == 9 && CLL_KEY_ORDER == 10 && CLL_DUPLICATE_KEY == 11;
 }
 
+/*
+ * Goes through the bytes title by title as cll_headers has to, by cll_pull, and by cll_skip for a string of a definite
+ * length. It compares the titles, the answer and the numbers of the report. The memory after the titles stays as it was.
+ */
+static int lists_as_pull(const uint8_t *data, size_t len, size_t room)
+{
+    static cll_title got[8], want[8];
+    uint64_t place = 0;
+    size_t taken = 0, count = 0;
+    uint32_t answer = CLL_OK;
+    memset(got, 0xee, sizeof got);
+    memset(want, 0xee, sizeof want);
+    while (count < room && taken < len) {
+        cll_header header;
+        size_t used;
+        answer = cll_pull(data + taken, len - taken, &header, &used);
+        uint64_t whole = used;
+        if (answer != CLL_OK || ((header.kind == CLL_BYTES || header.kind == CLL_TEXT) && !header.indefinite)) {
+            /* A level lets the title of a nest be cut, for which the bytes that are due are counted. */
+            answer = cll_skip(data + taken, len - taken, 1, &report);
+            whole = report.consumed;
+            place = answer == CLL_SYNTAX ? taken + report.place : report.place;
+        }
+        if (answer != CLL_OK)
+            break;
+        want[count].value = header.value;
+        want[count].start = taken;
+        want[count].end = taken + used;
+        want[count].kind = header.kind;
+        want[count].indefinite = header.indefinite;
+        count++;
+        taken += whole;
+    }
+    return told(cll_headers(data, len, got, room, &report), answer, taken, count, place) && report.elements == 0
+        && report.whole == 0 && report.spelled == 0 && memcmp(got, want, sizeof got) == 0;
+}
+
+/* Goes through titles, bodies and faults in each room, each cut at each place, and with each byte replaced in turn. */
+static int lists_titles(void)
+{
+    static const uint8_t rows[][13] = {
+        {0x82, 0x19, 0x03, 0xe8, 0x42, 0xff, 0x1c, 0x62, 0xc3, 0xa9, 0xf6, 0x01, 0x02},
+        {0x5f, 0x41, 0x01, 0xff, 0x9f, 0xbf, 0xff, 0x7f, 0x61, 'a', 0xff, 0xff, 0xc1},
+        {0xfb, 0x3f, 0xf1, 0x99, 0x99, 0x99, 0x99, 0x99, 0x9a, 0xf8, 0x18, 0x40, 0x60},
+        {0x79, 0x00, 0x04, 0xf0, 0x90, 0x80, 0x80, 0xd8, 0x20, 0x58, 0x01, 0x1f, 0x20},
+    };
+    uint8_t data[sizeof *rows];
+    for (size_t i = 0; i < sizeof rows / sizeof *rows; i++) {
+        memcpy(data, rows[i], sizeof data);
+        for (size_t len = 0; len <= sizeof data; len++) {
+            for (size_t room = 0; room <= 8; room++) {
+                if (!lists_as_pull(data, len, room))
+                    return 0;
+            }
+        }
+        for (size_t at = 0; at < sizeof data; at++) {
+            for (unsigned value = 0; value < 256; value++) {
+                data[at] = (uint8_t)value;
+                if (!lists_as_pull(data, sizeof data, 8))
+                    return 0;
+            }
+            data[at] = rows[i][at];
+        }
+    }
+    return sizeof(cll_title) == 32;
+}
+
 static int is_this_version(void)
 {
     return cll_version() == 65536u * CLL_VERSION_MAJOR + 256u * CLL_VERSION_MINOR + CLL_VERSION_PATCH;
@@ -544,7 +613,7 @@ int main(void)
         {"memory", refuses_memory},     {"overwritten", survives_damage}, {"elements", counts_elements},
         {"no bytes to copy", copies_null}, {"no copier", refuses_copiers}, {"a copier", survives_damaged_copiers},
         {"no bytes of an item to copy", copies_item_null}, {"a copier of an item", survives_damaged_item_copiers},
-        {"due", tells_what_is_due},     {"deterministic", checks_deterministic},
+        {"due", tells_what_is_due},     {"deterministic", checks_deterministic}, {"titles", lists_titles},
     };
     for (size_t i = 0; i < sizeof rows / sizeof *rows; i++) {
         if (!rows[i].holds()) {

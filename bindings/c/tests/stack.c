@@ -22,6 +22,7 @@ static size_t len;
 static uint32_t depth;
 static uint32_t answer;
 static cll_header header;
+static cll_title titles[8];
 static cll_report report;
 static size_t consumed;
 static cll_checker checker;
@@ -30,6 +31,7 @@ static cll_item_copier item_copier;
 
 static void nothing(void) { answer = CLL_OK; }
 static void pull(void) { answer = cll_pull(data, len, &header, &consumed); }
+static void list(void) { answer = cll_headers(data, len, titles, 8, &report); }
 static void push(void) { answer = cll_push(&header, out, sizeof out, &report); }
 static void push_wide(void) { answer = cll_push_wide(&header, 8, out, sizeof out, &report); }
 static void recode(void) { answer = cll_recode(data, len, 1, out, sizeof out, &report); }
@@ -68,6 +70,21 @@ static void deterministic_cut(void)
     answer = cut(cll_deterministic(data, len - 1, depth, CLL_BYTEWISE, &report));
 }
 static void skip_cut(void) { answer = cut(cll_skip(data, len - 1, depth, &report)); }
+
+/* Calls it for titles that are whole, and with a fault after them: bytes that are cut off, or of no title. */
+static void list_cut(void) { answer = cut(cll_headers(data, len - 1, titles, 8, &report)); }
+static void list_short(void)
+{
+    const uint32_t got = cll_headers(data, len, titles, 8, &report);
+    answer = got == CLL_OK ? CLL_OK : cut(got);
+}
+static void list_fault(void)
+{
+    static const uint8_t bytes[] = {0x01, 0x1c}, damaged[] = {0x62, 0xc3, 0x28};
+    const int is_told = cll_headers(bytes, sizeof bytes, titles, 8, &report) == CLL_SYNTAX
+        && cll_headers(damaged, sizeof damaged, titles, 8, &report) == CLL_SYNTAX;
+    answer = is_told ? CLL_OK : CLL_ARGUMENT;
+}
 
 /* Calls it for bytes that end too early as they are. */
 static void recode_short(void) { answer = cut(cll_recode(data, len, UINT64_MAX, out, sizeof out, &report)); }
@@ -166,7 +183,7 @@ static void use_short(size_t plain)
     static const struct { const char *name; void (*call)(void); } calls[] = {
         {"cll_recode/short", recode_short}, {"cll_strict/short", strict_short}, {"cll_skip/short/4", skip_short},
         {"cll_checker_feed/short", checker_short}, {"cll_checker_end", checker_cut},
-        {"cll_copier_feed/short", copier_short}, {"cll_copier_end/short", copier_cut},
+        {"cll_copier_feed/short", copier_short}, {"cll_copier_end/short", copier_cut}, {"cll_headers/short", list_short},
         {"cll_item_copier_feed/short", item_copier_short}, {"cll_item_copier_end/short", item_copier_cut},
     };
     static const struct { uint8_t bytes[6]; size_t len; } rows[] = {
@@ -201,8 +218,8 @@ int main(void)
     static const struct { const char *name; void (*call)(void); } calls[] = {
         {"cll_pull", pull},     {"cll_push", push},     {"cll_push_wide", push_wide},
         {"cll_recode", recode}, {"cll_strict", strict}, {"cll_utf8/text", utf8},
-        {"cll_recode/short", recode_cut}, {"cll_strict/short", strict_cut},
-        {"cll_utf8/damage", no_utf8},
+        {"cll_recode/short", recode_cut}, {"cll_strict/short", strict_cut}, {"cll_headers", list},
+        {"cll_utf8/damage", no_utf8}, {"cll_headers/short", list_cut}, {"cll_headers/damage", list_fault},
         {"cll_checker_init", checker_init}, {"cll_checker_feed", checker_feed}, {"cll_checker_end", checker_end},
         {"cll_checker_init_strict", checker_init_strict}, {"cll_checker_feed/strict", checker_feed},
         {"cll_copier_init", copier_init}, {"cll_copier_feed", copier_feed}, {"cll_copier_end", copier_end},

@@ -13,4 +13,6 @@ mod deterministic;
 #[cfg(test)]
 mod item_copiers;
 #[cfg(test)]
+mod titles;
+#[cfg(test)]
 mod told;
