@@ -34,14 +34,14 @@ use Rattle.cbor_deterministic.proofs.OneValue.{one_value}
 use Rattle.cbor_canonical.specs.Canonical.{IsRewritten, IsFittingSpelling}
 use Rattle.cbor_canonical.specs.Reading.{HasNoTitle}
 use Rattle.cbor_canonical.specs.Strings.{IsContent, told, until_break, FailsString}
+use Rattle.cbor_canonical.specs.Runs.{Turns}
 use Rattle.cbor_canonical.specs.Runs.{AreRewritten, none_rewritten, more_rewritten, EndsNest, counted, at_break}
 use Rattle.cbor_canonical.specs.Runs.{ArePairsOf, no_pairs, more_pairs, IsMissed, ArePairMissed, AreJoined, none_joined}
 use Rattle.cbor_canonical.specs.Runs.{more_joined, FailsItem, FailsRest, FailsNest}
-use Rattle.cbor_canonical.specs.declared.rewrite.Entry.{Entry}
+use Rattle.cbor_canonical.specs.Runs.{Entry}
 use Rattle.cbor_canonical.specs.declared.Stop.{Stop}
 use Rattle.cbor_canonical.specs.declared.Stop.TheVariants as st
 use Rattle.cbor_canonical.proofs.TitleRuns.{none_there}
-use Rattle.cbor_canonical.proofs.PairRuns.{Turned}
 
 -- ---- items that were read
 
@@ -77,8 +77,8 @@ read_pairs {ord = ord} d n bytes es q e = subst (λ (m : ℕ). AreJoined (IsPair
         more_joined (record {
           key = r.key;
           value = r.value;
-          key_is = read_of d r.key x.key.items r.key_is;
-          value_is = read_of d r.value x.value.items r.value_is;
+          key_is = read_of d r.key x.key r.key_is;
+          value_is = read_of d r.value x.value r.value_is;
           whole = r.whole;
         }) (go o ys rs)
 
@@ -92,7 +92,7 @@ agree d (st.NoSimple left) f g s t p q z =
     let o = one_value p.value f p.spelled q.value g s t q.encodes z in (o.1, o.2)
 agree d (st.Duplicate left) f g s t p q z =
     let o = one_value p.value f p.spelled q.value g s t q.encodes z in (o.1, o.2)
-agree d st.Memory f g s t p q z = absurd q
+agree d st.Room f g s t p q z = absurd q
 
 agree_pairs : (d : ℕ) (stop : Stop) (f g s t : List ℕ) → IsPairRead d f → ArePairMissed d stop g → f ++ s ≡ g ++ t
     → SameFront f g s t
@@ -141,7 +141,7 @@ missed_some : (d : ℕ) (stop : Stop) (f : List ℕ) → IsMissed d stop f → 0
 missed_some d st.Malformed f q = item_some d 1 f q refl
 missed_some d (st.NoSimple left) f q = value_some q.value f q.encodes
 missed_some d (st.Duplicate left) f q = value_some q.value f q.encodes
-missed_some d st.Memory f q = absurd q
+missed_some d st.Room f q = absurd q
 
 pair_missed_some : (d : ℕ) (stop : Stop) (f : List ℕ) → ArePairMissed d stop f → 0 < length f
 pair_missed_some d stop f q =
@@ -255,10 +255,11 @@ key_stops d stop bytes fails r f =
       whole = f.whole ∙ ap (λ (v : List ℕ). v ++ r) f.is.whole ∙ append_assoc f.is.key f.is.value r;
     })
 
-pub value_stops : {ord : Order} (d : ℕ) (stop : Stop) (bytes after key : List ℕ)
-    → Turned (IsRewritten ord d) bytes after key → FailsItem d after stop → NoneInFront (ArePairMissed d stop) bytes
-value_stops d stop bytes after key t fails r f =
-    let a = agree d stop t.front f.is.key after (f.is.value ++ r) (read_of d t.front key t.is) f.is.key_is
+pub value_stops : {ord : Order} (d : ℕ) (stop : Stop) (bytes after old new : List ℕ)
+    → Turns (IsRewritten ord d) bytes after old new → FailsItem d after stop
+    → NoneInFront (ArePairMissed d stop) bytes
+value_stops d stop bytes after old new t fails r f =
+    let a = agree d stop t.front f.is.key after (f.is.value ++ r) (read_of d t.front t.written t.is) f.is.key_is
     (sym t.whole ∙ f.whole ∙ ap (λ (v : List ℕ). v ++ r) f.is.whole ∙ append_assoc f.is.key f.is.value r) in
     fails r (record { front = f.is.value; is = f.is.value_is; whole = a.1 })
 
@@ -269,7 +270,7 @@ abbrev pub Completing : ℕ → Stop → Header → List ℕ → Type 0
 Completing d st.Malformed y r = CompletesAny false d y r
 Completing d (st.NoSimple left) y r = (v : Value) × Follows y v r
 Completing d (st.Duplicate left) y r = (v : Value) × Follows y v r × Fits v
-Completing d st.Memory y r = ⊥
+Completing d st.Room y r = ⊥
 
 record ItemParts (d : ℕ) (w : List ℕ) : Type 0 where
   pub title : List ℕ
@@ -335,7 +336,7 @@ after_title d (st.Duplicate left) y t bytes rest p f =
       is = (f.is.value, subst (λ (x : Header). Follows x f.is.value q.rest) (sym o.1) q.follows, f.is.fits);
       whole = o.2;
     }
-after_title d st.Memory y t bytes rest p f = absurd f.is
+after_title d st.Room y t bytes rest p f = absurd f.is
 
 -- The contents fail if no contents complete such an item.
 pub none_completes : (d : ℕ) (stop : Stop) (y : Header) (bytes : List ℕ)
@@ -416,7 +417,7 @@ string_stops d st.Malformed k len y bytes e fails = λ t p rest f.
     fails g.front c.0 rest c.1 g.whole
 string_stops d (st.NoSimple left) k len y bytes e fails = absurd fails
 string_stops d (st.Duplicate left) k len y bytes e fails = absurd fails
-string_stops d st.Memory k len y bytes e fails = λ t p rest f. f.is
+string_stops d st.Room k len y bytes e fails = λ t p rest f. f.is
 
 -- ---- nests
 
@@ -425,7 +426,7 @@ tag_missed d n st.Malformed r (any_tag i) = i
 tag_missed d n (st.NoSimple left) r (v, follows_tag {value = u} e) = record { value = u; encodes = e }
 tag_missed d n (st.Duplicate left) r (v, follows_tag {value = u} e, fits_tagged l f) =
     record { value = u; encodes = e; fits = f }
-tag_missed d n st.Memory r c = c
+tag_missed d n st.Room r c = c
 
 pub tag_stops : (e d n : ℕ) (stop : Stop) (y : Header) (bytes : List ℕ) → y ≡ h.Tag n → suc d ≡ e
     → FailsItem d bytes stop → FailsRest e y bytes stop
@@ -477,7 +478,7 @@ array_parts d (st.Duplicate left) o r (v, follows_array {values = vs} c e, fits_
     told_parts _ _ r (subst (λ (m : ℕ). AreJoined IsFittingSpelling m r) c (fitting_joined vs r e f))
 array_parts d (st.Duplicate left) o r (v, follows_open_array {values = vs} {bytes = w} e, fits_array l f) =
     open_parts _ _ w (fitting_joined vs w e f)
-array_parts d st.Memory o r c = absurd c
+array_parts d st.Room o r c = absurd c
 
 pub array_stops : (d : ℕ) (stop : Stop) (o : Option ℕ) (bytes : List ℕ) → FailsNest (IsMissed d stop) o bytes
     → FailsRest (suc d) (h.Array o) bytes stop
@@ -546,7 +547,7 @@ map_parts d (st.Duplicate left) o r (v, follows_map {pairs = ps} c e, fits_map l
     (fitting_pairs d left ps r e f))
 map_parts d (st.Duplicate left) o r (v, follows_open_map {pairs = ps} {bytes = w} e, fits_map l f) =
     open_parts _ _ w (fitting_pairs d left ps w e f)
-map_parts d st.Memory o r c = absurd c
+map_parts d st.Room o r c = absurd c
 
 pub map_stops : (d : ℕ) (stop : Stop) (o : Option ℕ) (bytes : List ℕ) → FailsNest (ArePairMissed d stop) o bytes
     → FailsRest (suc d) (h.Map o) bytes stop
@@ -556,5 +557,5 @@ map_stops d stop o bytes fails t p rest f =
     fails q.done q.items q.tail rest q.joined q.ends
     (g.whole ∙ ap (λ (v : List ℕ). v ++ rest) q.whole ∙ append_assoc q.items q.tail rest)
 
-pub memory_stops : (d : ℕ) (stop : Stop) (bytes : List ℕ) → stop ≡ st.Memory → NoneInFront (ArePairMissed d stop) bytes
+pub memory_stops : (d : ℕ) (stop : Stop) (bytes : List ℕ) → stop ≡ st.Room → NoneInFront (ArePairMissed d stop) bytes
 memory_stops d stop bytes e r f = subst (λ (z : Stop). IsMissed d z f.is.key) e f.is.key_is

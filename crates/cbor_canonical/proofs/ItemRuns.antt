@@ -1,6 +1,6 @@
 -- The rewriting of each kind of item.
 use Rattle.std.proofs.Common.{◌≡◌, ℕ, zero, suc, ◌+◌, ◌<◌, ◌≤◌, ◌^◌, ◌⊎◌, inl, inr, List, [], ◌∷◌, ◌++◌, length}
-use Rattle.std.proofs.Common.{Option, Some, None, refl, sym, ◌∙◌, ap, subst, arith, append_assoc, append-nil, false}
+use Rattle.std.proofs.Common.{Option, Some, None, refl, sym, ◌∙◌, ap, subst, arith, append_assoc, append-nil, false, take}
 use Rattle.ciborium_ll_text.specs.Text.{joined}
 use Rattle.ciborium_ll_grammar.specs.declared.hdr.Header.{Header}
 use Rattle.ciborium_ll_grammar.specs.declared.hdr.Header.TheVariants as h
@@ -46,7 +46,9 @@ use Rattle.cbor_canonical.specs.Strings.{IsContent, told, until_break, IsStringT
 use Rattle.cbor_canonical.specs.Runs.{Turns, IsCompleted, AreRewritten, none_rewritten, more_rewritten, EndsNest}
 use Rattle.cbor_canonical.specs.Runs.{counted}
 use Rattle.cbor_canonical.specs.Runs.{at_break, TurnsItems}
+use Rattle.cbor_canonical.specs.Writing.{Adds, Extends, Inserts}
 use Rattle.cbor_canonical.proofs.StringRuns.{joined_writable}
+use Rattle.std.proofs.lemmas.List.{length-take-le}
 
 -- Two pieces that were written one after the other are one piece.
 pub two_pieces : (old mid new a b : List ℕ) → mid ≡ old ++ a → new ≡ mid ++ b → new ≡ old ++ (a ++ b)
@@ -360,17 +362,30 @@ items_closed d n o bytes rest after old now s e z = record {
 ends_told : (n m : ℕ) (tail : List ℕ) → EndsNest (Some n) m tail → m ≡ n
 ends_told n m tail counted = refl
 
-pub array_told : {ord : Order} (d n done : ℕ) (o : Option ℕ) (bytes rest old mid new : List ℕ) → o ≡ Some n
-    → IsInRange (h.Array (Some n)) → mid ≡ old ++ shortest_title (h.Array (Some n))
-    → TurnsItems ord d (Some n) done bytes rest mid new → Turns (IsCompleted ord (suc d) (h.Array o)) bytes rest old new
-array_told {ord = r} d n done o bytes rest old mid new e range b g =
-    rw e (array_turned d n (Some n) bytes rest mid new old mid new range b
-    (subst (λ (m : ℕ). TurnsItems r d (Some n) m bytes rest mid new) (ends_told n done g.tail g.ends) g) (λ w x. x))
+pub array_told : {ord : Order} (d n done : ℕ) (o : Option ℕ) (bytes rest : List ℕ) (at start end : ℕ)
+    (old mid new : List ℕ) → o ≡ Some n → IsInRange (h.Array (Some n))
+    → Adds (shortest_title (h.Array (Some n))) at start old mid
+    → Extends (TurnsItems ord d o done bytes rest) start end mid new
+    → Extends (Turns (IsCompleted ord (suc d) (h.Array o)) bytes rest) at end old new
+array_told {ord = r} d n done o bytes rest at start end old mid new e range b g = record {
+  is = array_turned d n o bytes rest (take start mid) (take end new) (take at old) (take start mid) (take end new)
+      range b.is (subst (λ (m : ℕ). TurnsItems r d o m bytes rest (take start mid) (take end new))
+      (ends_told n done g.is.tail (rw e at g.is.ends)) g.is) (λ w x. x);
+  from = omega (arith, b.from, g.from);
+  within = g.within;
+}
 
-pub array_open : {ord : Order} (d n : ℕ) (o : Option ℕ) (bytes rest start body slice old mid new : List ℕ)
-    → start ≡ [] → IsInRange (h.Array (Some n)) → mid ≡ old ++ shortest_title (h.Array (Some n))
-    → TurnsItems ord d o n bytes rest start body → slice ≡ body → new ≡ mid ++ slice
-    → Turns (IsCompleted ord (suc d) (h.Array o)) bytes rest old new
-array_open d n o bytes rest start body slice old mid new s range b g i w =
-    array_turned d n o bytes rest start body old mid new range b g
-    (λ v x. w ∙ ap (λ (z : List ℕ). mid ++ z) (i ∙ x ∙ ap (λ (z : List ℕ). z ++ v) s))
+pub array_open : {ord : Order} (d n : ℕ) (o : Option ℕ) (bytes rest : List ℕ) (at end after : ℕ)
+    (old now new : List ℕ) → at ≤ length old → IsInRange (h.Array (Some n))
+    → Extends (TurnsItems ord d o n bytes rest) at end old now
+    → Inserts (shortest_title (h.Array (Some n))) at end after now new
+    → Extends (Turns (IsCompleted ord (suc d) (h.Array o)) bytes rest) at after old new
+array_open d n o bytes rest at end after old now new l range g w =
+    let title : List ℕ = shortest_title (h.Array (Some n)) in
+    record {
+      is = array_turned d n o bytes rest (take at old) (take end now) (take at old) (take at old ++ title)
+          (take after new) range refl g.is
+          (λ v x. w.moved (take at old) v x (length-take-le at old l) ∙ sym (append_assoc (take at old) title v));
+      from = omega (arith, g.from, w.from);
+      within = w.within;
+    }

@@ -1,10 +1,13 @@
 pub mod Narrowing
 pub mod NarrowRuns
 pub mod TitleRuns
+pub mod WriteRuns
 pub mod StringRuns
 pub mod SortRuns
 pub mod ItemRuns
 pub mod PairRuns
+pub mod PlaceRuns
+pub mod OrderRuns
 pub mod FailRuns
 pub mod SameLaws
 pub mod MapRuns

@@ -33,7 +33,13 @@ use Rattle.cbor_deterministic.specs.Spellings.{follows_map, follows_open_map}
 use Rattle.cbor_deterministic.proofs.OrderLaws.{ranks_own, precedes_trans, not_itself, first_key}
 use Rattle.cbor_deterministic.proofs.OneValue.{one_value}
 use Rattle.cbor_deterministic.proofs.Law.{one_deterministic}
-use Rattle.cbor_canonical.specs.declared.rewrite.Entry.{Entry}
+use Rattle.cbor_canonical.specs.declared.pairs.Span.{Span}
+use Rattle.cbor_canonical.specs.declared.Stop.{Stop}
+use Rattle.cbor_canonical.specs.Places.{WritesPairs, WritesMap, ArePlaced, IsOrdered, StopsOrder}
+use Rattle.cbor_canonical.specs.Writing.{Adds, Extends, Inserts}
+use Rattle.std.proofs.Common.{take, take-take, take_at}
+use Rattle.std.proofs.lemmas.List.{length-take-le}
+use Rattle.cbor_canonical.specs.Runs.{Entry}
 use Rattle.cbor_canonical.specs.declared.Stop.TheVariants as st
 use Rattle.cbor_canonical.specs.Runs.{Turns, IsCompleted, EndsNest, counted, at_break, ArePairsOf, no_pairs}
 use Rattle.cbor_canonical.specs.Runs.{more_pairs, TurnsPairs, joined_pairs, IsBefore, DoAscend, HasEqualKeys, FailsRest}
@@ -49,36 +55,36 @@ tied_at Greater = 0
 
 -- 1 if the entry has this key, and 0 otherwise.
 abbrev tied : List ℕ → Entry → ℕ
-tied key e = tied_at (slice_cmp nat_cmp key e.key.items)
+tied key e = tied_at (slice_cmp nat_cmp key e.key)
 
-tied_same : (key : List ℕ) (e : Entry) → key ≡ e.key.items → tied key e ≡ 1
-tied_same key e s = go (slice_cmp nat_cmp key e.key.items) (ranks_own key e.key.items)
+tied_same : (key : List ℕ) (e : Entry) → key ≡ e.key → tied key e ≡ 1
+tied_same key e s = go (slice_cmp nat_cmp key e.key) (ranks_own key e.key)
   where
-    go : (r : Ordering) → MatchOrdering r (IsBytewiseBefore key e.key.items) (key ≡ e.key.items)
-        (IsBytewiseBefore e.key.items key) → tied_at r ≡ 1
-    go Less m = absurd (itself e.key.items (subst (λ (z : List ℕ). IsBytewiseBefore z e.key.items) s m))
+    go : (r : Ordering) → MatchOrdering r (IsBytewiseBefore key e.key) (key ≡ e.key)
+        (IsBytewiseBefore e.key key) → tied_at r ≡ 1
+    go Less m = absurd (itself e.key (subst (λ (z : List ℕ). IsBytewiseBefore z e.key) s m))
       where
         itself : (xs : List ℕ) → IsBytewiseBefore xs xs → ⊥
         itself xs p = not_itself Bytewise xs p
     go Equal m = refl
-    go Greater m = absurd (itself e.key.items (subst (λ (z : List ℕ). IsBytewiseBefore e.key.items z) s m))
+    go Greater m = absurd (itself e.key (subst (λ (z : List ℕ). IsBytewiseBefore e.key z) s m))
       where
         itself : (xs : List ℕ) → IsBytewiseBefore xs xs → ⊥
         itself xs p = not_itself Bytewise xs p
 
-tied_cases : (key : List ℕ) (e : Entry) → (tied key e ≡ 0) ⊎ ((tied key e ≡ 1) × (key ≡ e.key.items))
-tied_cases key e = go (slice_cmp nat_cmp key e.key.items) (ranks_own key e.key.items)
+tied_cases : (key : List ℕ) (e : Entry) → (tied key e ≡ 0) ⊎ ((tied key e ≡ 1) × (key ≡ e.key))
+tied_cases key e = go (slice_cmp nat_cmp key e.key) (ranks_own key e.key)
   where
-    go : (r : Ordering) → MatchOrdering r (IsBytewiseBefore key e.key.items) (key ≡ e.key.items)
-        (IsBytewiseBefore e.key.items key) → (tied_at r ≡ 0) ⊎ ((tied_at r ≡ 1) × (key ≡ e.key.items))
+    go : (r : Ordering) → MatchOrdering r (IsBytewiseBefore key e.key) (key ≡ e.key)
+        (IsBytewiseBefore e.key key) → (tied_at r ≡ 0) ⊎ ((tied_at r ≡ 1) × (key ≡ e.key))
     go Less m = inl refl
     go Equal m = inr (refl, m)
     go Greater m = inl refl
 
-tied_not : (key : List ℕ) (e : Entry) → (key ≡ e.key.items → ⊥) → tied key e ≡ 0
+tied_not : (key : List ℕ) (e : Entry) → (key ≡ e.key → ⊥) → tied key e ≡ 0
 tied_not key e n = go (tied_cases key e)
   where
-    go : (tied key e ≡ 0) ⊎ ((tied key e ≡ 1) × (key ≡ e.key.items)) → tied key e ≡ 0
+    go : (tied key e ≡ 0) ⊎ ((tied key e ≡ 1) × (key ≡ e.key)) → tied key e ≡ 0
     go (inl z) = z
     go (inr z) = absurd (n z.1)
 
@@ -107,31 +113,31 @@ ascend_first ord e f es up = up 0 e (omega arith)
 -- The key of the first entry comes after this key.
 abbrev IsFirstAfter : Order → List ℕ → List Entry → Type 0
 IsFirstAfter ord key [] = Unit {0}
-IsFirstAfter ord key (e ∷ es) = Precedes ord key e.key.items
+IsFirstAfter ord key (e ∷ es) = Precedes ord key e.key
 
-next_after : (ord : Order) (e : Entry) (es : List Entry) → DoAscend ord (e ∷ es) → IsFirstAfter ord e.key.items es
+next_after : (ord : Order) (e : Entry) (es : List Entry) → DoAscend ord (e ∷ es) → IsFirstAfter ord e.key es
 next_after ord e [] up = tt
 next_after ord e (f ∷ es) up = ascend_first ord e f es up
 
-still_after : (ord : Order) (key : List ℕ) (e : Entry) (es : List Entry) → Precedes ord key e.key.items
+still_after : (ord : Order) (key : List ℕ) (e : Entry) (es : List Entry) → Precedes ord key e.key
     → DoAscend ord (e ∷ es) → IsFirstAfter ord key es
 still_after ord key e [] p up = tt
 still_after ord key e (f ∷ es) p up =
-    precedes_trans ord key e.key.items f.key.items p (ascend_first ord e f es up)
+    precedes_trans ord key e.key f.key p (ascend_first ord e f es up)
 
 none_after : (ord : Order) (key : List ℕ) (es : List Entry) → IsFirstAfter ord key es → DoAscend ord es
     → keys_of key es ≡ 0
 none_after ord key [] p up = refl
 none_after ord key (e ∷ es) p up =
-    let z = tied_not key e (λ s. not_itself ord e.key.items
-    (subst (λ (w : List ℕ). Precedes ord w e.key.items) s p)) in
+    let z = tied_not key e (λ s. not_itself ord e.key
+    (subst (λ (w : List ℕ). Precedes ord w e.key) s p)) in
     omega (arith, z, none_after ord key es (still_after ord key e es p up) (ascend_rest ord e es up))
 
 once_at_most : (ord : Order) (key : List ℕ) (es : List Entry) → DoAscend ord es → keys_of key es ≤ 1
 once_at_most ord key [] up = omega arith
 once_at_most ord key (e ∷ es) up = go (tied_cases key e) (once_at_most ord key es (ascend_rest ord e es up))
   where
-    go : (tied key e ≡ 0) ⊎ ((tied key e ≡ 1) × (key ≡ e.key.items)) → keys_of key es ≤ 1
+    go : (tied key e ≡ 0) ⊎ ((tied key e ≡ 1) × (key ≡ e.key)) → keys_of key es ≤ 1
         → tied key e + keys_of key es ≤ 1
     go (inl z) l = omega (arith, z, l)
     go (inr z) l =
@@ -148,10 +154,10 @@ once_at_most ord key (e ∷ es) up = go (tied_cases key e) (once_at_most ord key
 record IsWritten (ord : Order) (d : ℕ) (e : Entry) : Type 0 where
   pub key : Value
   pub value : Value
-  pub key_is : IsDeterministic ord d e.key.items
-  pub value_is : IsDeterministic ord d e.value.items
-  pub key_encodes : Encodes key e.key.items
-  pub value_encodes : Encodes value e.value.items
+  pub key_is : IsDeterministic ord d e.key
+  pub value_is : IsDeterministic ord d e.value
+  pub key_encodes : Encodes key e.key
+  pub value_encodes : Encodes value e.value
 
 record IsEntryOf (ord : Order) (d : ℕ) (k v : Value) (e : Entry) : Type 0 where
   pub written : IsWritten ord d e
@@ -232,7 +238,7 @@ module _ (ord : Order) (d : ℕ) where
   pairs_sorted key [] a p up = none_sorted
   pairs_sorted key (e ∷ es) a p up =
       more_sorted a.0.key_is p a.0.value_is
-      (pairs_sorted e.key.items es a.1 (next_after ord e es up) (ascend_rest ord e es up))
+      (pairs_sorted e.key es a.1 (next_after ord e es up) (ascend_rest ord e es up))
 
   -- ---- the same pairs
 
@@ -259,8 +265,8 @@ module _ (ord : Order) (d : ℕ) where
   in_written : (k v : Value) (e : Entry) (es : List Entry) (a : AllByRecursion (IsWritten ord d) es)
       → IsEntryOf ord d k v e → IsMember e es → IsIn k v (pairs_of es a)
   in_written k v e es a i (first {es = fs}) =
-      here (subst (λ (l : Value). Same k l) (one_key _ _ e.key.items i.written.key_encodes a.0.key_encodes) i.to_key)
-      (subst (λ (l : Value). Same v l) (one_key _ _ e.value.items i.written.value_encodes a.0.value_encodes) i.to_value)
+      here (subst (λ (l : Value). Same k l) (one_key _ _ e.key i.written.key_encodes a.0.key_encodes) i.to_key)
+      (subst (λ (l : Value). Same v l) (one_key _ _ e.value i.written.value_encodes a.0.value_encodes) i.to_value)
   in_written k v e es a i (later {es = fs} m) = there (in_written k v e fs a.1 i m)
 
   each_written : (ps : Pairs) (es fs : List Entry) (a : AllByRecursion (IsWritten ord d) fs) → AreEntriesOf ord d ps es
@@ -273,9 +279,9 @@ module _ (ord : Order) (d : ℕ) where
       → IsMember e es → IsIn w.key w.value ps
   in_read e w ps es no_entries m = elim m [ ]
   in_read e w ps es (more_entries i is) first =
-      here (same_sym (subst (λ (l : Value). Same _ l) (one_key _ _ e.key.items i.written.key_encodes w.key_encodes)
+      here (same_sym (subst (λ (l : Value). Same _ l) (one_key _ _ e.key i.written.key_encodes w.key_encodes)
       i.to_key))
-      (same_sym (subst (λ (l : Value). Same _ l) (one_key _ _ e.value.items i.written.value_encodes w.value_encodes)
+      (same_sym (subst (λ (l : Value). Same _ l) (one_key _ _ e.value i.written.value_encodes w.value_encodes)
       i.to_value))
   in_read e w ps es (more_entries i is) (later m) = there (in_read e w _ _ is m)
 
@@ -288,7 +294,7 @@ module _ (ord : Order) (d : ℕ) where
   -- ---- no key twice
 
   new_key : (k v : Value) (e : Entry) (ps : Pairs) (es : List Entry) → IsEntryOf ord d k v e → AreEntriesOf ord d ps es
-      → keys_of e.key.items es ≡ 0 → IsNewKey k ps
+      → keys_of e.key es ≡ 0 → IsNewKey k ps
   new_key k v e ps es i no_entries z = tt
   new_key k v e ps es i (more_entries {k = l} {e = f} {es = fs} j js) z = (
     λ w s t. absurd (two w s t),
@@ -298,28 +304,28 @@ module _ (ord : Order) (d : ℕ) where
       two : (w : Value) → Same k w → Same w l → ⊥
       two w s t =
           let same = same_trans (same_sym i.to_key) (same_trans s (same_trans t j.to_key)) in
-          let o = one_deterministic ord d d i.written.key j.written.key e.key.items f.key.items i.written.key_is
+          let o = one_deterministic ord d d i.written.key j.written.key e.key f.key i.written.key_is
           i.written.key_encodes j.written.key_is j.written.key_encodes same in
-          let one = tied_same e.key.items f o in
+          let one = tied_same e.key f o in
           omega (arith, z, one)
 
   pairs_fit : (ps : Pairs) (es : List Entry) → AreEntriesOf ord d ps es
       → ((key : List ℕ) → keys_of key es ≤ 1) → PairsFit ps
   pairs_fit ps es no_entries f = fits_none
   pairs_fit ps es (more_entries {e = e} {es = fs} i is) f =
-      let one = tied_same e.key.items e refl in
+      let one = tied_same e.key e refl in
       fits_pair i.key_fits i.value_fits
-      (new_key _ _ e _ fs i is (omega (arith, one, f e.key.items)))
+      (new_key _ _ e _ fs i is (omega (arith, one, f e.key)))
       (pairs_fit _ fs is (λ key. omega (arith, f key)))
 
-  old_key : (k v : Value) (e : Entry) (ps : Pairs) (es : List Entry) (key : List ℕ) → key ≡ e.key.items
+  old_key : (k v : Value) (e : Entry) (ps : Pairs) (es : List Entry) (key : List ℕ) → key ≡ e.key
       → IsEntryOf ord d k v e → AreEntriesOf ord d ps es → IsNewKey k ps → keys_of key es ≡ 0
   old_key k v e ps es key s i no_entries n = refl
   old_key k v e ps es key s i (more_entries {k = l} {e = f} {es = fs} j js) n =
       let z = tied_not key f (λ t.
-      let o : e.key.items ≡ f.key.items = sym s ∙ t in
+      let o : e.key ≡ f.key = sym s ∙ t in
       n.0 i.written.key i.to_key (same_sym (subst (λ (w : Value). Same l w)
-      (sym (one_key _ _ f.key.items (subst (λ (w : List ℕ). Encodes i.written.key w) o i.written.key_encodes)
+      (sym (one_key _ _ f.key (subst (λ (w : List ℕ). Encodes i.written.key w) o i.written.key_encodes)
       j.written.key_encodes)) j.to_key))) in
       omega (arith, z, old_key k v e _ fs key s i js n.1)
 
@@ -329,26 +335,26 @@ module _ (ord : Order) (d : ℕ) where
   fit_once ps es key (more_entries {k = k} {v = v} {ps = qs} {e = e} {es = fs} i is) (fits_pair a b n g) =
       go (tied_cases key e) (fit_once qs fs key is g)
     where
-      go : (tied key e ≡ 0) ⊎ ((tied key e ≡ 1) × (key ≡ e.key.items)) → keys_of key fs ≤ 1
+      go : (tied key e ≡ 0) ⊎ ((tied key e ≡ 1) × (key ≡ e.key)) → keys_of key fs ≤ 1
           → tied key e + keys_of key fs ≤ 1
       go (inl z) l = omega (arith, z, l)
       go (inr z) l = omega (arith, z.0, old_key k v e qs fs key z.1 i is n)
 
 -- Two neighbours with the same key are two entries with this key.
 twice_at : (es : List Entry) (k : ℕ) → k + 1 < length es
-    → ((d : Entry) → (slice_index_or es k d).key.items ≡ (slice_index_or es (k + 1) d).key.items)
+    → ((d : Entry) → (slice_index_or es k d).key ≡ (slice_index_or es (k + 1) d).key)
     → (key : List ℕ) × (2 ≤ keys_of key es)
 twice_at [] k l s = absurd (omega arith)
 twice_at (e ∷ []) k l s = absurd (omega arith)
 twice_at (e ∷ (f ∷ es)) zero l s =
-    let same : e.key.items ≡ f.key.items = s e in
-    let one = tied_same e.key.items e refl in
-    let two = tied_same e.key.items f same in
-    (e.key.items, omega (arith, one, two))
+    let same : e.key ≡ f.key = s e in
+    let one = tied_same e.key e refl in
+    let two = tied_same e.key f same in
+    (e.key, omega (arith, one, two))
 twice_at (e ∷ (f ∷ es)) (suc k) l s =
     let i : suc k + 1 ≡ suc (k + 1) = omega arith in
-    let t = twice_at (f ∷ es) k (omega arith) (λ d. subst (λ (n : ℕ). (slice_index_or (f ∷ es) k d).key.items
-    ≡ (slice_index_or (e ∷ (f ∷ es)) n d).key.items) i (s d)) in
+    let t = twice_at (f ∷ es) k (omega arith) (λ d. subst (λ (n : ℕ). (slice_index_or (f ∷ es) k d).key
+    ≡ (slice_index_or (e ∷ (f ∷ es)) n d).key) i (s d)) in
     (t.0, omega (arith, t.1))
 
 -- ---- the map
@@ -371,7 +377,7 @@ written_some ord d w (item {title = t} {rest = r} {header = x} p c) =
 
 first_of : (ord : Order) (d : ℕ) (es : List Entry) → AllByRecursion (IsWritten ord d) es → IsFirstAfter ord [] es
 first_of ord d [] a = tt
-first_of ord d (e ∷ es) a = first_key ord e.key.items (written_some ord d e.key.items a.0.key_is)
+first_of ord d (e ∷ es) a = first_key ord e.key (written_some ord d e.key a.0.key_is)
 
 module _ {ord : Order} (d : ℕ) (o : Option ℕ) (bytes rest : List ℕ) (es fs : List Entry)
     (g : TurnsPairs ord d o bytes rest es) (perm : IsPermutation es fs) where
@@ -417,3 +423,88 @@ module _ {ord : Order} (d : ℕ) (o : Option ℕ) (bytes rest : List ℕ) (es fs
       go : (q : ReadPairs ord d g.pairs es) → Fits (Map q.list) → (key : List ℕ) → 2 ≤ keys_of key fs → ⊥
       go q (fits_map l fit) key two =
           omega (arith, two, keys_kept key es fs perm, fit_once ord d q.list es key q.entries fit)
+
+-- ---- maps, by their form
+
+ends_told : (n m : ℕ) (tail : List ℕ) → EndsNest (Some n) m tail → m ≡ n
+ends_told n m tail counted = refl
+
+pub map_told : {ord : Order} (d n done : ℕ) (o : Option ℕ) (bytes rest : List ℕ) (at start end : ℕ)
+    (old mid new : List ℕ) → o ≡ Some n → IsInRange (h.Map (Some n))
+    → Adds (shortest_title (h.Map (Some n))) at start old mid
+    → Extends (WritesMap ord d o done bytes rest) start end mid new
+    → Extends (Turns (IsCompleted ord (suc d) (h.Map o)) bytes rest) at end old new
+map_told d n done o bytes rest at start end old mid new e range b g =
+    let m = g.is in
+    let long : n ≡ length m.sorted =
+    sym (ends_told n (length m.entries) m.turns.tail (rw e at m.turns.ends))
+    ∙ sym (length_permutation m.entries m.sorted m.same) in
+    record {
+      is = map_turned d o bytes rest m.entries m.sorted m.turns m.same n (take at old) (take start mid) (take end new)
+          long m.up range b.is m.wrote;
+      from = omega (arith, b.from, g.from);
+      within = g.within;
+    }
+
+pub map_open : {ord : Order} (d n : ℕ) (o : Option ℕ) (bytes rest : List ℕ) (at end after : ℕ)
+    (old now new : List ℕ) → at ≤ length old → IsInRange (h.Map (Some n))
+    → Extends (WritesMap ord d o n bytes rest) at end old now
+    → Inserts (shortest_title (h.Map (Some n))) at end after now new
+    → Extends (Turns (IsCompleted ord (suc d) (h.Map o)) bytes rest) at after old new
+map_open d n o bytes rest at end after old now new l range g w =
+    let m = g.is in
+    let title : List ℕ = shortest_title (h.Map (Some n)) in
+    record {
+      is = map_turned d o bytes rest m.entries m.sorted m.turns m.same n (take at old) (take at old ++ title)
+          (take after new) (sym m.number ∙ sym (length_permutation m.entries m.sorted m.same)) m.up range refl
+          (w.moved (take at old) (joined_pairs m.sorted) m.wrote (length-take-le at old l)
+          ∙ sym (append_assoc (take at old) title (joined_pairs m.sorted)));
+      from = omega (arith, g.from, w.from);
+      within = w.within;
+    }
+
+-- What was written before the pairs of a map stays.
+front_kept : (bytes : List ℕ) (at end : ℕ) (old now : List ℕ) → at ≤ length old → Adds bytes at end old now
+    → take at now ≡ take at old
+front_kept bytes at end old now l w =
+    sym (take-take at end now w.from) ∙ ap (take at) w.is
+    ∙ take_at (take at old) bytes at (length-take-le at old l)
+
+-- The pairs of a map stand at the places that were written down.
+pub pairs_placed : {ord : Order} (d done : ℕ) (o : Option ℕ) (bytes rest : List ℕ) (at end : ℕ) (old now : List ℕ)
+    (spans : List Span) → at ≤ length old → (g : WritesPairs ord d o done bytes rest at end old now spans)
+    → ArePlaced at end (take done spans) now g.entries
+pairs_placed d done o bytes rest at end old now spans l g = record {
+  places = g.places;
+  wrote = g.wrote.is ∙ ap (λ (z : List ℕ). z ++ joined_pairs g.entries)
+      (sym (front_kept (joined_pairs g.entries) at end old now l g.wrote));
+}
+
+-- Pairs that were put in order are written as a map has them.
+pub pairs_sorted_there : {ord : Order} (d done : ℕ) (o : Option ℕ) (bytes rest : List ℕ) (at end after : ℕ)
+    (old now new : List ℕ) (spans : List Span) → at ≤ length old
+    → (g : WritesPairs ord d o done bytes rest at end old now spans) → IsOrdered ord at after g.entries now new
+    → Extends (WritesMap ord d o done bytes rest) at after old new
+pairs_sorted_there d done o bytes rest at end after old now new spans l g q = record {
+  is = record {
+    entries = g.entries;
+    sorted = q.sorted;
+    turns = g.turns;
+    same = q.same;
+    up = q.up;
+    number = g.number;
+    wrote = q.wrote.is ∙ ap (λ (z : List ℕ). z ++ joined_pairs q.sorted)
+        (front_kept (joined_pairs g.entries) at end old now l g.wrote);
+  };
+  from = q.wrote.from;
+  within = q.wrote.within;
+}
+
+-- A map whose pairs are not put in order has a key twice, or the memory is too small.
+pub order_stops : {ord : Order} (d : ℕ) (o : Option ℕ) (bytes rest : List ℕ) (es : List Entry) (stop : Stop)
+    → TurnsPairs ord d o bytes rest es → StopsOrder es stop → FailsRest (suc d) (h.Map o) bytes stop
+order_stops d o bytes rest es (st.Duplicate left) g q =
+    map_repeats d o bytes rest es q.sorted g q.same left q.equal
+order_stops d o bytes rest es st.Room g q = λ t p r f. f.is
+order_stops d o bytes rest es st.Malformed g q = absurd q
+order_stops d o bytes rest es (st.NoSimple left) g q = absurd q

@@ -1,20 +1,22 @@
 -- Entries in the order of their keys.
-use Rattle.std.proofs.Common.{◌≡◌, ℕ, ◌+◌, ◌-◌, ◌<◌, inl, inr, List, length, refl, sym, ◌∙◌, ap, subst, arith}
-use Rattle.std.proofs.Common.{slice_index_or, Bool, false, ◌⊎◌}
+use Rattle.std.proofs.Common.{◌≡◌, ℕ, zero, suc, ◌+◌, ◌-◌, ◌<◌, inl, inr, List, [], ◌∷◌, length, refl, sym, ◌∙◌}
+use Rattle.std.proofs.Common.{ap, subst, arith, slice_index_or, Bool, true, false, nat_eq, ◌⊎◌}
 use Rattle.std.specs.declared.cmp.Ordering.{Ordering}
 use Rattle.std.specs.declared.cmp.Ordering.TheVariants.{Less, Equal, Greater}
 use Rattle.std.specs.Ordering.{ordering_then, nat_cmp, is_lt, MatchOrdering}
 use Rattle.std.specs.Cmp.{IsTotalOrder}
 use Rattle.std.specs.Cmp.Lexicographic.{slice_cmp}
 use Rattle.std.specs.List.Sorted.{IsSortedBy}
-use Rattle.std.proofs.lemmas.List.{get_or_default}
 use Rattle.std.proofs.lemmas.Cmp.{ranked, nat_cmp_total, nat_list_cmp_total, on_total, then_total}
 use Rattle.cbor_deterministic.specs.declared.Order.{Order}
 use Rattle.cbor_deterministic.specs.declared.Order.TheVariants.{Bytewise, LengthFirst}
 use Rattle.cbor_deterministic.specs.Orders.{IsBytewiseBefore, Precedes}
 use Rattle.cbor_deterministic.proofs.OrderLaws.{Ranks, ranks_own, not_itself, not_both}
-use Rattle.cbor_canonical.specs.Runs.{IsBefore, AreSorted, HasEqualKeys}
-use Rattle.cbor_canonical.specs.declared.rewrite.Entry.{Entry}
+use Rattle.std.specs.List.{AllAdjacentBelow}
+use Rattle.std.proofs.lemmas.Bool.Decides.{nat_tests}
+use Rattle.cbor_canonical.specs.declared.pairs.Span.{Span}
+use Rattle.cbor_canonical.specs.Places.{key_at, entry_at, entries_at, HasDisorder}
+use Rattle.cbor_canonical.specs.Runs.{Entry, IsBefore, AreSorted, HasEqualKeys}
 
 -- The ordering of two keys.
 abbrev pub order_cmp : Order → List ℕ → List ℕ → Ordering
@@ -59,15 +61,35 @@ not_less o Less xs ys p e q = cc
 not_less o Equal xs ys p e q = not_itself o ys (subst (λ (z : List ℕ). Precedes o z ys) p q)
 not_less o Greater xs ys p e q = not_both o xs ys q p
 
-abbrev pub entry_before : Order → Entry → Entry → Bool
-entry_before o a b = is_lt (order_cmp o a.key.items b.key.items)
+-- A place among others is found by its index, and so is the pair at it.
+pub entry_of : (out : List ℕ) (ss : List Span) (k : ℕ) (d : Entry) (z : Span) → k < length ss
+    → slice_index_or (entries_at out ss) k d ≡ entry_at out (slice_index_or ss k z)
+entry_of out [] k d z l = absurd (omega arith)
+entry_of out (s ∷ ss) zero d z l = refl
+entry_of out (s ∷ ss) (suc k) d z l = entry_of out ss k d z (omega arith)
 
--- Entries that a sort has put in order are sorted by their keys.
-pub sorted_keys : (o : Order) (es : List Entry) → IsSortedBy (entry_before o) es → AreSorted o es
-sorted_keys o es up k d l p =
-    let b = (slice_index_or es (k + 1) d).key.items in
-    let a = (slice_index_or es k d).key.items in
-    not_less o (order_cmp o b a) b a (order_ranks o b a) (up k d (omega arith) l) p
+pub entries_long : (out : List ℕ) (ss : List Span) → length (entries_at out ss) ≡ length ss
+entries_long out [] = refl
+entries_long out (s ∷ ss) = ap suc (entries_long out ss)
+
+-- The place of no pair.
+abbrev pub nowhere : Span
+nowhere = record { start = 0; key_end = 0; end = 0 }
+
+abbrev pub span_before : Order → List ℕ → Span → Span → Bool
+span_before o out a b = is_lt (order_cmp o (key_at out a) (key_at out b))
+
+-- Places that a sort has put in order are sorted by their keys.
+pub sorted_keys : (o : Order) (out : List ℕ) (ss : List Span) → IsSortedBy (span_before o out) ss
+    → AreSorted o (entries_at out ss)
+sorted_keys o out ss up k d l p =
+    let long = entries_long out ss in
+    let b = key_at out (slice_index_or ss (k + 1) nowhere) in
+    let a = key_at out (slice_index_or ss k nowhere) in
+    not_less o (order_cmp o b a) b a (order_ranks o b a) (up k nowhere (omega arith) (omega (arith, l, long)))
+    (subst (λ (e : Entry). Precedes o b e.key) (entry_of out ss k d nowhere (omega (arith, l, long)))
+    (subst (λ (e : Entry). Precedes o e.key (slice_index_or (entries_at out ss) k d).key)
+    (entry_of out ss (k + 1) d nowhere (omega (arith, l, long))) p))
 
 -- Two keys are the same if neither comes before the other.
 pub equal_there : (o : Order) (r : Ordering) (a b : List ℕ) → Ranks o r a b → (r ≡ Less → ⊥)
@@ -80,23 +102,68 @@ at_least : (r : Ordering) → (r ≡ Equal) ⊎ (r ≡ Greater) → r ≡ Less �
 at_least r (inl e) f = cc
 at_least r (inr e) f = cc
 
--- Neighbours whose keys do not ascend have equal keys, since the entries are sorted.
-pub equal_found : (o : Order) (es : List Entry) (at : ℕ) (x y : Entry) (a b : List ℕ) (r : Ordering) → 0 < at
-    → at < length es → x ≡ slice_index_or es (at - 1) x → y ≡ slice_index_or es at y → a ≡ x.key.items
-    → b ≡ y.key.items → Ranks o r a b → (r ≡ Equal) ⊎ (r ≡ Greater) → AreSorted o es → HasEqualKeys es
-equal_found o es at x y a b r l m ex ey ea eb ranks e s =
-    let i : at - 1 + 1 ≡ at = omega arith in
-    let first : (d : Entry) → slice_index_or es (at - 1) d ≡ x =
-    λ d. get_or_default es (at - 1) d x (omega arith) ∙ sym ex in
-    let second : (d : Entry) → slice_index_or es (at - 1 + 1) d ≡ y =
-    λ d. ap (λ (j : ℕ). slice_index_or es j d) i ∙ get_or_default es at d y m ∙ sym ey in
-    let up = s (at - 1) x (omega arith) in
-    let same : a ≡ b = equal_there o r a b ranks (at_least r e) (λ p. up (subst (λ (z : Entry). IsBefore o z
-    (slice_index_or es (at - 1) x)) (sym (second x)) (subst (λ (z : Entry). IsBefore o y z) (sym (first x))
-    (subst (λ (z : List ℕ). Precedes o y.key.items z) ea (subst (λ (z : List ℕ). Precedes o z a) eb p))))) in
+-- Keys are the same if neither comes before the other.
+pub neither_before : (o : Order) (a b : List ℕ) → (Precedes o a b → ⊥) → (Precedes o b a → ⊥) → a ≡ b
+neither_before o a b f g = go (order_cmp o a b) (order_ranks o a b)
+  where
+    go : (r : Ordering) → Ranks o r a b → a ≡ b
+    go Less m = absurd (f m)
+    go Equal m = m
+    go Greater m = absurd (g m)
+
+-- Neighbours among sorted pairs have the same key if their keys do not ascend.
+pub disorder_repeats : (o : Order) (es : List Entry) (at : ℕ) → HasDisorder o at es → AreSorted o es → HasEqualKeys es
+disorder_repeats o es at q s =
+    let i : at - 1 + 1 ≡ at = omega (arith, q.from) in
     record {
       at = at - 1;
-      within = omega arith;
-      same = λ d. ap (λ (z : Entry). z.key.items) (first d) ∙ sym ea ∙ same ∙ eb
-          ∙ sym (ap (λ (z : Entry). z.key.items) (second d));
+      within = omega (arith, q.within, q.from);
+      same = λ d. neither_before o _ _ (subst (λ (j : ℕ). IsBefore o (slice_index_or es (at - 1) d)
+          (slice_index_or es j d) → ⊥) (sym i) (q.down d)) (s (at - 1) d (omega (arith, q.within, q.from)));
     }
+
+-- The keys of two places do not ascend if a comparison says so.
+pub disorder_there : (o : Order) (out : List ℕ) (ss : List Span) (at : ℕ) (a b : List ℕ) (r : Ordering) → 0 < at
+    → at < length ss → a ≡ key_at out (slice_index_or ss (at - 1) nowhere)
+    → b ≡ key_at out (slice_index_or ss at nowhere) → Ranks o r a b → (r ≡ Equal) ⊎ (r ≡ Greater)
+    → HasDisorder o at (entries_at out ss)
+disorder_there o out ss at a b r f l ea eb ranks e = record {
+  from = f;
+  within = omega (arith, l, entries_long out ss);
+  down = λ d p. not_before o r a b ranks e
+      (subst (λ (z : List ℕ). Precedes o z b) (ap (λ (x : Entry). x.key)
+      (entry_of out ss (at - 1) d nowhere (omega arith)) ∙ sym ea)
+      (subst (λ (z : List ℕ). Precedes o (slice_index_or (entries_at out ss) (at - 1) d).key z)
+      (ap (λ (x : Entry). x.key) (entry_of out ss at d nowhere l) ∙ sym eb) p));
+}
+  where
+    not_before : (o : Order) (r : Ordering) (a b : List ℕ) → Ranks o r a b → (r ≡ Equal) ⊎ (r ≡ Greater)
+        → Precedes o a b → ⊥
+    not_before o Less a b m (inl e) p = cc
+    not_before o Less a b m (inr e) p = cc
+    not_before o Equal a b m e p = not_itself o b (subst (λ (z : List ℕ). Precedes o z b) m p)
+    not_before o Greater a b m e p = not_both o a b p m
+
+-- The keys ascend one place further.
+pub ascend_more : (o : Order) (out : List ℕ) (ss : List Span) (at : ℕ) (a b : List ℕ) → 0 < at → at < length ss
+    → a ≡ key_at out (slice_index_or ss (at - 1) nowhere) → b ≡ key_at out (slice_index_or ss at nowhere)
+    → Precedes o a b → AllAdjacentBelow (IsBefore o) (entries_at out ss) at
+    → AllAdjacentBelow (IsBefore o) (entries_at out ss) (at + 1)
+ascend_more o out ss at a b f l ea eb p up k d m = go (nat_eq (k + 1) at) refl
+  where
+    go : (same : Bool) → same ≡ nat_eq (k + 1) at → IsBefore o (slice_index_or (entries_at out ss) k d)
+        (slice_index_or (entries_at out ss) (k + 1) d)
+    go true e =
+        let i : k ≡ at - 1 = grind (arith, nat_tests) in
+        let j : k + 1 ≡ at = grind (arith, nat_tests) in
+        subst (λ (n : ℕ). IsBefore o (slice_index_or (entries_at out ss) n d)
+        (slice_index_or (entries_at out ss) (k + 1) d)) (sym i)
+        (subst (λ (n : ℕ). IsBefore o (slice_index_or (entries_at out ss) (at - 1) d)
+        (slice_index_or (entries_at out ss) n d)) (sym j)
+        (subst (λ (z : Entry). Precedes o z.key (slice_index_or (entries_at out ss) at d).key)
+        (sym (entry_of out ss (at - 1) d nowhere (omega arith)))
+        (subst (λ (z : Entry). Precedes o (key_at out (slice_index_or ss (at - 1) nowhere)) z.key)
+        (sym (entry_of out ss at d nowhere l))
+        (subst (λ (z : List ℕ). Precedes o z (key_at out (slice_index_or ss at nowhere))) ea
+        (subst (λ (z : List ℕ). Precedes o a z) eb p)))))
+    go false e = up k d (grind (arith, nat_tests))

@@ -1,13 +1,13 @@
 -- Strings of any form, read step by step.
 use Rattle.std.proofs.Common.{◌≡◌, ℕ, zero, suc, ◌+◌, ◌≤◌, ◌<◌, ◌^◌, List, [], ◌∷◌, ◌++◌, length, Option, Some, None}
-use Rattle.std.proofs.Common.{refl, sym, ◌∙◌, ap, subst, append_assoc, append-nil, arith, length-append}
+use Rattle.std.proofs.Common.{refl, sym, ◌∙◌, ap, subst, append_assoc, append-nil, arith, length-append, take, ◌-◌}
 use Rattle.std.specs.List.{AllByRecursion}
 use Rattle.ciborium_ll_text.specs.Text.{IsCharacters, joined}
 use Rattle.ciborium_ll_text.proofs.Lists.{same_front}
 use Rattle.ciborium_ll_text.proofs.TextLaws.{IsCharacters-append, IsCharacters-nil}
 use Rattle.ciborium_ll_grammar.specs.declared.hdr.Header.{Header}
 use Rattle.ciborium_ll_grammar.specs.declared.hdr.Header.TheVariants as h
-use Rattle.ciborium_ll_grammar.specs.Title.{IsTitle}
+use Rattle.ciborium_ll_grammar.specs.Title.{IsTitle, IsInRange, shortest_title}
 use Rattle.ciborium_ll_grammar.specs.Strings.{Kind, Bytes, Text, kind_header, IsString, definite, indefinite}
 use Rattle.ciborium_ll_grammar.specs.Strings.{AreStrings}
 use Rattle.ciborium_ll_grammar.specs.Strings.{none, more, IsWritable}
@@ -23,7 +23,10 @@ use Rattle.cbor_canonical.specs.Runs.{Turns}
 use Rattle.cbor_canonical.specs.Strings.{IsBody, HasNoBody, IsChunk, Closes, all_closed, by_break, by_chunk, by_open}
 use Rattle.cbor_canonical.specs.Strings.{FailsGather, FailsString}
 use Rattle.cbor_canonical.specs.Strings.{HasNoStep, Gathers, IsContent, told, until_break, IsStringTurned}
+use Rattle.cbor_canonical.specs.Writing.{Adds, Extends, Inserts}
 use Rattle.cbor_canonical.proofs.TitleRuns.{none_there}
+use Rattle.cbor_canonical.proofs.WriteRuns.{adds_reach}
+use Rattle.std.proofs.lemmas.List.{length-take-le}
 
 -- ---- bodies
 
@@ -343,37 +346,54 @@ pub joined_writable : (k : Kind) (bodies : List (List ℕ)) → AreWritable k bo
 joined_writable Bytes bodies a = tt
 joined_writable Text bodies a = joined_text bodies a
 
-pub told_turned : (k : Kind) (len : ℕ) (bytes body rest old new : List ℕ) → IsBody k len bytes body rest
-    → length body < 2 ^ 64 → new ≡ old ++ body_spelling k body → Turns (IsStringTurned k (Some len)) bytes rest old new
-told_turned k len bytes body rest old new b l e = record {
-  front = body;
-  written = body_spelling k body;
+pub told_turned : (k : Kind) (len : ℕ) (bytes body rest : List ℕ) (at end : ℕ) (old new : List ℕ)
+    → IsBody k len bytes body rest → length body < 2 ^ 64 → Adds (body_spelling k body) at end old new
+    → Extends (Turns (IsStringTurned k (Some len)) bytes rest) at end old new
+told_turned k len bytes body rest at end old new b l w = record {
   is = record {
-    body = body;
-    content = subst (λ (n : ℕ). IsContent k (Some n) body body) b.is (told b.writable);
-    range = l;
-    spelled = refl;
+    front = body;
+    written = body_spelling k body;
+    is = record {
+      body = body;
+      content = subst (λ (n : ℕ). IsContent k (Some n) body body) b.is (told b.writable);
+      range = l;
+      spelled = refl;
+    };
+    whole = b.whole;
+    wrote = w.is;
   };
-  whole = b.whole;
-  wrote = e;
+  from = w.from;
+  within = w.within;
 }
 
-pub open_turned : (k : Kind) (bytes rest body start old new : List ℕ) → start ≡ [] → Gathers k bytes rest start body
-    → length body < 2 ^ 64 → new ≡ old ++ body_spelling k body → Turns (IsStringTurned k None) bytes rest old new
-open_turned k bytes rest body start old new s g l e =
-    let j : body ≡ joined g.bodies = g.wrote ∙ ap (λ (z : List ℕ). z ++ joined g.bodies) s in
+kind_range : (k : Kind) (n : ℕ) → IsInRange (kind_header k (Some n)) → n < 2 ^ 64
+kind_range Bytes n r = r
+kind_range Text n r = r
+
+pub open_turned : (k : Kind) (bytes rest : List ℕ) (at end after : ℕ) (old now new : List ℕ) → at ≤ length old
+    → Extends (Gathers k bytes rest) at end old now → IsInRange (kind_header k (Some (end - at)))
+    → Inserts (shortest_title (kind_header k (Some (end - at)))) at end after now new
+    → Extends (Turns (IsStringTurned k None) bytes rest) at after old new
+open_turned k bytes rest at end after old now new l g r w =
+    let body : List ℕ = joined g.is.bodies in
+    let n : end - at ≡ length body =
+    omega (arith, adds_reach body at end old now l (record { is = g.is.wrote; from = g.from; within = g.within })) in
     record {
-      front = g.strings ++ 0xff ∷ [];
-      written = body_spelling k body;
       is = record {
-        body = body;
-        content = subst (λ (z : List ℕ). IsContent k None (g.strings ++ 0xff ∷ []) z) (sym j)
-            (until_break g.are g.writable);
-        range = l;
-        spelled = refl;
+        front = g.is.strings ++ 0xff ∷ [];
+        written = body_spelling k body;
+        is = record {
+          body = body;
+          content = until_break g.is.are g.is.writable;
+          range = subst (λ (m : ℕ). m < 2 ^ 64) n (kind_range k (end - at) r);
+          spelled = refl;
+        };
+        whole = g.is.whole ∙ sym (append_assoc g.is.strings (0xff ∷ []) rest);
+        wrote = w.moved (take at old) body g.is.wrote (length-take-le at old l)
+            ∙ ap (λ (m : ℕ). take at old ++ (shortest_title (kind_header k (Some m)) ++ body)) n;
       };
-      whole = g.whole ∙ sym (append_assoc g.strings (0xff ∷ []) rest);
-      wrote = e;
+      from = omega (arith, g.from, w.from);
+      within = w.within;
     }
 
 -- A fault in the strings and the break of an open string is a fault of the string.
@@ -386,4 +406,4 @@ gather_string_fails k bytes st.Malformed f = λ content body rest i z. go conten
         f s rest bs q a (z ∙ append_assoc s (0xff ∷ []) rest)
 gather_string_fails k bytes (st.NoSimple left) f = f
 gather_string_fails k bytes (st.Duplicate left) f = f
-gather_string_fails k bytes st.Memory f = tt
+gather_string_fails k bytes st.Room f = tt

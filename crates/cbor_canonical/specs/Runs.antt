@@ -12,7 +12,6 @@ use Rattle.cbor_deterministic.specs.Orders.{Precedes}
 use Rattle.cbor_canonical.specs.Canonical.{IsRewritten, IsFittingSpelling}
 use Rattle.cbor_canonical.specs.declared.Stop.{Stop}
 use Rattle.cbor_canonical.specs.declared.Stop.TheVariants as stop
-use Rattle.cbor_canonical.specs.declared.rewrite.Entry.{Entry}
 
 -- The bytes begin with a front, and the call wrote bytes after the old bytes. P holds for the front and the written
 -- bytes. If P holds for `18 01` and `01`, a call may read `18 01` of `18 01 02` and write `01`.
@@ -54,13 +53,18 @@ pub record TurnsItems (order : Order) (depth : ℕ) (count : Option ℕ) (done :
     pub whole : bytes ≡ items ++ (tail ++ rest)
     pub wrote : new ≡ old ++ written
 
+-- The key and the value of a pair, as they are written: `01` and `02` of `01 02`.
+pub record Entry : Type 0 where
+  pub key : List ℕ
+  pub value : List ℕ
+
 -- The bytes are a key and a value, and the entry has both rewritten. `18 01 02` has the key `01` and the value `02` in
 -- its entry.
 pub record IsPairOf (order : Order) (depth : ℕ) (bytes : List ℕ) (entry : Entry) : Type 0 where
   pub key : List ℕ
   pub value : List ℕ
-  pub key_is : IsRewritten order depth key entry.key.items
-  pub value_is : IsRewritten order depth value entry.value.items
+  pub key_is : IsRewritten order depth key entry.key
+  pub value_is : IsRewritten order depth value entry.value
   pub whole : bytes ≡ key ++ value
 
 -- The bytes are the keys and the values of these entries, in order and in any spelling. `18 01 02 03 04` has the
@@ -69,15 +73,6 @@ pub data ArePairsOf (order : Order) (depth : ℕ) : List ℕ → List Entry → 
   no_pairs : ArePairsOf order depth [] []
   more_pairs : {bytes others : List ℕ} {entry : Entry} {entries : List Entry} → IsPairOf order depth bytes entry
       → ArePairsOf order depth others entries → ArePairsOf order depth (bytes ++ others) (entry ∷ entries)
-
--- The bytes begin with a pair, and its entry is put after the old ones. For `18 01 02 03` it is the entry of 1: 2, and
--- the rest is `03`.
-pub record TurnsPair (order : Order) (depth : ℕ) (bytes rest : List ℕ) (old new : List Entry) : Type 0 where
-  pub front : List ℕ
-  pub entry : Entry
-  pub is : IsPairOf order depth front entry
-  pub whole : bytes ≡ front ++ rest
-  pub put : new ≡ old ++ entry ∷ []
 
 -- The bytes begin with the pairs of a map of this count and its end. The entries are these pairs. Without a count
 -- `01 02 ff 03` has one entry and the rest `03`.
@@ -92,12 +87,12 @@ pub record TurnsPairs (order : Order) (depth : ℕ) (count : Option ℕ) (bytes 
 -- The keys and the values of the entries, joined: `01 02 03 04` for the entries of 1: 2 and of 3: 4.
 abbrev pub joined_pairs : List Entry → List ℕ
 joined_pairs [] = []
-joined_pairs (entry ∷ entries) = entry.key.items ++ (entry.value.items ++ joined_pairs entries)
+joined_pairs (entry ∷ entries) = entry.key ++ (entry.value ++ joined_pairs entries)
 
 -- The key of the first entry comes before that of the second (RFC 8949, 4.2.1 and 4.2.3). Length-first the key `20`
 -- comes before `18 64`.
 abbrev pub IsBefore : Order → Entry → Entry → Type 0
-IsBefore order entry other = Precedes order entry.key.items other.key.items
+IsBefore order entry other = Precedes order entry.key other.key
 
 -- The keys of the entries ascend (RFC 8949, 4.2.1). The keys `01` and `03` do so, and the keys `01` and `01` do not.
 abbrev pub DoAscend : Order → List Entry → Type 0
@@ -113,7 +108,7 @@ pub record HasEqualKeys (entries : List Entry) : Type 0 where
   pub at : ℕ
   pub within : at + 1 < length entries
   pub same : (other : Entry)
-      → (slice_index_or entries at other).key.items ≡ (slice_index_or entries (at + 1) other).key.items
+      → (slice_index_or entries at other).key ≡ (slice_index_or entries (at + 1) other).key
 
 -- ---- bytes at which a call fails
 
@@ -124,7 +119,7 @@ abbrev pub IsMissed : ℕ → Stop → List ℕ → Type 0
 IsMissed depth stop.Malformed bytes = IsItem false depth bytes
 IsMissed depth (stop.NoSimple left) bytes = IsSpelling bytes
 IsMissed depth (stop.Duplicate left) bytes = IsFittingSpelling bytes
-IsMissed depth stop.Memory bytes = ⊥
+IsMissed depth stop.Room bytes = ⊥
 
 -- The bytes are two such lists of bytes, joined: `01 02` for `Malformed`.
 pub record ArePairMissed (depth : ℕ) (stop : Stop) (bytes : List ℕ) : Type 0 where

@@ -74,7 +74,7 @@ FailsGather kind bytes stop.Malformed = (strings rest : List ℕ) (bodies : List
     → AreStrings kind strings bodies → AreWritable kind bodies → bytes ≡ strings ++ 0xff ∷ rest → ⊥
 FailsGather kind bytes (stop.NoSimple left) = ⊥
 FailsGather kind bytes (stop.Duplicate left) = ⊥
-FailsGather kind bytes stop.Memory = Unit {0}
+FailsGather kind bytes stop.Room = Unit {0}
 
 -- The bytes that follow a title of this length are the body, or strings and a break. After `5f` the bytes `41 01 ff`
 -- have the body `01`.
@@ -98,4 +98,4 @@ FailsString kind len bytes stop.Malformed = (content body rest : List ℕ) → I
     → bytes ≡ content ++ rest → ⊥
 FailsString kind len bytes (stop.NoSimple left) = ⊥
 FailsString kind len bytes (stop.Duplicate left) = ⊥
-FailsString kind len bytes stop.Memory = Unit {0}
+FailsString kind len bytes stop.Room = Unit {0}

@@ -1,19 +1,19 @@
 //! Strings of any form, written after a title that has their length.
 
-ghost use Rattle.std.specs.Prelude.{◌≡◌, ◌↔◌, ◌<◌, ◌++◌, ◌^◌, ℕ, Option, IsTrue, OnOk, MatchOption, MatchResult};
-ghost use Rattle.std.specs.Prelude.{length};
+ghost use Rattle.std.specs.Prelude.{◌≡◌, ◌↔◌, ◌<◌, ◌≤◌, ◌^◌, ℕ, Option, IsTrue, MatchOption, MatchResult, length};
 ghost use Rattle.ciborium_ll_grammar.specs.Strings.{kind_header, IsWritable};
 ghost use Rattle.ciborium_ll_grammar.specs.Elements.{body_spelling};
 ghost use Rattle.ciborium_ll_text.specs.Text.{IsCharacters};
+ghost use Rattle.cbor_canonical.specs.declared.Stop.TheVariants.{Room as NoRoom};
 ghost use Rattle.cbor_canonical.specs.Runs.{Turns};
 ghost use Rattle.cbor_canonical.specs.Strings.{kind_of, IsStep, HasNoStep, Gathers, IsBody, HasNoBody, IsStringTurned};
 ghost use Rattle.cbor_canonical.specs.Strings.{FailsGather, FailsString};
+ghost use Rattle.cbor_canonical.specs.Writing.{Adds, Extends};
 
 use crate::Stop;
-use crate::title::{next_title, put_title};
+use crate::title::{insert_title, next_title, put_bytes, put_title};
 use ciborium_ll_grammar::hdr::Header;
 use ciborium_ll_text::state::{State, text_front};
-use std::alloc::{AllocError, Global};
 
 /// The two kinds of string.
 #[derive(Clone, Copy)]
@@ -113,12 +113,21 @@ fn next_step(kind: StringKind, bytes: &[u8]) -> Option<Step<'_>>
     }
 }
 
-/// Joins the bodies of the strings up to the break that ends their open, and returns the rest.
-fn gather<'a>(kind: StringKind, bytes: &'a [u8], body: &mut Vec<u8>) -> Result<&'a [u8], Stop>
-    ensures { MatchResult result (λ rest. Gathers (kind_of kind) bytes.now rest.now body.old.items body.new.items)
+/// Joins the bodies of the strings up to the break that ends their open. Returns the rest, and the offset of the output
+/// after the bodies.
+fn gather<'a>(
+    kind: StringKind,
+    bytes: &'a [u8],
+    out: &mut [u8],
+    at: usize,
+) -> Result<(&'a [u8], usize), Stop>
+    requires { at ≤ length out.old }
+    ensures { MatchResult result
+        (λ found. Extends (Gathers (kind_of kind) bytes.now found.0.now) at found.1 out.old out.new)
         (FailsGather (kind_of kind) bytes.now) }
 {
     let mut rest = bytes;
+    let mut end = at;
     let mut opens: usize = 0;
     let mut due = bytes.len();
     'steps: while due > 0 {
@@ -126,7 +135,7 @@ fn gather<'a>(kind: StringKind, bytes: &'a [u8], body: &mut Vec<u8>) -> Result<&
         match next_step(kind, rest) {
             Some(Step::Closed(after)) => {
                 if opens == 0 {
-                    return Ok(after);
+                    return Ok((after, end));
                 }
                 opens -= 1;
                 rest = after;
@@ -136,7 +145,7 @@ fn gather<'a>(kind: StringKind, bytes: &'a [u8], body: &mut Vec<u8>) -> Result<&
                 rest = after;
             }
             Some(Step::Chunk(chunk, after)) => {
-                body.extend_from_slice(chunk)?;
+                end = put_bytes(chunk, out, end)?;
                 rest = after;
             }
             None => return Err(Stop::Malformed),
@@ -145,25 +154,29 @@ fn gather<'a>(kind: StringKind, bytes: &'a [u8], body: &mut Vec<u8>) -> Result<&
     Err(Stop::Malformed)
 }
 
-/// Writes the string with this body.
-fn put_string(kind: StringKind, body: &[u8], out: &mut Vec<u8>) -> Result<(), AllocError>
-    ensures written { OnOk result (out.new.items ≡ out.old.items ++ body_spelling (kind_of kind) body.now) }
+/// Writes the string with this body at this offset of the output, and returns the offset after it.
+fn put_string(kind: StringKind, body: &[u8], out: &mut [u8], at: usize) -> Result<usize, Stop>
+    requires { at ≤ length out.old }
+    ensures written { MatchResult result
+        (λ end. Adds (body_spelling (kind_of kind) body.now) at end out.old out.new) (λ stop. stop ≡ NoRoom) }
     ensures range { length body.now < 2 ^ 64 }
 {
-    put_title(kind.header(Some(body.len())), out)?;
-    out.extend_from_slice(body)
+    let end = put_title(kind.header(Some(body.len())), out, at)?;
+    put_bytes(body, out, end)
 }
 
-/// Writes the string with this length in its title, and returns the rest.
+/// Writes the string with this length in its title at this offset of the output. Returns the rest, and the offset after
+/// the string.
 pub(crate) fn rewrite_string<'a>(
-    alloc: Global,
     kind: StringKind,
     len: Option<usize>,
     bytes: &'a [u8],
-    out: &mut Vec<u8>,
-) -> Result<&'a [u8], Stop>
-    ensures { MatchResult result (λ rest.
-        Turns (IsStringTurned (kind_of kind) len) bytes.now rest.now out.old.items out.new.items)
+    out: &mut [u8],
+    at: usize,
+) -> Result<(&'a [u8], usize), Stop>
+    requires { at ≤ length out.old }
+    ensures { MatchResult result (λ found.
+        Extends (Turns (IsStringTurned (kind_of kind) len) bytes.now found.0.now) at found.1 out.old out.new)
         (FailsString (kind_of kind) len bytes.now) }
 {
     match len {
@@ -171,14 +184,14 @@ pub(crate) fn rewrite_string<'a>(
             let Some((body, rest)) = take_body(kind, bytes, len) else {
                 return Err(Stop::Malformed);
             };
-            put_string(kind, body, out)?;
-            Ok(rest)
+            let end = put_string(kind, body, out, at)?;
+            Ok((rest, end))
         }
         None => {
-            let mut body = Vec::new(alloc);
-            let rest = gather(kind, bytes, &mut body)?;
-            put_string(kind, body.as_slice(), out)?;
-            Ok(rest)
+            let (rest, end) = gather(kind, bytes, out, at)?;
+            let header = kind.header(Some(end - at));
+            let after = insert_title(header, out, at, end)?;
+            Ok((rest, after))
         }
     }
 }

@@ -1,14 +1,16 @@
-//! Reads titles of any width, and writes the shortest titles.
+//! Reads titles of any width, and writes the shortest titles into memory that a caller lends.
 
-ghost use Rattle.std.specs.Prelude.{◌≡◌, ◌+◌, ◌%◌, ◌++◌, List, ℕ, MatchOption, OnOk, length, slice_index};
+ghost use Rattle.std.specs.Prelude.{◌≡◌, ◌+◌, ◌≤◌, ◌%◌, ◌++◌, List, ℕ, MatchOption, MatchResult, length, slice_index};
 ghost use Rattle.ciborium_ll_grammar.specs.Title.{BeginsRefused, IsInRange, IsTitle, affix_len, shortest_title};
 ghost use Rattle.cbor_deterministic.specs.Fronts.{InFront};
+ghost use Rattle.cbor_canonical.specs.declared.Stop.TheVariants.{Room as NoRoom};
 ghost use Rattle.cbor_canonical.specs.Reading.{HasNoTitle};
+ghost use Rattle.cbor_canonical.specs.Writing.{Adds, Inserts};
 
+use crate::Stop;
 use ciborium_ll_grammar::hdr::table::row_of;
 use ciborium_ll_grammar::hdr::{Header, Minor, shortest};
 use ciborium_ll_grammar::titles::title_of;
-use std::alloc::AllocError;
 
 /// Returns the header of the title at the beginning, and the rest.
 #[inline(always)]
@@ -44,19 +46,53 @@ fn header_of(bytes: &[u8]) -> Option<Header>
     }
 }
 
-/// Writes the shortest title of a header.
-pub(crate) fn put_title(header: Header, out: &mut Vec<u8>) -> Result<(), AllocError>
-    ensures written { OnOk result (out.new.items ≡ out.old.items ++ shortest_title header) }
+/// Writes the bytes at this offset of the output, and returns the offset after them.
+pub(crate) fn put_bytes(bytes: &[u8], out: &mut [u8], at: usize) -> Result<usize, Stop>
+    requires { at ≤ length out.old }
+    ensures { MatchResult result (λ end. Adds bytes.now at end out.old out.new) (λ stop. stop ≡ NoRoom) }
+{
+    let room = out.len() - at;
+    if room < bytes.len() {
+        return Err(Stop::Room);
+    }
+    let end = at + bytes.len();
+    out[at..end].copy_from_slice(bytes);
+    Ok(end)
+}
+
+/// Writes the shortest title of a header at this offset of the output, and returns the offset after it.
+pub(crate) fn put_title(header: Header, out: &mut [u8], at: usize) -> Result<usize, Stop>
+    requires { at ≤ length out.old }
+    ensures written { MatchResult result (λ end. Adds (shortest_title header) at end out.old out.new)
+        (λ stop. stop ≡ NoRoom) }
     ensures range { IsInRange header }
 {
     let title = shortest(header);
-    out.extend_from_slice(&[title.first_byte()])?;
+    let end = put_bytes(&[title.first_byte()], out, at)?;
     match title.minor {
-        Minor::Small(_) | Minor::Open => {}
-        Minor::One(number) => out.extend_from_slice(&[number as u8])?,
-        Minor::Two(number) => out.extend_from_slice(&(number as u16).to_be_bytes())?,
-        Minor::Four(number) => out.extend_from_slice(&(number as u32).to_be_bytes())?,
-        Minor::Eight(number) => out.extend_from_slice(&number.to_be_bytes())?,
+        Minor::Small(_) | Minor::Open => Ok(end),
+        Minor::One(number) => put_bytes(&[number as u8], out, end),
+        Minor::Two(number) => put_bytes(&(number as u16).to_be_bytes(), out, end),
+        Minor::Four(number) => put_bytes(&(number as u32).to_be_bytes(), out, end),
+        Minor::Eight(number) => put_bytes(&number.to_be_bytes(), out, end),
     }
-    Ok(())
+}
+
+/// Writes the shortest title of a header before the content that stands from `at` to `end`, and returns the offset
+/// after the content.
+pub(crate) fn insert_title(
+    header: Header,
+    out: &mut [u8],
+    at: usize,
+    end: usize,
+) -> Result<usize, Stop>
+    requires start { at ≤ end }
+    requires end { end ≤ length out.old }
+    ensures written { MatchResult result (λ after. Inserts (shortest_title header) at end after out.old out.new)
+        (λ stop. stop ≡ NoRoom) }
+    ensures range { IsInRange header }
+{
+    let after = put_title(header, out, end)?;
+    out[at..after].rotate_right(after - end);
+    Ok(after)
 }

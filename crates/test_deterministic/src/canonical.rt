@@ -3,7 +3,7 @@
 ghost use Rattle.std.specs.Prelude.{◌≤◌};
 
 use crate::shared::{MOST, decoded, holds};
-use cbor_canonical::{CanonicalError, Refusal, Why, canonical};
+use cbor_canonical::{CanonicalError, Refusal, Span, Why, canonical, canonical_into};
 use cbor_deterministic::Order;
 use std::alloc::Global;
 use std::process::Abort;
@@ -133,6 +133,47 @@ static REFUSED: [(&str, Why, usize); 22] = [
     ("82a10000a200010001", Why::DuplicateKey, 7),
 ];
 
+// A place of no pair.
+const NO_SPAN: Span = Span {
+    start: 0,
+    key_end: 0,
+    end: 0,
+};
+
+// An array of indefinite length with this many zeros takes a byte more in the deterministic encoding.
+const ZEROS: usize = 256;
+
+// The call into memory of this length writes this, and nothing is left.
+fn is_lent(bytes: &[u8], order: Order, want: &[u8], out: &mut [u8], spans: &mut [Span]) -> bool {
+    match canonical_into(bytes, DEPTH, order, out, spans) {
+        Ok((len, rest)) => out.get(..len) == Some(want) && rest.is_empty(),
+        Err(_error) => false,
+    }
+}
+
+// The encoding fits memory of its own length and as many places as there are bytes, and no shorter memory.
+fn lent_row(rt: &impl Abort, digits: &str, order: Order, want: &str) {
+    let mut space = [0; MOST];
+    let mut wanted = [0; MOST];
+    let bytes = decoded(rt, digits, &mut space);
+    let want = decoded(rt, want, &mut wanted);
+    let mut out = [0; MOST];
+    let mut spans = [NO_SPAN; MOST];
+    let places = &mut spans[..bytes.len().min(MOST)];
+    let len = want.len().min(MOST);
+    holds(
+        rt,
+        is_lent(bytes, order, want, &mut out[..len], places),
+        digits,
+    );
+    let short = &mut out[..len.saturating_sub(1)];
+    let is_short = match canonical_into(bytes, DEPTH, order, short, places) {
+        Ok(_written) => false,
+        Err(error) => error == CanonicalError::Memory,
+    };
+    holds(rt, is_short, digits);
+}
+
 // What the call writes is this, and nothing is left.
 fn is_written(alloc: Global, bytes: &[u8], order: Order, want: &[u8]) -> bool {
     match canonical(alloc, bytes, DEPTH, order) {
@@ -149,6 +190,91 @@ fn written_row(rt: &impl Abort, alloc: Global, digits: &str, order: Order, want:
     let want = decoded(rt, want, &mut wanted);
     holds(rt, is_written(alloc, bytes, order, want), digits);
     holds(rt, is_written(alloc, want, order, want), digits);
+}
+
+#[test]
+fn lent_memory(rt: HostRuntime) {
+    for &(digits, want) in &APPENDIX {
+        lent_row(&rt, digits, Order::Bytewise, want);
+    }
+    for &(digits, want) in &SPELLINGS {
+        lent_row(&rt, digits, Order::Bytewise, want);
+    }
+    for &(digits, bytewise, length_first) in &MAPS {
+        lent_row(&rt, digits, Order::Bytewise, bytewise);
+        lent_row(&rt, digits, Order::LengthFirst, length_first);
+    }
+}
+
+// Adds a key and an array of zeros.
+fn add_zeros(rt: &impl Abort, out: &mut Vec<u8>, key: u8, open: &[u8], close: &[u8]) {
+    let is_added = out.extend_from_slice(&[key]).is_ok()
+        && out.extend_from_slice(open).is_ok()
+        && out.extend_from_slice(&[0; ZEROS]).is_ok()
+        && out.extend_from_slice(close).is_ok();
+    holds(rt, is_added, "memory");
+}
+
+// {2: [0, ..], 1: [0, ..]} with open arrays is two bytes longer in the encoding, and 16 bytes of room are spare.
+#[test]
+fn growing_items(rt: HostRuntime) {
+    let mut bytes = Vec::new(rt.alloc());
+    holds(&rt, bytes.extend_from_slice(&[0xa2]).is_ok(), "memory");
+    add_zeros(&rt, &mut bytes, 0x02, &[0x9f], &[0xff]);
+    add_zeros(&rt, &mut bytes, 0x01, &[0x9f], &[0xff]);
+    let mut want = Vec::new(rt.alloc());
+    holds(&rt, want.extend_from_slice(&[0xa2]).is_ok(), "memory");
+    add_zeros(&rt, &mut want, 0x01, &[0x99, 0x01, 0x00], &[]);
+    add_zeros(&rt, &mut want, 0x02, &[0x99, 0x01, 0x00], &[]);
+    let mut out = [0; 2 * ZEROS + 7 + 2 + 16];
+    let mut spans = [NO_SPAN; 2 * ZEROS + 7];
+    let (bytes, want) = (bytes.as_slice(), want.as_slice());
+    holds(
+        &rt,
+        is_lent(bytes, Order::Bytewise, want, &mut out, &mut spans),
+        "two arrays",
+    );
+}
+
+// Whether the places are too few.
+fn is_short(bytes: &[u8], spans: &mut [Span]) -> bool {
+    let mut out = [0; MOST];
+    match canonical_into(bytes, DEPTH, Order::Bytewise, &mut out, spans) {
+        Ok(_written) => false,
+        Err(error) => error == CanonicalError::Memory,
+    }
+}
+
+// A map takes a place for each pair, and a place for two bytes of its pairs if these are moved.
+#[test]
+fn places_of_pairs(rt: HostRuntime) {
+    let mut out = [0; MOST];
+    let mut none = [NO_SPAN; 0];
+    let mut one = [NO_SPAN; 1];
+    let mut two = [NO_SPAN; 2];
+    let order = Order::Bytewise;
+    let array = [0x82, 0x01, 0x40];
+    holds(
+        &rt,
+        is_lent(&array, order, &array, &mut out, &mut none),
+        "no map",
+    );
+    let sorted = [0xa2, 0x01, 0x00, 0x02, 0x00];
+    holds(
+        &rt,
+        is_lent(&sorted, order, &sorted, &mut out, &mut two),
+        "two pairs",
+    );
+    holds(&rt, is_short(&sorted, &mut one), "one place");
+    let other = [0xa2, 0x02, 0x00, 0x01, 0x00];
+    holds(
+        &rt,
+        is_lent(&other, order, &sorted, &mut out, &mut two),
+        "four bytes",
+    );
+    // {"bb": 0, "a": 0} has 7 bytes of pairs.
+    let text = [0xa2, 0x62, 0x62, 0x62, 0x00, 0x61, 0x61, 0x00];
+    holds(&rt, is_short(&text, &mut two), "seven bytes");
 }
 
 // Whether the bytes are refused for this reason at this offset.

@@ -1,0 +1,250 @@
+//! The pairs of a map, put in the order of their keys within the output.
+
+ghost use Rattle.std.specs.Prelude.{◌≡◌, ◌∷◌, ◌+◌, ◌-◌, ◌<◌, ◌≤◌, ◌++◌, [], List, ℕ, length, take, drop};
+ghost use Rattle.std.specs.Prelude.{IfOk, MatchOption, MatchResult, map, slice_index};
+ghost use Rattle.std.specs.List.Sorted.{IsPermutation};
+ghost use Rattle.cbor_canonical.specs.declared.Stop.TheVariants.{Room as NoRoom};
+ghost use Rattle.cbor_canonical.specs.Runs.{AreSorted, DoAscend};
+ghost use Rattle.cbor_canonical.specs.Places.{entries_at, key_at, bounds, IsSaved, HasDisorder, OrdersPairs};
+ghost use Rattle.cbor_canonical.specs.Places.{MovesPairs, PutsSpan};
+ghost use Rattle.cbor_canonical.specs.Writing.{Adds};
+
+use crate::Stop;
+use cbor_deterministic::{MAX_DEPTH, Order, compare_keys};
+use cbor_skip::skip_item;
+use ciborium_ll_decoder::dec::Decoder;
+use ciborium_ll_io::io::SliceReader;
+use std::cmp::Ordering;
+
+/// The most bytes of a string that a walk over pairs reads at a time.
+const BUFFER_SIZE: usize = 256;
+
+/// The place of a pair in the output, in bytes.
+#[derive(Clone, Copy, Debug, PartialEq, Eq, Drop)]
+pub struct Span {
+    /// The offset of the key.
+    pub start: usize,
+    /// The offset after the key, at which the value begins.
+    pub key_end: usize,
+    /// The offset after the value.
+    pub end: usize,
+}
+
+/// Writes down the place of a pair after those of `done` pairs.
+pub(crate) fn put_span(spans: &mut [Span], done: usize, span: Span) -> Result<(), Stop>
+    ensures { MatchResult result (λ put. PutsSpan done span spans.old spans.new) (λ stop. stop ≡ NoRoom) }
+{
+    if done >= spans.len() {
+        return Err(Stop::Room);
+    }
+    spans[done] = span;
+    Ok(())
+}
+
+/// Returns the bytes of the output from an offset to another. Both are taken as the end if they are beyond it.
+fn part(out: &[u8], start: usize, end: usize) -> &[u8]
+    ensures { result.now ≡ take (end - start) (drop start out.now) }
+{
+    let rest = &out[start.min(out.len())..];
+    let len = end.saturating_sub(start);
+    &rest[..len.min(rest.len())]
+}
+
+/// Returns the key at this place of the output.
+fn key_of(out: &[u8], span: Span) -> &[u8]
+    ensures { result.now ≡ key_at out.now span }
+{
+    part(out, span.start, span.key_end)
+}
+
+/// Returns the index of the first pair whose key does not come after that of the pair before it.
+fn disorder(spans: &[Span], out: &[u8], order: Order) -> Option<usize>
+    ensures { MatchOption result (DoAscend order (entries_at out.now spans.now))
+        (λ at. HasDisorder order at (entries_at out.now spans.now)) }
+{
+    let mut at = 1;
+    'spans: while at < spans.len() {
+        match compare_keys(order, key_of(out, spans[at - 1]), key_of(out, spans[at])) {
+            Ordering::Less => {}
+            Ordering::Equal | Ordering::Greater => return Some(at),
+        }
+        at += 1;
+    }
+    None
+}
+
+/// Puts the places of pairs in the order of the keys.
+fn sort_spans(spans: &mut [Span], out: &[u8], order: Order)
+    ensures permutation { IsPermutation spans.old spans.new }
+    ensures sorted { AreSorted order (entries_at out.now spans.new) }
+{
+    spans.sort_unstable_by(|one, other| compare_keys(
+        order,
+        key_of(out, *one),
+        key_of(out, *other),
+    ));
+}
+
+/// Returns the byte of this index, or 0 without one.
+fn byte_or_zero(bytes: &[u8], at: usize) -> u8
+    ensures { result ≡ slice_index bytes.now at }
+{
+    match bytes.get(at) {
+        Some(byte) => *byte,
+        None => 0,
+    }
+}
+
+/// Saves the bytes in the ends of keys, two in each.
+fn save_bytes(bytes: &[u8], spans: &mut [Span]) -> Result<(), Stop>
+    ensures { MatchResult result
+        (λ done. IsSaved bytes.now spans.new × (map bounds spans.new ≡ map bounds spans.old))
+        (λ stop. stop ≡ NoRoom) }
+{
+    let cells = bytes.len() / 2 + bytes.len() % 2;
+    if spans.len() < cells {
+        return Err(Stop::Room);
+    }
+    let mut at = 0;
+    'cells: while at < cells {
+        let low = byte_or_zero(bytes, 2 * at) as usize;
+        let high = byte_or_zero(bytes, 2 * at + 1) as usize;
+        spans[at].key_end = low + 0x100 * high;
+        at += 1;
+    }
+    Ok(())
+}
+
+/// Returns the saved byte of this index.
+fn saved_byte(spans: &[Span], at: usize) -> u8
+    ensures { (bytes : List ℕ) → IsSaved bytes spans.now → at < length bytes → result ≡ slice_index bytes at }
+{
+    match spans.get(at / 2) {
+        Some(span) if at % 2 == 0 => (span.key_end % 0x100) as u8,
+        Some(span) => (span.key_end / 0x100 % 0x100) as u8,
+        None => 0,
+    }
+}
+
+/// Writes the saved bytes from an index to another at this offset of the output, and returns the offset after them.
+fn put_saved(
+    spans: &[Span],
+    from: usize,
+    to: usize,
+    out: &mut [u8],
+    at: usize,
+) -> Result<usize, Stop>
+    requires { at ≤ length out.old }
+    ensures put { MatchResult result
+        (λ end. (bytes : List ℕ) → IsSaved bytes spans.now → to ≤ length bytes
+        → Adds (take (to - from) (drop from bytes)) at end out.old out.new)
+        (λ stop. stop ≡ NoRoom) }
+    ensures within { IfOk result (λ end. (at ≤ end) × (end ≤ length out.new)) }
+{
+    let mut next = from;
+    let mut end = at;
+    'bytes: while next < to {
+        if end >= out.len() {
+            return Err(Stop::Room);
+        }
+        out[end] = saved_byte(spans, next);
+        next += 1;
+        end += 1;
+    }
+    Ok(end)
+}
+
+/// Writes the pairs that stand from `at` to `end` of the output anew from `at` on, in the order of their places. Returns
+/// the offset after them. The ends of keys are lost.
+fn move_pairs(
+    out: &mut [u8],
+    at: usize,
+    end: usize,
+    spans: &mut [Span],
+    done: usize,
+) -> Result<usize, Stop>
+    requires start { at ≤ end }
+    requires end { end ≤ length out.old }
+    requires held { done ≤ length spans.old }
+    ensures { MatchResult result (λ after. MovesPairs at end after (take done spans.old) out.old out.new)
+        (λ stop. stop ≡ NoRoom) }
+{
+    save_bytes(&out[at..end], spans)?;
+    let mut place = at;
+    let mut next = 0;
+    'pairs: while next < done {
+        let span = spans[next];
+        let from = span.start.saturating_sub(at);
+        let to = span.end.saturating_sub(at);
+        place = put_saved(spans, from, to, out, place)?;
+        next += 1;
+    }
+    Ok(place)
+}
+
+/// Returns how many bytes are left from the key of a pair on, if so many pairs come before it.
+fn left_after(bytes: &[u8], depth: usize, pairs: usize) -> usize {
+    let mut buffer = [0; BUFFER_SIZE];
+    let mut decoder = Decoder::from(SliceReader::new(bytes));
+    let depth = depth.min(MAX_DEPTH);
+    let mut due = pairs;
+    'pairs: while due > 0 {
+        let key = skip_item(&mut decoder, depth, &mut buffer);
+        let value = skip_item(&mut decoder, depth, &mut buffer);
+        if key.is_err() || value.is_err() {
+            break;
+        }
+        due -= 1;
+    }
+    bytes.len().saturating_sub(decoder.offset())
+}
+
+/// Returns the offset of the key of the pair with this index, or 0 without such a pair.
+fn start_of(spans: &[Span], index: usize) -> usize {
+    match spans.get(index) {
+        Some(span) => span.start,
+        None => 0,
+    }
+}
+
+/// Returns how many bytes are left from the later of two keys on, which are neighbours in the order of keys.
+fn later_left(bytes: &[u8], depth: usize, spans: &[Span], index: usize) -> usize {
+    let later = start_of(spans, index.saturating_sub(1)).max(start_of(spans, index));
+    let mut pairs = 0;
+    for span in spans {
+        if span.start < later {
+            pairs += 1;
+        }
+    }
+    left_after(bytes, depth, pairs)
+}
+
+/// Puts the pairs that stand from `at` to `end` of the output in the order of their keys. Their places are the first
+/// `done` ones, and `bytes` is the content of the map. Returns the offset after the pairs.
+pub(crate) fn order_pairs(
+    bytes: &[u8],
+    depth: usize,
+    order: Order,
+    out: &mut [u8],
+    at: usize,
+    end: usize,
+    spans: &mut [Span],
+    done: usize,
+) -> Result<usize, Stop>
+    requires start { at ≤ end }
+    requires end { end ≤ length out.old }
+    requires held { done ≤ length spans.old }
+    ensures { OrdersPairs order at end (take done spans.old) out.old result out.new }
+{
+    let Some(_) = disorder(&spans[..done], out, order) else {
+        return Ok(end);
+    };
+    sort_spans(&mut spans[..done], out, order);
+    match disorder(&spans[..done], out, order) {
+        Some(index) => {
+            let left = later_left(bytes, depth, &spans[..done], index);
+            Err(Stop::Duplicate(left))
+        }
+        None => move_pairs(out, at, end, spans, done),
+    }
+}
