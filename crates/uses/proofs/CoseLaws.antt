@@ -1,7 +1,7 @@
 -- Laws of the bytes that each call takes.
 use Rattle.std.proofs.Common.{◌≡◌, ℕ, ◌+◌, List, [], ◌∷◌, ◌++◌, length, Option, Some, None}
 use Rattle.std.proofs.Common.{Bool, ◌-◌}
-use Rattle.std.proofs.Common.{refl, sym, ap, subst, ◌∙◌, arith, length-append, true, inl, inr}
+use Rattle.std.proofs.Common.{refl, sym, subst, ◌∙◌, arith, length-append, true}
 use Rattle.std.specs.Io.KnownBytes.{Consumes}
 use Rattle.std.proofs.KnownBytes.{Consumes-trans}
 use Rattle.ciborium_ll.specs.Types.Read.{Ghosts}
@@ -11,7 +11,7 @@ use Rattle.ciborium_ll.specs.Types.Decoder.{Decoder}
 use Rattle.ciborium_ll.specs.Title.{shortest_title}
 use Rattle.ciborium_ll.specs.Items.{Completes, IsItem}
 use Rattle.ciborium_ll.specs.Decoding.{view, IsSteady, ReadsPast, PullsTitle, Begins}
-use Rattle.ciborium_ll.proofs.DecodingLaws.{ReadsPast-none}
+use Rattle.ciborium_ll.proofs.DecodingLaws.{ReadsPast-none, passes_settled}
 use Rattle.cbor_skip.specs.Skipping.{ReadsWithin, strictness}
 use Rattle.cbor_skip.proofs.ItemSteps.{item_of}
 use Rattle.cbor_skip.proofs.StrictnessLaws.{strict_settled}
@@ -61,14 +61,6 @@ module _ {R E : Type 0} (source : Ghosts R E) where
     mode = second.mode ∙ first.mode;
   }
 
-  -- If no header waited, none waits after the bytes that were read.
-  settled : (titled new : Decoder R) (rest : List ℕ) → titled.waiting ≡ None → ReadsPast source titled rest new
-      → new.waiting ≡ None
-  settled titled new rest none passed = elim passed.waiting [
-    | inl same ↦ ap (λ (d : Decoder R). d.waiting) same.1 ∙ none
-    | inr waits ↦ waits
-  ]
-
   -- The title of a map and then its items are a map.
   pub took_map : (old titled new : Decoder R) (len : Option ℕ) (span : Span) → old.strict ≡ true
       → old.waiting ≡ None → PullsTitle source old (h.Map len) titled → ReadsWithin source (h.Map len) (MAP_DEPTH - 1)
@@ -77,7 +69,7 @@ module _ {R E : Type 0} (source : Ghosts R E) where
       let header = h.Map len in
       let title = took_pull old titled header strict none pulls in
       let rest = took_passed titled new within.rest within.passed
-      (settled titled new within.rest pulls.none_waits within.passed) in
+      (passes_settled source titled new within.rest within.passed pulls.none_waits) in
       let whole = took_then old titled new (shortest_title header) within.rest title rest in
       let mode : strictness titled ≡ true =
       strict_settled titled.waiting titled.strict pulls.none_waits ∙ (pulls.mode ∙ strict) in

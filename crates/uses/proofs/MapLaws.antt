@@ -1,44 +1,22 @@
 -- Laws of a map that is written pair by pair.
 use Rattle.std.proofs.Common.{◌≡◌, ℕ, List, [], ◌∷◌, length, Option, Some, None, Result, Ok, IsErr, refl, sym, subst}
-use Rattle.std.proofs.Common.{◌≤◌, arith, append-nil}
+use Rattle.std.proofs.Common.{arith}
 use Rattle.std.proofs.KnownBytes.{Appends-nil}
 use Rattle.ciborium_ll.specs.Types.Write.{Ghosts}
 use Rattle.ciborium_ll.specs.Types.Header.TheVariants as h
 use Rattle.ciborium_ll.specs.Title.{shortest_title}
 use Rattle.ciborium_ll.specs.Transfer.{Shrinks}
-use Rattle.ciborium_ll.specs.Strings.{Kind, Bytes, Text}
-use Rattle.ciborium_ll.specs.Elements.{Mark, body_spelling, spelling}
-use Rattle.ciborium_ll.specs.Values.{value_limit, IsWritten, in_one, in_pieces}
-use Rattle.ciborium_ll.specs.Encoding.{WritesAll, WritesBytes, WritesFront, WritesValue}
+use Rattle.ciborium_ll.specs.Encoding.{WritesAll, WritesBytes, WritesFront}
 use Rattle.ciborium_ll.proofs.EncodingLaws.{WritesBytes-stopped, WritesBytes-then}
+pub use Rattle.ciborium_ll.proofs.EncodingLaws.{bytes_bytes, text_bytes}
 use Rattle.uses.specs.declared.maps.Entry.{Entry}
 use Rattle.uses.specs.Maps.{entry_bytes, entries_bytes, map_bytes}
-
--- Without a limit, a value is one string.
-one_spelling : (kind : Kind) (limit : ℕ) (value : List ℕ) (marks : List Mark) → length value ≤ limit
-    → IsWritten kind limit value marks → spelling marks ≡ body_spelling kind value
-one_spelling kind limit value marks covers (in_one within) = append-nil (body_spelling kind value)
-one_spelling kind limit value marks covers (in_pieces members longer are) = absurd (omega (arith, longer, covers))
 
 Shrinks-nothing : (room : Option ℕ) → Shrinks room room 0
 Shrinks-nothing None = tt
 Shrinks-nothing (Some n) = omega arith
 
 module _ {W F : Type 0} (sink : Ghosts W F) where
-  -- A write of a text without a limit writes one string.
-  pub text_bytes : {T : Type 0} (text : List ℕ) (old : W) (result : Result T F) (new : W)
-      → WritesValue sink Text None text old result new → WritesBytes sink old result (body_spelling Text text) new
-  text_bytes text old result new wrote =
-      subst (λ (bytes : List ℕ). WritesBytes sink old result bytes new)
-      (one_spelling Text (value_limit Text None text) text wrote.marks (omega arith) wrote.written) wrote.bytes
-
-  -- A write of bytes without a limit writes one string.
-  pub bytes_bytes : {T : Type 0} (bytes : List ℕ) (old : W) (result : Result T F) (new : W)
-      → WritesValue sink Bytes None bytes old result new → WritesBytes sink old result (body_spelling Bytes bytes) new
-  bytes_bytes bytes old result new wrote =
-      subst (λ (all : List ℕ). WritesBytes sink old result all new)
-      (one_spelling Bytes (value_limit Bytes None bytes) bytes wrote.marks (omega arith) wrote.written) wrote.bytes
-
   -- The title and the first pairs were written. A write of the other pairs then makes a write of the map.
   pub record Midway (entries rest : List Entry) (old now : W) : Type 0 where
     pub goes_on : (result : Result (Unit {0}) F) (new : W) → WritesBytes sink now result (entries_bytes rest) new

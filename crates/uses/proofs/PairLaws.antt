@@ -1,13 +1,14 @@
 -- The read of the items of a map after its title, each by its own skip.
 use Rattle.std.proofs.Common.{◌≡◌, ℕ, suc, Bool, true, false, List, [], ◌∷◌, ◌++◌, length, Option, Some, None}
-use Rattle.std.proofs.Common.{Result, Ok, Err, ◌<◌, length-append, refl, sym, ap, subst, ◌∙◌, inl, inr, ◌⊎◌, arith, append-nil}
+use Rattle.std.proofs.Common.{Result, Ok, Err, refl, sym, ap, subst, ◌∙◌, inl, inr, ◌⊎◌, arith, append-nil}
 use Rattle.ciborium_ll.specs.Types.Read.{Ghosts}
 use Rattle.ciborium_ll.specs.Types.Header.TheVariants as h
 use Rattle.ciborium_ll.specs.Types.Decoder.{Decoder}
-use Rattle.ciborium_ll.specs.Items.{AreItems, Completes, IsItem, more_items, open_pairs}
+use Rattle.ciborium_ll.specs.Items.{AreItems, Completes, open_pairs}
 use Rattle.ciborium_ll.specs.Decoding.{IsSteady, ReadsPast}
 use Rattle.ciborium_ll.proofs.DecodingLaws.{ReadsPast-pulled, ReadsPast-then}
-use Rattle.ciborium_ll.proofs.NestLaws.{alone_bytes, title_some}
+use Rattle.ciborium_ll.proofs.Lists.{length_zero}
+use Rattle.ciborium_ll.proofs.NestLaws.{alone_bytes}
 use Rattle.cbor_skip.specs.declared.SkipError.{SkipError}
 use Rattle.cbor_skip.specs.declared.SkipError.TheVariants as s
 use Rattle.cbor_skip.specs.declared.remaining.Remaining.{Remaining}
@@ -36,16 +37,6 @@ due_open : (strict : Bool) (depth : ℕ) (bytes : List ℕ) (levels : ℕ) (clos
 due_open strict depth bytes levels closable here = inr (refl, refl)
 due_open strict depth bytes levels closable (within is_title taken more items due) =
     inl (within is_title taken more items due)
-
--- An item has at least one byte.
-pub item_some : (strict : Bool) (depth : ℕ) (item : List ℕ) → IsItem strict depth item → 0 < length item
-item_some strict depth item (more_items {title = title} {rest = rest} {others = others} {header = header} is_title
-    taken rests more) =
-    omega (arith, length-append title (rest ++ others), title_some title header is_title)
-
-none_long : (bytes : List ℕ) → length bytes ≡ 0 → bytes ≡ []
-none_long [] none = refl
-none_long (byte ∷ bytes) none = absurd (omega (arith, none))
 
 module _ {R E : Type 0} (source : Ghosts R E) where
   -- An error other than a break at the item's place stops the item at its start, also if a break may stand there.
@@ -99,7 +90,7 @@ module _ {R E : Type 0} (source : Ghosts R E) where
   break_closes len depth room old now new remaining at so_far may steady place stops =
       let met = stops.stops in
       let before = ReadsPast-then source old now stops.between so_far.items stops.bytes so_far.passed stops.passed in
-      let none : stops.bytes ≡ [] = none_long stops.bytes (omega (arith, place, met.place, stops.passed.offset)) in
+      let none : stops.bytes ≡ [] = length_zero stops.bytes (omega (arith, place, met.place, stops.passed.offset)) in
       let reached = subst (λ (w : List ℕ). ReadsPast source old w stops.between)
       (ap (λ (w : List ℕ). so_far.items ++ w) none ∙ append-nil so_far.items) before in
       let still : IsSteady source old → IsSteady source new = λ first. steady (so_far.passed.steady first) in

@@ -10,10 +10,10 @@ use Rattle.ciborium_ll.specs.Strings.{Text}
 use Rattle.ciborium_ll.specs.Elements.{body_spelling}
 use Rattle.ciborium_ll.specs.Decoding.{PullsTitle}
 use Rattle.ciborium_ll.specs.Encoding.{WritesBytes, WritesValue}
-use Rattle.ciborium_ll.proofs.EncodingLaws.{WritesBytes-stopped, WritesBytes-then}
+use Rattle.ciborium_ll.proofs.EncodingLaws.{WritesBytes-stopped, WritesBytes-then, text_bytes}
+pub use Rattle.ciborium_ll.proofs.EncodingLaws.{writes}
 use Rattle.uses.specs.Sums.{SumsOrStops, SumsBehind}
 use Rattle.uses.specs.declared.sums.SumError.{SumError}
-use Rattle.uses.proofs.MapLaws.{text_bytes}
 use Rattle.uses.proofs.SumLaws.{opens_array}
 
 module _ {R E : Type 0} (source : Reader R E) where

@@ -3,7 +3,7 @@
 ghost use Rattle.std.specs.Prelude.{◌≡◌, ◌≤◌, if◌then◌else◌};
 ghost use Rattle.ciborium_ll.specs.Encoding.{WritesBytes, writer_of};
 ghost use Rattle.uses.specs.Claims.{claim_count, claims_bytes, id_claim, name_claim, names_bytes, time_claim};
-ghost use Rattle.uses.specs.Claims.{times_bytes};
+ghost use Rattle.uses.specs.Claims.{times_bytes, title_bytes};
 
 use ciborium_ll::io::Write;
 use ciborium_ll::{Encoder, Header};
@@ -55,15 +55,26 @@ pub struct Claims<'a> {
 /// # Errors
 ///
 /// - `W::Error`: the writer failed, with a beginning of the map written.
+#[tactic(auto, using(crate::proofs::Steps::writes), unfolding(crate::specs::Claims::claims_bytes))]
 pub fn write_claims<W: Write>(encoder: &mut Encoder<W>, claims: &Claims<'_>) -> Result<(), W::Error>
     ensures bytes { WritesBytes W.Write (writer_of encoder.old) result (claims_bytes claims.now)
         (writer_of encoder.new) }
     ensures target { W.target (writer_of encoder.new) ≡ W.target (writer_of encoder.old) }
 {
-    encoder.push(Header::Map(Some(count(claims))))?;
+    write_title(encoder, claims)?;
     write_names(encoder, claims)?;
     write_times(encoder, claims)?;
     write_id(encoder, claims.id)
+}
+
+/// Writes the title of the map.
+#[tactic(auto, unfolding(crate::specs::Claims::title_bytes))]
+fn write_title<W: Write>(encoder: &mut Encoder<W>, claims: &Claims<'_>) -> Result<(), W::Error>
+    ensures bytes { WritesBytes W.Write (writer_of encoder.old) result (title_bytes claims.now)
+        (writer_of encoder.new) }
+    ensures target { W.target (writer_of encoder.new) ≡ W.target (writer_of encoder.old) }
+{
+    encoder.push(Header::Map(Some(count(claims))))
 }
 
 /// Returns the number of claims.
@@ -88,6 +99,7 @@ fn one(is_there: bool) -> usize
 }
 
 /// Writes the claims that are texts.
+#[tactic(auto, using(crate::proofs::Steps::writes), unfolding(crate::specs::Claims::names_bytes))]
 fn write_names<W: Write>(encoder: &mut Encoder<W>, claims: &Claims<'_>) -> Result<(), W::Error>
     ensures bytes { WritesBytes W.Write (writer_of encoder.old) result (names_bytes claims.now)
         (writer_of encoder.new) }
@@ -99,6 +111,7 @@ fn write_names<W: Write>(encoder: &mut Encoder<W>, claims: &Claims<'_>) -> Resul
 }
 
 /// Writes the claims that are times.
+#[tactic(auto, using(crate::proofs::Steps::writes), unfolding(crate::specs::Claims::times_bytes))]
 fn write_times<W: Write>(encoder: &mut Encoder<W>, claims: &Claims<'_>) -> Result<(), W::Error>
     ensures bytes { WritesBytes W.Write (writer_of encoder.old) result (times_bytes claims.now)
         (writer_of encoder.new) }

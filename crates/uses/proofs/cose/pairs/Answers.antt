@@ -4,7 +4,8 @@ use Rattle.cbor_skip.specs.Remaining.{is_done}
 use Rattle.cbor_skip.specs.Skipping.{ReadsItem, strictness}
 use Rattle.cbor_skip.proofs.ItemSteps.{ended, none_read, one_more}
 use Rattle.uses.specs.declared.cose.TheConstants.{MAP_DEPTH}
-use Rattle.uses.proofs.PairLaws.{item_some, pairs_end}
+use Rattle.ciborium_ll.proofs.ItemJoins.{item_some}
+use Rattle.uses.proofs.PairLaws.{pairs_end}
 use Rattle.uses.proofs.cose.pairs.Goals as goal
 
 pub items-init : goal.items-init

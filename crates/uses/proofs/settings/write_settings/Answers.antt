@@ -1,6 +1,5 @@
-use Rattle.ciborium_ll.proofs.EncodingLaws.{WritesBytes-stopped, WritesBytes-then}
+use Rattle.ciborium_ll.proofs.EncodingLaws.{WritesBytes-stopped, WritesBytes-then, text_bytes}
 use Rattle.uses.specs.Settings.{settings_bytes}
-use Rattle.uses.proofs.MapLaws.{text_bytes}
 use Rattle.uses.proofs.settings.write_settings.Goals as goal
 
 pub returns-in_err-push-clause-bytes : goal.returns-in_err-push-clause-bytes
