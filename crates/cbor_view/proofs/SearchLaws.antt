@@ -12,7 +12,7 @@ use Rattle.ciborium_ll_grammar.proofs.ItemLaws.{one_item}
 use Rattle.ciborium_ll_grammar.proofs.TitleLaws.{one_title}
 use Rattle.ciborium_ll_text.proofs.Lists.{same_front}
 use Rattle.cbor_view.specs.declared.item.Item.{Item}
-use Rattle.cbor_view.specs.Views.{Opens, closed}
+use Rattle.cbor_view.specs.Views.{IsTextOf, Opens, closed}
 use Rattle.cbor_view.specs.Segments.{AreSegments, IsFirstSegment, IsSegmented, SpellsText}
 use Rattle.cbor_view.specs.Pairs.{IsPairOf, first_pair, later_pair, IsFirstPair, here, later, HasFirst, HasNone}
 use Rattle.cbor_view.proofs.NestLaws.{items_some, false_true, one_map}
@@ -105,6 +105,19 @@ same_negative w n m r p i = (
     same z = cc
 
 -- ---- texts
+
+-- An item is at most one text.
+pub one_text : (w text body : List ℕ) → IsTextOf w text → IsTextOf w body → text ≡ body
+one_text w text body a b =
+    (one_title a.title b.title text body (h.Text (Some (length text))) (h.Text (Some (length body))) a.is_title
+    b.is_title (sym a.whole ∙ b.whole)).2
+
+-- A test of two texts tells whether an item is the text that is sought.
+pub same_text : (w text body : List ℕ) (r : Bool) → IsTextOf w text
+    → (IsTrue r → text ≡ body) × (text ≡ body → IsTrue r)
+    → (IsTrue r → IsTextOf w body) × (IsTextOf w body → IsTrue r)
+same_text w text body r p i =
+    (λ t. subst (λ (u : List ℕ). IsTextOf w u) (i.0 t) p, λ q. i.1 (one_text w text body p q))
 
 pub truth : (r : Bool) → ¬ (¬ (r ≡ true)) → r ≡ true
 truth true f = refl

@@ -1,5 +1,5 @@
 -- Laws of the value of a text key in a map, and of its offset.
-use Rattle.std.proofs.Common.{◌≡◌, ℕ, ◌+◌, ◌-◌, ◌≤◌, Bool, false, IsTrue, List, [], ◌++◌, length, Option, Some, Err}
+use Rattle.std.proofs.Common.{◌≡◌, ℕ, ◌+◌, ◌-◌, ◌≤◌, false, List, [], ◌++◌, length, Option, Err}
 use Rattle.std.proofs.Common.{IsOk, sym, ◌∙◌, ap, subst, arith, length-append}
 use Rattle.std.specs.Prelude.{◌↔◌}
 use Rattle.ciborium_ll.specs.Types.Header.{Header}
@@ -7,7 +7,6 @@ use Rattle.ciborium_ll.specs.Types.Header.TheVariants as h
 use Rattle.ciborium_ll.specs.Items.{IsItem}
 use Rattle.ciborium_ll.proofs.ItemJoins.{item_some, two_items}
 use Rattle.ciborium_ll.proofs.ItemLaws.{one_item}
-use Rattle.ciborium_ll.proofs.TitleLaws.{one_title}
 use Rattle.cbor_view.specs.Views.{IsOpenedBy, IsTextOf, Opens, closed}
 use Rattle.cbor_view.proofs.NestLaws.{closed_longer, one_map}
 use Rattle.cbor_view.proofs.OpenLaws.{one_opening}
@@ -17,19 +16,6 @@ use Rattle.uses.specs.declared.webauthn.AttestationError.{AttestationError}
 use Rattle.uses.specs.declared.webauthn.TheConstants.{ATTESTATION_DEPTH}
 use Rattle.uses.specs.Webauthn.{BeginsAttestation, BeginsWith, HasPart, HasValueAt, IsAttestation, IsFirstAt, here}
 use Rattle.uses.specs.Webauthn.{later}
-
--- An item is one text at most.
-one_text : (w text body : List ℕ) → IsTextOf w body → IsTextOf w text → body ≡ text
-one_text w text body a b =
-    (one_title a.title b.title body text (h.Text (Some (length body))) (h.Text (Some (length text))) a.is_title
-    b.is_title (sym a.whole ∙ b.whole)).2
-
--- A test of two texts tells if an item is the text that is sought.
-pub text_tested : (w text body : List ℕ) (r : Bool) → IsTextOf w body
-    → (IsTrue r → body ≡ text) × (body ≡ text → IsTrue r)
-    → (IsTrue r → IsTextOf w text) × (IsTextOf w text → IsTrue r)
-text_tested w text body r is tested =
-    (λ yes. subst (λ (u : List ℕ). IsTextOf w u) (tested.0 yes) is, λ other. tested.1 (one_text w text body is other))
 
 -- ---- pairs one by one
 
@@ -148,8 +134,7 @@ module _ (d : ℕ) (key bytes : List ℕ) where
       → ((span : Span) → StandsAt v p span → ⊥) → (span : Span) → HasPart StandsAt d key bytes span → ⊥
   no_part StandsAt p v has none span part =
       let one = one_value part.place p part.value v part.has_value has in
-      none span (subst (λ (n : ℕ). StandsAt v n span) one.0
-      (subst (λ (u : List ℕ). StandsAt u part.place span) one.1 part.stands))
+      none span (rw one.1 at (rw one.0 at part.stands))
 
 -- ---- the object
 

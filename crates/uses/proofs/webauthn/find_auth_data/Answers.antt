@@ -1,6 +1,3 @@
-use Rattle.std.proofs.Common.{codes}
-use Rattle.cbor_view.specs.Views.{IsBytesOf}
-use Rattle.uses.specs.Webauthn.{IsBodyAt}
 use Rattle.uses.proofs.WebauthnLaws.{no_part}
 use Rattle.uses.proofs.webauthn.find_auth_data.Goals as goal
 
@@ -9,6 +6,4 @@ returns-in_default c = λ span part. c.in_default.ensures part.place part.value 
 
 pub returns-in_default-byte_string : goal.returns-in_default-byte_string
 returns-in_default-byte_string c =
-    no_part c.args.item.now.depth (codes "authData") c.args.item.now.bytes.now (IsBodyAt IsBytesOf)
-    c.in-Some.whole.start c.in-Some.value.bytes.now c.in-Some.ensures.0
-    (λ span part. c.in_default-byte_string.ensures part.body part.is_string)
+    no_part _ _ _ _ _ _ c.in-Some.ensures.0 (λ span part. c.in_default-byte_string.ensures part.body part.is_string)

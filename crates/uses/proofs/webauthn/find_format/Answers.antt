@@ -1,6 +1,3 @@
-use Rattle.std.proofs.Common.{codes}
-use Rattle.cbor_view.specs.Views.{IsTextOf}
-use Rattle.uses.specs.Webauthn.{IsBodyAt}
 use Rattle.uses.proofs.WebauthnLaws.{no_part}
 use Rattle.uses.proofs.webauthn.find_format.Goals as goal
 
@@ -9,5 +6,4 @@ returns-in_default c = λ span part. c.in_default.ensures part.place part.value 
 
 pub returns-in_default-text : goal.returns-in_default-text
 returns-in_default-text c =
-    no_part c.args.item.now.depth (codes "fmt") c.args.item.now.bytes.now (IsBodyAt IsTextOf) c.in-Some.whole.start
-    c.in-Some.value.bytes.now c.in-Some.ensures.0 (λ span part. c.in_default-text.ensures part.body part.is_string)
+    no_part _ _ _ _ _ _ c.in-Some.ensures.0 (λ span part. c.in_default-text.ensures part.body part.is_string)

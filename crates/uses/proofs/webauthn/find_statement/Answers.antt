@@ -1,5 +1,3 @@
-use Rattle.std.proofs.Common.{codes}
-use Rattle.uses.specs.Webauthn.{IsMapAt}
 use Rattle.uses.proofs.WebauthnLaws.{no_part}
 use Rattle.uses.proofs.webauthn.find_statement.Goals as goal
 
@@ -8,5 +6,4 @@ returns-in_default c = λ span part. c.in_default.ensures part.place part.value 
 
 pub returns-in_default-entries : goal.returns-in_default-entries
 returns-in_default-entries c =
-    no_part c.args.item.now.depth (codes "attStmt") c.args.item.now.bytes.now IsMapAt c.in-Some.whole.start
-    c.in-Some.value.bytes.now c.in-Some.ensures.0 (λ span part. c.in_default-entries.ensures part.count part.is_map)
+    no_part _ _ _ _ _ _ c.in-Some.ensures.0 (λ span part. c.in_default-entries.ensures part.count part.is_map)

@@ -1,7 +1,5 @@
 use Rattle.std.proofs.Common.{refl}
-use Rattle.uses.specs.declared.webauthn.Attestation.{Attestation}
 use Rattle.uses.specs.declared.webauthn.AttestationError.TheVariants as w
-use Rattle.uses.specs.Webauthn.{BeginsAttestation}
 use Rattle.uses.proofs.WebauthnLaws.{begun, lacks}
 use Rattle.uses.proofs.webauthn.read_attestation.Goals as goal
 
@@ -48,11 +46,4 @@ returns-clause-begins c =
     })
 
 pub returns-clause-exactly : goal.returns-clause-exactly
-returns-clause-exactly c =
-    let parts : Attestation = record {
-      format = c.in-Some.format;
-      statement = c.in-Some-find_statement.statement;
-      auth_data = c.in-Some-find_auth_data.auth_data;
-    } in
-    let begun : BeginsAttestation c.args.bytes.now parts = returns-clause-begins c in
-    (λ yes. (parts, begun), λ found. refl)
+returns-clause-exactly c = (λ yes. (_, returns-clause-begins c), λ found. refl)
