@@ -48,10 +48,10 @@ claim_count claims =
     + one_of claims.not_before + one_of claims.issued_at + one_of claims.id
 
 -- The shortest title of a map with the number of claims (RFC 7049, 2.1 and 3.9). For two claims it is `a2`.
-unfoldable pub title_bytes : Claims → List ℕ
-title_bytes claims = shortest_title (h.Map (Some (claim_count claims)))
+unfoldable pub claims_title : Claims → List ℕ
+claims_title claims = shortest_title (h.Map (Some (claim_count claims)))
 
 -- The claims set: the title of the map, and the claims in the order of their keys (RFC 8392, 3 and 4). With the issuer
 -- `a` and the expiry 5 it is `a2 01 61 61 04 05`.
 unfoldable pub claims_bytes : Claims → List ℕ
-claims_bytes claims = title_bytes claims ++ (names_bytes claims ++ (times_bytes claims ++ id_claim claims.id))
+claims_bytes claims = claims_title claims ++ (names_bytes claims ++ (times_bytes claims ++ id_claim claims.id))

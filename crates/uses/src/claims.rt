@@ -3,7 +3,7 @@
 ghost use Rattle.std.specs.Prelude.{◌≡◌, ◌≤◌, if◌then◌else◌};
 ghost use Rattle.ciborium_ll.specs.Encoding.{WritesBytes, writer_of};
 ghost use Rattle.uses.specs.Claims.{claim_count, claims_bytes, id_claim, name_claim, names_bytes, time_claim};
-ghost use Rattle.uses.specs.Claims.{times_bytes, title_bytes};
+ghost use Rattle.uses.specs.Claims.{times_bytes, claims_title};
 
 use ciborium_ll::io::Write;
 use ciborium_ll::{Encoder, Header};
@@ -68,9 +68,9 @@ pub fn write_claims<W: Write>(encoder: &mut Encoder<W>, claims: &Claims<'_>) -> 
 }
 
 /// Writes the title of the map.
-#[tactic(auto, unfolding(crate::specs::Claims::title_bytes))]
+#[tactic(auto, unfolding(crate::specs::Claims::claims_title))]
 fn write_title<W: Write>(encoder: &mut Encoder<W>, claims: &Claims<'_>) -> Result<(), W::Error>
-    ensures bytes { WritesBytes W.Write (writer_of encoder.old) result (title_bytes claims.now)
+    ensures bytes { WritesBytes W.Write (writer_of encoder.old) result (claims_title claims.now)
         (writer_of encoder.new) }
     ensures target { W.target (writer_of encoder.new) ≡ W.target (writer_of encoder.old) }
 {
