@@ -2,7 +2,6 @@
 use Rattle.std.proofs.Common.{◌≡◌, ℕ, ◌+◌, List, [], ◌∷◌, ◌++◌, length, Option, Some, None}
 use Rattle.std.proofs.Common.{Bool, ◌-◌}
 use Rattle.std.proofs.Common.{refl, sym, subst, ◌∙◌, arith, length-append, true}
-use Rattle.std.specs.Io.KnownBytes.{Consumes}
 use Rattle.std.proofs.KnownBytes.{Consumes-trans}
 use Rattle.ciborium_ll.specs.Types.Read.{Ghosts}
 use Rattle.ciborium_ll.specs.Types.Header.{Header}
@@ -10,7 +9,8 @@ use Rattle.ciborium_ll.specs.Types.Header.TheVariants as h
 use Rattle.ciborium_ll.specs.Types.Decoder.{Decoder}
 use Rattle.ciborium_ll.specs.Title.{shortest_title}
 use Rattle.ciborium_ll.specs.Items.{Completes, IsItem}
-use Rattle.ciborium_ll.specs.Decoding.{view, IsSteady, ReadsPast, PullsTitle, Begins}
+use Rattle.ciborium_ll.specs.Decoding.{view, IsSteady, ReadsPast, PullsTitle}
+use Rattle.ciborium_ll.proofs.CopyingTold.{consumes_told}
 use Rattle.ciborium_ll.proofs.DecodingLaws.{ReadsPast-none, passes_settled}
 use Rattle.cbor_skip.specs.Skipping.{ReadsWithin, strictness}
 use Rattle.cbor_skip.proofs.ItemSteps.{item_of}
@@ -24,12 +24,6 @@ use Rattle.uses.specs.Cose.{UnprotectedDue, PayloadDue, SignatureDue, IsAllowed,
 use Rattle.uses.specs.Cose.{to_tag, to_array}
 use Rattle.uses.specs.Cose.{to_protected, to_unprotected, to_payload, to_signature, Took, TookBody}
 use Rattle.uses.specs.Cose.{TookString, TookPayload, TookMap, StopsAtPart, StopsSign1}
-
--- If all bytes are known, they begin with the bytes that were taken.
-pub taken_front : (all : List ℕ) (new : Option (List ℕ)) (bytes : List ℕ) → Consumes (Some all) new bytes
-    → Begins bytes all
-taken_front all None bytes taken = absurd taken
-taken_front all (Some rest) bytes taken = (rest, taken)
 
 module _ {R E : Type 0} (source : Ghosts R E) where
   pub took_pull : (old new : Decoder R) (header : Header) → old.strict ≡ true → old.waiting ≡ None
@@ -129,9 +123,7 @@ module _ {R E : Type 0} (source : Ghosts R E) where
       let with_b = took_then first two three _ b.bytes with_u b.took in
       let with_s = took_then first three last _ s.bytes with_b s.took in
       let all : List ℕ = ((((0xd2 ∷ 0x84 ∷ []) ++ p.bytes) ++ u.bytes) ++ b.bytes) ++ s.bytes in
-      let taken : Consumes (view source first) (view source last) all = with_s.consumed in
-      let front : Begins all bytes = taken_front bytes (view source last) all
-      (subst (λ (v : Option (List ℕ)). Consumes v (view source last) all) told taken) in
+      let front = consumes_told (view source first) (view source last) bytes all told with_s.consumed in
       let at_p : opened.offset ≡ 2 = omega (arith, start, tag.offset, array.offset) in
       let at_u : one.offset ≡ 2 + length p.bytes = omega (arith, at_p, p.took.offset) in
       let at_b : two.offset ≡ 2 + length p.bytes + length u.bytes = omega (arith, at_u, u.took.offset) in
@@ -143,7 +135,7 @@ module _ {R E : Type 0} (source : Ghosts R E) where
         payload = b.bytes;
         signature = s.bytes;
         rest = front.0;
-        is = front.1;
+        is = front.2;
         is_protected = subst (λ (n : ℕ). IsByteString p.bytes n protected) at_p p.is_string;
         is_unprotected = subst (λ (n : ℕ). IsMap u.bytes n unprotected) at_u u.is_map;
         is_payload = subst (λ (n : ℕ). IsPayload b.bytes n payload) at_b b.is_payload;
@@ -198,27 +190,20 @@ module _ {R E : Type 0} (source : Ghosts R E) where
           (subst (λ (n : ℕ). IsPayload payload.bytes n span) (at_before before now came.took) payload.is_payload);
     }
 
-    -- If the first bytes are told, the bytes that are left are told.
-    rest_told : (bytes before : List ℕ) (left : Option (List ℕ)) → Consumes (Some bytes) left before
-        → (rest : List ℕ) × (bytes ≡ before ++ rest) × (left ≡ Some rest)
-    rest_told bytes before None taken = absurd taken
-    rest_told bytes before (Some rest) taken = (rest, taken, refl)
-
     -- If the read stops at the part that is due, no COSE_Sign1 was read.
     pub stopped : (bytes before : List ℕ) (due : Due) (now ended : Decoder R) (error : CoseError E)
         → view source first ≡ Some bytes → first.strict ≡ true → ((d : Decoder R) → IsSteady source d)
         → Came first before due now → StopsAtPart source (IsAllowed due) now error ended → StopsSign1 source bytes error
     stopped bytes before due now ended error told strict steady came stops =
-        let left = rest_told bytes before (view source now)
-        (subst (λ (v : Option (List ℕ)). Consumes v (view source now) before) told came.took.consumed) in
+        let left = consumes_told (view source first) (view source now) bytes before told came.took.consumed in
         record {
           before = before;
           rest = left.0;
-          is = left.1;
+          is = left.2;
           due = due;
           reached = came.reached;
           decoder = now;
-          told = left.2;
+          told = left.1;
           place = at_before before now came.took;
           none_waits = came.took.none_waits;
           strict = came.took.mode ∙ strict;

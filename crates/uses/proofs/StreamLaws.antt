@@ -12,12 +12,13 @@ use Rattle.ciborium_ll.specs.Transfer.{Shrinks}
 use Rattle.ciborium_ll.specs.Strings.{Kind}
 use Rattle.ciborium_ll.specs.Elements.{spelling}
 use Rattle.ciborium_ll.specs.Faults.{Answer, Short, Syntax}
-use Rattle.ciborium_ll.specs.Decoding.{ReadsPast, IsFresh, behind_waiting, view}
+use Rattle.ciborium_ll.specs.Decoding.{IsFresh, behind_waiting, view}
 use Rattle.ciborium_ll.specs.Finishing.{EndsBody}
 use Rattle.ciborium_ll.specs.Recoding.{CopiesAll, Recodes, StopsAtTitle, StopsInBody, StopsCopy}
 use Rattle.ciborium_ll.specs.RecodingTold.{CopiesFront, IsReady, IsTold, MeetsFault, RecodesTold, RecodesAnyhow}
 use Rattle.ciborium_ll.specs.RecodingTold.{StopsShort}
 use Rattle.ciborium_ll.specs.Sides.{Sides, sides}
+use Rattle.ciborium_ll.proofs.DecodingLaws.{passes_settled}
 use Rattle.ciborium_ll.proofs.StrictFaultLaws.{no_fault}
 use Rattle.uses.specs.Streams.{AreReady, CopiesSo, IsNormalised, Normalises, NormalisesAnyhow, StopsAtFault}
 use Rattle.uses.specs.Streams.{CopiesAndFlushes, FlushesSo, RecodesFrom, FailsToRead, TellBytes}
@@ -59,11 +60,6 @@ module _ {R E W F : Type 0} (source : Reader R E) (sink : Writer W F) where
 
   -- ---- no header waits after a copy from a fresh decoder
 
-  passed_settled : (old new : Decoder R) (bytes : List ℕ) → ReadsPast source old bytes new → old.waiting ≡ None
-      → new.waiting ≡ None
-  passed_settled old new bytes passed none = elim passed.waiting
-      [ inl same ↦ ap (λ d. d.waiting) same.1 ∙ none | inr settled ↦ settled ]
-
   copied_settled : (count : ℕ) (due written : List ℕ) (old new : Decoder R) (writer' : W) → old.waiting ≡ None
       → CopiesFront source sink false count due written old (sides new writer') → new.waiting ≡ None
   copied_settled zero due written old new writer' none copied = copied.still refl ∙ none
@@ -82,17 +78,17 @@ module _ {R E W F : Type 0} (source : Reader R E) (sink : Writer W F) where
   ends_settled kind len room place old new (e.Io fault) none ends = ends.stops.1.none_waits
   ends_settled kind len room place old new (e.Syntax at) none ends =
       let damage = ends.stops.1 in
-      passed_settled ends.between new damage.last damage.passed
-      (passed_settled old ends.between ends.part.read ends.part.passed none)
+      passes_settled source ends.between new damage.last damage.passed
+      (passes_settled source old ends.between ends.part.read ends.part.passed none)
   ends_settled kind len room place old new e.TooLong none ends =
-      ends.stops.1.waiting ∙ passed_settled old ends.between ends.part.read ends.part.passed none
+      ends.stops.1.waiting ∙ passes_settled source old ends.between ends.part.read ends.part.passed none
   ends_settled kind len room place old new e.Waiting none ends = absurd ends.stops
 
   body_settled : (count room : ℕ) (old new : Sides R W) (error : Error E) → old.decoder.waiting ≡ None
       → StopsInBody source sink count room old error new → new.decoder.waiting ≡ None
   body_settled count room old new error none stops =
       ends_settled stops.kind stops.len room (old.decoder.offset + stops.start) stops.between.decoder new.decoder error
-      (passed_settled old.decoder stops.between.decoder stops.bytes stops.copied.passed none) stops.stopped.ends
+      (passes_settled source old.decoder stops.between.decoder stops.bytes stops.copied.passed none) stops.stopped.ends
 
   stop_settled : (count room : ℕ) (old new : Sides R W) (error : RecodeError E F) → old.decoder.waiting ≡ None
       → StopsCopy source sink count room old error new → new.decoder.waiting ≡ None
@@ -111,7 +107,7 @@ module _ {R E W F : Type 0} (source : Reader R E) (sink : Writer W F) where
       body_settled count room old new e.TooLong none stops
   stop_settled count room old new (r.Read e.Waiting) none stops = absurd stops
   stop_settled count room old new (r.Write fault) none stops =
-      passed_settled old.decoder new.decoder (stops.bytes ++ stops.read) stops.passed none
+      passes_settled source old.decoder new.decoder (stops.bytes ++ stops.read) stops.passed none
 
   -- If no header waits, the bytes due are the bytes of the reader.
   due_ahead : (new : Decoder R) (reader' : R) (rest : List ℕ) → new.waiting ≡ None → reader' ≡ new.reader
