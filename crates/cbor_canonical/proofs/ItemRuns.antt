@@ -1,5 +1,5 @@
 -- The rewriting of each kind of item.
-use Rattle.std.proofs.Common.{◌≡◌, ℕ, zero, suc, ◌+◌, ◌<◌, ◌≤◌, ◌^◌, ◌⊎◌, inl, inr, List, [], ◌∷◌, ◌++◌, length}
+use Rattle.std.proofs.Common.{◌≡◌, ℕ, suc, ◌+◌, ◌<◌, ◌≤◌, ◌^◌, ◌⊎◌, inl, inr, List, [], ◌∷◌, ◌++◌, length}
 use Rattle.std.proofs.Common.{Option, Some, None, refl, sym, ◌∙◌, ap, subst, arith, append_assoc, append-nil, false, take}
 use Rattle.ciborium_ll_text.specs.Text.{joined}
 use Rattle.ciborium_ll_grammar.specs.declared.hdr.Header.{Header}
@@ -9,7 +9,6 @@ use Rattle.ciborium_ll_grammar.specs.Title.{IsTitle, shortest_title, IsInRange, 
 use Rattle.ciborium_ll_grammar.specs.Strings.{Kind, Bytes as OfBytes, Text as OfText, kind_header}
 use Rattle.ciborium_ll_grammar.specs.Elements.{body_spelling}
 use Rattle.ciborium_ll_grammar.specs.Items.{Completes as CompletesAny, AreItems, IsItem, no_items as none_any}
-use Rattle.ciborium_ll_grammar.specs.Items.{more_items as more_any}
 use Rattle.ciborium_ll_grammar.specs.Items.{positive as any_positive, negative as any_negative, simple as any_simple}
 use Rattle.ciborium_ll_grammar.specs.Items.{float as any_float, byte_string as any_bytes, text_string as any_text}
 use Rattle.ciborium_ll_grammar.specs.Items.{open_bytes as any_open_bytes, open_text as any_open_text, tag as any_tag}
@@ -39,6 +38,7 @@ use Rattle.cbor_deterministic.specs.Spellings.{follows_bytes, follows_text, foll
 use Rattle.cbor_deterministic.specs.Spellings.{follows_open_bytes, follows_open_text, follows_open_array}
 use Rattle.cbor_deterministic.proofs.TitleRuns.{shortest_preferred}
 use Rattle.cbor_deterministic.proofs.FloatFacts.{float_bits}
+use Rattle.ciborium_ll_grammar.proofs.ItemJoins.{item_before}
 use Rattle.cbor_skip.proofs.ItemSteps.{item_of}
 use Rattle.cbor_canonical.specs.Narrowing.{IsNarrowestOf}
 use Rattle.cbor_canonical.specs.Canonical.{IsRewritten}
@@ -209,20 +209,7 @@ tag_turned {ord = o} e d n y bytes rest old mid new is deep b g = rw (is, ← de
 -- One item and n items after it, joined, are n + 1 items.
 pub join : (d n : ℕ) (w others : List ℕ) → IsItem false d w → AreItems false d n others
     → AreItems false d (suc n) (w ++ others)
-join d n w others i is = go (suc zero) w i refl
-  where
-    nothing : (j : ℕ) (y : List ℕ) → AreItems false d j y → j ≡ 0 → y ≡ []
-    nothing j y none_any z = refl
-    nothing j y (more_any p s c q) z = absurd (omega arith)
-
-    go : (k : ℕ) (w : List ℕ) → AreItems false d k w → k ≡ 1 → AreItems false d (suc n) (w ++ others)
-    go k w none_any one = absurd (omega arith)
-    go k w (more_any {count = j} {title = t} {rest = r} {others = y} p s c q) one =
-        let e = nothing j y q (omega arith) in
-        subst (λ (v : List ℕ). AreItems false d (suc n) v)
-        (sym (append_assoc t (r ++ y) others ∙ ap (λ (v : List ℕ). t ++ v)
-        (append_assoc r y others ∙ ap (λ (v : List ℕ). r ++ (v ++ others)) e)))
-        (more_any p s c is)
+join d n w others i is = item_before false d n w others i is
 
 pub record AllOf (ord : Order) (d n : ℕ) (bytes written : List ℕ) : Type 0 where
   pub items : AreItems false d n bytes

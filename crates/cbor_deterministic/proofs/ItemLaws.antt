@@ -9,6 +9,7 @@ use Rattle.ciborium_ll_grammar.specs.Items.{float as any_float}
 use Rattle.ciborium_ll_grammar.specs.Items.{byte_string as any_byte_string, text_string as any_text_string}
 use Rattle.ciborium_ll_grammar.specs.Items.{tag as any_tag}
 use Rattle.ciborium_ll_grammar.specs.Items.{array as any_array, pairs as any_pairs}
+use Rattle.ciborium_ll_grammar.proofs.ItemJoins.{item_before}
 use Rattle.ciborium_ll_grammar.proofs.ItemLaws.{one_item as one_any}
 use Rattle.cbor_deterministic.specs.declared.Order.{Order}
 use Rattle.cbor_deterministic.specs.Deterministic.{Completes, positive, negative, simple, float, byte_string}
@@ -16,26 +17,6 @@ use Rattle.cbor_deterministic.specs.Deterministic.{text_string, tag, array, pair
 use Rattle.cbor_deterministic.specs.Deterministic.{IsDeterministic, item, AreDeterministic, no_items, more_items}
 use Rattle.cbor_deterministic.specs.Deterministic.{AreSortedPairs}
 use Rattle.cbor_deterministic.specs.Deterministic.{no_pairs, more_pairs}
-
--- One item and n items after it, joined, are n + 1 items.
-joined_go : (e n : ℕ) (w others : List ℕ) (k : ℕ) → AreItems true e k w → k ≡ 1 → AreItems true e n others
-    → AreItems true e (suc n) (w ++ others)
-joined_go e n w others k none_any one is = absurd (omega arith)
-joined_go e n w others k (more_any {count = j} {title = t} {rest = r} {others = y} p s c none) one is =
-    let z : j ≡ 0 = omega arith in
-    let e0 = nothing e j y none z in
-    subst (λ (v : List ℕ). AreItems true e (suc n) v)
-    (sym (append_assoc t (r ++ y) others ∙ ap (λ (v : List ℕ). t ++ v)
-    (append_assoc r y others ∙ ap (λ (v : List ℕ). r ++ (v ++ others)) e0)))
-    (more_any p s c is)
-  where
-    nothing : (e j : ℕ) (y : List ℕ) → AreItems true e j y → j ≡ 0 → y ≡ []
-    nothing e j y none_any z = refl
-    nothing e j y (more_any p s c q) z = absurd (omega arith)
-
-join : (e n : ℕ) (w others : List ℕ) → IsItem true e w → AreItems true e n others
-    → AreItems true e (suc n) (w ++ others)
-join e n w others i is = joined_go e n w others (suc zero) i refl is
 
 module _ {ord : Order} where
   mutual
@@ -58,15 +39,15 @@ module _ {ord : Order} where
     all_formed : (e n : ℕ) (w : List ℕ) → AreDeterministic ord e n w → AreItems true e n w
     all_formed e n w no_items = none_any
     all_formed e n w (more_items {count = m} {first = x} {others = y} i is) =
-        join e m x y (item_formed e x i) (all_formed e m y is)
+        item_before true e m x y (item_formed e x i) (all_formed e m y is)
 
     pairs_formed : (e n : ℕ) (a w : List ℕ) → AreSortedPairs ord e n a w → AreItems true e (2 * n) w
     pairs_formed e n a w no_pairs = none_any
     pairs_formed e n a w (more_pairs {count = m} {key = x} {value = y} {others = z} i o u is) =
         let two : suc (suc (2 * m)) ≡ 2 * suc m = omega arith in
         subst (λ (k : ℕ). AreItems true e k (x ++ (y ++ z))) two
-        (join e _ x (y ++ z) (item_formed e x i)
-        (join e _ y z (item_formed e y u) (pairs_formed e m _ z is)))
+        (item_before true e _ x (y ++ z) (item_formed e x i)
+        (item_before true e _ y z (item_formed e y u) (pairs_formed e m _ z is)))
 
   -- No item begins another one.
   pub one_item : (e : ℕ) (w : List ℕ) → IsDeterministic ord e w → (e' : ℕ) (w' v v' : List ℕ)

@@ -1,12 +1,13 @@
 -- Items from a title and contents, and items one by one.
 use Rattle.std.proofs.Common.{◌≡◌, ℕ, suc, ◌+◌, ◌*◌, Bool, List, [], ◌∷◌, ◌++◌, sym, subst}
-use Rattle.std.proofs.Common.{append_assoc, append-nil, Some, None, arith, Result, Ok, Err}
+use Rattle.std.proofs.Common.{Some, None, arith, Result, Ok, Err}
 use Rattle.std.specs.Result.{OnOk}
 use Rattle.ciborium_ll_grammar.specs.declared.hdr.Header.{Header}
 use Rattle.ciborium_ll_grammar.specs.declared.hdr.Header.TheVariants as h
 use Rattle.ciborium_ll_grammar.specs.Title.{IsSmallSimple}
-use Rattle.ciborium_ll_grammar.specs.Items.{Completes, positive, negative, float, simple, AreItems, no_items}
-use Rattle.ciborium_ll_grammar.specs.Items.{tag, array, pairs, open_array, open_pairs, more_items, IsItem}
+use Rattle.ciborium_ll_grammar.specs.Items.{Completes, positive, negative, float, simple, AreItems}
+use Rattle.ciborium_ll_grammar.specs.Items.{tag, array, pairs, open_array, open_pairs, IsItem}
+use Rattle.ciborium_ll_grammar.proofs.ItemJoins.{item_of, items_item}
 use Rattle.cbor_encode.specs.Adding.{Adds, IsHead, HasBody}
 use Rattle.cbor_encode.specs.Scalars.{IsScalar}
 
@@ -14,8 +15,7 @@ use Rattle.cbor_encode.specs.Scalars.{IsScalar}
 pub one_item : (strict : Bool) (depth : ℕ) (header : Header) (title body : List ℕ) → IsHead strict header title
     → Completes strict depth header body → IsItem strict depth (title ++ body)
 one_item strict depth header title body head completes =
-    subst (λ (z : List ℕ). IsItem strict depth (title ++ z)) (append-nil body)
-    (more_items head.title head.taken completes no_items)
+    item_of strict depth title body header head.title head.taken completes
 
 -- A title and the contents that a call adds are an item.
 pub item_added : (strict : Bool) (depth : ℕ) (header : Header) (body before after : List ℕ)
@@ -28,20 +28,13 @@ item_added strict depth header body before after adds completes = record {
       (one_item strict depth header adds.is.title body adds.is.head completes);
 }
 
--- Some items and one item after them are one item more.
-items_then : (strict : Bool) (depth count : ℕ) (items item : List ℕ) → AreItems strict depth count items
-    → IsItem strict depth item → AreItems strict depth (suc count) (items ++ item)
-items_then strict depth count items item no_items i = i
-items_then strict depth count items item (more_items {others = others} title taken completes are) i =
-    simp append_assoc (more_items title taken completes (items_then strict depth _ others item are i))
-
 -- Some items and an item that a call adds are one item more.
 pub items_more : (strict : Bool) (depth count : ℕ) (before after : List ℕ) → AreItems strict depth count before
     → Adds (IsItem strict depth) before after → AreItems strict depth (count + 1) after
 items_more strict depth count before after are adds =
     subst (λ (z : List ℕ). AreItems strict depth (count + 1) z) (sym adds.parts)
     (let next : AreItems strict depth (suc count) (before ++ adds.added) =
-    items_then strict depth count before adds.added are adds.is in
+    items_item strict depth count before adds.added are adds.is in
     let same : suc count ≡ count + 1 = omega arith in rw same at next)
 
 -- Some pairs, and a key and a value that two calls add, are one pair more.
