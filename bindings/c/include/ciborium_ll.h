@@ -26,7 +26,7 @@
  * cll_headers it counts whole titles and their bodies alone.
  *
  * `written` is how many bytes the call wrote to the start of `out`. After these bytes `out` is as it was. Of
- * cll_headers it is how many titles were filled.
+ * cll_headers it is how many titles were filled. After the bytes that cll_canonical wrote the contents are unknown.
  *
  * `place` depends on the answer. With CLL_SYNTAX, CLL_BREAK_DUE, CLL_TOO_DEEP and the four answers of cll_deterministic
  * alone it is the offset of the fault. With CLL_SHORT it is how many bytes are due, if the call says that. With CLL_OK
@@ -135,6 +135,12 @@ typedef struct { uint64_t value; uint8_t kind; uint8_t indefinite; } cll_header;
 typedef struct { uint64_t value, start, end; uint8_t kind, indefinite; } cll_title;
 
 /*
+ * Memory that cll_canonical needs for a pair of a map: the offsets in `out` at which its key begins, its key ends and
+ * its value ends. Their numbers mean nothing after the call.
+ */
+typedef struct { uint64_t start, key_end, end; } cll_span;
+
+/*
  * How far a call came. The section REPORTS at the top of this header says what each number means.
  */
 typedef struct { uint64_t consumed, written, place, elements, whole, spelled; } cll_report;
@@ -181,11 +187,11 @@ typedef enum cll_answer {
     CLL_BREAK_DUE, /* at `place` a break stands in place of an item */
     CLL_TOO_DEEP,  /* at `place` a tag, an array or a map stands deeper than the caller allows */
     CLL_ARGUMENT,  /* an argument is out of its range, and the call did nothing */
-    /* These come from cll_deterministic alone. */
+    /* These come from cll_deterministic alone, and the last one also from cll_canonical. */
     CLL_NOT_SHORTEST, /* at `place` stands a longer title than need be, or a float that fits a smaller width */
     CLL_INDEFINITE,   /* at `place` stands the title of an indefinite form, or a break */
     CLL_KEY_ORDER,    /* at `place` stands a key that comes before the key of the pair before it */
-    CLL_DUPLICATE_KEY /* at `place` stands the same key as that of the pair before it */
+    CLL_DUPLICATE_KEY /* at `place` stands a key that its map has before it */
 } cll_answer;
 
 /* The order of the keys of a map, by their encodings. */
@@ -355,6 +361,34 @@ CLL_NODISCARD cll_answer cll_skip(const uint8_t *data, size_t len, uint32_t dept
  */
 CLL_NODISCARD cll_answer cll_deterministic(const uint8_t *data, size_t len, uint32_t depth, uint32_t order,
     cll_report *report);
+
+/*
+ * Writes the deterministic encoding of the item with which `data` begins to the start of `out` (RFC 8949, 4.2). The
+ * item may have any spelling: titles of any width, indefinite forms, floats of any width, and keys in any order. A
+ * float keeps its value, a zero its sign, and a NaN its sign and payload. The item may contain at most `depth` levels,
+ * which is at most 256. `order` is a number of cll_order.
+ *
+ * `len + len / 256 + 16` bytes of `out` and `len` spans are always enough: tests say so. Fewer do if the encoding takes
+ * fewer bytes. A map whose keys ascend needs a span for each pair, and any other map also one for two bytes of its
+ * pairs. The contents of `spans` need not be set before the call, and mean nothing after it.
+ *
+ * Returns:
+ *
+ * CLL_OK: `out` begins with the encoding. `consumed` is the item's length, and `written` that of the encoding.
+ * CLL_SHORT: `data` ends before the item does.
+ * CLL_SYNTAX: at `place` no title begins, or its string may not contain the title, or a text is not UTF-8 by itself.
+ *     Or a simple value from 24 to 31 stands there, which means nothing.
+ * CLL_ROOM: `out` or `spans` is too short.
+ * CLL_BREAK_DUE: at `place` a break stands in place of an item, also in place of a value of a map.
+ * CLL_TOO_DEEP: no level is left for a tag, an array or a map.
+ * CLL_ARGUMENT: `depth` is above 256, or `order` is no order. `out` is as it was.
+ * CLL_DUPLICATE_KEY: a key of a map has the same value as one before it.
+ *
+ * With a fault `place` and `consumed` are both its offset. With CLL_SHORT `place` is 0, and `consumed` is `len`. With
+ * CLL_ROOM both are 0. After a fault and after CLL_ROOM `written` is 0, and the contents of `out` are unknown.
+ */
+CLL_NODISCARD cll_answer cll_canonical(const uint8_t *data, size_t len, uint32_t depth, uint32_t order, uint8_t *out,
+    size_t room, cll_span *spans, size_t spans_len, cll_report *report);
 
 /*
  * Finds the longest front of `data` that is UTF-8 (RFC 3629). `consumed` is the front's length.

@@ -2,6 +2,7 @@ pub mod CopyLaws
 pub mod CountLaws
 pub mod CutTitles
 pub mod DeterministicLaws
+pub mod RewriteLaws
 pub mod ElementDue
 pub mod ElementShapes
 pub mod ItemDue

@@ -10,6 +10,7 @@ pub mod Lacking
 pub mod Pieces
 pub mod Pulling
 pub mod Pushing
+pub mod Rewriting
 pub mod Skipping
 pub mod Texts
 pub mod Titles

@@ -30,7 +30,7 @@ pub enum CllAnswer {
     Indefinite,
     /// At `place` stands a key that comes before the key of the pair before it.
     KeyOrder,
-    /// At `place` stands the same key as that of the pair before it.
+    /// At `place` stands a key that its map has before it.
     DuplicateKey,
 }
 

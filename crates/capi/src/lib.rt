@@ -33,6 +33,7 @@ ghost use Rattle.capi.specs.Lacking.{ElementsLack, ItemLacks};
 ghost use Rattle.capi.specs.Pieces.{EndsCopied, FeedsCopied, IsCopier, IsCopierOf, IsNoCopier, StaysWithin};
 ghost use Rattle.capi.specs.Pulling.{CllPull, BeginsWithTitle};
 ghost use Rattle.capi.specs.Pushing.{CllPush, Puts};
+ghost use Rattle.capi.specs.Rewriting.{Rewrites};
 ghost use Rattle.capi.specs.Skipping.{Skips, skip_answer, skip_place};
 ghost use Rattle.capi.specs.Texts.{FindsText};
 ghost use Rattle.capi.specs.Titles.{FillsTitles, Gives, HasTitles, StopsTitles};
@@ -40,6 +41,7 @@ ghost use Rattle.capi.specs.Widths.{PushesWide};
 ghost use Rattle.ciborium_ll_grammar.specs.declared.limits.TheConstants.{LEAST_BUFFER, MOST_LEVELS};
 
 mod answer;
+mod canonical;
 mod checker;
 mod copier;
 mod deterministic;
@@ -51,6 +53,7 @@ mod titles;
 mod wide;
 
 pub use self::answer::{CllAnswer, CllReport};
+use self::canonical::rewrite_item;
 pub use self::checker::CllChecker;
 pub use self::copier::CllCopier;
 use self::deterministic::{check_item, order_of};
@@ -60,6 +63,7 @@ pub use self::item_copier::CllItemCopier;
 use self::tally::{Tally, copy_counted};
 pub use self::titles::CllTitle;
 use self::wide::title_in;
+pub use cbor_canonical::Span as CllSpan;
 use cbor_skip::{SkipError, skip_item};
 use ciborium_ll::io::{Discard, EndOfFile, OutOfSpace, Read, SliceReader, SliceWriter, Write};
 use ciborium_ll::laws::strict_run;
@@ -422,6 +426,28 @@ pub fn cll_deterministic(bytes: &[u8], depth: u32, order: u32, report: &mut CllR
         return CllAnswer::Argument.code();
     }
     check_item(bytes, depth as usize, order_of(order), report).code()
+}
+
+/// Writes the deterministic encoding of the item that begins the bytes to the start of `out` (RFC 8949, 4.2.1 and
+/// 4.2.3). Its tags, arrays and maps nest at most `depth` levels deep.
+pub fn cll_canonical(
+    bytes: &[u8],
+    depth: u32,
+    order: u32,
+    out: &mut [u8],
+    spans: &mut [CllSpan],
+    report: &mut CllReport,
+) -> u32
+    ensures rewritten { (keys : AnyOrder) → depth ≤ MOST_LEVELS → order ≡ order_code keys
+        → (answer : CllAnswer) × (result ≡ code answer) × Rewrites keys depth bytes.now answer out.new report.new }
+    ensures argument { (MOST_LEVELS < depth) ⊎ IsNoOrder order
+        → (result ≡ code a.Argument) × Reports report.new 0 0 0 × (out.new ≡ out.old) }
+{
+    if depth as usize > MOST_LEVELS || order > 1 {
+        report.say(0, 0, 0);
+        return CllAnswer::Argument.code();
+    }
+    rewrite_item(bytes, depth as usize, order_of(order), out, spans, report).code()
 }
 
 /// Finds the longest front of the bytes that is text.

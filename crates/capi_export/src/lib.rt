@@ -45,13 +45,14 @@ ghost use Rattle.capi.specs.Lacking.{ElementsLack, ItemLacks};
 ghost use Rattle.capi.specs.Pieces.{EndsCopied, FeedsCopied, IsCopier, IsCopierOf, IsNoCopier, StaysWithin};
 ghost use Rattle.capi.specs.Pulling.{CllPull, BeginsWithTitle};
 ghost use Rattle.capi.specs.Pushing.{CllPush};
+ghost use Rattle.capi.specs.Rewriting.{Rewrites};
 ghost use Rattle.capi.specs.Skipping.{Skips};
 ghost use Rattle.capi.specs.Texts.{FindsText};
 ghost use Rattle.capi.specs.Titles.{FillsTitles, Gives, HasTitles, StopsTitles};
 ghost use Rattle.capi.specs.Widths.{PushesWide};
 ghost use Rattle.ciborium_ll.specs.Limits.{MOST_LEVELS};
 
-pub use capi::{CllAnswer, CllChecker, CllCopier, CllHeader, CllItemCopier, CllReport, CllTitle};
+pub use capi::{CllAnswer, CllChecker, CllCopier, CllHeader, CllItemCopier, CllReport, CllSpan, CllTitle};
 
 /// Returns the version, which is 0.1.0: 65536 times its major number, 256 times its minor one, and its patch number.
 #[unsafe(no_mangle)]
@@ -241,6 +242,39 @@ pub extern "C" fn cll_deterministic(
     ensures argument { (MOST_LEVELS < depth) ⊎ IsNoOrder order → (result ≡ code a.Argument) × Reports report.new 0 0 0 }
 {
     capi::cll_deterministic(bytes, depth, order, report)
+}
+
+/// Writes the deterministic encoding of the item that begins the bytes to the start of `out`, as
+/// `cbor_canonical::canonical_into` does. `consumed` is the item's length, and `written` the length of the encoding.
+/// `order` is as of [`cll_deterministic`].
+///
+/// # Errors
+///
+/// With a fault, `consumed` and the place are its offset, and nothing is written that counts. With `Short` the place is
+/// 0.
+///
+/// - `Short`: the bytes end before the item does.
+/// - `Syntax`: no title begins there, or its string may not contain the title, or a text is not UTF-8. Or a simple value
+///   from 24 to 31, which stands for no value.
+/// - `BreakDue`, `TooDeep`: as of [`cll_skip`].
+/// - `DuplicateKey`: the later of two same keys of a map.
+/// - `Room`: `out` or `spans` is too short.
+/// - `Argument`: the depth is above 256, or there is no such order.
+#[unsafe(no_mangle)]
+pub extern "C" fn cll_canonical(
+    bytes: &[u8],
+    depth: u32,
+    order: u32,
+    out: &mut [u8],
+    spans: &mut [CllSpan],
+    report: &mut CllReport,
+) -> u32
+    ensures rewritten { (keys : AnyOrder) → depth ≤ MOST_LEVELS → order ≡ order_code keys
+        → (answer : CllAnswer) × (result ≡ code answer) × Rewrites keys depth bytes.now answer out.new report.new }
+    ensures argument { (MOST_LEVELS < depth) ⊎ IsNoOrder order
+        → (result ≡ code a.Argument) × Reports report.new 0 0 0 × (out.new ≡ out.old) }
+{
+    capi::cll_canonical(bytes, depth, order, out, spans, report)
 }
 
 /// Finds the longest front of the bytes that is UTF-8 (RFC 3629). `consumed` is its length.

@@ -21,6 +21,7 @@ const BUFFER_SIZE: usize = 256;
 
 /// The place of a pair in the output, in bytes.
 #[derive(Clone, Copy, Debug, PartialEq, Eq, Drop)]
+#[repr(C)]
 pub struct Span {
     /// The offset of the key.
     pub start: usize,
