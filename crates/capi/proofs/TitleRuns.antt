@@ -73,6 +73,7 @@ module _ (bytes : List ℕ) (taken len : ℕ) (entry : CllTitle) (reads : ReadsT
         length-append front.body front.rest,
       )
 
+  -- The run with the title and its body is a run with one more entry.
   pub titles_step : (entries : List CllTitle) → AreTitles 0 (take taken bytes) entries
       → AreTitles 0 (take (taken + len) bytes) (entries ++ entry ∷ [])
   titles_step entries run =
@@ -466,6 +467,7 @@ module _ (bytes : List ℕ) (old new : List CllTitle) (report : CllReport) where
 -- ---- by the number of the answer
 
 module _ {Holds Given : Type 0} (answer : CllAnswer) (result : ℕ) (is : result ≡ code answer) where
+  -- An answer that is `Ok` exactly under a condition has the number of `Ok` exactly under it.
   pub ok_by_number : Holds ↔ (answer ≡ a.Ok) × Given → Holds ↔ (result ≡ code a.Ok) × Given
   ok_by_number exact =
       let same = code_ok answer result is in (
@@ -473,6 +475,7 @@ module _ {Holds Given : Type 0} (answer : CllAnswer) (result : ℕ) (is : result
         λ told. exact.1 (same.0 told.0, told.1),
       )
 
+  -- An answer that is a fault exactly under a condition has another number than `Ok` exactly under it.
   pub fault_by_number : Holds ↔ (answer ≢ a.Ok) × Given → Holds ↔ (result ≢ code a.Ok) × Given
   fault_by_number exact =
       let same = code_ok answer result is in (

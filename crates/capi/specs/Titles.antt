@@ -43,8 +43,9 @@ pub record IsEntry (entry : CllTitle) (header : Header) (start end : ℕ) : Type
   pub start_is : entry.start ≡ start
   pub end_is : entry.end ≡ end
 
--- `AreTitles start bytes entries`: the bytes, which stand at the offset `start`, are titles with their bodies, joined.
--- The entries are those of the titles, in order. `82 41 ff 01` has an entry for `82`, for `41` and for `01`.
+-- `AreTitles start bytes entries`: the bytes, which stand at the offset `start`, are titles with their bodies, joined
+-- (RFC 7049, 2.1 to 2.3). The entries are those of the titles, in order. `82 41 ff 01` has an entry for `82`, for `41`
+-- and for `01`.
 pub data AreTitles : ℕ → List ℕ → List CllTitle → Type 0 where
   no_titles : {start : ℕ} → AreTitles start [] []
   more_titles : {start : ℕ} {title rest : List ℕ} {header : Header} {entry : CllTitle} {entries : List CllTitle}
@@ -117,6 +118,6 @@ pub record ReadsTitle (bytes : List ℕ) (start : ℕ) (entry : CllTitle) (len :
 abbrev pub HasBody : Header → List ℕ → ℕ → Type 0
 HasBody header rest len = (len ≤ length rest) × IsBody header (take len rest)
 
--- The rest begins with no body that may follow a title of the header. After `62` the rest `61` does not.
+-- The rest begins with no body that may follow a title of the header. After `62` the rest `61` has none.
 abbrev pub HasNoBody : Header → List ℕ → Type 0
 HasNoBody header rest = (body more : List ℕ) → rest ≡ body ++ more → IsBody header body → ⊥

@@ -63,12 +63,13 @@ impl CllAnswer {
 pub struct CllReport {
     /// How many bytes the call consumed.
     pub consumed: u64,
-    /// How many bytes the call wrote.
+    /// How many bytes the call wrote. Of `cll_headers` it is how many titles were filled.
     pub written: u64,
     /// A number that depends on the answer, and 0 otherwise:
     ///
     /// - `Syntax`, `BreakDue`, `TooDeep`, `NotShortest`, `Indefinite`, `KeyOrder`, `DuplicateKey`: the fault's offset.
-    /// - `Short` of `cll_recode`, `cll_strict`, `cll_skip`, a checker or a copier of an item: how many bytes are due.
+    /// - `Short` of `cll_headers`, `cll_recode`, `cll_strict`, `cll_skip`, a checker or a copier of an item: how many
+    ///   bytes are due.
     /// - `Ok` of `cll_checker_feed` or `cll_item_copier_feed`: the item's length.
     pub place: u64,
     /// How many elements `cll_recode` or `cll_strict` did whole, and 0 otherwise.
