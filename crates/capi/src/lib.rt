@@ -63,7 +63,7 @@ pub use self::item_copier::CllItemCopier;
 use self::tally::{Tally, copy_counted};
 pub use self::titles::CllTitle;
 use self::wide::title_in;
-pub use cbor_canonical::Span as CllSpan;
+pub use cbor_canonical::Span;
 use cbor_skip::{SkipError, skip_item};
 use ciborium_ll::io::{Discard, EndOfFile, OutOfSpace, Read, SliceReader, SliceWriter, Write};
 use ciborium_ll::laws::strict_run;
@@ -435,7 +435,7 @@ pub fn cll_canonical(
     depth: u32,
     order: u32,
     out: &mut [u8],
-    spans: &mut [CllSpan],
+    spans: &mut [Span],
     report: &mut CllReport,
 ) -> u32
     ensures rewritten { (keys : AnyOrder) → depth ≤ MOST_LEVELS → order ≡ order_code keys

@@ -52,7 +52,7 @@ ghost use Rattle.capi.specs.Titles.{FillsTitles, Gives, HasTitles, StopsTitles};
 ghost use Rattle.capi.specs.Widths.{PushesWide};
 ghost use Rattle.ciborium_ll.specs.Limits.{MOST_LEVELS};
 
-pub use capi::{CllAnswer, CllChecker, CllCopier, CllHeader, CllItemCopier, CllReport, CllSpan, CllTitle};
+pub use capi::{CllAnswer, CllChecker, CllCopier, CllHeader, CllItemCopier, CllReport, CllTitle, Span};
 
 /// Returns the version, which is 0.1.0: 65536 times its major number, 256 times its minor one, and its patch number.
 #[unsafe(no_mangle)]
@@ -266,7 +266,7 @@ pub extern "C" fn cll_canonical(
     depth: u32,
     order: u32,
     out: &mut [u8],
-    spans: &mut [CllSpan],
+    spans: &mut [Span],
     report: &mut CllReport,
 ) -> u32
     ensures rewritten { (keys : AnyOrder) → depth ≤ MOST_LEVELS → order ≡ order_code keys
