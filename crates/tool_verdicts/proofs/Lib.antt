@@ -1,2 +1,3 @@
+pub mod DeterministicLaws
 pub mod FoundLaws
 pub mod ShowLaws

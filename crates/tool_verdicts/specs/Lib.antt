@@ -1,3 +1,4 @@
 pub mod Verdicts
 pub mod Checking
+pub mod Deterministic
 pub mod Showing

@@ -3,6 +3,7 @@ use Rattle.std.specs.Prelude.{ℕ, List, ◌++◌, Option, Some, None, codes, de
 use Rattle.std.specs.IoError.{error_kind}
 use Rattle.std.specs.declared.io.ErrorKind.{ErrorKind}
 use Rattle.std.specs.declared.io.ErrorKind.TheVariants as k
+use Rattle.cbor_deterministic.specs.RefusalTexts.{why_text}
 use Rattle.tool_verdicts.specs.declared.verdict.TextFault.{TextFault}
 use Rattle.tool_verdicts.specs.declared.verdict.TextReason.{TextReason}
 use Rattle.tool_verdicts.specs.declared.verdict.TextReason.TheVariants as t
@@ -33,6 +34,7 @@ verdict_status (v.Short place) = s.Malformed
 verdict_status (v.Break place) = s.Malformed
 verdict_status (v.Deep place) = s.Malformed
 verdict_status (v.More place) = s.Malformed
+verdict_status (v.Refused refusal) = s.Malformed
 verdict_status v.TooLong = s.Failed
 verdict_status (v.Failed error) = s.Failed
 verdict_status (v.Text fault) = s.Malformed
@@ -59,6 +61,8 @@ verdict_text (v.Short place) = Some (codes "short " ++ decimal place)
 verdict_text (v.Break place) = Some (codes "break " ++ decimal place)
 verdict_text (v.Deep place) = Some (codes "deep " ++ decimal place)
 verdict_text (v.More place) = Some (codes "more " ++ decimal place)
+verdict_text (v.Refused refusal) =
+    Some (codes "refused " ++ (decimal refusal.place ++ (codes ": " ++ why_text refusal.why)))
 verdict_text (v.Text fault) = Some (text_fault_text fault)
 verdict_text v.TooLong = Some (codes "too long")
 verdict_text (v.Failed error) = None

@@ -5,6 +5,7 @@
 #![tactic(auto)]
 
 pub mod check;
+pub mod deterministic;
 pub mod diag;
 pub mod dump;
 pub mod verdict;

@@ -3,6 +3,7 @@
 ghost use Rattle.std.specs.Prelude.{◌≡◌, ◌≤◌, ◌⊎◌, Some};
 ghost use Rattle.tool_verdicts.specs.Verdicts.{output_status, status_code, text_fault_text, verdict_status, verdict_text};
 
+use cbor_deterministic::Refusal;
 use std::{fmt, io};
 
 /// How the program ends.
@@ -127,6 +128,8 @@ pub enum Verdict {
     Deep(usize),
     /// More than one item was found. The second item would begin at this offset.
     More(usize),
+    /// No item in the deterministic encoding stands there (RFC 8949, 4.2). The refusal has the reason and the offset.
+    Refused(Refusal),
     /// The text that spells the input has a fault.
     Text(TextFault),
     /// The offset would pass `usize::MAX`.
@@ -149,6 +152,7 @@ impl Verdict {
             | Verdict::Break(_)
             | Verdict::Deep(_)
             | Verdict::More(_)
+            | Verdict::Refused(_)
             | Verdict::Text(_) => Status::Malformed,
             Verdict::TooLong | Verdict::Failed(_) => Status::Failed,
             Verdict::Output(error) => Status::after_output(error.kind()),
@@ -167,6 +171,7 @@ impl fmt::Display for Verdict {
             Verdict::Break(place) => write!(f, "break {place}"),
             Verdict::Deep(place) => write!(f, "deep {place}"),
             Verdict::More(place) => write!(f, "more {place}"),
+            Verdict::Refused(refusal) => { write!(f, "refused {}: {}", refusal.place, refusal.why) }
             Verdict::Text(fault) => write!(f, "{fault}"),
             Verdict::TooLong => f.write_str("too long"),
             Verdict::Failed(error) => write!(f, "{error}"),
