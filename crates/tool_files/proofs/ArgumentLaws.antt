@@ -1,6 +1,6 @@
 -- The requests of a command line, word by word.
 use Rattle.std.proofs.Common.{◌≡◌, ℕ, false, List, [], ◌∷◌, ◌++◌, inl, inr}
-use Rattle.std.proofs.Common.{codes, refl, ap, sym, ◌∙◌, arith, append_assoc}
+use Rattle.std.proofs.Common.{codes, refl, ap, sym, subst, ◌∙◌, arith, append_assoc, map}
 use Rattle.std.proofs.Common.{◌≤◌, length, Bor, Result, Ok, Err, IfOk, IfErr}
 use Rattle.std.proofs.lemmas.List.{map-append}
 use Rattle.std.specs.Prelude.{String, string_bytes}
@@ -9,7 +9,8 @@ use Rattle.tool_files.specs.Arguments.{AsksWith, Choices, IsHelp, IsKnown, IsOpt
 use Rattle.tool_files.specs.Arguments.{SpellsSetting, SpellsValue, TakesValue, Wish, alone, apart, ended, file}
 use Rattle.tool_files.specs.Arguments.{has_value, help, helps, hyphens}
 use Rattle.tool_files.specs.Arguments.{joined, look, option, setting_name, with_file, with_setting}
-use Rattle.tool_files.specs.Arguments.{AsksAbout, AsksFor, AsksOf, NamesTopic, Wanted, about, of, texts}
+use Rattle.tool_files.specs.Arguments.{AsksAbout, AsksFor, AsksOf, HasNeedlessOrder, IsTaken, NamesTopic, Wanted}
+use Rattle.tool_files.specs.Arguments.{about, default_choices, of, texts}
 use Rattle.tool_files.specs.Arguments.{topic, version, word_name}
 use Rattle.tool_files.specs.declared.arguments.Setting.{Setting}
 use Rattle.tool_files.specs.declared.arguments.Setting.TheVariants as s
@@ -82,6 +83,8 @@ no_hyphens a name words behind (apart value is at spelled) same = grind (arith, 
 pub shallow_valued : (a : Setting) (value : List ℕ) → SpellsValue a value → IsShallow a
 shallow_valued (s.Depth depth) value spelled = spelled.1
 shallow_valued (s.Colors colors) value spelled = tt
+shallow_valued (s.Order order) value spelled = tt
+shallow_valued s.Deterministic value spelled = absurd spelled
 shallow_valued s.Strict value spelled = absurd spelled
 shallow_valued s.One value spelled = absurd spelled
 shallow_valued s.Names value spelled = absurd spelled
@@ -91,7 +94,9 @@ shallow_valued s.Pretty value spelled = absurd spelled
 
 takes : (a : Setting) (name value : List ℕ) → name ≡ setting_name a → SpellsValue a value → TakesValue name
 takes (s.Depth depth) name value is spelled = inl is
-takes (s.Colors colors) name value is spelled = inr is
+takes (s.Colors colors) name value is spelled = inr (inl is)
+takes (s.Order order) name value is spelled = inr (inr is)
+takes s.Deterministic name value is spelled = absurd spelled
 takes s.Strict name value is spelled = absurd spelled
 takes s.One name value is spelled = absurd spelled
 takes s.Names name value is spelled = absurd spelled
@@ -175,22 +180,58 @@ module _ (word : Word) (old : Choices) (name : String Global) (words rest : List
       let firsts = same_first name first rest after (sym is ∙ at) in
       absurd (no_help setting (string_bytes name) rest behind spelled (rw firsts.0 at is-help))
 
+  -- If a file precedes the words, the words after it ask for the rest of the wish.
+  asks_file : (wish : Wish) → (IsOption (string_bytes name) → ⊥) → AsksWith word old words wish
+      → (left : Wish) × AsksWith word old rest left × (wish ≡ with_file (string_bytes name) left)
+  asks_file wish no_option (ended none same) = absurd (grind (arith, is, none))
+  asks_file wish no_option (option first after left other at is-o known given asks) =
+      let firsts = same_first name first rest after (sym is ∙ at) in
+      absurd (no_option (rw firsts.0 at is-o))
+  asks_file wish no_option (file first after others at none asks same) =
+      let firsts = same_first name first rest after (sym is ∙ at) in
+      (others, rw firsts.1 at asks, rw firsts.0 at same)
+  asks_file wish no_option (hyphens first after at same shown) =
+      let firsts = same_first name first rest after (sym is ∙ at) in
+      absurd (no_option (hyphens_option (string_bytes name) (rw firsts.0 at same)))
+  asks_file wish no_option (helps first after at is-help shown) =
+      let firsts = same_first name first rest after (sym is ∙ at) in
+      absurd (no_option (help_option (string_bytes name) (rw firsts.0 at is-help)))
+
   -- If a file precedes the words, the words after it ask for the rest.
   pub asks_after : (wish : Wish) → (IsOption (string_bytes name) → ⊥) → AsksWith word old words wish
       → (left : Wish) × AsksWith word old rest left
-  asks_after wish no_option (ended none same) = absurd (grind (arith, is, none))
-  asks_after wish no_option (option first after left other at is-o known given asks) =
+  asks_after wish no_option asks = let left = asks_file wish no_option asks in (left.0, left.1)
+
+  -- If two hyphens precede the words, the words after them are files.
+  asks_hyphens : (wish : Wish) → string_bytes name ≡ codes "--" → AsksWith word old words wish
+      → wish ≡ look old (map string_bytes rest)
+  asks_hyphens wish two (ended none same) = absurd (grind (arith, is, none))
+  asks_hyphens wish two (option first after left other at is-o known given asks) =
       let firsts = same_first name first rest after (sym is ∙ at) in
-      absurd (no_option (rw firsts.0 at is-o))
-  asks_after wish no_option (file first after others at none asks same) =
+      absurd (no_hyphens other (string_bytes name) after left (rw firsts.0 at given) two)
+  asks_hyphens wish two (file first after others at none asks same) =
       let firsts = same_first name first rest after (sym is ∙ at) in
-      (others, rw firsts.1 at asks)
-  asks_after wish no_option (hyphens first after at same shown) =
+      absurd (none (rw firsts.0 (hyphens_option (string_bytes name) two)))
+  asks_hyphens wish two (hyphens first after at same shown) =
       let firsts = same_first name first rest after (sym is ∙ at) in
-      absurd (no_option (hyphens_option (string_bytes name) (rw firsts.0 at same)))
-  asks_after wish no_option (helps first after at is-help shown) =
+      rw firsts.1 at shown
+  asks_hyphens wish two (helps first after at is-help shown) =
       let firsts = same_first name first rest after (sym is ∙ at) in
-      absurd (no_option (help_option (string_bytes name) (rw firsts.0 at is-help)))
+      absurd (hyphens_no_help (string_bytes name) two (rw firsts.0 at is-help))
+
+  -- If an option that asks for help precedes the words, they ask for help.
+  asks_help : (wish : Wish) → IsHelp (string_bytes name) → AsksWith word old words wish → wish ≡ help
+  asks_help wish is-help (ended none same) = absurd (grind (arith, is, none))
+  asks_help wish is-help (option first after left other at is-o known given asks) =
+      let firsts = same_first name first rest after (sym is ∙ at) in
+      absurd (no_help other (string_bytes name) after left (rw firsts.0 at given) is-help)
+  asks_help wish is-help (file first after others at none asks same) =
+      let firsts = same_first name first rest after (sym is ∙ at) in
+      absurd (none (rw firsts.0 (help_option (string_bytes name) is-help)))
+  asks_help wish is-help (hyphens first after at same shown) =
+      let firsts = same_first name first rest after (sym is ∙ at) in
+      absurd (hyphens_no_help (string_bytes name) (rw firsts.0 at same) is-help)
+  asks_help wish is-help (helps first after at other shown) = shown
 
   -- If an option that the word doesn't know precedes the words, they ask for nothing.
   pub asks_nothing : (wish : Wish) → IsOption (string_bytes name) → (string_bytes name ≡ codes "--" → ⊥)
@@ -211,6 +252,39 @@ module _ (word : Word) (old : Choices) (name : String Global) (words rest : List
   asks_nothing wish opt no_hyphen no_helps unknown (helps first after at is-help shown) =
       let firsts = same_first name first rest after (sym is ∙ at) in
       no_helps (rw firsts.0 at is-help)
+
+-- No words ask for no file, with the same choices.
+asks_none : (word : Word) (old : Choices) (words : List (String Global)) (wish : Wish) → words ≡ []
+    → AsksWith word old words wish → wish ≡ look old []
+asks_none word old words wish none (ended other same) = same
+asks_none word old words wish none (option first after left other at is-o known given asks) =
+    absurd (grind (arith, none, at))
+asks_none word old words wish none (file first after others at other asks same) = absurd (grind (arith, none, at))
+asks_none word old words wish none (hyphens first after at same shown) = absurd (grind (arith, none, at))
+asks_none word old words wish none (helps first after at is-help shown) = absurd (grind (arith, none, at))
+
+-- The words after a word for a look at files ask for one thing.
+pub asks_once : (word : Word) (old : Choices) (words : List (String Global)) (a b : Wish) → AsksWith word old words a
+    → AsksWith word old words b → a ≡ b
+asks_once word old words a b (ended none same) other = same ∙ sym (asks_none word old words b none other)
+asks_once word old words a b (option name rest behind setting is opt known spelled asks) other =
+    asks_once word (with_setting setting old) behind a b asks
+    (asks_behind word old name words rest is b setting behind opt spelled other)
+asks_once word old words a b (file name rest others is none asks same) other =
+    let left = asks_file word old name words rest is b none other in
+    same ∙ ap (with_file (string_bytes name)) (asks_once word old rest others left.0 asks left.1) ∙ sym left.2
+asks_once word old words a b (hyphens name rest is two shown) other =
+    shown ∙ sym (asks_hyphens word old name words rest is b two other)
+asks_once word old words a b (helps name rest is is-help shown) other =
+    shown ∙ sym (asks_help word old name words rest is b is-help other)
+
+-- Words with a needless order ask for nothing.
+pub needless_asks_nothing : (word : Word) (words : List (String Global)) (choices : Choices) (files : List (List ℕ))
+    → AsksWith word default_choices words (look choices files) → HasNeedlessOrder word choices → (wanted : Wanted)
+    → AsksOf word words wanted → ⊥
+needless_asks_nothing word words choices files asks needless wanted (wish, other, taken, is) =
+    subst (λ (z : Wish). IsTaken word z) (asks_once word default_choices words wish (look choices files) other asks) taken
+    needless
 
 pub empty_of : (words : List (String Global)) → length words ≡ 0 → words ≡ []
 empty_of [] none = refl
@@ -234,10 +308,12 @@ about_no_word w.Check first words wanted named (version is none same) = grind (a
 about_no_word (w.Show v.Titles) first words wanted named (version is none same) = grind (arith, named, is)
 about_no_word (w.Show v.Notation) first words wanted named (version is none same) = grind (arith, named, is)
 about_no_word w.Encode first words wanted named (version is none same) = grind (arith, named, is)
+about_no_word w.Canon first words wanted named (version is none same) = grind (arith, named, is)
 about_no_word w.Check first words wanted named (topic which is names same) = grind (arith, named, is)
 about_no_word (w.Show v.Titles) first words wanted named (topic which is names same) = grind (arith, named, is)
 about_no_word (w.Show v.Notation) first words wanted named (topic which is names same) = grind (arith, named, is)
 about_no_word w.Encode first words wanted named (topic which is names same) = grind (arith, named, is)
+about_no_word w.Canon first words wanted named (topic which is names same) = grind (arith, named, is)
 
 module _ (name : String Global) (words rest : List (String Global)) (is : words ≡ name ∷ rest) where
   -- If the first word is a word for a look at files, the words ask for a look or its help.

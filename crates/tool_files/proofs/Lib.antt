@@ -1,3 +1,4 @@
 pub mod ArgumentLaws
+pub mod CanonLaws
 pub mod InputLaws
 pub mod PatientLaws

@@ -1,9 +1,11 @@
 -- The requests that the program's arguments spell.
 use Rattle.std.specs.Prelude.{◌≡◌, ℕ, ◌≤◌, Bool, true, false, List, [], ◌∷◌, ◌++◌, ◌⊎◌, codes, map, String}
-use Rattle.std.specs.Prelude.{string_bytes}
+use Rattle.std.specs.Prelude.{string_bytes, Option, None, Some, IsSome}
 use Rattle.std.specs.Borrow.{Bor}
 use Rattle.std.specs.declared.alloc.Global.{Global}
 use Rattle.tool_requests.specs.Number.{IsNumberUpTo, most_depth}
+use Rattle.tool_files.specs.Orders.{order_name}
+use Rattle.cbor_deterministic.specs.declared.Order.{Order}
 use Rattle.tool_files.specs.declared.options.Colors.{Colors}
 use Rattle.tool_files.specs.declared.options.Colors.TheVariants as c
 use Rattle.cbor_diag.specs.declared.layout.Layout.{Layout}
@@ -25,10 +27,13 @@ word_name w.Check = codes "check"
 word_name (w.Show v.Titles) = codes "dump"
 word_name (w.Show v.Notation) = codes "diag"
 word_name w.Encode = codes "encode"
+word_name w.Canon = codes "canon"
 
 -- The name of an option, without its value: `--depth` for a depth of 3.
 abbrev pub setting_name : Setting → List ℕ
 setting_name s.Strict = codes "--strict"
+setting_name s.Deterministic = codes "--deterministic"
+setting_name (s.Order order) = codes "--order"
 setting_name s.One = codes "--one"
 setting_name s.Names = codes "--names"
 setting_name s.Hex = codes "--hex"
@@ -41,6 +46,8 @@ setting_name (s.Depth depth) = codes "--depth"
 abbrev pub has_value : Setting → Bool
 has_value (s.Depth depth) = true
 has_value (s.Colors colors) = true
+has_value (s.Order order) = true
+has_value s.Deterministic = false
 has_value s.Strict = false
 has_value s.One = false
 has_value s.Names = false
@@ -50,7 +57,7 @@ has_value s.Pretty = false
 
 -- The names of the options that take a value. `--depth` is one, and `--depth=3` is none.
 abbrev pub TakesValue : List ℕ → Type 0
-TakesValue name = (name ≡ codes "--depth") ⊎ (name ≡ codes "--color")
+TakesValue name = (name ≡ codes "--depth") ⊎ ((name ≡ codes "--color") ⊎ (name ≡ codes "--order"))
 
 -- The first word has this option. `dump` has `--offsets`, and `check` does not.
 abbrev pub IsKnown : Word → Setting → Type 0
@@ -58,27 +65,42 @@ IsKnown word (s.Depth depth) = Unit {0}
 IsKnown w.Check s.Strict = Unit {0}
 IsKnown (w.Show view) s.Strict = Unit {0}
 IsKnown w.Encode s.Strict = ⊥
+IsKnown w.Canon s.Strict = ⊥
+IsKnown w.Check s.Deterministic = Unit {0}
+IsKnown (w.Show view) s.Deterministic = ⊥
+IsKnown w.Encode s.Deterministic = ⊥
+IsKnown w.Canon s.Deterministic = ⊥
+IsKnown w.Check (s.Order order) = Unit {0}
+IsKnown (w.Show view) (s.Order order) = ⊥
+IsKnown w.Encode (s.Order order) = ⊥
+IsKnown w.Canon (s.Order order) = Unit {0}
 IsKnown w.Check s.Hex = Unit {0}
 IsKnown (w.Show view) s.Hex = Unit {0}
 IsKnown w.Encode s.Hex = ⊥
+IsKnown w.Canon s.Hex = ⊥
 IsKnown w.Check s.One = Unit {0}
 IsKnown (w.Show view) s.One = ⊥
 IsKnown w.Encode s.One = Unit {0}
+IsKnown w.Canon s.One = ⊥
 IsKnown w.Check s.Names = Unit {0}
 IsKnown (w.Show view) s.Names = ⊥
 IsKnown w.Encode s.Names = ⊥
+IsKnown w.Canon s.Names = ⊥
 IsKnown w.Check s.Offsets = ⊥
 IsKnown (w.Show v.Titles) s.Offsets = Unit {0}
 IsKnown (w.Show v.Notation) s.Offsets = ⊥
 IsKnown w.Encode s.Offsets = ⊥
+IsKnown w.Canon s.Offsets = ⊥
 IsKnown w.Check (s.Colors colors) = ⊥
 IsKnown (w.Show v.Titles) (s.Colors colors) = Unit {0}
 IsKnown (w.Show v.Notation) (s.Colors colors) = ⊥
 IsKnown w.Encode (s.Colors colors) = ⊥
+IsKnown w.Canon (s.Colors colors) = ⊥
 IsKnown w.Check s.Pretty = ⊥
 IsKnown (w.Show v.Titles) s.Pretty = ⊥
 IsKnown (w.Show v.Notation) s.Pretty = Unit {0}
 IsKnown w.Encode s.Pretty = ⊥
+IsKnown w.Canon s.Pretty = ⊥
 
 -- If the option is a depth, it is at most the greatest depth that the program takes. 256 is, and 257 is not.
 abbrev pub IsShallow : Setting → Type 0
@@ -96,6 +118,7 @@ colors_name c.Never = codes "never"
 abbrev pub SpellsValue : Setting → List ℕ → Type 0
 SpellsValue (s.Depth depth) value = IsNumberUpTo most_depth value depth
 SpellsValue (s.Colors colors) value = value ≡ colors_name colors
+SpellsValue (s.Order order) value = value ≡ order_name order
 SpellsValue setting value = ⊥
 
 -- The word has the name of the option, and its value after a `=`, as `--depth=3`.
@@ -122,6 +145,8 @@ IsHelp word = (word ≡ codes "--help") ⊎ (word ≡ codes "-h")
 -- The choices that options set. `--depth 3 --pretty` sets the depth 3 and the indented layout.
 pub record Choices : Type 0 where
   pub strict : Bool
+  pub deterministic : Bool
+  pub order : Option Order
   pub one : Bool
   pub names : Bool
   pub hex : Bool
@@ -134,6 +159,8 @@ pub record Choices : Type 0 where
 abbrev pub default_choices : Choices
 default_choices = record {
   strict = false;
+  deterministic = false;
+  order = None;
   one = false;
   names = false;
   hex = false;
@@ -146,6 +173,8 @@ default_choices = record {
 -- The choices with one option more. It changes only its own choice. After `--depth 3`, `--depth 4` sets the depth 4.
 abbrev pub with_setting : Setting → Choices → Choices
 with_setting s.Strict choices = record choices { strict = true }
+with_setting s.Deterministic choices = record choices { deterministic = true }
+with_setting (s.Order order) choices = record choices { order = Some order }
 with_setting s.One choices = record choices { one = true }
 with_setting s.Names choices = record choices { names = true }
 with_setting s.Hex choices = record choices { hex = true }
@@ -158,6 +187,8 @@ with_setting (s.Depth depth) choices = record choices { depth = depth }
 abbrev pub choices_of : Options → Choices
 choices_of options = record {
   strict = options.strict;
+  deterministic = options.deterministic;
+  order = options.order;
   one = options.one;
   names = options.names;
   hex = options.hex;
@@ -226,10 +257,22 @@ abbrev pub wanted_with : Word → Wish → Wanted
 wanted_with word (look choices files) = looks word choices files
 wanted_with word help = helps_with (t.Word word)
 
+-- An order of keys was given to a check that doesn't look at it, since it doesn't ask for the deterministic encoding:
+-- `check --order bytewise`.
+abbrev pub HasNeedlessOrder : Word → Choices → Type 0
+HasNeedlessOrder w.Check choices = IsSome choices.order × (choices.deterministic ≡ false)
+HasNeedlessOrder word choices = ⊥
+
+-- The program takes the wish: no order of keys is needless. A wish for help is taken.
+abbrev pub IsTaken : Word → Wish → Type 0
+IsTaken word (look choices files) = HasNeedlessOrder word choices → ⊥
+IsTaken word help = Unit {0}
+
 -- The words after the first word ask for this, from the choices without options on. After `check`, `f` asks for a look
 -- at `f` to the depth 256.
 abbrev pub AsksOf : Word → List (String Global) → Wanted → Type 0
-AsksOf word words wanted = (wish : Wish) × AsksWith word default_choices words wish × (wanted ≡ wanted_with word wish)
+AsksOf word words wanted = (wish : Wish) × AsksWith word default_choices words wish × IsTaken word wish
+    × (wanted ≡ wanted_with word wish)
 
 -- The name of a topic. The program itself has the name `help`.
 abbrev pub topic_name : Topic → List ℕ

@@ -1,16 +1,27 @@
 -- What is written of notation.
-use Rattle.std.specs.Prelude.{◌≡◌, ℕ, Bool, false, List, ◌++◌, Option, Some, Result, Ok, Err}
+use Rattle.std.specs.Prelude.{◌≡◌, ℕ, Bool, false, true, List, Option, Result, Ok, Err}
+use Rattle.std.specs.Io.KnownBytes.{Appends, Keeps}
+use Rattle.cbor_encode.specs.Places.{IsFaultIn}
+use Rattle.cbor_encode.specs.Sequences.{has_underscore}
 use Rattle.tool_verdicts.specs.Checking.{IsWanted}
+use Rattle.tool_files.specs.Given.{IsWhole}
 use Rattle.tool_files.specs.declared.encode.EncodeFault.{EncodeFault}
 use Rattle.tool_files.specs.declared.encode.EncodeFault.TheVariants as e
 
--- `Ok`: the writer, which had `written`, got the bytes of what is wanted: of one item, or of a sequence of items (RFC
--- 8742, 2). After a fault of the notation or of the input it has what it had. With `01` written, an item may make this
+-- The bytes are as wanted: one item, or a sequence of items (RFC 8742, 2). If the text has no underscore, and so no
+-- mark, all titles are the shortest. From `1` come `01`, and from `1_0` come `18 01`.
+pub record AreEncoded (one : Bool) (depth : ℕ) (text bytes : List ℕ) : Type 0 where
+  pub wanted : IsWanted one false depth bytes
+  pub shortest : has_underscore text ≡ false → IsWanted one true depth bytes
+
+-- `Ok`: the writer got the bytes of what is wanted. A fault of the notation has its place, line and column in the text
+-- of the reader. After it, and after a failed read, the writer has what it had. With `01` written, an item may make this
 -- `01 f5`, and such a fault leaves `01`.
-abbrev pub WritesNotation : {W : Type 0} → (W → Option (List ℕ)) → Bool → ℕ → List ℕ
+abbrev pub WritesNotation : {W : Type 0} → (W → Option (List ℕ)) → Bool → ℕ → Option (List ℕ) → W
     → Result (Unit {0}) EncodeFault → W → Type 0
-WritesNotation told one depth written (Ok done) writer =
-    (bytes : List ℕ) × IsWanted one false depth bytes × (told writer ≡ Some (written ++ bytes))
-WritesNotation told one depth written (Err (e.Notation fault)) writer = told writer ≡ Some written
-WritesNotation told one depth written (Err (e.Input error)) writer = told writer ≡ Some written
-WritesNotation told one depth written (Err (e.Output error)) writer = Unit {0}
+WritesNotation told one depth input old (Ok done) new = (text bytes : List ℕ) × IsWhole input text
+    × AreEncoded one depth text bytes × Appends (told old) (told new) bytes
+WritesNotation told one depth input old (Err (e.Notation fault)) new = (text : List ℕ) × IsWhole input text
+    × IsFaultIn text fault × Keeps (told old) (told new)
+WritesNotation told one depth input old (Err (e.Input error)) new = Keeps (told old) (told new)
+WritesNotation told one depth input old (Err (e.Output error)) new = Unit {0}

@@ -1,4 +1,8 @@
+pub mod Orders
 pub mod Arguments
+pub mod Given
+pub mod Deterministic
+pub mod Canon
 pub mod Encodes
 pub mod Inputs
 pub mod Patience

@@ -5,11 +5,14 @@ ghost use Rattle.std.specs.Prelude.{IfErr, IfNone, IfOk, IfSome, IsTrue, vec_cap
 ghost use Rattle.std.specs.declared.alloc.Global.{Global};
 ghost use Rattle.tool_files.specs.Arguments.{AsksAbout, AsksFor, AsksOf, IsHelp, IsOption, TakesValue, Wanted, Wish};
 ghost use Rattle.tool_files.specs.Arguments.{IsHelpWord, NamesTopic, choices_of, texts, wanted_by};
+ghost use Rattle.tool_files.specs.Orders.{order_name};
+ghost use Rattle.cbor_deterministic.specs.declared.Order.{Order as AnyOrder};
 ghost use Rattle.tool_files.specs.declared.options.Word.{Word};
 ghost use Rattle.tool_files.specs.declared.request.Topic.{Topic};
 
 pub use crate::options::{Colors, Options, View, Word};
 pub use crate::request::{Refusal, Request, Topic};
+use cbor_deterministic::Order;
 use cbor_diag::Layout;
 use tool_requests::number::{MOST_DEPTH, number_up_to};
 
@@ -26,6 +29,7 @@ impl Word {
             "dump" => Some(Word::Show(View::Titles)),
             "diag" => Some(Word::Show(View::Notation)),
             "encode" => Some(Word::Encode),
+            "canon" => Some(Word::Canon),
             _ => None,
         }
     }
@@ -49,11 +53,27 @@ impl Colors {
     }
 }
 
+/// Returns the order of keys that has this name.
+fn order_named(name: &str) -> Option<Order>
+    ensures some { IfSome result (λ order. name.now ≡ order_name order) }
+    ensures none { IfNone result ((order : AnyOrder) → name.now ≡ order_name order → ⊥) }
+{
+    match name {
+        "bytewise" => Some(Order::Bytewise),
+        "length-first" => Some(Order::LengthFirst),
+        _ => None,
+    }
+}
+
 /// One option, with its value.
 #[derive(Clone, Copy)]
 enum Setting {
     /// `--strict`
     Strict,
+    /// `--deterministic`
+    Deterministic,
+    /// `--order NAME`
+    Order(Order),
     /// `--one`
     One,
     /// `--names`
@@ -83,7 +103,8 @@ impl Setting {
             (Setting::Depth(_), _) => true,
             (Setting::Strict | Setting::Hex, Word::Check | Word::Show(_)) => true,
             (Setting::One, Word::Check | Word::Encode) => true,
-            (Setting::Names, Word::Check) => true,
+            (Setting::Names | Setting::Deterministic, Word::Check) => true,
+            (Setting::Order(_), Word::Check | Word::Canon) => true,
             (Setting::Offsets | Setting::Colors(_), Word::Show(View::Titles)) => true,
             (Setting::Pretty, Word::Show(View::Notation)) => true,
             _ => false,
@@ -98,6 +119,7 @@ impl Setting {
     {
         match name {
             "--strict" => Some(Setting::Strict),
+            "--deterministic" => Some(Setting::Deterministic),
             "--one" => Some(Setting::One),
             "--names" => Some(Setting::Names),
             "--hex" => Some(Setting::Hex),
@@ -118,6 +140,9 @@ impl Setting {
         }
         if name == "--color" {
             return Some(Setting::Colors(Colors::named(value)?));
+        }
+        if name == "--order" {
+            return Some(Setting::Order(order_named(value)?));
         }
         None
     }
@@ -175,11 +200,12 @@ impl Setting {
 fn takes_value(name: &str) -> bool
     ensures { IsTrue result ↔ TakesValue name.now }
 {
-    name == "--depth" || name == "--color"
+    name == "--depth" || name == "--color" || name == "--order"
 }
 
 impl Options {
     ghost use Rattle.tool_files.specs.Arguments.{AsksWith, IsShallow, default_choices, wish_of, with_setting};
+    ghost use Rattle.tool_files.specs.Arguments.{HasNeedlessOrder};
 
     /// Returns the options by default: bytes in any spelling, as many items as there are, to a depth of 256.
     pub fn new() -> Options
@@ -187,6 +213,8 @@ impl Options {
     {
         Options {
             strict: false,
+            deterministic: false,
+            order: None,
             one: false,
             names: false,
             hex: false,
@@ -204,6 +232,8 @@ impl Options {
     {
         match setting {
             Setting::Strict => self.strict = true,
+            Setting::Deterministic => self.deterministic = true,
+            Setting::Order(order) => self.order = Some(order),
             Setting::One => self.one = true,
             Setting::Names => self.names = true,
             Setting::Hex => self.hex = true,
@@ -212,6 +242,13 @@ impl Options {
             Setting::Pretty => self.layout = Layout::Indented,
             Setting::Depth(depth) => self.depth = depth,
         }
+    }
+
+    /// Returns whether an order of keys was given to a check that doesn't look at it.
+    fn has_needless_order(&self, word: Word) -> bool
+        ensures { IsTrue result ↔ HasNeedlessOrder word (choices_of self.now) }
+    {
+        matches!(word, Word::Check) && self.order.is_some() && !self.deterministic
     }
 
     /// Takes the options among the words, and puts the other words, which name files, into `files`.
@@ -285,6 +322,7 @@ fn is_option_of(word: Word, name: &str) -> bool {
     match (name, Setting::named(name)) {
         ("--depth", _) => true,
         ("--color", _) => Setting::Colors(Colors::Auto).is_known(word),
+        ("--order", _) => Setting::Order(Order::Bytewise).is_known(word),
         (_, Some(setting)) => setting.is_known(word),
         (_, None) => false,
     }
@@ -353,10 +391,12 @@ fn asked_of<'w>(
 {
     let mut options = Options::new();
     if options.take(word, words, files)? {
-        Ok(Request::Help(Topic::Word(word)))
-    } else {
-        Ok(Request::Look { word, options })
+        return Ok(Request::Help(Topic::Word(word)));
     }
+    if options.has_needless_order(word) {
+        return Err(Refusal::NeedlessOrder);
+    }
+    Ok(Request::Look { word, options })
 }
 
 /// Returns the request of a first word that is no word for a look at files.

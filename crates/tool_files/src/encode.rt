@@ -1,6 +1,5 @@
 //! The bytes that diagnostic notation spells.
 
-ghost use Rattle.std.specs.Prelude.{◌≡◌, ◌++◌, List, Some, OnOk, ℕ};
 ghost use Rattle.tool_files.specs.Encodes.{WritesNotation};
 
 use crate::options::Options;
@@ -22,7 +21,8 @@ pub enum EncodeFault {
 /// Reads diagnostic notation to its end, and writes the bytes that it spells. `--one` wants exactly one item, and
 /// otherwise any number of items may stand there. Tags, arrays and maps nest at most as deep as the options say.
 ///
-/// If the writer tells its bytes, `Ok` says that it got the bytes of such items, all of them.
+/// If the writer tells its bytes, `Ok` says that it got the bytes of such items, all of them. Without an underscore in
+/// the text all titles are the shortest. The text is held in memory, and so are its bytes.
 ///
 /// # Errors
 ///
@@ -35,8 +35,7 @@ pub fn encode_input<R: io::Read + Drop, W: io::Write>(
     writer: &mut W,
     options: Options,
 ) -> Result<(), EncodeFault>
-    ensures { (written : List ℕ) → W.contents writer.old ≡ Some written
-        → WritesNotation W.contents options.one options.depth written result writer.new }
+    ensures { WritesNotation W.contents options.one options.depth (R.remaining reader) writer.old result writer.new }
 {
     let mut text = Vec::new(alloc);
     reader.read_to_end(&mut text).map_err(EncodeFault::Input)?;

@@ -9,7 +9,7 @@ cbor 0.1.0
 ";
 
 /// The words of the program.
-pub const WORDS: [&str; 6] = ["check", "dump", "diag", "encode", "recode", "help"];
+pub const WORDS: [&str; 7] = ["check", "dump", "diag", "encode", "canon", "recode", "help"];
 
 /// Returns the text of a topic.
 pub fn help_text(topic: Topic) -> &'static str {
@@ -20,6 +20,7 @@ pub fn help_text(topic: Topic) -> &'static str {
         Topic::Word(Word::Show(View::Titles)) => DUMP,
         Topic::Word(Word::Show(View::Notation)) => DIAG,
         Topic::Word(Word::Encode) => ENCODE,
+        Topic::Word(Word::Canon) => CANON,
     }
 }
 
@@ -32,6 +33,7 @@ usage: cbor WORD [OPTION..] [FILE..]
     dump        shows files title by title
     diag        writes files in diagnostic notation
     encode      writes the bytes that diagnostic notation spells
+    canon       writes files in the deterministic encoding
     recode      copies elements as raw bytes, each in its shortest spelling
     help WORD   lists the options, the statuses and examples of a word, as WORD --help does
     --version   says the version
@@ -67,19 +69,26 @@ pub const CHECK: &str = "\
 usage: cbor check [OPTION..] [FILE..]
 
 Says whether each file is well-formed CBOR, as a sequence of items: ok ITEMS BYTES, or the first fault with its offset.
-The faults are syntax, short, break, deep and more.
+The faults are syntax, short, break, deep and more, and with --deterministic refused and more.
 
-    --strict    takes the shortest spelling alone
-    --depth N   takes tags, arrays and maps nested at most N levels deep. N is at most 256, which also holds without it
-    --one       wants exactly one item
-    --names     begins each answer with the name of the file, even if there is one file alone
-    --hex       reads hexadecimal digits, as docs/PROGRAM.md says
-    --help      prints this text, as -h does
+    --strict            takes the shortest spelling alone
+    --deterministic     takes the deterministic encoding alone (RFC 8949, 4.2), which is also the shortest spelling. Any
+                        other item is refused, with the reason. A file is held in memory
+    --order NAME        wants --deterministic: the keys of maps are in the order bytewise, which also holds without it,
+                        or length-first
+    --depth N           takes tags, arrays and maps nested at most N levels deep. N is at most 256, which also holds
+                        without it
+    --one               wants exactly one item
+    --names             begins each answer with the name of the file, even if there is one file alone
+    --hex               reads hexadecimal digits, as docs/PROGRAM.md says
+    --help              prints this text, as -h does
 
     $ printf '\\x82\\x01\\x02\\xf6' | ./cbor check
     ok 2 4
     $ printf '82 18' | ./cbor check --names --hex || true
     -: short 2
+    $ printf '81 18 01' | ./cbor check --deterministic --hex || true
+    refused 1: a shorter form says the same
 
 The status is 0 if each file is well-formed, 1 if a file is not, 2 after other arguments, 3 if a file can't be read or
 the output can't be written, and 141 if the reader of the output has gone away.
@@ -154,6 +163,28 @@ its file is written. A file is held in memory.
     cbor: -: line 2, column 1: expected a comma or a closing bracket
 
 The status is 0 if each file is such notation, 1 if a file is not, 2 after other arguments, 3 if a file can't be read or
+the output can't be written, and 141 if the reader of the output has gone away.
+";
+
+/// How `canon` is used.
+pub const CANON: &str = "\
+usage: cbor canon [OPTION..] [FILE..]
+
+Writes the items of the files in the deterministic encoding (RFC 8949, 4.2): the shortest titles and floats, no
+indefinite lengths, and the keys of each map in order. An item without it is named on standard error with its offset, as
+check does, and no byte of its file is written. A file is held in memory.
+
+    --order NAME    orders the keys of maps: bytewise, which also holds without it, or length-first
+    --depth N       takes tags, arrays and maps nested at most N levels deep. N is at most 256, which also holds without
+                    it
+    --help          prints this text, as -h does
+
+    $ printf '\\xa2\\x02\\x18\\x01\\x01\\xf6' | ./cbor canon | od -An -tx1
+     a2 01 f6 02 01
+    $ printf '\\xa2\\x01\\x02\\x01\\x03' | ./cbor canon 2>&1 || true
+    cbor: -: refused 3: the same key twice
+
+The status is 0 if each item has the encoding, 1 if one has not, 2 after other arguments, 3 if a file can't be read or
 the output can't be written, and 141 if the reader of the output has gone away.
 ";
 

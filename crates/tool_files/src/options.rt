@@ -1,8 +1,9 @@
 //! The words for a look at files, and their options.
 
-ghost use Rattle.std.specs.Prelude.{◌≤◌};
+ghost use Rattle.std.specs.Prelude.{◌≡◌, ◌≤◌};
 ghost use Rattle.ciborium_ll.specs.Limits.{MOST_LEVELS};
 
+use cbor_deterministic::Order;
 use cbor_diag::Layout;
 
 /// A word for a look at files.
@@ -14,6 +15,8 @@ pub enum Word {
     Show(View),
     /// It encodes the notation of the input.
     Encode,
+    /// It writes the input in the deterministic encoding.
+    Canon,
 }
 
 /// The view of an input.
@@ -41,6 +44,10 @@ pub enum Colors {
 pub struct Options {
     /// Whether only the shortest spelling is taken.
     pub strict: bool,
+    /// Whether only the deterministic encoding is taken.
+    pub deterministic: bool,
+    /// The order of keys in the deterministic encoding, if one was given. Otherwise it is the bytewise order.
+    pub order: Option<Order>,
     /// Whether exactly one item is wanted, in bytes or in notation.
     pub one: bool,
     /// Whether each answer has the file's name, even for a single file.
@@ -56,4 +63,18 @@ pub struct Options {
     /// How many levels deep tags, arrays and maps may be nested.
     pub depth: usize,
     ghost shallow: { depth ≤ MOST_LEVELS },
+}
+
+impl Options {
+    ghost use Rattle.tool_files.specs.Orders.{chosen_order};
+
+    /// Returns the order of keys: the one that was given, or the bytewise order.
+    pub fn key_order(self) -> Order
+        ensures { result ≡ chosen_order self.order }
+    {
+        match self.order {
+            Some(order) => order,
+            None => Order::Bytewise,
+        }
+    }
 }

@@ -76,6 +76,8 @@ pub enum Refusal<'w> {
         /// The text.
         value: &'w str,
     },
+    /// An order of keys without `--deterministic`, which alone looks at it.
+    NeedlessOrder,
     /// This word follows, and none may.
     Needless(&'w str),
 }

@@ -45,6 +45,7 @@ impl fmt::Display for Said<'_> {
                     values_for(option, value)
                 )?;
             }
+            Refusal::NeedlessOrder => f.write_str("--order wants --deterministic")?,
             Refusal::Needless(word) => write!(f, "\"{}\" is one word too many", Shown(word))?,
         }
         if let Some(name) = self.nearest {
@@ -71,13 +72,23 @@ fn name_of(word: Word) -> &'static str {
         Word::Show(View::Titles) => "dump",
         Word::Show(View::Notation) => "diag",
         Word::Encode => "encode",
+        Word::Canon => "canon",
     }
 }
 
 /// Returns the names of a word's options.
 pub fn options_of(word: Word) -> &'static [&'static str] {
     match word {
-        Word::Check => &["--strict", "--depth", "--one", "--names", "--hex", "--help"],
+        Word::Check => &[
+            "--strict",
+            "--deterministic",
+            "--order",
+            "--depth",
+            "--one",
+            "--names",
+            "--hex",
+            "--help",
+        ],
         Word::Show(View::Titles) => &[
             "--strict",
             "--depth",
@@ -88,15 +99,16 @@ pub fn options_of(word: Word) -> &'static [&'static str] {
         ],
         Word::Show(View::Notation) => &["--strict", "--depth", "--pretty", "--hex", "--help"],
         Word::Encode => &["--depth", "--one", "--help"],
+        Word::Canon => &["--order", "--depth", "--help"],
     }
 }
 
 /// Returns the values that an option takes.
 fn values_of(option: &str) -> &'static str {
-    if option == "--depth" {
-        "a number of at most 256"
-    } else {
-        "always, never or auto"
+    match option {
+        "--depth" => "a number of at most 256",
+        "--order" => "bytewise or length-first",
+        _ => "always, never or auto",
     }
 }
 

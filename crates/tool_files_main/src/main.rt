@@ -3,7 +3,7 @@
 //!
 //! It joins the words on its command line with the calls of the libraries. `check` says whether the bytes are
 //! well-formed, `dump` shows them title by title, `diag` writes them in diagnostic notation, and `encode` reads that
-//! notation.
+//! notation. `canon` writes the deterministic encoding of bytes.
 #![tactic(auto)]
 
 use cbor_encode::{Expected, NotationError};
@@ -13,7 +13,9 @@ use std::io::{BufWriter, IsTerminal};
 use std::process::ExitCode;
 use std::{env, io};
 use tool_files::arguments::{Colors, Options, Request, View, Word, asked_by};
+use tool_files::canon::canon_input;
 use tool_files::check::check_input;
+use tool_files::deterministic::check_deterministic;
 use tool_files::diag::diag_input;
 use tool_files::dump::dump_input;
 use tool_files::encode::{EncodeFault, encode_input};
@@ -140,6 +142,7 @@ fn run_stream<R: io::Read + Drop>(rt: &HostRuntime, task: Task, file: &str, read
         Word::Check => print_verdict(rt, task, file, check_stream(rt, reader, task.options)),
         Word::Show(view) => show_stream(rt, task, file, view, reader),
         Word::Encode => encode_stream(rt, task, file, reader),
+        Word::Canon => canon_stream(rt, task, file, reader),
     }
 }
 
@@ -148,7 +151,11 @@ fn check_stream<R: io::Read + Drop>(rt: &HostRuntime, reader: R, options: Option
     let is_on = rt.stderr().is_terminal() && !is_plain(rt) && !is_set(rt, "CI");
     let mut reader = Watched::new(reader, rt, is_on);
     let mut input = Input::new(&mut reader, options);
-    let verdict = check_input(&mut input, options);
+    let verdict = if options.deterministic {
+        check_deterministic(rt.alloc(), &mut input, options)
+    } else {
+        check_input(&mut input, options)
+    };
     let verdict = input.judge(verdict);
     reader.clear();
     verdict
@@ -196,14 +203,17 @@ fn show_stream<R: io::Read + Drop>(
     };
     match outcome {
         Ok(()) => Status::Well,
-        Err(verdict) => {
-            let status = verdict.status();
-            if !matches!(status, Status::Gone) {
-                let _ = eprintln!(rt; "cbor: {}: {verdict}", Shown(file));
-            }
-            status
-        }
+        Err(verdict) => name_fault(rt, file, verdict),
     }
+}
+
+/// Says on standard error why a file was not written whole. A reader that has gone away is no news.
+fn name_fault(rt: &impl Eprint, file: &str, verdict: Verdict) -> Status {
+    let status = verdict.status();
+    if !matches!(status, Status::Gone) {
+        let _ = eprintln!(rt; "cbor: {}: {verdict}", Shown(file));
+    }
+    status
 }
 
 /// Writes the view of a reader's bytes.
@@ -250,6 +260,15 @@ fn encode_stream<R: io::Read + Drop>(
             let _ = eprintln!(rt; "cbor: {}: {error}", Shown(file));
             status_of(error)
         }
+    }
+}
+
+/// Writes the bytes of a reader in the deterministic encoding.
+fn canon_stream<R: io::Read + Drop>(rt: &HostRuntime, task: Task, file: &str, reader: R) -> Status {
+    let mut writer = io::writer(rt);
+    match canon_input(rt.alloc(), reader, &mut writer, task.options) {
+        Ok(()) => Status::Well,
+        Err(fault) => name_fault(rt, file, fault.verdict()),
     }
 }
 
