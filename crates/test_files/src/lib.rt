@@ -1,10 +1,14 @@
 // SPDX-License-Identifier: Apache-2.0
-//! Tests of the program that looks at files: its answers to the words `check`, `dump`, `diag` and `encode`, and its
-//! arguments.
+//! Tests of the program that looks at files: its answers to the words `check`, `dump`, `diag`, `encode` and `canon`,
+//! and its arguments.
 #![tactic(auto)]
 
 #[cfg(test)]
+mod canons;
+#[cfg(test)]
 mod checks;
+#[cfg(test)]
+mod deterministic;
 #[cfg(test)]
 mod diags;
 #[cfg(test)]

@@ -326,7 +326,7 @@ pub static SPELLED: [(&str, &str, &str); 64] = [
 ];
 
 // Words, and the files that they name, if they ask for a look at files.
-pub static WORDS: [(&str, Option<&str>); 54] = [
+pub static WORDS: [(&str, Option<&str>); 79] = [
     ("check", Some("")),
     ("check -", Some("-")),
     ("check a b", Some("a b")),
@@ -350,6 +350,34 @@ pub static WORDS: [(&str, Option<&str>); 54] = [
     ("diag --pretty --strict --hex --depth 3 a", Some("a")),
     ("encode", Some("")),
     ("encode --one --depth 3 f", Some("f")),
+    ("check --deterministic --order length-first a", Some("a")),
+    ("check a --order=bytewise b --deterministic", Some("a b")),
+    ("check --deterministic --strict --hex", Some("")),
+    ("canon", Some("")),
+    ("canon --order length-first --depth 3 a -", Some("a -")),
+    ("canon a --order=bytewise", Some("a")),
+    ("check --order bytewise", None),
+    ("check --order=length-first a", None),
+    ("check --order", None),
+    ("check --deterministic --order", None),
+    ("check --deterministic --order sorted", None),
+    ("check --deterministic --order=", None),
+    ("check --deterministic --order Bytewise", None),
+    ("check --deterministic=1", None),
+    (
+        "check -- --deterministic --order",
+        Some("--deterministic --order"),
+    ),
+    ("dump --deterministic", None),
+    ("dump --order bytewise", None),
+    ("diag --deterministic", None),
+    ("encode --order=bytewise", None),
+    ("canon --deterministic", None),
+    ("canon --strict", None),
+    ("canon --hex", None),
+    ("canon --one", None),
+    ("canon --names", None),
+    ("canon --order canonical", None),
     ("dump --one", None),
     ("dump --pretty", None),
     ("dump --names", None),
@@ -387,7 +415,7 @@ pub static WORDS: [(&str, Option<&str>); 54] = [
 ];
 
 // Words, and the start of the text that they ask for.
-pub static HELPS: [(&str, &str); 14] = [
+pub static HELPS: [(&str, &str); 17] = [
     ("help", "usage: cbor WORD"),
     ("--help", "usage: cbor WORD"),
     ("-h", "usage: cbor WORD"),
@@ -396,47 +424,72 @@ pub static HELPS: [(&str, &str); 14] = [
     ("help dump", "usage: cbor dump"),
     ("--help diag", "usage: cbor diag"),
     ("help encode", "usage: cbor encode"),
+    ("help canon", "usage: cbor canon"),
     ("help recode", "usage: cbor recode"),
     ("check --help", "usage: cbor check"),
     ("dump a -h --bogus", "usage: cbor dump"),
     ("diag --pretty --help", "usage: cbor diag"),
     ("encode a --one -h", "usage: cbor encode"),
+    ("canon a --order=bytewise -h", "usage: cbor canon"),
+    ("check --order bytewise --help", "usage: cbor check"),
     ("--version", "cbor 0."),
 ];
 
 // Words that ask for nothing, and what is said of them.
-pub static REFUSALS: [(&str, &str); 16] = [
+pub static REFUSALS: [(&str, &str); 23] = [
     (
         "chek",
-        "no word \"chek\"; did you mean \"check\"?\ncbor: the words are check, dump, diag, encode, recode, help",
+        "no word \"chek\"; did you mean \"check\"?\ncbor: the words are check, dump, diag, encode, canon, recode, help",
     ),
     (
         "bogus",
-        "no word \"bogus\"\ncbor: the words are check, dump, diag, encode, recode, help",
+        "no word \"bogus\"\ncbor: the words are check, dump, diag, encode, canon, recode, help",
     ),
     (
         "recod 1",
-        "no word \"recod\"; did you mean \"recode\"?\ncbor: the words are check, dump, diag, encode, recode, help",
+        "no word \"recod\"; did you mean \"recode\"?\ncbor: the words are check, dump, diag, encode, canon, recode, help",
     ),
     (
         "help chek",
-        "no word \"chek\"; did you mean \"check\"?\ncbor: the words are check, dump, diag, encode, recode, help",
+        "no word \"chek\"; did you mean \"check\"?\ncbor: the words are check, dump, diag, encode, canon, recode, help",
     ),
     ("help check dump", "\"dump\" is one word too many"),
     ("--version 1", "\"1\" is one word too many"),
     (
         "check --strikt",
-        "check has no option \"--strikt\"; did you mean \"--strict\"?\ncbor: the options of check are --strict, --depth, --one, --names, --hex, --help",
+        "check has no option \"--strikt\"; did you mean \"--strict\"?\ncbor: the options of check are --strict, --deterministic, --order, --depth, --one, --names, --hex, --help",
     ),
     (
         "check --pretty=1",
-        "check has no option \"--pretty\"\ncbor: the options of check are --strict, --depth, --one, --names, --hex, --help",
+        "check has no option \"--pretty\"\ncbor: the options of check are --strict, --deterministic, --order, --depth, --one, --names, --hex, --help",
     ),
     (
         "encode --strict",
         "encode has no option \"--strict\"\ncbor: the options of encode are --depth, --one, --help",
     ),
     ("encode --one=1", "--one takes no value"),
+    (
+        "canon --strict",
+        "canon has no option \"--strict\"\ncbor: the options of canon are --order, --depth, --help",
+    ),
+    (
+        "canon --order sorted a",
+        "--order sorted: bytewise or length-first",
+    ),
+    (
+        "check --deterministic --order=1",
+        "--order 1: bytewise or length-first",
+    ),
+    (
+        "check --deterministic --order",
+        "--order wants a value: bytewise or length-first",
+    ),
+    ("check --order bytewise", "--order wants --deterministic"),
+    (
+        "check a --order=length-first b",
+        "--order wants --deterministic",
+    ),
+    ("check --deterministic=1", "--deterministic takes no value"),
     ("check a --depth 300", "--depth 300: at most 256"),
     ("check --depth=300", "--depth 300: at most 256"),
     ("check --depth 03", "--depth 03: a number of at most 256"),

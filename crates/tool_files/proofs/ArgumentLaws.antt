@@ -283,8 +283,8 @@ pub needless_asks_nothing : (word : Word) (words : List (String Global)) (choice
     → AsksWith word default_choices words (look choices files) → HasNeedlessOrder word choices → (wanted : Wanted)
     → AsksOf word words wanted → ⊥
 needless_asks_nothing word words choices files asks needless wanted (wish, other, taken, is) =
-    subst (λ (z : Wish). IsTaken word z) (asks_once word default_choices words wish (look choices files) other asks) taken
-    needless
+    let same = asks_once word default_choices words wish (look choices files) other asks in
+    subst (λ (z : Wish). IsTaken word z) same taken needless
 
 pub empty_of : (words : List (String Global)) → length words ≡ 0 → words ≡ []
 empty_of [] none = refl

@@ -1,6 +1,6 @@
 -- The places of refusals, and the encodings of one item more.
-use Rattle.std.proofs.Common.{◌≡◌, ◌≤◌, ◌+◌, ◌-◌, ℕ, List, [], ◌++◌, length, arith, Bool, false, Option, None, Some, IfSome}
-use Rattle.std.proofs.Common.{length-append, append_assoc, refl, sym, ◌∙◌, ap, subst, ◌^◌, ◌<◌, min, ◌∷◌}
+use Rattle.std.proofs.Common.{◌≡◌, ◌≤◌, ◌+◌, ◌-◌, ℕ, List, [], ◌++◌, length, arith, Bool, false, Option, None, Some}
+use Rattle.std.proofs.Common.{IfSome, length-append, append_assoc, refl, sym, ◌∙◌, ap, subst, ◌^◌, ◌<◌, min, ◌∷◌}
 use Rattle.ciborium_ll_grammar.specs.Faults.{Answer, BodyDue, Due, FirstFault, In, Point, Syntax}
 use Rattle.ciborium_ll_grammar.specs.Faults.{CutTitle, NoTitle, LongTitle, OtherTitle, DamagedText, CutBody}
 use Rattle.ciborium_ll_grammar.specs.Faults.{CutDamagedText}
@@ -61,8 +61,8 @@ syntax_within : (strict : Bool) (depth : ℕ) (bytes : List ℕ) (at : ℕ) (fau
     → fault.answer ≡ Syntax at → at ≤ length bytes
 syntax_within strict depth bytes at fault is = omega (
   arith,
-  fault_within strict fault.before [] fault.point fault.ahead fault.answer fault.written fault.consumed at fault.fault is
-      (reach_within strict depth fault.before fault.point fault.reach),
+  fault_within strict fault.before [] fault.point fault.ahead fault.answer fault.written fault.consumed at fault.fault
+      is (reach_within strict depth fault.before fault.point fault.reach),
   ap (length {A = ℕ}) fault.is,
   length-append fault.before fault.ahead,
 )
@@ -130,6 +130,7 @@ module _ (order : Order) (depth : ℕ) where
     pub are : AreRewritten order depth items encodings
     pub whole : bytes ≡ items ++ rest
 
+  -- One more item, and its encoding.
   pub rewrites_more : (bytes encodings rest behind encoding : List ℕ) → Rewrites bytes encodings rest
       → IsCanonical order depth rest behind encoding → Rewrites bytes (encodings ++ encoding) behind
   rewrites_more bytes encodings rest behind encoding so_far one = record {

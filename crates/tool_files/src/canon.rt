@@ -1,10 +1,9 @@
 //! The word `canon`.
 
-ghost use Rattle.std.specs.Prelude.{◌≤◌, MatchResult};
+ghost use Rattle.std.specs.Prelude.{◌≡◌, ◌≤◌, MatchResult};
 ghost use Rattle.ciborium_ll.specs.Limits.{MOST_LEVELS};
 ghost use Rattle.tool_files.specs.Canon.{AreRewritten, AreUnwritten, IsErrorAt, WritesCanon, refusal_said};
 ghost use Rattle.tool_files.specs.Orders.{chosen_order};
-ghost use Rattle.std.specs.Prelude.{◌≡◌};
 
 use crate::options::Options;
 use cbor_canonical::{CanonicalError, Refusal, Why, canonical};
@@ -64,9 +63,9 @@ fn refusal_verdict(why: Why, place: usize) -> Verdict
     }
 }
 
-/// Reads bytes to their end, and writes the deterministic encoding of each of their items (RFC 8949, 4.2). Any number of
-/// items may stand there (RFC 8742). The options have the order of keys. Tags, arrays and maps nest at most as deep as
-/// the options say.
+/// Reads bytes to their end, and writes the deterministic encoding of each of their items (RFC 8949, 4.2). Any number
+/// of items may stand there (RFC 8742). The options have the order of keys. Tags, arrays and maps nest at most as deep
+/// as the options say.
 ///
 /// If the writer tells its bytes, `Ok` says that it got these encodings, all of them. The input is held in memory, and
 /// so are the encodings.

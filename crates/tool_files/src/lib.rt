@@ -2,9 +2,9 @@
 //! Looks at files of CBOR, over any reader and writer of std.
 //!
 //! `check` says whether bytes are well-formed, `dump` shows them title by title, `diag` writes them in diagnostic
-//! notation, and `encode` reads that notation. `canon` writes the deterministic encoding of bytes. Each function is safe and returns. Contracts say which request the words
-//! of the command line spell, and that each input is read from its start with the options that they set. Tests try the
-//! printed texts.
+//! notation, and `encode` reads that notation. `canon` writes the deterministic encoding of bytes. Each function is safe
+//! and returns. Contracts say which request the words of the command line spell, and that each input is read from its
+//! start with the options that they set. Tests try the printed texts.
 #![tactic(auto)]
 
 pub mod arguments;

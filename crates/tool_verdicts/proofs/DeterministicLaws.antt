@@ -140,10 +140,11 @@ module _ (ord : Order) (e : ℕ) (bytes : List ℕ) where
       let one = one_place ord e r.place s.place bytes r.why s.why h k in
       ap v.Refused (same_refusal r s one.0 one.1)
 
-  -- The verdict is the one that is found.
+  -- The verdict on one item is the one that is found.
   pub one_exactly : (a : Verdict) → FindsOne ord e bytes a → (b : Verdict) → (a ≡ b ↔ FindsOne ord e bytes b)
   one_exactly a found b = (λ same. subst (λ (x : Verdict). FindsOne ord e bytes x) same found, one_once a b found)
 
+  -- The verdict on a sequence is the one that is found.
   pub all_exactly : (a : Verdict) → FindsAll ord e bytes a → (b : Verdict) → (a ≡ b ↔ FindsAll ord e bytes b)
   all_exactly a found b = (λ same. subst (λ (x : Verdict). FindsAll ord e bytes x) same found, all_once a b found)
 
@@ -166,6 +167,7 @@ module _ (ord : Order) (e : ℕ) (bytes : List ℕ) where
       (subst (λ (z : List ℕ). AreDeterministic ord e (suc n) z) (sym (take-add start len bytes))
       (one_more e n (take start bytes) (take len (drop start bytes)) are h.is_item))
 
+  -- An item has a byte, by its length.
   pub item_len : (start len : ℕ) → HasDeterministic ord e (drop start bytes) len → 0 < len
   item_len start len h = omega (
     arith,

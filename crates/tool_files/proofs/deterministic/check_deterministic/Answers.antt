@@ -13,7 +13,8 @@ returns-in-Ok g c =
     given _ c.new-bytes.result.items bytes c.new-bytes.ensures.items c.in-Ok.ensures.bytes in
     let finds : FindsDeterministic c.args.options.one (chosen_order c.args.options.order) c.args.options.depth bytes
     c.check_bytes.result =
-    rw (c.key_order.ensures, c.as_slice.ensures.value) at ((c.check_bytes.ensures.exactly c.check_bytes.result).0 refl) in
+    rw (c.key_order.ensures, c.as_slice.ensures.value) at ((c.check_bytes.ensures.exactly c.check_bytes.result).0
+    refl) in
     found bytes all finds
 
 pub returns : goal.returns

@@ -43,7 +43,8 @@ returns-in-Err c =
     record {
       exactly = all_exactly c.args.order c.args.depth c.args.bytes.now _
           (stops_there c.args.order c.args.depth c.args.bytes.now c.items.items c.items.start c.in-Err.refusal.place
-          (c.items.start + c.in-Err.refusal.place) c.in-Err.refusal.why c.items.invariant.are c.items-test.true there refl);
+          (c.items.start + c.in-Err.refusal.place) c.in-Err.refusal.why c.items.invariant.are c.items-test.true there
+          refl);
     }
 
 pub returns : goal.returns
