@@ -263,7 +263,8 @@ abbrev pub HasNeedlessOrder : Word → Choices → Type 0
 HasNeedlessOrder w.Check choices = IsSome choices.order × (choices.deterministic ≡ false)
 HasNeedlessOrder word choices = ⊥
 
--- The program takes the wish: no order of keys is needless. A wish for help is taken.
+-- The program takes the wish: no order of keys is needless. A wish for help is taken, as that of
+-- `check --order bytewise --help`.
 abbrev pub IsTaken : Word → Wish → Type 0
 IsTaken word (look choices files) = HasNeedlessOrder word choices → ⊥
 IsTaken word help = Unit {0}

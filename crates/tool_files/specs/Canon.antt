@@ -18,8 +18,8 @@ use Rattle.tool_files.specs.Given.{IsWhole}
 use Rattle.tool_files.specs.declared.canon.CanonFault.{CanonFault}
 use Rattle.tool_files.specs.declared.canon.CanonFault.TheVariants as c
 
--- `AreRewritten order depth items encodings`: items of any spelling, joined, and their deterministic encodings, joined
--- in the same order. The items `18 01 9f ff` have the encodings `01 80`.
+-- `AreRewritten order depth items encodings`: items of any spelling, joined, and the deterministic encodings of their
+-- values, joined in the same sequence. To a depth of 1 the items `18 01 9f ff` have the encodings `01 80`.
 pub data AreRewritten (order : Order) (depth : ℕ) : List ℕ → List ℕ → Type 0 where
   none : AreRewritten order depth [] []
   more : {items encodings item encoding : List ℕ} → AreRewritten order depth items encodings
@@ -73,7 +73,8 @@ refusal_said w.Deep place = v.Deep place
 refusal_said w.NoSimple place = v.Refused (record { why = d.NoSimple; place = place })
 refusal_said w.DuplicateKey place = v.Refused (record { why = d.DuplicateKey; place = place })
 
--- The verdict says the fault. Without memory it is that of a failed read of the kind `OutOfMemory`.
+-- The verdict says the fault: `short 3` for `Cut` at 3. Without memory it is that of a failed read of the kind
+-- `OutOfMemory`.
 abbrev pub SaysFault : CanonFault → Verdict → Type 0
 SaysFault (c.Unwritten (Refused refusal)) verdict = verdict ≡ refusal_said refusal.why refusal.place
 SaysFault (c.Unwritten Memory) (v.Failed error) = error_kind error ≡ k.OutOfMemory

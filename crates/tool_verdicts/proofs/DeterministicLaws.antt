@@ -15,8 +15,8 @@ use Rattle.cbor_deterministic.proofs.NoneLaws.{item_none}
 use Rattle.cbor_deterministic.proofs.OneFault.{one_place}
 use Rattle.tool_verdicts.specs.declared.verdict.Verdict.{Verdict}
 use Rattle.tool_verdicts.specs.declared.verdict.Verdict.TheVariants as v
-use Rattle.tool_verdicts.specs.Deterministic.{FindsAll, FindsOne, StopsAfter, are_items, is_followed, is_item}
-use Rattle.tool_verdicts.specs.Deterministic.{is_refused, stops}
+use Rattle.tool_verdicts.specs.Deterministic.{FindsEncodings, FindsEncoding, StopsAfter, are_items, is_followed}
+use Rattle.tool_verdicts.specs.Deterministic.{is_item, is_refused, stops}
 
 -- No item begins the bytes.
 abbrev NoneFrom : Order → ℕ → List ℕ → Type 0
@@ -89,7 +89,7 @@ module _ (ord : Order) (e : ℕ) (bytes : List ℕ) where
       q.some (sym z.1)
 
   -- Bytes have one verdict.
-  pub all_once : (a b : Verdict) → FindsAll ord e bytes a → FindsAll ord e bytes b → a ≡ b
+  pub all_once : (a b : Verdict) → FindsEncodings ord e bytes a → FindsEncodings ord e bytes b → a ≡ b
   all_once a b (are_items {items = n} p) (are_items {items = m} q) =
       let z = same_run e n bytes p m bytes [] [] q (none_at_end e) (none_at_end e) refl in
       ap (λ (k : ℕ). v.Well k (length bytes)) z.0
@@ -125,7 +125,7 @@ module _ (ord : Order) (e : ℕ) (bytes : List ℕ) where
       )
 
   -- Bytes have one verdict if one item is wanted.
-  pub one_once : (a b : Verdict) → FindsOne ord e bytes a → FindsOne ord e bytes b → a ≡ b
+  pub one_once : (a b : Verdict) → FindsEncoding ord e bytes a → FindsEncoding ord e bytes b → a ≡ b
   one_once a b (is_item p) (is_item q) = refl
   one_once a b (is_item p) (is_followed h less) = absurd (not_followed _ p h less)
   one_once a b (is_item p) (is_refused {refusal = r} h) = absurd (not_refused r bytes [] h p all_seen)
@@ -141,21 +141,22 @@ module _ (ord : Order) (e : ℕ) (bytes : List ℕ) where
       ap v.Refused (same_refusal r s one.0 one.1)
 
   -- The verdict on one item is the one that is found.
-  pub one_exactly : (a : Verdict) → FindsOne ord e bytes a → (b : Verdict) → (a ≡ b ↔ FindsOne ord e bytes b)
-  one_exactly a found b = (λ same. subst (λ (x : Verdict). FindsOne ord e bytes x) same found, one_once a b found)
+  pub one_exactly : (a : Verdict) → FindsEncoding ord e bytes a → (b : Verdict) → (a ≡ b ↔ FindsEncoding ord e bytes b)
+  one_exactly a found b = (λ same. subst (λ (x : Verdict). FindsEncoding ord e bytes x) same found, one_once a b found)
 
   -- The verdict on a sequence is the one that is found.
-  pub all_exactly : (a : Verdict) → FindsAll ord e bytes a → (b : Verdict) → (a ≡ b ↔ FindsAll ord e bytes b)
-  all_exactly a found b = (λ same. subst (λ (x : Verdict). FindsAll ord e bytes x) same found, all_once a b found)
+  pub all_exactly : (a : Verdict) → FindsEncodings ord e bytes a → (b : Verdict)
+      → (a ≡ b ↔ FindsEncodings ord e bytes b)
+  all_exactly a found b = (λ same. subst (λ (x : Verdict). FindsEncodings ord e bytes x) same found, all_once a b found)
 
   -- An item that takes all bytes.
   pub one_whole : (len : ℕ) → HasDeterministic ord e bytes len → length bytes ≤ len
-      → FindsOne ord e bytes (v.Well 1 len)
+      → FindsEncoding ord e bytes (v.Well 1 len)
   one_whole len h all =
       let same : length bytes ≡ len = omega (arith, h.enough) in
       let whole : take len bytes ≡ bytes = ap (λ (n : ℕ). take n bytes) (sym same)
       ∙ ap (take (length bytes)) all_seen ∙ take-append_seam bytes [] in
-      subst (λ (n : ℕ). FindsOne ord e bytes (v.Well 1 n)) same
+      subst (λ (n : ℕ). FindsEncoding ord e bytes (v.Well 1 n)) same
       (is_item (subst (λ (z : List ℕ). IsDeterministic ord e z) whole h.is_item))
 
   -- One more item after the items of a front.
@@ -178,7 +179,7 @@ module _ (ord : Order) (e : ℕ) (bytes : List ℕ) where
   -- A refusal after the items of a front.
   pub stops_there : (n start at place : ℕ) (why : Why) → AreDeterministic ord e n (take start bytes)
       → start < length bytes → HasRefusal ord e (drop start bytes) why at → place ≡ start + at
-      → FindsAll ord e bytes (v.Refused (record { why = why; place = place }))
+      → FindsEncodings ord e bytes (v.Refused (record { why = why; place = place }))
   stops_there n start at place why are less h is = stops {items = n} (record {
     before = take start bytes;
     ahead = drop start bytes;
@@ -192,9 +193,9 @@ module _ (ord : Order) (e : ℕ) (bytes : List ℕ) where
 
   -- The items of a front that is all bytes.
   pub all_whole : (n start : ℕ) → AreDeterministic ord e n (take start bytes) → start ≡ length bytes
-      → FindsAll ord e bytes (v.Well n start)
+      → FindsEncodings ord e bytes (v.Well n start)
   all_whole n start are is =
       let whole : take start bytes ≡ bytes = ap (λ (n : ℕ). take n bytes) is
       ∙ ap (take (length bytes)) all_seen ∙ take-append_seam bytes [] in
-      subst (λ (m : ℕ). FindsAll ord e bytes (v.Well n m)) (sym is)
+      subst (λ (m : ℕ). FindsEncodings ord e bytes (v.Well n m)) (sym is)
       (are_items (subst (λ (z : List ℕ). AreDeterministic ord e n z) whole are))

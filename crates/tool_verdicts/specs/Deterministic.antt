@@ -21,21 +21,21 @@ pub record StopsAfter (order : Order) (depth items : ℕ) (bytes : List ℕ) (re
 
 -- The verdict on a sequence (RFC 8742): its numbers of items and of bytes, or the first refusal. `01 80` has 2 items in
 -- 2 bytes, `01 18 17` is refused at 1, and no bytes are 0 items.
-pub data FindsAll (order : Order) (depth : ℕ) (bytes : List ℕ) : Verdict → Type 0 where
+pub data FindsEncodings (order : Order) (depth : ℕ) (bytes : List ℕ) : Verdict → Type 0 where
   are_items : {items : ℕ} → AreDeterministic order depth items bytes
-      → FindsAll order depth bytes (v.Well items (length bytes))
+      → FindsEncodings order depth bytes (v.Well items (length bytes))
   stops : {items : ℕ} {refusal : Refusal} → StopsAfter order depth items bytes refusal
-      → FindsAll order depth bytes (v.Refused refusal)
+      → FindsEncodings order depth bytes (v.Refused refusal)
 
 -- The verdict if one item is wanted. In `01 80` more bytes follow the item, from 1 on. No bytes are refused at 0.
-pub data FindsOne (order : Order) (depth : ℕ) (bytes : List ℕ) : Verdict → Type 0 where
-  is_item : IsDeterministic order depth bytes → FindsOne order depth bytes (v.Well 1 (length bytes))
+pub data FindsEncoding (order : Order) (depth : ℕ) (bytes : List ℕ) : Verdict → Type 0 where
+  is_item : IsDeterministic order depth bytes → FindsEncoding order depth bytes (v.Well 1 (length bytes))
   is_followed : {place : ℕ} → HasDeterministic order depth bytes place → place < length bytes
-      → FindsOne order depth bytes (v.More place)
+      → FindsEncoding order depth bytes (v.More place)
   is_refused : {refusal : Refusal} → HasRefusal order depth bytes refusal.why refusal.place
-      → FindsOne order depth bytes (v.Refused refusal)
+      → FindsEncoding order depth bytes (v.Refused refusal)
 
 -- The verdict on one item or on a sequence, as is wanted. `80` is one item in 1 byte for both.
 abbrev pub FindsDeterministic : Bool → Order → ℕ → List ℕ → Verdict → Type 0
-FindsDeterministic true order depth bytes verdict = FindsOne order depth bytes verdict
-FindsDeterministic false order depth bytes verdict = FindsAll order depth bytes verdict
+FindsDeterministic true order depth bytes verdict = FindsEncoding order depth bytes verdict
+FindsDeterministic false order depth bytes verdict = FindsEncodings order depth bytes verdict

@@ -2,7 +2,7 @@
 
 ghost use Rattle.std.specs.Prelude.{◌≤◌, ◌≡◌, ◌↔◌};
 ghost use Rattle.ciborium_ll.specs.Limits.{MOST_LEVELS};
-ghost use Rattle.tool_verdicts.specs.Deterministic.{FindsAll, FindsOne, FindsDeterministic};
+ghost use Rattle.tool_verdicts.specs.Deterministic.{FindsEncodings, FindsEncoding, FindsDeterministic};
 ghost use Rattle.tool_verdicts.specs.declared.verdict.Verdict.{Verdict as AnyVerdict};
 
 use crate::verdict::Verdict;
@@ -33,7 +33,7 @@ pub fn check_bytes(bytes: &[u8], one: bool, depth: usize, order: Order) -> Verdi
 /// Checks that the bytes are one item.
 fn check_one(bytes: &[u8], depth: usize, order: Order) -> Verdict
     requires { depth ≤ MOST_LEVELS }
-    ensures exactly { (verdict : AnyVerdict) → (result ≡ verdict ↔ FindsOne order depth bytes.now verdict) }
+    ensures exactly { (verdict : AnyVerdict) → (result ≡ verdict ↔ FindsEncoding order depth bytes.now verdict) }
 {
     match deterministic_len(bytes, depth, order) {
         Ok(len) => {
@@ -53,7 +53,7 @@ fn check_one(bytes: &[u8], depth: usize, order: Order) -> Verdict
 /// Checks that the bytes are a sequence of items.
 fn check_all(bytes: &[u8], depth: usize, order: Order) -> Verdict
     requires { depth ≤ MOST_LEVELS }
-    ensures exactly { (verdict : AnyVerdict) → (result ≡ verdict ↔ FindsAll order depth bytes.now verdict) }
+    ensures exactly { (verdict : AnyVerdict) → (result ≡ verdict ↔ FindsEncodings order depth bytes.now verdict) }
 {
     let mut items = 0;
     let mut start = 0;
