@@ -113,32 +113,35 @@ abbrev pub MovesPairs : ℕ → ℕ → ℕ → List Span → List ℕ → List 
 MovesPairs at end after spans old new = AllByRecursion (IsWithin at end) spans
     → Adds (joined_pairs (entries_at old spans)) at after old new
 
--- The pairs stand from one offset of the output to another, one after the other, at these places.
+-- The pairs stand from one offset of the output to another, one after the other, at these places. In `02 01 01 02` two
+-- pairs stand from 0 to 4, at the places 0, 1, 2 and 2, 3, 4.
 pub record ArePlaced (at end : ℕ) (spans : List Span) (out : List ℕ) (entries : List Entry) : Type 0 where
   pub places : spans ≡ spans_of at entries
   pub wrote : take end out ≡ take at out ++ joined_pairs entries
 
--- The call put the pairs in the order of their keys.
+-- The call put the pairs in the order of their keys. It makes `01 02 02 01` of `02 01 01 02`.
 pub record IsOrdered (order : Order) (at after : ℕ) (entries : List Entry) (old new : List ℕ) : Type 0 where
   pub sorted : List Entry
   pub same : IsPermutation entries sorted
   pub up : DoAscend order sorted
   pub wrote : Adds (joined_pairs sorted) at after old new
 
--- Two of the pairs have the same key.
+-- Two of the pairs have the same key, as in `01 02 01 03`.
 pub record IsRepeated (entries : List Entry) : Type 0 where
   pub sorted : List Entry
   pub same : IsPermutation entries sorted
   pub equal : HasEqualKeys sorted
 
--- Why pairs are not put in order: two have the same key, or the memory is too small.
+-- Why pairs are not put in order: two have the same key, or the memory is too small. For `01 02 01 03` it is
+-- `Duplicate`.
 abbrev pub StopsOrder : List Entry → Stop → Type 0
 StopsOrder entries (stop.Duplicate left) = IsRepeated entries
 StopsOrder entries stop.Room = Unit {0}
 StopsOrder entries stop.Malformed = ⊥
 StopsOrder entries (stop.NoSimple left) = ⊥
 
--- The call put the pairs at these places in the order of their keys, or says why not.
+-- The call put the pairs at these places in the order of their keys, or says why not. Of `02 01 01 02` it makes `01 02
+-- 02 01`, and for `01 02 01 03` it says `Duplicate`.
 abbrev pub OrdersPairs : Order → ℕ → ℕ → List Span → List ℕ → Result ℕ Stop → List ℕ → Type 0
 OrdersPairs order at end spans old result new = (entries : List Entry) → ArePlaced at end spans old entries
     → MatchResult result (λ after. IsOrdered order at after entries old new) (StopsOrder entries)
