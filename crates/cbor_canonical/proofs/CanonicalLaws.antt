@@ -1,5 +1,5 @@
 -- Laws of the rewriting, and of its refusals.
-use Rattle.std.proofs.Common.{◌≡◌, ℕ, ◌+◌, ◌<◌, List, [], ◌++◌, length, refl, sym, ◌∙◌, ap, subst, arith, false, Bool}
+use Rattle.std.proofs.Common.{◌≡◌, ℕ, ◌+◌, ◌-◌, ◌<◌, List, [], ◌++◌, length, length-append, refl, sym, ◌∙◌, ap, subst, arith, false, Bool}
 use Rattle.std.proofs.Common.{IsTrue, Some, Result, Ok, Err, MatchResult}
 use Rattle.ciborium_ll_io.specs.declared.io.Read.{Ghosts}
 use Rattle.ciborium_ll_grammar.specs.Items.{IsItem}
@@ -20,7 +20,8 @@ use Rattle.cbor_deterministic.specs.Values.{Value, Same}
 use Rattle.cbor_deterministic.proofs.OneValue.{one_value}
 use Rattle.cbor_deterministic.proofs.Law.{one_deterministic, some_value}
 use Rattle.cbor_canonical.specs.Canonical.{IsRewritten, IsCanonical, IsFittingSpelling}
-use Rattle.cbor_canonical.specs.Refusals.{HasRefusal, HasWhy, IsRefusalOf, IsUnwritten}
+use Rattle.cbor_canonical.specs.Meeting.{MeetsAt, IsNoValue}
+use Rattle.cbor_canonical.specs.Refusals.{HasRefusal, HasNoSimple, HasWhy, IsRefusalOf, IsUnwritten}
 use Rattle.cbor_canonical.specs.Runs.{Turns, FailsItem}
 use Rattle.cbor_canonical.specs.declared.Stop.{Stop}
 use Rattle.cbor_canonical.specs.declared.Stop.TheVariants as st
@@ -120,18 +121,43 @@ is_canonical ord d bytes rest start written e t = record {
   is = subst (λ (z : List ℕ). IsRewritten ord d t.front z) (sym (t.wrote ∙ ap (λ (z : List ℕ). z ++ t.written) e)) t.is;
 }
 
-pub no_simple : (d left : ℕ) (bytes : List ℕ) (stop : Stop) (error : CanonicalError) → HasWhy w.NoSimple error
-    → BeginsWithItem false d bytes → stop ≡ st.NoSimple left → FailsItem d bytes stop → IsUnwritten d bytes error
-no_simple d left bytes stop (Refused r) e i s q = rw e (i, subst (λ (z : Stop). FailsItem d bytes z) s q)
+-- A simple value that a call meets is one in the item, at the place that many bytes before the end.
+no_simple_there : (d left place : ℕ) (bytes : List ℕ) → MeetsAt (IsNoValue left) d bytes
+    → place ≡ length bytes - left → HasNoSimple d bytes place
+no_simple_there d left place bytes m e =
+    let due = m.due false in
+    let long = m.is.left_is in
+    record {
+      before = m.before;
+      number = m.is.number;
+      rest = m.is.rest;
+      levels = m.levels;
+      closable = due.0;
+      item_due = due.1;
+      least = m.is.least;
+      most = m.is.most;
+      is = m.whole ∙ ap (λ (z : List ℕ). m.before ++ z) m.is.is;
+      place_is = omega (arith, e, long, ap (length {A = ℕ}) m.whole, length-append m.before m.tail);
+    }
+
+pub no_simple : (d left : ℕ) (bytes : List ℕ) (stop : Stop) (error : CanonicalError)
+    → HasWhy w.NoSimple (length bytes - left) error → BeginsWithItem false d bytes → stop ≡ st.NoSimple left
+    → FailsItem d bytes stop → IsUnwritten d bytes error
+no_simple d left bytes stop (Refused r) e i s q =
+    let f = subst (λ (z : Stop). FailsItem d bytes z) s q in
+    rw e.0 (i, f.0, no_simple_there d left r.place bytes f.1 e.1)
 no_simple d left bytes stop Memory e i s q = tt
 
-pub duplicate_key : (d left : ℕ) (bytes : List ℕ) (stop : Stop) (error : CanonicalError) → HasWhy w.DuplicateKey error
-    → BeginsWithItem false d bytes → stop ≡ st.Duplicate left → FailsItem d bytes stop → IsUnwritten d bytes error
-duplicate_key d left bytes stop (Refused r) e i s q = rw e (i, subst (λ (z : Stop). FailsItem d bytes z) s q)
+pub duplicate_key : (d left : ℕ) (bytes : List ℕ) (stop : Stop) (error : CanonicalError)
+    → HasWhy w.DuplicateKey (length bytes - left) error → BeginsWithItem false d bytes → stop ≡ st.Duplicate left
+    → FailsItem d bytes stop → IsUnwritten d bytes error
+duplicate_key d left bytes stop (Refused r) e i s q =
+    let f = subst (λ (z : Stop). FailsItem d bytes z) s q in
+    rw e.0 (i, f.0)
 duplicate_key d left bytes stop Memory e i s q = tt
 
 pub item_there : (d : ℕ) (bytes : List ℕ) (stop : Stop) → BeginsWithItem false d bytes → stop ≡ st.Malformed
     → FailsItem d bytes stop → ⊥
 item_there d bytes stop i s q =
-    subst (λ (z : Stop). FailsItem d bytes z) s q i.rest
+    (subst (λ (z : Stop). FailsItem d bytes z) s q).0 i.rest
     (record { front = i.item; is = i.is_item; whole = i.is })

@@ -41,6 +41,11 @@ use Rattle.cbor_canonical.specs.Runs.{more_joined, FailsItem, FailsRest, FailsNe
 use Rattle.cbor_canonical.specs.Runs.{Entry}
 use Rattle.cbor_canonical.specs.declared.Stop.{Stop}
 use Rattle.cbor_canonical.specs.declared.Stop.TheVariants as st
+use Rattle.ciborium_ll_grammar.proofs.ItemJoins.{item_before}
+use Rattle.cbor_canonical.specs.Meeting.{MeetsFault}
+use Rattle.cbor_canonical.specs.Runs.{FailsAfter, FailsItems, FailsPairs, FailsPair}
+use Rattle.cbor_canonical.proofs.MeetRuns.{fault_nest, fault_more, fault_tag, fault_key, fault_value, fault_pairs}
+use Rattle.cbor_canonical.proofs.MeetRuns.{takes_item, small_met}
 use Rattle.cbor_canonical.proofs.TitleRuns.{none_there}
 
 -- ---- items that were read
@@ -81,6 +86,21 @@ read_pairs {ord = ord} d n bytes es q e = subst (λ (m : ℕ). AreJoined (IsPair
           value_is = read_of d r.value x.value r.value_is;
           whole = r.whole;
         }) (go o ys rs)
+
+pub are_read : (d n : ℕ) (w : List ℕ) → AreJoined (IsRead d) n w → AreItems false d n w
+are_read d n w none_joined = none_any
+are_read d n w (more_joined {count = k} {first = f} {others = o} p ps) =
+    item_before false d k f o p.is_item (are_read d k o ps)
+
+pub pairs_read : (d n : ℕ) (w : List ℕ) → AreJoined (IsPairRead d) n w → AreItems false d (2 * n) w
+pairs_read d n w none_joined = none_any
+pairs_read d n w (more_joined {count = k} {first = f} {others = o} p ps) =
+    let two : suc (suc (2 * k)) ≡ 2 * suc k = omega arith in
+    subst (λ (j : ℕ). AreItems false d j (f ++ o)) two
+    (subst (λ (z : List ℕ). AreItems false d (suc (suc (2 * k))) z)
+    (sym (ap (λ (z : List ℕ). z ++ o) p.whole ∙ append_assoc p.key p.value o))
+    (item_before false d (suc (2 * k)) p.key (p.value ++ o) p.key_is.is_item
+    (item_before false d (2 * k) p.value o p.value_is.is_item (pairs_read d k o ps))))
 
 -- The same bytes and the same rest.
 abbrev SameFront : List ℕ → List ℕ → List ℕ → List ℕ → Type 0
@@ -221,10 +241,12 @@ module _ (P Q : List ℕ → Type 0)
 
 module _ (d : ℕ) (stop : Stop) (o : Option ℕ) (m : ℕ) (bytes read rest : List ℕ) (w : bytes ≡ read ++ rest) where
   pub items_stop : AreJoined (IsRead d) m read → ((n : ℕ) → o ≡ Some n → m < n)
-      → ((v : List ℕ) → o ≡ None → rest ≡ 0xff ∷ v → ⊥) → FailsItem d rest stop → FailsNest (IsMissed d stop) o bytes
-  items_stop ps count open_end fails =
-      nest_stops (IsRead d) (IsMissed d stop) (agree d stop) (read_break d) (read_some d) (missed_some d stop)
-      o m bytes read rest w ps count open_end fails
+      → ((v : List ℕ) → o ≡ None → rest ≡ 0xff ∷ v → ⊥) → FailsItem d rest stop → FailsItems d o bytes stop
+  items_stop ps count open_end fails = (
+    nest_stops (IsRead d) (IsMissed d stop) (agree d stop) (read_break d) (read_some d) (missed_some d stop)
+        o m bytes read rest w ps count open_end fails.0,
+    fault_more d m (h.Array o) stop bytes read rest w (takes_item o m count) (are_read d m read ps) fails.1,
+  )
 
   pub items_over : AreJoined (IsRead d) m read → o ≡ None → length bytes ≤ m → FailsNest (IsMissed d stop) o bytes
   items_over ps e l =
@@ -232,11 +254,12 @@ module _ (d : ℕ) (stop : Stop) (o : Option ℕ) (m : ℕ) (bytes read rest : L
       o m bytes read rest w ps e l
 
   pub pairs_stop : AreJoined (IsPairRead d) m read → ((n : ℕ) → o ≡ Some n → m < n)
-      → ((v : List ℕ) → o ≡ None → rest ≡ 0xff ∷ v → ⊥) → NoneInFront (ArePairMissed d stop) rest
-      → FailsNest (ArePairMissed d stop) o bytes
-  pairs_stop ps count open_end fails =
-      nest_stops (IsPairRead d) (ArePairMissed d stop) (agree_pairs d stop) (pair_break d) (pair_some d)
-      (pair_missed_some d stop) o m bytes read rest w ps count open_end fails
+      → ((v : List ℕ) → o ≡ None → rest ≡ 0xff ∷ v → ⊥) → FailsPair d rest stop → FailsPairs d o bytes stop
+  pairs_stop ps count open_end fails = (
+    nest_stops (IsPairRead d) (ArePairMissed d stop) (agree_pairs d stop) (pair_break d) (pair_some d)
+        (pair_missed_some d stop) o m bytes read rest w ps count open_end fails.0,
+    fault_pairs d m o stop bytes read rest w (pairs_read d m read ps) count fails.1,
+  )
 
   pub pairs_over : AreJoined (IsPairRead d) m read → o ≡ None → length bytes ≤ m
       → FailsNest (ArePairMissed d stop) o bytes
@@ -246,22 +269,25 @@ module _ (d : ℕ) (stop : Stop) (o : Option ℕ) (m : ℕ) (bytes read rest : L
 
 -- ---- one pair
 
-pub key_stops : (d : ℕ) (stop : Stop) (bytes : List ℕ) → FailsItem d bytes stop
-    → NoneInFront (ArePairMissed d stop) bytes
-key_stops d stop bytes fails r f =
-    fails (f.is.value ++ r) (record {
-      front = f.is.key;
-      is = f.is.key_is;
-      whole = f.whole ∙ ap (λ (v : List ℕ). v ++ r) f.is.whole ∙ append_assoc f.is.key f.is.value r;
-    })
+pub key_stops : (d : ℕ) (stop : Stop) (bytes : List ℕ) → FailsItem d bytes stop → FailsPair d bytes stop
+key_stops d stop bytes fails = (
+  λ r f. fails.0 (f.is.value ++ r) (record {
+    front = f.is.key;
+    is = f.is.key_is;
+    whole = f.whole ∙ ap (λ (v : List ℕ). v ++ r) f.is.whole ∙ append_assoc f.is.key f.is.value r;
+  }),
+  fault_key d stop bytes fails.1,
+)
 
 pub value_stops : {ord : Order} (d : ℕ) (stop : Stop) (bytes after old new : List ℕ)
-    → Turns (IsRewritten ord d) bytes after old new → FailsItem d after stop
-    → NoneInFront (ArePairMissed d stop) bytes
-value_stops d stop bytes after old new t fails r f =
-    let a = agree d stop t.front f.is.key after (f.is.value ++ r) (read_of d t.front t.written t.is) f.is.key_is
-    (sym t.whole ∙ f.whole ∙ ap (λ (v : List ℕ). v ++ r) f.is.whole ∙ append_assoc f.is.key f.is.value r) in
-    fails r (record { front = f.is.value; is = f.is.value_is; whole = a.1 })
+    → Turns (IsRewritten ord d) bytes after old new → FailsItem d after stop → FailsPair d bytes stop
+value_stops d stop bytes after old new t fails = (
+  λ r f.
+      let a = agree d stop t.front f.is.key after (f.is.value ++ r) (read_of d t.front t.written t.is) f.is.key_is
+      (sym t.whole ∙ f.whole ∙ ap (λ (v : List ℕ). v ++ r) f.is.whole ∙ append_assoc f.is.key f.is.value r) in
+      fails.0 r (record { front = f.is.value; is = f.is.value_is; whole = a.1 }),
+  fault_value d stop bytes t.front after t.whole t.is.is_item fails.1,
+)
 
 -- ---- after a title
 
@@ -340,25 +366,36 @@ after_title d st.Room y t bytes rest p f = absurd f.is
 
 -- The contents fail if no contents complete such an item.
 pub none_completes : (d : ℕ) (stop : Stop) (y : Header) (bytes : List ℕ)
-    → ((r : List ℕ) → Completing d stop y r → ⊥) → FailsRest d y bytes stop
+    → ((r : List ℕ) → Completing d stop y r → ⊥) → (t : List ℕ) → IsTitle t y
+    → NoneInFront (IsMissed d stop) (t ++ bytes)
 none_completes d stop y bytes q t p rest f = let g = after_title d stop y t bytes rest p f in q g.front g.is
 
 pub no_title_stops : (d : ℕ) (bytes : List ℕ) → HasNoTitle bytes → FailsItem d bytes st.Malformed
-no_title_stops d bytes q rest f =
-    let i = item_parts d 1 f.front f.is refl in
-    none_there bytes i.title (i.rest ++ rest) i.header q i.is_title
-    (f.whole ∙ ap (λ (v : List ℕ). v ++ rest) i.whole ∙ append_assoc i.title i.rest rest)
+no_title_stops d bytes q = (
+  λ rest f.
+      let i = item_parts d 1 f.front f.is refl in
+      none_there bytes i.title (i.rest ++ rest) i.header q i.is_title
+      (f.whole ∙ ap (λ (v : List ℕ). v ++ rest) i.whole ∙ append_assoc i.title i.rest rest),
+  tt,
+)
 
 pub item_stops : (d : ℕ) (stop : Stop) (x : Header) (bytes rest : List ℕ) → InFront (λ t. IsTitle t x) bytes rest
-    → FailsRest d x rest stop → FailsItem d bytes stop
+    → FailsAfter d x rest (length bytes) stop → FailsItem d bytes stop
 item_stops d stop x bytes rest f fails =
-    subst (λ (v : List ℕ). NoneInFront (IsMissed d stop) v) (sym f.whole) (fails f.front f.is)
+    subst (λ (v : List ℕ). NoneInFront (IsMissed d stop) v × MeetsFault d stop v) (sym f.whole)
+    (fails f.front f.is (ap (length {A = ℕ}) f.whole))
+
+-- What fails after each title of a nest fails after one that stands at an offset.
+pub after_stops : (e d left : ℕ) (stop : Stop) (y x : Header) (bytes : List ℕ) → y ≡ x → suc d ≡ e
+    → FailsRest (suc d) x bytes stop → FailsAfter e y bytes left stop
+after_stops e d left stop y x bytes is deep fails = rw (is, ← deep) (λ t p l. fails t p)
 
 break_completes : (d : ℕ) (x : Header) (r : List ℕ) → CompletesAny false d x r → x ≡ h.Break → ⊥
 break_completes d x r c e = grind arith
 
-pub break_stops : (d : ℕ) (y : Header) (bytes : List ℕ) → y ≡ h.Break → FailsRest d y bytes st.Malformed
-break_stops d y bytes e = none_completes d st.Malformed y bytes (λ r c. break_completes d y r c e)
+pub break_stops : (d left : ℕ) (y : Header) (bytes : List ℕ) → y ≡ h.Break → FailsAfter d y bytes left st.Malformed
+break_stops d left y bytes e t p l =
+    (none_completes d st.Malformed y bytes (λ r c. break_completes d y r c e) t p, tt)
 
 -- The header of a tag, an array or a map.
 abbrev pub IsNestOf : Header → Type 0
@@ -384,17 +421,21 @@ nest_of y (inl n) = subst IsNest (sym n.1) tt
 nest_of y (inr (inl n)) = subst IsNest (sym n.1) tt
 nest_of y (inr (inr n)) = subst IsNest (sym n.1) tt
 
-pub deep_stops : (d : ℕ) (y : Header) (bytes : List ℕ) → d ≡ 0 → IsNestOf y → FailsRest d y bytes st.Malformed
-deep_stops d y bytes e n = none_completes d st.Malformed y bytes (λ r c. deep_completes d y r c e (nest_of y n))
+pub deep_stops : (d left : ℕ) (y : Header) (bytes : List ℕ) → d ≡ 0 → IsNestOf y
+    → FailsAfter d y bytes left st.Malformed
+deep_stops d left y bytes e n t p l =
+    (none_completes d st.Malformed y bytes (λ r c. deep_completes d y r c e (nest_of y n)) t p, tt)
 
 simple_follows : (x : Header) (v : Value) (r : List ℕ) → Follows x v r → IsSmallSimple x → ⊥
 simple_follows x v r (follows_simple m) s = m s
 simple_follows x v r f s = grind arith
 
 pub small_stops : (d n left : ℕ) (y : Header) (bytes : List ℕ) → y ≡ h.Simple n → (24 ≤ n) × (n < 32)
-    → FailsRest d y bytes (st.NoSimple left)
-small_stops d n left y bytes e l =
-    none_completes d (st.NoSimple left) y bytes (λ r c. simple_follows y c.0 r c.1 (subst IsSmallSimple (sym e) l))
+    → FailsAfter d y bytes left (st.NoSimple left)
+small_stops d n left y bytes e l t p long = (
+  none_completes d (st.NoSimple left) y bytes (λ r c. simple_follows y c.0 r c.1 (subst IsSmallSimple (sym e) l)) t p,
+  small_met d n left y t bytes e l p long,
+)
 
 -- ---- strings
 
@@ -409,15 +450,18 @@ content_of d OfBytes len r (any_open_bytes q f) = (_, until_break q (every _))
     every (b ∷ bs) = (tt, every bs)
 content_of d OfText len r (any_open_text q f a) = (_, until_break q a)
 
-pub string_stops : (d : ℕ) (stop : Stop) (k : Kind) (len : Option ℕ) (y : Header) (bytes : List ℕ)
-    → y ≡ kind_header k len → FailsString k len bytes stop → FailsRest d y bytes stop
-string_stops d st.Malformed k len y bytes e fails = λ t p rest f.
-    let g = after_title d st.Malformed y t bytes rest p f in
-    let c = content_of d k len g.front (subst (λ (x : Header). CompletesAny false d x g.front) e g.is) in
-    fails g.front c.0 rest c.1 g.whole
-string_stops d (st.NoSimple left) k len y bytes e fails = absurd fails
-string_stops d (st.Duplicate left) k len y bytes e fails = absurd fails
-string_stops d st.Room k len y bytes e fails = λ t p rest f. f.is
+pub string_stops : (d left : ℕ) (stop : Stop) (k : Kind) (len : Option ℕ) (y : Header) (bytes : List ℕ)
+    → y ≡ kind_header k len → FailsString k len bytes stop → FailsAfter d y bytes left stop
+string_stops d at st.Malformed k len y bytes e fails = λ t p l. (
+  λ rest f.
+      let g = after_title d st.Malformed y t bytes rest p f in
+      let c = content_of d k len g.front (subst (λ (x : Header). CompletesAny false d x g.front) e g.is) in
+      fails g.front c.0 rest c.1 g.whole,
+  tt,
+)
+string_stops d at (st.NoSimple left) k len y bytes e fails = absurd fails
+string_stops d at (st.Duplicate left) k len y bytes e fails = absurd fails
+string_stops d at st.Room k len y bytes e fails = λ t p l. (λ rest f. f.is, tt)
 
 -- ---- nests
 
@@ -428,11 +472,14 @@ tag_missed d n (st.Duplicate left) r (v, follows_tag {value = u} e, fits_tagged 
     record { value = u; encodes = e; fits = f }
 tag_missed d n st.Room r c = c
 
-pub tag_stops : (e d n : ℕ) (stop : Stop) (y : Header) (bytes : List ℕ) → y ≡ h.Tag n → suc d ≡ e
-    → FailsItem d bytes stop → FailsRest e y bytes stop
-tag_stops e d n stop y bytes is deep fails = rw (is, ← deep) (λ t p rest f.
-    let g = after_title (suc d) stop (h.Tag n) t bytes rest p f in
-    fails rest (record { front = g.front; is = tag_missed d n stop g.front g.is; whole = g.whole }))
+pub tag_stops : (e d n left : ℕ) (stop : Stop) (y : Header) (bytes : List ℕ) → y ≡ h.Tag n → suc d ≡ e
+    → FailsItem d bytes stop → FailsAfter e y bytes left stop
+tag_stops e d n left stop y bytes is deep fails = rw (is, ← deep) (λ t p l. (
+  λ rest f.
+      let g = after_title (suc d) stop (h.Tag n) t bytes rest p f in
+      fails.0 rest (record { front = g.front; is = tag_missed d n stop g.front g.is; whole = g.whole }),
+  fault_nest d (h.Tag n) stop t bytes p (fault_tag d n stop bytes fails.1),
+))
 
 -- The items or the pairs of a nest, and its end.
 record NestParts (P : List ℕ → Type 0) (o : Option ℕ) (r : List ℕ) : Type 0 where
@@ -480,13 +527,16 @@ array_parts d (st.Duplicate left) o r (v, follows_open_array {values = vs} {byte
     open_parts _ _ w (fitting_joined vs w e f)
 array_parts d st.Room o r c = absurd c
 
-pub array_stops : (d : ℕ) (stop : Stop) (o : Option ℕ) (bytes : List ℕ) → FailsNest (IsMissed d stop) o bytes
+pub array_stops : (d : ℕ) (stop : Stop) (o : Option ℕ) (bytes : List ℕ) → FailsItems d o bytes stop
     → FailsRest (suc d) (h.Array o) bytes stop
-array_stops d stop o bytes fails t p rest f =
-    let g = after_title (suc d) stop (h.Array o) t bytes rest p f in
-    let q = array_parts d stop o g.front g.is in
-    fails q.done q.items q.tail rest q.joined q.ends
-    (g.whole ∙ ap (λ (v : List ℕ). v ++ rest) q.whole ∙ append_assoc q.items q.tail rest)
+array_stops d stop o bytes fails t p = (
+  λ rest f.
+      let g = after_title (suc d) stop (h.Array o) t bytes rest p f in
+      let q = array_parts d stop o g.front g.is in
+      fails.0 q.done q.items q.tail rest q.joined q.ends
+      (g.whole ∙ ap (λ (v : List ℕ). v ++ rest) q.whole ∙ append_assoc q.items q.tail rest),
+  fault_nest d (h.Array o) stop t bytes p fails.1,
+)
 
 two_items : (d n k : ℕ) (w : List ℕ) → AreItems false d k w → k ≡ 2 * n → AreJoined (ArePairMissed d st.Malformed) n w
 two_items d zero k w none_any e = none_joined
@@ -549,13 +599,13 @@ map_parts d (st.Duplicate left) o r (v, follows_open_map {pairs = ps} {bytes = w
     open_parts _ _ w (fitting_pairs d left ps w e f)
 map_parts d st.Room o r c = absurd c
 
-pub map_stops : (d : ℕ) (stop : Stop) (o : Option ℕ) (bytes : List ℕ) → FailsNest (ArePairMissed d stop) o bytes
+pub map_stops : (d : ℕ) (stop : Stop) (o : Option ℕ) (bytes : List ℕ) → FailsPairs d o bytes stop
     → FailsRest (suc d) (h.Map o) bytes stop
-map_stops d stop o bytes fails t p rest f =
-    let g = after_title (suc d) stop (h.Map o) t bytes rest p f in
-    let q = map_parts d stop o g.front g.is in
-    fails q.done q.items q.tail rest q.joined q.ends
-    (g.whole ∙ ap (λ (v : List ℕ). v ++ rest) q.whole ∙ append_assoc q.items q.tail rest)
-
-pub memory_stops : (d : ℕ) (stop : Stop) (bytes : List ℕ) → stop ≡ st.Room → NoneInFront (ArePairMissed d stop) bytes
-memory_stops d stop bytes e r f = subst (λ (z : Stop). IsMissed d z f.is.key) e f.is.key_is
+map_stops d stop o bytes fails t p = (
+  λ rest f.
+      let g = after_title (suc d) stop (h.Map o) t bytes rest p f in
+      let q = map_parts d stop o g.front g.is in
+      fails.0 q.done q.items q.tail rest q.joined q.ends
+      (g.whole ∙ ap (λ (v : List ℕ). v ++ rest) q.whole ∙ append_assoc q.items q.tail rest),
+  fault_nest d (h.Map o) stop t bytes p fails.1,
+)

@@ -204,6 +204,12 @@ tag_turned {ord = o} e d n y bytes rest old mid new is deep b g = rw (is, ← de
   wrote = two_pieces old mid new (shortest_title (h.Tag n)) g.written b g.wrote;
 })
 
+-- The contents of a nest complete an item a level above.
+pub nest_turned : {ord : Order} (e d : ℕ) (y x : Header) (bytes rest : List ℕ) (at end : ℕ) (old new : List ℕ)
+    → y ≡ x → suc d ≡ e → Extends (Turns (IsCompleted ord (suc d) x) bytes rest) at end old new
+    → Extends (Turns (IsCompleted ord e y) bytes rest) at end old new
+nest_turned e d y x bytes rest at end old new is deep g = rw (is, ← deep) g
+
 -- ---- items
 
 -- One item and n items after it, joined, are n + 1 items.

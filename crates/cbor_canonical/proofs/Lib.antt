@@ -8,6 +8,7 @@ pub mod ItemRuns
 pub mod PairRuns
 pub mod PlaceRuns
 pub mod OrderRuns
+pub mod MeetRuns
 pub mod FailRuns
 pub mod SameLaws
 pub mod MapRuns

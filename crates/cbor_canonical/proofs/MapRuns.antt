@@ -43,6 +43,9 @@ use Rattle.cbor_canonical.specs.Runs.{Entry}
 use Rattle.cbor_canonical.specs.declared.Stop.TheVariants as st
 use Rattle.cbor_canonical.specs.Runs.{Turns, IsCompleted, EndsNest, counted, at_break, ArePairsOf, no_pairs}
 use Rattle.cbor_canonical.specs.Runs.{more_pairs, TurnsPairs, joined_pairs, IsBefore, DoAscend, HasEqualKeys, FailsRest}
+use Rattle.cbor_canonical.specs.Runs.{IsMissed}
+use Rattle.ciborium_ll_grammar.specs.Title.{IsTitle}
+use Rattle.cbor_deterministic.specs.Fronts.{NoneInFront}
 use Rattle.cbor_canonical.proofs.ItemRuns.{made, join, two_pieces}
 use Rattle.cbor_canonical.proofs.SameLaws.{same_trans, same_sym}
 
@@ -409,7 +412,8 @@ module _ {ord : Order} (d : ℕ) (o : Option ℕ) (bytes rest : List ℕ) (es fs
         wrote = two_pieces old mid new (shortest_title (h.Map (Some n))) (joined_pairs fs) b w;
       }
 
-  pub map_repeats : (left : ℕ) → HasEqualKeys fs → FailsRest (suc d) (h.Map o) bytes (st.Duplicate left)
+  pub map_repeats : (left : ℕ) → HasEqualKeys fs → (t : List ℕ) → IsTitle t (h.Map o)
+      → NoneInFront (IsMissed (suc d) (st.Duplicate left)) (t ++ bytes)
   map_repeats left eq t p r f =
       let q = read_pairs d g.pairs es g.are in
       let own = encodes p (map_follows (length es) o q.list g.pairs g.tail g.ends q.count q.spelled) in
@@ -504,7 +508,7 @@ pairs_sorted_there d done o bytes rest at end after old now new spans l g q = re
 pub order_stops : {ord : Order} (d : ℕ) (o : Option ℕ) (bytes rest : List ℕ) (es : List Entry) (stop : Stop)
     → TurnsPairs ord d o bytes rest es → StopsOrder es stop → FailsRest (suc d) (h.Map o) bytes stop
 order_stops d o bytes rest es (st.Duplicate left) g q =
-    map_repeats d o bytes rest es q.sorted g q.same left q.equal
-order_stops d o bytes rest es st.Room g q = λ t p r f. f.is
+    λ t p. (map_repeats d o bytes rest es q.sorted g q.same left q.equal t p, tt)
+order_stops d o bytes rest es st.Room g q = λ t p. (λ r f. f.is, tt)
 order_stops d o bytes rest es st.Malformed g q = absurd q
 order_stops d o bytes rest es (st.NoSimple left) g q = absurd q

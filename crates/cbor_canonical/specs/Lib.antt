@@ -1,4 +1,5 @@
 pub mod Canonical
+pub mod Meeting
 pub mod Narrowing
 pub mod Places
 pub mod Reading

@@ -1,9 +1,10 @@
 -- Why an item of any spelling is not rewritten, and where.
-use Rattle.std.specs.Prelude.{◌≡◌, ℕ, false, List, length, Result, Ok, Err}
+use Rattle.std.specs.Prelude.{◌≡◌, ℕ, ◌<◌, ◌≤◌, Bool, false, List, ◌∷◌, ◌++◌, length, Result, Ok, Err}
 use Rattle.ciborium_ll_grammar.specs.Faults.{Short, Syntax}
 use Rattle.ciborium_ll_decoder.specs.declared.dec.Error.TheVariants as e
 use Rattle.cbor_skip.specs.declared.SkipError.{SkipError}
 use Rattle.cbor_skip.specs.declared.SkipError.TheVariants as s
+use Rattle.cbor_skip.specs.Due.{ItemDue}
 use Rattle.cbor_skip.specs.ItemFaults.{HasDeepNest, HasEarlyBreak, HasItemFault, BeginsWithItem}
 use Rattle.cbor_deterministic.specs.Fronts.{NoneInFront}
 use Rattle.cbor_deterministic.specs.Laws.{IsSpelling}
@@ -14,6 +15,20 @@ use Rattle.cbor_canonical.specs.declared.Refusal.{Refusal}
 use Rattle.cbor_canonical.specs.declared.Why.{Why}
 use Rattle.cbor_canonical.specs.declared.Why.TheVariants as w
 
+-- After a beginning of an item a further item is due, and a simple value from 24 to 31 stands there (RFC 8949, 3.3). The
+-- place is its offset. With depth 1, in `82 01 f8 18` it is 2.
+pub record HasNoSimple (depth : ℕ) (bytes : List ℕ) (place : ℕ) : Type 0 where
+  pub before : List ℕ
+  pub number : ℕ
+  pub rest : List ℕ
+  pub levels : ℕ
+  pub closable : Bool
+  pub item_due : ItemDue false false depth before levels closable
+  pub least : 24 ≤ number
+  pub most : number < 32
+  pub is : bytes ≡ before ++ 0xf8 ∷ number ∷ rest
+  pub place_is : place ≡ length before
+
 -- `HasRefusal depth bytes why place`: no item to the depth begins the bytes, and `why` stops the read of one at this
 -- offset. Or an item begins them, and it spells no value, or only values in which a map has a key twice (RFC 8949, 3.3
 -- and 5.6). To a depth of 1 `82 01` is `Cut` at 2, `f8 18` is `NoSimple`, and `a2 01 02 01 03` is `DuplicateKey`.
@@ -23,7 +38,8 @@ HasRefusal depth bytes w.Cut place =
 HasRefusal depth bytes w.Malformed place = (fault : HasItemFault false depth bytes) × (fault.answer ≡ Syntax place)
 HasRefusal depth bytes w.Break place = (fault : HasEarlyBreak false depth bytes) × (place ≡ length fault.before)
 HasRefusal depth bytes w.Deep place = (fault : HasDeepNest false depth bytes) × (place ≡ length fault.before)
-HasRefusal depth bytes w.NoSimple place = BeginsWithItem false depth bytes × NoneInFront IsSpelling bytes
+HasRefusal depth bytes w.NoSimple place =
+    BeginsWithItem false depth bytes × NoneInFront IsSpelling bytes × HasNoSimple depth bytes place
 HasRefusal depth bytes w.DuplicateKey place = BeginsWithItem false depth bytes × NoneInFront IsFittingSpelling bytes
 
 -- Why nothing is written: the bytes are refused, or no memory is left. For `1c` it is `Malformed` at 0, or `Memory`.
@@ -31,10 +47,10 @@ abbrev pub IsUnwritten : ℕ → List ℕ → CanonicalError → Type 0
 IsUnwritten depth bytes (Refused refusal) = HasRefusal depth bytes refusal.why refusal.place
 IsUnwritten depth bytes Memory = Unit {0}
 
--- The error refuses for this reason. `Cut` at 2 does so for `Cut`, and `Memory` for no reason.
-abbrev pub HasWhy : Why → CanonicalError → Type 0
-HasWhy why (Refused refusal) = refusal.why ≡ why
-HasWhy why Memory = ⊥
+-- The error refuses for this reason at this place. `Cut` at 2 does so for `Cut` and 2, and `Memory` for no reason.
+abbrev pub HasWhy : Why → ℕ → CanonicalError → Type 0
+HasWhy why place (Refused refusal) = (refusal.why ≡ why) × (refusal.place ≡ place)
+HasWhy why place Memory = ⊥
 
 -- The refusal for the error of a skip over this many bytes, or none without an error. Over 3 bytes `Break` at 1 gives
 -- `Break` at 1, and an error of the reader gives `Cut` at 3.

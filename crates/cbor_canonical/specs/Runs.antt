@@ -9,7 +9,9 @@ use Rattle.cbor_deterministic.specs.declared.Order.{Order}
 use Rattle.cbor_deterministic.specs.Fronts.{NoneInFront}
 use Rattle.cbor_deterministic.specs.Laws.{IsSpelling}
 use Rattle.cbor_deterministic.specs.Orders.{Precedes}
+use Rattle.ciborium_ll_grammar.specs.declared.hdr.Header.TheVariants as h
 use Rattle.cbor_canonical.specs.Canonical.{IsRewritten, IsFittingSpelling}
+use Rattle.cbor_canonical.specs.Meeting.{MeetsFault, MeetsWithin, MeetsInPair}
 use Rattle.cbor_canonical.specs.declared.Stop.{Stop}
 use Rattle.cbor_canonical.specs.declared.Stop.TheVariants as stop
 
@@ -135,18 +137,38 @@ pub data AreJoined (P : List ℕ → Type 0) : ℕ → List ℕ → Type 0 where
   more_joined : {count : ℕ} {first others : List ℕ} → P first → AreJoined P count others
       → AreJoined P (suc count) (first ++ others)
 
--- `IsMissed` holds for no front of the bytes. So it is with `1c` for `Malformed`, and with `f8 18` for `NoSimple`.
-abbrev pub FailsItem : ℕ → List ℕ → Stop → Type 0
-FailsItem depth bytes stop = NoneInFront (IsMissed depth stop) bytes
-
--- `IsMissed` holds for no front of a title of the header and the bytes after it. After `82` so it is with `01` for
--- `Malformed`.
-abbrev pub FailsRest : ℕ → Header → List ℕ → Stop → Type 0
-FailsRest depth header bytes stop =
-    (title : List ℕ) → IsTitle title header → NoneInFront (IsMissed depth stop) (title ++ bytes)
-
 -- The bytes don't begin with the items of an array, or the pairs of a map, of this count. P holds for each item or
 -- pair. If P holds for `01` alone, `01` fails with the count 2, and `01 02` without a count.
 abbrev pub FailsNest : (List ℕ → Type 0) → Option ℕ → List ℕ → Type 0
 FailsNest P count bytes = (done : ℕ) (items tail rest : List ℕ) → AreJoined P done items → EndsNest count done tail
     → bytes ≡ items ++ (tail ++ rest) → ⊥
+
+-- `IsMissed` holds for no front of the bytes, and they have the fault. So it is with `1c` for `Malformed`, and with
+-- `f8 18` for `NoSimple`.
+abbrev pub FailsItem : ℕ → List ℕ → Stop → Type 0
+FailsItem depth bytes stop = NoneInFront (IsMissed depth stop) bytes × MeetsFault depth stop bytes
+
+-- `IsMissed` holds for no front of a title of the header and the bytes after it, and they have the fault. After `82` so
+-- it is with `01` for `Malformed`.
+abbrev pub FailsRest : ℕ → Header → List ℕ → Stop → Type 0
+FailsRest depth header bytes stop = (title : List ℕ) → IsTitle title header
+    → NoneInFront (IsMissed depth stop) (title ++ bytes) × MeetsFault depth stop (title ++ bytes)
+
+-- The same, if the title begins this many bytes before the end.
+abbrev pub FailsAfter : ℕ → Header → List ℕ → ℕ → Stop → Type 0
+FailsAfter depth header bytes left stop = (title : List ℕ) → IsTitle title header → left ≡ length (title ++ bytes)
+    → NoneInFront (IsMissed depth stop) (title ++ bytes) × MeetsFault depth stop (title ++ bytes)
+
+-- The bytes don't begin with the items of an array of this count, and they have the fault. With the count 2, `01` fails.
+abbrev pub FailsItems : ℕ → Option ℕ → List ℕ → Stop → Type 0
+FailsItems depth count bytes stop =
+    FailsNest (IsMissed depth stop) count bytes × MeetsWithin depth (h.Array count) stop bytes
+
+-- The bytes don't begin with the pairs of a map of this count, and they have the fault. With the count 1, `01` fails.
+abbrev pub FailsPairs : ℕ → Option ℕ → List ℕ → Stop → Type 0
+FailsPairs depth count bytes stop =
+    FailsNest (ArePairMissed depth stop) count bytes × MeetsWithin depth (h.Map count) stop bytes
+
+-- The bytes don't begin with a pair, and they have the fault. `01` fails for `Malformed`.
+abbrev pub FailsPair : ℕ → List ℕ → Stop → Type 0
+FailsPair depth bytes stop = NoneInFront (ArePairMissed depth stop) bytes × MeetsInPair depth stop bytes

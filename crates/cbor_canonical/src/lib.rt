@@ -5,7 +5,7 @@
 //! narrows a float. [`laws`] says what the encoding keeps.
 #![tactic(auto)]
 
-ghost use Rattle.std.specs.Prelude.{◌≡◌, ◌≤◌, IfOk, MatchResult, length, take};
+ghost use Rattle.std.specs.Prelude.{◌≡◌, ◌≤◌, ◌-◌, IfOk, MatchResult, length, take};
 ghost use Rattle.cbor_canonical.specs.Canonical.{IsCanonical};
 ghost use Rattle.cbor_canonical.specs.Refusals.{HasWhy, IsUnwritten};
 
@@ -115,11 +115,11 @@ impl From<Refusal> for CanonicalError {
 ///
 /// - [`Why::Cut`]: the place is the end of the bytes.
 /// - [`Why::Malformed`], [`Why::Break`], [`Why::Deep`]: as of `cbor_skip::skip_item`.
-/// - [`Why::NoSimple`]: the place is a simple value from 24 to 31 in an item.
+/// - [`Why::NoSimple`]: the place is that of a simple value from 24 to 31 in the item.
 /// - [`Why::DuplicateKey`]: the place is the later of two same keys in an item.
 /// - [`CanonicalError::Memory`]: `out` or `spans` is too short.
 ///
-/// After an error the contents of `out` are unknown. Tests alone say the places of `NoSimple` and `DuplicateKey`.
+/// After an error the contents of `out` are unknown. Tests alone say the place of `DuplicateKey`.
 ///
 /// # Time and memory
 ///
@@ -190,7 +190,7 @@ pub fn canonical(
 
 /// Returns the error for a place that is `left` bytes before the end of the `len` bytes.
 fn refused(why: Why, len: usize, left: usize) -> CanonicalError
-    ensures { HasWhy why result }
+    ensures { HasWhy why (len - left) result }
 {
     CanonicalError::Refused(Refusal {
         why,

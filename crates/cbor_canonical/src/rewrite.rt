@@ -1,10 +1,9 @@
 //! Items of any spelling, rewritten to the deterministic encoding of their values in memory that a caller lends.
 
 ghost use Rattle.std.specs.Prelude.{◌≡◌, ◌∷◌, ◌≤◌, List, ℕ, suc, length, None, MatchOption, MatchResult};
-ghost use Rattle.cbor_deterministic.specs.Fronts.{NoneInFront};
 ghost use Rattle.cbor_canonical.specs.Canonical.{IsRewritten};
-ghost use Rattle.cbor_canonical.specs.Runs.{Turns, IsCompleted, TurnsItems, IsMissed, ArePairMissed, FailsItem};
-ghost use Rattle.cbor_canonical.specs.Runs.{FailsRest, FailsNest};
+ghost use Rattle.cbor_canonical.specs.Runs.{Turns, IsCompleted, TurnsItems, FailsItem, FailsAfter};
+ghost use Rattle.cbor_canonical.specs.Runs.{FailsRest, FailsItems, FailsPairs, FailsPair};
 ghost use Rattle.cbor_canonical.specs.Places.{WritesPair, WritesPairs, WritesMap};
 ghost use Rattle.cbor_canonical.specs.Writing.{Extends};
 ghost use Rattle.ciborium_ll_grammar.specs.declared.hdr.Header.TheVariants.{Array as ArrayOf, Map as MapOf};
@@ -82,7 +81,7 @@ fn rewrite_rest<'a>(
     requires { at ≤ length out.old }
     ensures { MatchResult result
         (λ found. Extends (Turns (IsCompleted order depth header) bytes.now found.0.now) at found.1 out.old out.new)
-        (FailsRest depth header bytes.now) }
+        (FailsAfter depth header bytes.now left) }
 {
     match header {
         Header::Positive(_) | Header::Negative(_) => {
@@ -161,7 +160,7 @@ fn rewrite_items<'a>(
     requires { at ≤ length out.old }
     ensures { MatchResult result (λ found. Extends
         (TurnsItems order depth count found.0 bytes.now found.1.now) at found.2 out.old out.new)
-        (λ stop. FailsNest (IsMissed depth stop) count bytes.now) }
+        (FailsItems depth count bytes.now) }
 {
     let limit = limit_of(count, bytes);
     let mut rest = bytes;
@@ -247,7 +246,7 @@ fn rewrite_pairs<'a>(
     requires { at ≤ length out.old }
     ensures { MatchResult result
         (λ found. WritesPairs order depth count found.0 bytes.now found.1.now at found.2 out.old out.new spans.new)
-        (λ stop. FailsNest (ArePairMissed depth stop) count bytes.now) }
+        (FailsPairs depth count bytes.now) }
 {
     let limit = limit_of(count, bytes);
     let mut rest = bytes;
@@ -282,7 +281,7 @@ fn rewrite_pair<'a>(
     requires held { done ≤ length spans.old }
     ensures { MatchResult result
         (λ found. WritesPair order depth bytes.now found.0.now at found.1 out.old out.new done spans.old spans.new)
-        (λ stop. NoneInFront (ArePairMissed depth stop) bytes.now) }
+        (FailsPair depth bytes.now) }
 {
     let (after, key_end) = rewrite_item(bytes, depth, order, out, at, &mut spans[done..])?;
     let (rest, end) = rewrite_item(after, depth, order, out, key_end, &mut spans[done..])?;

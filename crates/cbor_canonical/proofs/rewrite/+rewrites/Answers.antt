@@ -4,12 +4,13 @@ use Rattle.ciborium_ll_grammar.specs.Strings.{Bytes as OfBytes, Text as OfText}
 use Rattle.cbor_canonical.specs.declared.Stop.TheVariants.{Malformed}
 use Rattle.cbor_canonical.proofs.ItemRuns.{number_turned, simple_turned, float_turned, string_turned, item_turned}
 use Rattle.cbor_canonical.proofs.ItemRuns.{tag_turned, array_told, array_open, items_start, items_more, items_done}
-use Rattle.cbor_canonical.proofs.ItemRuns.{items_closed}
+use Rattle.cbor_canonical.proofs.ItemRuns.{items_closed, nest_turned}
 use Rattle.cbor_canonical.proofs.PairRuns.{pairs_start, pairs_go_on, pairs_done, pairs_closed, pair_turned}
 use Rattle.cbor_canonical.proofs.PairRuns.{kept_twice}
 use Rattle.cbor_canonical.proofs.FailRuns.{item_stops, no_title_stops, read_all, read_pairs, items_stop, items_over}
 use Rattle.cbor_canonical.proofs.FailRuns.{pairs_stop, pairs_over, key_stops, value_stops, small_stops, string_stops}
 use Rattle.cbor_canonical.proofs.FailRuns.{tag_stops, array_stops, map_stops, break_stops, deep_stops}
+use Rattle.cbor_canonical.proofs.FailRuns.{after_stops}
 use Rattle.cbor_canonical.proofs.MapRuns.{map_told, map_open, pairs_placed, pairs_sorted_there, order_stops}
 use Rattle.cbor_canonical.proofs.rewrite.+rewrites.Goals as goal
 use Rattle.cbor_canonical.proofs.rewrite.+rewrites.Goals.{rewrite_rest-in-Tag+else-depth-gt0}
@@ -86,7 +87,7 @@ rewrite_rest-returns-in-Bytes t c =
       from = g.from;
       within = g.within;
     })
-    (λ stop f. string_stops c.args.depth stop OfBytes c.in-Bytes.len c.args.header c.args.bytes.now c.in-Bytes.is f)
+    (λ stop f. string_stops c.args.depth c.args.left stop OfBytes c.in-Bytes.len c.args.header c.args.bytes.now c.in-Bytes.is f)
 
 pub rewrite_rest-returns-in-Text : goal.rewrite_rest-returns-in-Text
 rewrite_rest-returns-in-Text t c =
@@ -97,7 +98,7 @@ rewrite_rest-returns-in-Text t c =
       from = g.from;
       within = g.within;
     })
-    (λ stop f. string_stops c.args.depth stop OfText c.in-Text.len c.args.header c.args.bytes.now c.in-Text.is f)
+    (λ stop f. string_stops c.args.depth c.args.left stop OfText c.in-Text.len c.args.header c.args.bytes.now c.in-Text.is f)
 
 pub rewrite_rest-returns-in_ok-end-in-Tag : goal.rewrite_rest-returns-in_ok-end-in-Tag
 rewrite_rest-returns-in_ok-end-in-Tag t c =
@@ -110,25 +111,41 @@ rewrite_rest-returns-in_ok-end-in-Tag t c =
       from = omega (arith, w.from, g.from);
       within = g.within;
     })
-    (λ stop f. tag_stops c.args.depth (c.args.depth - 1) c.in-Tag.number stop c.args.header c.args.bytes.now
+    (λ stop f. tag_stops c.args.depth (c.args.depth - 1) c.in-Tag.number c.args.left stop c.args.header c.args.bytes.now
     c.in-Tag.is (omega arith) f)
 
 pub rewrite_rest-returns-in-Break : goal.rewrite_rest-returns-in-Break
-rewrite_rest-returns-in-Break t c = break_stops c.args.depth c.args.header c.args.bytes.now c.in-Break.is
+rewrite_rest-returns-in-Break t c = break_stops c.args.depth c.args.left c.args.header c.args.bytes.now c.in-Break.is
 
 pub rewrite_rest-returns-in-Tag-2 : goal.rewrite_rest-returns-in-Tag-2
 rewrite_rest-returns-in-Tag-2 t c =
     elim c.in-Tag-2-1.branch [
       | rewrite_rest-in-Tag+else-depth-gt0 w ↦
-          deep_stops c.args.depth c.args.header c.args.bytes.now (omega (arith, w.if-depth-gt0.false))
+          deep_stops c.args.depth c.args.left c.args.header c.args.bytes.now (omega (arith, w.if-depth-gt0.false))
           (inl (w.in-Tag.number, w.in-Tag.is))
       | rewrite_rest-in-Array+else-depth-gt0-2 w ↦
-          deep_stops c.args.depth c.args.header c.args.bytes.now (omega (arith, w.if-depth-gt0-2.false))
+          deep_stops c.args.depth c.args.left c.args.header c.args.bytes.now (omega (arith, w.if-depth-gt0-2.false))
           (inr (inl (w.in-Array.count, w.in-Array.is)))
       | rewrite_rest-in-Map+else-depth-gt0-3 w ↦
-          deep_stops c.args.depth c.args.header c.args.bytes.now (omega (arith, w.if-depth-gt0-3.false))
+          deep_stops c.args.depth c.args.left c.args.header c.args.bytes.now (omega (arith, w.if-depth-gt0-3.false))
           (inr (inr (w.in-Map.count, w.in-Map.is)))
     ]
+
+pub rewrite_rest-returns-in-Array : goal.rewrite_rest-returns-in-Array
+rewrite_rest-returns-in-Array t c =
+    MatchResult-weaker c.rewrite_array.result c.rewrite_array.ensures
+    (λ found g. nest_turned c.args.depth (c.args.depth - 1) c.args.header _ c.args.bytes.now found.0.now c.args.at
+    found.1 c.args.out.now c.rewrite_array.new.out c.in-Array.is (omega arith) g)
+    (λ stop f. after_stops c.args.depth (c.args.depth - 1) c.args.left stop c.args.header _ c.args.bytes.now
+    c.in-Array.is (omega arith) f)
+
+pub rewrite_rest-returns-in-Map : goal.rewrite_rest-returns-in-Map
+rewrite_rest-returns-in-Map t c =
+    MatchResult-weaker c.rewrite_map.result c.rewrite_map.ensures
+    (λ found g. nest_turned c.args.depth (c.args.depth - 1) c.args.header _ c.args.bytes.now found.0.now c.args.at
+    found.1 c.args.out.now c.rewrite_map.new.out c.in-Map.is (omega arith) g)
+    (λ stop f. after_stops c.args.depth (c.args.depth - 1) c.args.left stop c.args.header _ c.args.bytes.now
+    c.in-Map.is (omega arith) f)
 
 -- ---- arrays
 
@@ -218,10 +235,12 @@ rewrite_items-returns-in-Some-count t c =
 
 pub rewrite_items-returns-in-None : goal.rewrite_items-returns-in-None
 rewrite_items-returns-in-None t c =
-    let s = c.items.invariant.is.is in
-    items_over c.args.depth Malformed c.args.count c.items.done c.args.bytes.now s.items c.items.rest.now s.whole
-    (read_all c.args.depth c.items.done s.items s.written s.are) c.in-None.is
-    (omega (arith, c.items-test.false, c.limit_of-limit.ensures.open_count c.in-None.is))
+    let s = c.items.invariant.is.is in (
+      items_over c.args.depth Malformed c.args.count c.items.done c.args.bytes.now s.items c.items.rest.now s.whole
+          (read_all c.args.depth c.items.done s.items s.written s.are) c.in-None.is
+          (omega (arith, c.items-test.false, c.limit_of-limit.ensures.open_count c.in-None.is)),
+      tt,
+    )
 
 -- ---- maps
 
@@ -320,7 +339,9 @@ rewrite_pairs-returns-in-Some-count t c =
 
 pub rewrite_pairs-returns-in-None : goal.rewrite_pairs-returns-in-None
 rewrite_pairs-returns-in-None t c =
-    let s = c.pairs.invariant.is in
-    pairs_over c.args.depth Malformed c.args.count c.pairs.done c.args.bytes.now s.pairs c.pairs.rest.now s.whole
-    (read_pairs c.args.depth c.pairs.done s.pairs s.entries s.are s.count) c.in-None.is
-    (omega (arith, c.pairs-test.false, c.limit_of-limit.ensures.open_count c.in-None.is))
+    let s = c.pairs.invariant.is in (
+      pairs_over c.args.depth Malformed c.args.count c.pairs.done c.args.bytes.now s.pairs c.pairs.rest.now s.whole
+          (read_pairs c.args.depth c.pairs.done s.pairs s.entries s.are s.count) c.in-None.is
+          (omega (arith, c.pairs-test.false, c.limit_of-limit.ensures.open_count c.in-None.is)),
+      tt,
+    )
