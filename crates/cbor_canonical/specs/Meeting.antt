@@ -26,7 +26,7 @@ pub record MeetsIn (P : ℕ → List ℕ → Type 0) (depth : ℕ) (header : Hea
   pub meets : MeetsAt P depth more
   pub whole : bytes ≡ items ++ more
 
--- The same within a pair of a map: in its key, or after its key, in its value.
+-- The same within a pair of a map: in its key, or after its key, in its value, as after `01` of `01 f8 18`.
 pub record MeetsPart (P : ℕ → List ℕ → Type 0) (depth : ℕ) (bytes : List ℕ) : Type 0 where
   pub count : ℕ
   pub items : List ℕ

@@ -154,7 +154,7 @@ abbrev pub FailsRest : ℕ → Header → List ℕ → Stop → Type 0
 FailsRest depth header bytes stop = (title : List ℕ) → IsTitle title header
     → NoneInFront (IsMissed depth stop) (title ++ bytes) × MeetsFault depth stop (title ++ bytes)
 
--- The same, if the title begins this many bytes before the end.
+-- The same, if the title begins this many bytes before the end: 2 for the bytes `01` after `82`.
 abbrev pub FailsAfter : ℕ → Header → List ℕ → ℕ → Stop → Type 0
 FailsAfter depth header bytes left stop = (title : List ℕ) → IsTitle title header → left ≡ length (title ++ bytes)
     → NoneInFront (IsMissed depth stop) (title ++ bytes) × MeetsFault depth stop (title ++ bytes)
