@@ -36,8 +36,9 @@ module _ {W F : Type 0} (sink : Ghosts W F) where
     pub are_pieces : ArePieces kind limit value members
     pub bytes : WritesBytes sink old result (spelling (pieces kind members)) new
 
-  -- The spelling of a value was written, or a beginning of it, by the answer. Its segments have at most the requested
-  -- number of bytes. With the limit 2 the bytes `01 02 03` become `5f 42 01 02 41 03 ff`.
+  -- The spelling of a value was written, or a beginning of it, by the answer. Its segments have at most `value_limit`
+  -- bytes: the requested number, but at least 1, and at least 4 for a text. With the limit 2 the bytes `01 02 03`
+  -- become `5f 42 01 02 41 03 ff`.
   pub record WritesValue {T : Type 0} (kind : Kind) (segment : Option ℕ) (value : List ℕ) (old : W)
       (result : Result T F) (new : W) : Type 0 where
     pub marks : List Mark
