@@ -47,8 +47,8 @@ pub record AddUp (sizes : List ℕ) (bytes count : ℕ) : Type 0 where
 -- ---- over any reader and writer
 
 module _ {R E P W F : Type 0} {parser : Parser P} (source : Reader R E) (sink : Writer W F) where
-  -- For each of these sizes in turn, a call gave a chunk, as `pull` does with a buffer of that size, and the whole
-  -- chunk was written. Sizes of 2 and 2 give the chunks `01 02` and `03` of the body `01 02 03`.
+  -- For each of these sizes in turn, a call gave a chunk, as `pull` does with a buffer of that size. The whole chunk
+  -- was written. Sizes of 2 and 2 give the chunks `01 02` and `03` of the body `01 02 03`.
   pub data DrainsEach : List ℕ → Segment R P parser → W → Segment R P parser → W → Type 0 where
     none : {segment : Segment R P parser} {writer : W} → DrainsEach [] segment writer segment writer
     more : {sizes : List ℕ} {size : ℕ} {chunk : List ℕ} {old between new : Segment R P parser} {writer now writer' : W}

@@ -19,8 +19,8 @@ IsPlainPiece (p.Header header) = IsPlain header
 IsPlainPiece (p.Bytes value segment) = Unit {0}
 IsPlainPiece (p.Text value segment) = Unit {0}
 
--- The marks of a value in segments of at most the requested number of bytes (RFC 7049, 2.2.2). Their bodies, joined,
--- are the value. The bytes `01 02 03` in segments of 2 bytes are `5f 42 01 02 41 03 ff`.
+-- The marks of a value in segments of at most `value_limit` bytes (RFC 7049, 2.2.2). Their bodies, joined, are the
+-- value. The bytes `01 02 03` in segments of 2 bytes are `5f 42 01 02 41 03 ff`.
 pub record IsValue (kind : Kind) (segment : Option ℕ) (value : List ℕ) (marks : List Mark) : Type 0 where
   pub written : IsWritten kind (value_limit kind segment value) value marks
   pub whole : joined (segments marks) ≡ value
