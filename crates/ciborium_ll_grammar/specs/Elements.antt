@@ -83,8 +83,8 @@ abbrev pub IsNoSmallSimple : Mark → Type 0
 IsNoSmallSimple (Plain header) = IsSmallSimple header → ⊥
 IsNoSmallSimple mark = Unit {0}
 
--- The bytes are the marks' shortest spelling and then `more`, and no mark is a simple value from 24 to 31 (RFC 7049,
--- 2.3 and 3.9). For the mark of `01` and the bytes `01 43`, `more` is `43`.
+-- The bytes are the marks' shortest spelling and then `more` (RFC 7049, 3.9). No mark is a simple value from 24 to 31
+-- (2.3). For the mark of `01` and the bytes `01 43`, `more` is `43`.
 pub record IsStrictSpelling (bytes : List ℕ) (marks : List Mark) (more : List ℕ) : Type 0 where
   pub same : bytes ≡ spelling marks ++ more
   pub meant : AllByRecursion IsNoSmallSimple marks

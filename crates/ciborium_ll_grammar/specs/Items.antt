@@ -22,9 +22,9 @@ AreTakenStrings true kind strings bodies = AreFlat kind strings bodies
 AreTakenStrings false kind strings bodies = Unit {0}
 
 mutual
-  -- `Completes strict depth header rest`: after a title of the header, the rest completes an item. It is nothing, a
-  -- body, one item, the counted items or pairs, or any number of items or pairs and a break (RFC 7049, 2.1 to 2.4).
-  -- After `82`, the bytes `01 02` complete an item of depth 1.
+  -- `Completes strict depth header rest`: after a title of the header, the rest completes an item (RFC 7049, 2.1 to
+  -- 2.4). It is nothing, a body, one item, or the counted items or pairs. Or it is any number of items or pairs and a
+  -- break. After `82`, the bytes `01 02` complete an item of depth 1.
   pub data Completes (strict : Bool) : ℕ → Header → List ℕ → Type 0 where
     positive : {depth number : ℕ} → Completes strict depth (h.Positive number) []
     negative : {depth number : ℕ} → Completes strict depth (h.Negative number) []

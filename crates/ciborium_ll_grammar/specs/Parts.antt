@@ -57,8 +57,8 @@ parts_bytes major minor = parts_first major minor ∷ minor_affix minor
 abbrev pub title_bytes : Title → List ℕ
 title_bytes t = parts_bytes t.major t.minor
 
--- The parts are the parts of a title: the major type is below 8, and the number fits (RFC 7049, 2.1). The parts 7 and
--- `Open` are those of `ff`, and 8 and `Open` are of no title.
+-- The major type is below 8, and the number fits its size (RFC 7049, 2.1). So it is with 7 and `Open`, as in `ff`, and
+-- not with 8 and `Open`. The parts 0 and `Open` are such parts too, but `1f` is no title.
 pub record IsParts (t : Title) : Type 0 where
   pub major : t.major < 8
   pub minor : IsMinor t.minor

@@ -18,8 +18,8 @@ kind_header Text len = h.Text len
 
 mutual
   -- `IsString kind bytes bodies`: the bytes are a title and the one body that it announces. Or they are an open,
-  -- strings of the same kind and a break, with the bodies of these strings in order (RFC 7049, 2.1 and 2.2.2).
-  -- `5f 41 01 42 02 03 ff` has the bodies `01` and `02 03`.
+  -- strings of the same kind and a break (RFC 7049, 2.1 and 2.2.2). The bodies are then those of these strings, in
+  -- order. `5f 41 01 42 02 03 ff` has the bodies `01` and `02 03`.
   pub data IsString (kind : Kind) : List ℕ → List (List ℕ) → Type 0 where
     definite : {title body : List ℕ} → IsTitle title (kind_header kind (Some (length body)))
         → IsString kind (title ++ body) (body ∷ [])
