@@ -35,8 +35,8 @@ span_of at entry = record {
   end = at + length entry.key + length entry.value;
 }
 
--- The places of pairs that stand one after the other from this offset on. Two pairs of one byte each have the places
--- 0, 1, 2 and 2, 3, 4.
+-- The places of pairs that stand one after the other from this offset on. From 0 on, two pairs of keys and values of
+-- one byte each have the places 0, 1, 2 and 2, 3, 4.
 abbrev pub spans_of : ℕ → List Entry → List Span
 spans_of at [] = []
 spans_of at (entry ∷ entries) =
@@ -133,15 +133,15 @@ pub record IsRepeated (entries : List Entry) : Type 0 where
   pub equal : HasEqualKeys sorted
 
 -- Why pairs are not put in order: two have the same key, or the memory is too small. For `01 02 01 03` it is
--- `Duplicate`.
+-- `Duplicate` or `Room`.
 abbrev pub StopsOrder : List Entry → Stop → Type 0
 StopsOrder entries (stop.Duplicate left) = IsRepeated entries
 StopsOrder entries stop.Room = Unit {0}
 StopsOrder entries stop.Malformed = ⊥
 StopsOrder entries (stop.NoSimple left) = ⊥
 
--- The call put the pairs at these places in the order of their keys, or says why not. Of `02 01 01 02` it makes `01 02
--- 02 01`, and for `01 02 01 03` it says `Duplicate`.
+-- The call put the pairs at these places in the order of their keys, or says why not. Of `02 01 01 02` it makes
+-- `01 02 02 01`, or it says `Room`.
 abbrev pub OrdersPairs : Order → ℕ → ℕ → List Span → List ℕ → Result ℕ Stop → List ℕ → Type 0
 OrdersPairs order at end spans old result new = (entries : List Entry) → ArePlaced at end spans old entries
     → MatchResult result (λ after. IsOrdered order at after entries old new) (StopsOrder entries)

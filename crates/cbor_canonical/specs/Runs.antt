@@ -116,7 +116,7 @@ pub record HasEqualKeys (entries : List Entry) : Type 0 where
 
 -- The bytes that can't begin the input of a call that stops for this reason. For `Malformed` they are an item to the
 -- depth, and for `NoSimple` a spelling of a value. For `Duplicate` they are a spelling of a value in which no map has a
--- key twice. For `Memory` there are none. `a2 01 02 01 03` are such bytes for `NoSimple`, but not for `Duplicate`.
+-- key twice. For `Room` there are none. `a2 01 02 01 03` are such bytes for `NoSimple`, but not for `Duplicate`.
 abbrev pub IsMissed : ℕ → Stop → List ℕ → Type 0
 IsMissed depth stop.Malformed bytes = IsItem false depth bytes
 IsMissed depth (stop.NoSimple left) bytes = IsSpelling bytes

@@ -67,8 +67,8 @@ pub record Gathers (kind : Kind) (bytes rest old new : List ℕ) : Type 0 where
   pub whole : bytes ≡ strings ++ 0xff ∷ rest
   pub wrote : new ≡ old ++ joined bodies
 
--- Why the bytes begin with no strings of the kind and a break: there are none, or no memory is left. For `41 01`
--- without a break it is `Malformed`, or `Memory`.
+-- Why the bytes begin with no strings of the kind and a break: there are none, or the lent memory is too small. For
+-- `41 01` without a break it is `Malformed`, or `Room`.
 abbrev pub FailsGather : Kind → List ℕ → Stop → Type 0
 FailsGather kind bytes stop.Malformed = (strings rest : List ℕ) (bodies : List (List ℕ))
     → AreStrings kind strings bodies → AreWritable kind bodies → bytes ≡ strings ++ 0xff ∷ rest → ⊥
@@ -91,8 +91,8 @@ pub record IsStringTurned (kind : Kind) (len : Option ℕ) (bytes written : List
   pub range : length body < 2 ^ 64
   pub spelled : written ≡ body_spelling kind body
 
--- Why no content of a string of this length begins the bytes: there is none, or no memory is left. With the length 2,
--- it is `Malformed` or `Memory` for `01`.
+-- Why no content of a string of this length begins the bytes: there is none, or the lent memory is too small. With the
+-- length 2, it is `Malformed` or `Room` for `01`.
 abbrev pub FailsString : Kind → Option ℕ → List ℕ → Stop → Type 0
 FailsString kind len bytes stop.Malformed = (content body rest : List ℕ) → IsContent kind len content body
     → bytes ≡ content ++ rest → ⊥
