@@ -11,8 +11,8 @@ pub record Adds (P : List ℕ → Type 0) (before after : List ℕ) : Type 0 whe
   pub parts : after ≡ before ++ added
   pub is : P added
 
--- The bytes are a title of the header. If `strict` is true, they are its shortest title (RFC 8949, 3 and 4.1). `17` and
--- `18 17` are titles of 23, and `17` is the shortest.
+-- The bytes are a title of the header. If `strict` is true, they are its shortest title, and no simple value from 24 to
+-- 31 (RFC 8949, 3, 3.3 and 4.1). `17` and `18 17` are titles of 23, and `17` is the shortest.
 pub record IsHead (strict : Bool) (header : Header) (bytes : List ℕ) : Type 0 where
   pub title : IsTitle bytes header
   pub taken : IsTakenTitle strict bytes header

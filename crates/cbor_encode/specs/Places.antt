@@ -6,8 +6,8 @@ use Rattle.cbor_encode.specs.declared.NotationError.{NotationError}
 abbrev pub next_line : ℕ → ℕ → ℕ
 next_line line byte = if byte == 10 then line + 1 else line
 
--- The column after a byte: each character takes one. A byte from 80 to bf is not the first byte of its character. The
--- bytes `c3 bc`, which are one character, take one column.
+-- The column after a byte: 1 after a line feed, and otherwise each character takes one. A byte from 80 to bf is not the
+-- first byte of its character. The bytes `c3 bc`, which are one character, take one column.
 abbrev pub next_column : ℕ → ℕ → ℕ
 next_column column byte =
     if byte == 10 then 1 else (if nat_lt byte 128 then column + 1 else (if nat_lt byte 192 then column else column + 1))

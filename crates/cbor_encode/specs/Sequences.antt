@@ -4,7 +4,7 @@ use Rattle.std.specs.List.{list_any}
 use Rattle.ciborium_ll_grammar.specs.Items.{AreItems}
 
 -- The bytes are items, joined, each with tags, arrays and maps nested at most `depth` deep. If `strict` is true, all
--- titles are the shortest (RFC 8949, 4.1). To a depth of 1 `01 82 02 03` are two items.
+-- items are in their shortest spelling (RFC 8949, 4.1). To a depth of 1 `01 82 02 03` are two items.
 pub record AreSequence (strict : Bool) (depth : ℕ) (bytes : List ℕ) : Type 0 where
   pub count : ℕ
   pub are : AreItems strict depth count bytes
