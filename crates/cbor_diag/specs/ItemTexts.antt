@@ -132,7 +132,7 @@ kind_quotes Text = q.Text
 
 mutual
   -- `IsShown layout level header rest text`: the text shows an item of this level. A title of the header begins the
-  -- item, and the rest follows it (RFC 8949, 8). `82 01 02` is shown as `[1, 2]`.
+  -- item, and the rest follows it (RFC 8949, 8). `82 01 02` is shown on one line as `[1, 2]`.
   pub data IsShown (layout : Layout) : ℕ → Header → List ℕ → List ℕ → Type 0 where
     scalar : {level : ℕ} {header : Header} {text : List ℕ} → header_notation header ≡ Some text
         → IsShown layout level header [] text

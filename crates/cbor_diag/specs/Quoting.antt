@@ -8,7 +8,7 @@ use Rattle.cbor_diag.specs.Notation.{body_text}
 
 -- ---- numbers for the facts that a writer tells, and for quotes
 
--- A number for a room: 0 if none is told.
+-- A number for a room: 0 if none is told, and otherwise the room and 1. A room of 5 has the number 6.
 abbrev pub room_code : Option ℕ → ℕ
 room_code None = 0
 room_code (Some room) = suc room
@@ -48,8 +48,8 @@ module _ {W F : Type 0} (sink : Ghosts W F) where
   WritesUntil false old text new = WritesAll sink old text new
   WritesUntil true old text new = WritesFront sink old text new
 
-  -- Since the writer within told the numbers of this list, these bytes were written to it as they stand between quotes,
-  -- or it failed at them. The byte `0a` stands as `0a` in a byte string, and as `\n` in a text.
+  -- Since the writer within told the numbers of this list, these bytes were written to it as they stand between quotes.
+  -- Or it failed at them. The byte `0a` stands as `0a` in a byte string, and as `\n` in a text.
   abbrev pub IsQuoted : List ℕ → Quotes → Bool → List ℕ → W → Type 0
   IsQuoted began quotes failed given writer =
       (before : W) → writer_code before ≡ began → WritesUntil failed before (body_text quotes given) writer

@@ -81,8 +81,8 @@ module _ {E W F : Type 0} (sink : Sink W F) where
   ShowsText (Some text) old (Err (d.Read error)) new = ⊥
 
 module _ {R E W F : Type 0} (source : Ghosts R E) (sink : Sink W F) where
-  -- After the header of an integer, a simple value or a float its text was written, and nothing was read. After `20`
-  -- the text is `-1`.
+  -- After the header of an integer, a simple value or a float its text was written, and nothing was read. If the writer
+  -- failed, a beginning of the text was written. After `20` the text is `-1`.
   pub record ShowsAlone (text : Option (List ℕ)) (old : Sides R W) (result : Result (Unit {0}) (DiagError E F))
       (new : Sides R W) : Type 0 where
     pub written : ShowsText sink text old.writer result new.writer
