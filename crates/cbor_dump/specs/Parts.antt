@@ -58,14 +58,14 @@ module _ {R E : Type 0} (source : Ghosts R E) where
   FailsInBody kind left place old error new =
       ThroughSomeRoom (λ room. EndsBody source kind [] left room place old (Err error) new)
 
-  -- Bytes of a text that had `left` bytes left were read; or the read failed as the read of the whole body does (RFC
-  -- 7049, 2.1; RFC 3629, 4). If 2 bytes are left, `c3 a9` can give `Ok(true)`, and not `Ok(false)`.
+  -- Bytes of a text that had `left` bytes left were read. Or the read failed as the read of the whole body does
+  -- (RFC 7049, 2.1; RFC 3629, 4). If 2 bytes are left, `c3 a9` can give `Ok(true)`, and not `Ok(false)`.
   abbrev pub ReadsTextPart : ℕ → List ℕ → Decoder R → Result Bool (Error E) → Decoder R → Type 0
   ReadsTextPart left bytes old (Ok whole) new = ReadsPast source old bytes new × IsSound left bytes whole
   ReadsTextPart left bytes old (Err error) new = (place : ℕ) → FailsInBody Text left place old error new
 
-  -- Bytes of a body of either kind were read; or the read failed as the read of the whole body does (RFC 7049, 2.1; RFC
-  -- 3629, 4). After `41` the byte `ff` can be read.
+  -- Bytes of a body of either kind were read. Or the read failed as the read of the whole body does (RFC 7049, 2.1;
+  -- RFC 3629, 4). After `41` the byte `ff` can be read.
   abbrev pub ReadsPart : Kind → ℕ → ℕ → List ℕ → Decoder R → Result (Unit {0}) (Error E) → Decoder R → Type 0
   ReadsPart kind left place bytes old (Ok done) new = ReadsPast source old bytes new
   ReadsPart kind left place bytes old (Err error) new = FailsInBody kind left place old error new

@@ -123,7 +123,8 @@ abbrev pub margin_text : ℕ → ℕ → List ℕ
 margin_text level count =
     blank (36 - (3 * shown_level level + 3 * count)) ++ (codes " # " ++ blank (2 * shown_level level))
 
--- The text that follows the bytes of a row. At the level 0 the text row of `61` gives 33 spaces and ` # "a"`.
+-- The text that follows the bytes of a row, which is empty for bytes of a byte string and for bytes at fault. At the
+-- level 0 the text row of `61` gives 33 spaces and ` # "a"`.
 abbrev pub meaning_text : Meaning → ℕ → List ℕ → List ℕ
 meaning_text (m.Header header) level bytes = margin_text level (length bytes) ++ header_text header
 meaning_text m.Text level bytes = margin_text level (length bytes) ++ quoted_text bytes

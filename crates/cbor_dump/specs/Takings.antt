@@ -32,9 +32,9 @@ pub record ThroughSomeRoom (Holds : ℕ → Type 0) : Type 0 where
 abbrev pub most_text : ℕ
 most_text = 13
 
--- The answer of a decoder, strict or not, about a first byte and as many bytes as that announces (RFC 7049, 2.1 to 2.3
--- and 3.9). They are a title of the header, which is strict if the decoder is. Or they are none, as `1c`, or as `18 17`
--- for a strict decoder.
+-- The answer of a decoder, strict or not, about a first byte and as many bytes as it announces (RFC 7049, 2.1 to 2.3).
+-- They are a title of the header, which is strict if the decoder is (3.9). Or they are none, as `1c`, or as `18 17` for
+-- a strict decoder.
 abbrev pub AnswersTitle : Bool → List ℕ → Option Header → Type 0
 AnswersTitle strict bytes (Some header) = IsTitle bytes header × (IsTrue strict → IsStrictTitle bytes header)
 AnswersTitle strict bytes None = ((byte : ℕ) × IsRefused byte × (bytes ≡ byte ∷ []))
