@@ -7,8 +7,8 @@ use Rattle.cbor_checker.specs.declared.phase.Fault.TheVariants as f
 use Rattle.cbor_checker.specs.declared.phase.Within.{Within}
 use Rattle.cbor_checker.specs.declared.phase.Within.TheVariants as w
 
--- The fault of a title of this kind that may not stand at the place (RFC 7049, 2.2.2). It is a nest without a level
--- left, or another kind within a string, as `61` after `5f`.
+-- The fault of a title of this kind, of two or more bytes, that may not stand at the place (RFC 7049, 2.2.2). The title
+-- is that of a nest without a level left, or of another kind within a string, as `78 01` after `5f`.
 abbrev pub blocked : Within → ℕ → ℕ → TitleKind → Option Fault
 blocked w.Nothing zero place k.Array = Some (f.Deep place)
 blocked w.Nothing zero place k.Map = Some (f.Deep place)
