@@ -6,7 +6,8 @@ use Rattle.cbor_copier.specs.declared.phase.StringKind.TheVariants as k
 use Rattle.cbor_copier.specs.declared.phase.Within.{Within}
 use Rattle.cbor_copier.specs.declared.phase.Within.TheVariants as w
 
--- No title of this kind may stand here: within a string, it is of another kind (RFC 7049, 2.2.2), as `61` after `5f`.
+-- No title of this kind, of two or more bytes, may stand here. Within a string it is of another kind (RFC 7049, 2.2.2),
+-- as `78 01` after `5f`.
 abbrev pub is_blocked : Within → TitleKind → Bool
 is_blocked w.Nothing kind = false
 is_blocked (w.Open k.Bytes more) t.Bytes = false

@@ -17,7 +17,7 @@ most_cut s.Damaged = 0
 most_cut state = 4 - tail_due state
 
 -- How many bytes of a title or a character are held back at most. For a title it is the length of the affix that its
--- first byte announces (RFC 7049, 2.1): two for `19`.
+-- first byte announces (RFC 7049, 2.1): two for `19`. At a fault it is 8, the longest affix.
 abbrev pub most_front : Phase → List ℕ → ℕ
 most_front p.Title front = affix_len (slice_index front 0 % 32)
 most_front (p.Text left state) front = most_cut state
