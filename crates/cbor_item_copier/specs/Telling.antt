@@ -60,7 +60,7 @@ IsRoom progress = ⊥
 abbrev pub IsSpelled : List ℕ → List ℕ → Type 0
 IsSpelled bytes output = (count : ℕ) × AreSpelled count bytes output
 
--- A copy of elements has put out this output if the bytes end too early, however many elements are due: `82 61` for
+-- A copy of more elements than there are bytes has put out this output, and the bytes end too early: `82 61` for
 -- `82 61`.
 abbrev pub IsCutCopy : List ℕ → List ℕ → Type 0
 IsCutCopy bytes output = (count : ℕ) → length bytes < count → ComesTo count bytes Short output
