@@ -10,8 +10,8 @@ abbrev pub AsksForCopy : List (String Global) → ℕ → Type 0
 AsksForCopy words count = (name : String Global) × (word : String Global) × (words ≡ name ∷ word ∷ [])
     × (string_bytes name ≡ codes "recode") × IsNumber (string_bytes word) count
 
--- No words ask for lines, and other words that ask for no copy for the usage. `recode 2` asks for a copy of 2 elements,
--- and `recode 02` for the usage.
+-- The choice that the words make: lines without words, a copy if they ask for one, and otherwise the usage. `recode 2`
+-- asks for a copy of 2 elements, and `recode 02` for the usage.
 abbrev pub IsChosen : List (String Global) → Chosen → Type 0
 IsChosen words Lines = words ≡ []
 IsChosen words (Raw count) = AsksForCopy words count
