@@ -66,7 +66,7 @@ CopiesAnyhow count bytes old a.Room new report =
 CopiesAnyhow count bytes old answer new report = CopiesInto count bytes old answer new report
 
 module _ {E F : Type 0} where
-  -- The answer that stands for the result of `recode`. A failed write has `Room`.
+  -- The answer that stands for the result of `recode`. `Syntax(3)` has `Syntax`, and a failed write has `Room`.
   abbrev pub copy_answer : Result (Unit {0}) (RecodeError E F) → CllAnswer
   copy_answer (Ok done) = a.Ok
   copy_answer (Err (r.Read (e.Io fault))) = a.Short

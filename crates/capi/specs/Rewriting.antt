@@ -26,9 +26,9 @@ abbrev pub refusal_place : Why → ℕ → ℕ
 refusal_place w.Cut offset = 0
 refusal_place why offset = offset
 
--- The result of `cll_canonical`, by its answer. The output begins with the deterministic encoding of the item that comes
--- first, and the item is consumed; or the bytes are refused, and the report names the offset; or the memory is too
--- small. For `9f 18 01 ff 02` to a depth of 1 the output begins with `81 01`, 4 bytes are consumed and 2 written.
+-- The result of `cll_canonical`, by its answer. The output begins with the deterministic encoding of the item that
+-- comes first, and the item is consumed. Or the bytes are refused, and the report names the offset. Or the memory is
+-- too small. For `9f 18 01 ff 02` to a depth of 1 the output begins with `81 01`, 4 bytes are consumed and 2 written.
 pub data Rewrites (order : Order) (depth : ℕ) (bytes : List ℕ) : CllAnswer → List ℕ → CllReport → Type 0 where
   is_written : {len : ℕ} {rest out : List ℕ} {report : CllReport} (written : IsCanonical order depth bytes rest (take len out))
       → len ≤ length out → Reports report (length written.item) len 0 → Rewrites order depth bytes a.Ok out report

@@ -73,7 +73,7 @@ pub record StopsTitles (room : ℕ) (bytes : List ℕ) (taken : ℕ) (entries : 
 
 -- ---- the call
 
--- The output begins with the entries, and is as it was after them. One entry changes the first of three places alone.
+-- The output begins with the entries, and is as it was after them. With 3 places and 1 entry, only the first changes.
 abbrev pub IsFilled : List CllTitle → List CllTitle → List CllTitle → Type 0
 IsFilled old entries new = new ≡ entries ++ drop (length entries) old
 
