@@ -16,8 +16,8 @@ IsNewKey key None = Unit {0}
 IsNewKey key (Pair other value pairs) = ((v : Value) → Same key v → Same v other → ⊥) × IsNewKey key pairs
 
 mutual
-  -- Each number of the value is in its range, each text is UTF-8, and no two keys of a map are the same (RFC 8949, 3.1,
-  -- 3.3 and 5.6). A text of the byte `ff` does not fit, and neither does {1: 2, 1: 3}.
+  -- Each number of the value is in its range, and each text is UTF-8 (RFC 8949, 3.1 and 3.3). No two keys of a map are
+  -- the same (5.6). A text of the byte `ff` does not fit, and neither does {1: 2, 1: 3}.
   pub data Fits : Value → Type 0 where
     fits_unsigned : {n : ℕ} → n < 2 ^ 64 → Fits (Unsigned n)
     fits_negative : {n : ℕ} → n < 2 ^ 64 → Fits (Negative n)

@@ -10,9 +10,9 @@ IsBytewiseBefore xs [] = ⊥
 IsBytewiseBefore [] (y ∷ ys) = Unit {0}
 IsBytewiseBefore (x ∷ xs) (y ∷ ys) = (x < y) ⊎ ((x ≡ y) × IsBytewiseBefore xs ys)
 
--- One key comes before another in this order: by its bytes (RFC 8949, 4.2.1), or the shorter key first, and keys of the
--- same length by their bytes (RFC 7049, 3.9, and RFC 8949, 4.2.3). Bytewise `18 64` comes before `20`, and length-first
--- `20` comes before `18 64`.
+-- One key comes before another in this order. Bytewise it does by its bytes (RFC 8949, 4.2.1). Length-first a shorter
+-- key comes first, and keys of the same length go by their bytes (RFC 7049, 3.9, and RFC 8949, 4.2.3). Bytewise `18 64`
+-- comes before `20`, and length-first `20` comes before `18 64`.
 abbrev pub Precedes : Order → List ℕ → List ℕ → Type 0
 Precedes Bytewise xs ys = IsBytewiseBefore xs ys
 Precedes LengthFirst xs ys = (length xs < length ys) ⊎ ((length xs ≡ length ys) × IsBytewiseBefore xs ys)
