@@ -36,9 +36,9 @@ item_count (h.Array len) = len
 item_count (h.Map (Some len)) = Some (2 * len)
 item_count header = None
 
--- Whether a break may stand in place of the next item. It may in an array of indefinite length, and in a map of
--- indefinite length after whole pairs, which are an even number of items (RFC 7049, 2.2.1). It may after `bf 01 02`,
--- and not after `bf 01`.
+-- Whether a break may stand in place of the next item (RFC 7049, 2.2.1). It may in an array of indefinite length. In a
+-- map of indefinite length it may after whole pairs, which are an even number of items. It may after `bf 01 02`, and
+-- not after `bf 01`.
 abbrev pub may_close : Header → ℕ → Bool
 may_close (h.Array None) count = true
 may_close (h.Map None) count = count % 2 == 0
@@ -46,7 +46,7 @@ may_close header count = false
 
 -- `ItemDue strict outer depth bytes levels closable`: the bytes are a beginning of an item to the depth, and then an
 -- item to `levels` levels is due. If `strict` holds, the beginning is in the shortest spelling. `closable` says whether
--- a break may stand in place of the item that is due; `outer` says the same of the whole item (RFC 7049, 2.1 to 2.4).
+-- a break may stand in place of the item that is due. `outer` says the same of the whole item (RFC 7049, 2.1 to 2.4).
 -- After `82 01` with depth 3, an item to 2 levels is due, and no break may stand.
 pub data ItemDue (strict : Bool) : Bool → ℕ → List ℕ → ℕ → Bool → Type 0 where
   -- Nothing was read.

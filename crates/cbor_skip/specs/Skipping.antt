@@ -88,8 +88,8 @@ module _ {R E : Type 0} (source : Ghosts R E) where
     pub is_item : IsItem (strictness old) depth item
     pub passed : ReadsPast source old item new
 
-  -- A title began an item, which was read whole and is an item to any depth; or a break; or a nest, which may count its
-  -- items. The titles `01`, `ff` and `82` make these three beginnings.
+  -- A title began an item, which was read whole and is an item to any depth. Or the title is a break, or that of a
+  -- nest, which may count its items. The titles `01`, `ff` and `82` make these three beginnings.
   abbrev pub IsBegun : Begun → Decoder R → Decoder R → Type 0
   IsBegun b.Item old new = (depth : ℕ) → ReadsItem depth old new
   IsBegun b.Break old new = PullsTitle source old h.Break new
