@@ -14,7 +14,7 @@ name_claim key None = []
 name_claim key (Some text) = shortest_title (h.Positive key) ++ body_spelling Text text.now
 
 -- The shortest titles of the key and of a number of seconds, or nothing if the claim is not there (RFC 8392, 3.1.4 to
--- 3.1.6, and RFC 7049, 2.4.1, without the tag). The time 5 of the expiry is `04 05`.
+-- 3.1.6). The tag of RFC 7049, 2.4.1, is left out. The time 5 of the expiry is `04 05`.
 abbrev pub time_claim : ℕ → Option ℕ → List ℕ
 time_claim key None = []
 time_claim key (Some seconds) = shortest_title (h.Positive key) ++ shortest_title (h.Positive seconds)

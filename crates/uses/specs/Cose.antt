@@ -30,8 +30,8 @@ pub record IsByteString (bytes : List ℕ) (at : ℕ) (span : Span) : Type 0 whe
   pub ends : span.end ≡ at + length bytes
   pub starts : span.start + length body ≡ span.end
 
--- The bytes are a map in its shortest spelling (RFC 7049, 3.9), which begins at this offset. The span is the span of
--- the whole map. At offset 3, `a0` has the span from 3 up to 4.
+-- The bytes are a map in its shortest spelling (RFC 7049, 3.9), nested at most `MAP_DEPTH` deep, which begins at this
+-- offset. The span is the span of the whole map. At offset 3, `a0` has the span from 3 up to 4.
 pub record IsMap (bytes : List ℕ) (at : ℕ) (span : Span) : Type 0 where
   pub is_item : IsItem true MAP_DEPTH bytes
   pub len : Option ℕ

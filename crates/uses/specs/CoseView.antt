@@ -33,9 +33,9 @@ abbrev pub IsPayloadOf : List ℕ → Option (List ℕ) → Type 0
 IsPayloadOf bytes None = IsTitle bytes (h.Simple 22)
 IsPayloadOf bytes (Some body) = IsBytesOf bytes body
 
--- The item is a COSE_Sign1 with its tag and these parts: tag 18 and an array of four items, which are the byte string
--- of the protected parameters, the map of the unprotected parameters, the payload and the byte string of the signature
--- (RFC 9052, 2 and 4.2). The item `d2 84 40 a0 f6 40` has empty parts and a detached payload.
+-- The item is a COSE_Sign1 with these parts: tag 18 and an array of four items (RFC 9052, 2 and 4.2). They are the byte
+-- string of the protected parameters, the map of the unprotected parameters, the payload, and the byte string of the
+-- signature. The item `d2 84 40 a0 f6 40` has empty parts and a detached payload.
 pub record IsSign1 (item protected unprotected signature : List ℕ) (payload : Option (List ℕ)) : Type 0 where
   pub inner : List ℕ
   pub is_tagged : IsTagged item inner

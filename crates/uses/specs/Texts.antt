@@ -25,7 +25,7 @@ abbrev pub BeginsOther : Header → Type 0
 BeginsOther header = (len : Option ℕ) → header ≡ h.Text len → ⊥
 
 -- The greatest number of segments of a text of at most `limit` bytes: one more than the limit, because the only segment
--- of an empty text is empty. For a limit of 3 it is 4.
+-- of an empty text is empty. For a limit of 3 it is 4. It is never above 2^64 - 2.
 abbrev pub most_segments : ℕ → ℕ
 most_segments limit = min (limit + 1) (2 ^ 64 - 2)
 
