@@ -58,8 +58,8 @@ pub data ItemDue (strict : Bool) : Bool → ℕ → List ℕ → ℕ → Bool �
       → ItemDue strict outer (suc depth) (title ++ (items ++ more)) levels closable
 
 -- Within a string that isn't closed: if only the shortest spelling is taken, the open holds only strings of a definite
--- length, each under a strict title (RFC 7049, 2.2.2 and 3.9). So `5f 41 01` is taken, and `5f 5f` and `5f 58 01 01`
--- are not.
+-- length. Each has a strict title (RFC 7049, 2.2.2 and 3.9). So `5f 41 01` is taken, and `5f 5f` and `5f 58 01 01` are
+-- not.
 abbrev pub IsTakenInside : Bool → Kind → List ℕ → List (List ℕ) → Type 0
 IsTakenInside true kind opens bodies = (strings : List ℕ)
     × (opens ≡ shortest_title (kind_header kind None) ++ strings) × AreTakenStrings true kind strings bodies
