@@ -66,8 +66,8 @@ GivesSegment old result new = (kind : Kind) (bodies : List (List ℕ)) → AreSe
     → MatchOption result ((bodies ≡ []) × (new ≡ old))
     (λ body. IsFirstSegment kind bodies body.now (segments_bytes new))
 
--- `next` gives the body of the first segment of a text string that is left, or `None` exactly if none is left, and then
--- changes nothing. For `7f 61 61 61 62 ff` it gives "a", "b" and then `None`.
+-- `next` gives the body of the first segment of a text string that is left. It gives `None` exactly if none is left,
+-- and then changes nothing. For `7f 61 61 61 62 ff` it gives "a", "b" and then `None`.
 abbrev pub GivesText : TextSegments → Option (Bor (List ℕ)) → TextSegments → Type 0
 GivesText old result new = (bodies : List (List ℕ)) → AreSegments Text (texts_bytes old) bodies
     → MatchOption result ((bodies ≡ []) × (new ≡ old))
