@@ -24,8 +24,8 @@ pub data IsFirstAt (depth : ℕ) (key : List ℕ) : List ℕ → ℕ → List �
       → (IsTextOf other key → ⊥) → IsFirstAt depth key others place value
       → IsFirstAt depth key (other ++ (another ++ others)) (length other + length another + place) value
 
--- The bytes are a map, and the value of the first key that is this text begins at this offset in the bytes (RFC 7049,
--- 2.1). In `a1 61 61 05` the value of the key `a` is `05`, at offset 3.
+-- The bytes are a map, and the value of the first key that is this text begins at this offset (RFC 7049, 2.1). In
+-- `a1 61 61 05` the value of the key `a` is `05`, at offset 3.
 pub record HasValueAt (depth : ℕ) (key bytes : List ℕ) (place : ℕ) (value : List ℕ) : Type 0 where
   pub count : Option ℕ
   pub title : List ℕ
