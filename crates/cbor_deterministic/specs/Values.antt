@@ -3,8 +3,8 @@
 use Rattle.std.specs.Prelude.{ℕ, zero, suc, List}
 
 mutual
-  -- A value (RFC 8949, 2): an unsigned integer, the negative integer -1 - n, bytes, a text, an array, a map, a tagged
-  -- value, a simple value, or a float by its 64 bits. `Negative 0` is -1.
+  -- A value (RFC 8949, 2): an unsigned integer, the negative integer -1 - n, bytes, a text, an array or a map. Or it is
+  -- a tagged value, a simple value, or a float by its 64 bits. `Negative 0` is -1.
   pub data Value : Type 0 where
     Unsigned : ℕ → Value
     Negative : ℕ → Value
