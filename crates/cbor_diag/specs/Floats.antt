@@ -60,10 +60,10 @@ IsNumberText (fin sign number exponent) text =
 
 -- ---- the mark of its width
 
--- Whether a float of the width has the value of the double with this exponent and fraction. Each width has infinities
--- and NaN. For other values the exponent is not too great, and the bits of the fraction that the width lacks are zeros:
--- one more for each step below its least exponent. A half has the value of the exponent 1023 and the fraction 0, which
--- is 1.0, and not that of 1023 and 1.
+-- Whether a float of the width has the value of the double with this exponent and fraction. Each width has zeros,
+-- infinities and NaN, and none has a subnormal double. For other values the exponent is neither too great nor too
+-- small. The bits of the fraction that the width lacks are then zeros: one more for each step below its least exponent.
+-- A half has the value of the exponent 1023 and the fraction 0, which is 1.0, and not that of 1023 and 1.
 abbrev pub is_held : Width → ℕ → ℕ → Bool
 is_held width exponent fraction =
     if exponent == 2047 then true
@@ -71,7 +71,8 @@ is_held width exponent fraction =
     else (not (nat_lt width.most exponent) && (not (nat_lt (exponent + width.digits) width.least)
     && (fraction % 2 ^ ((52 - width.digits) + (width.least - exponent)) == 0))))
 
--- Whether a float of the width has the value of this double. A single has the value 1.0.
+-- Whether a float of the width has the value of this double. A half has the value 1.0, `3f f0 00 00 00 00 00 00`, and
+-- not 65536.0, `40 f0 00 00 00 00 00 00`.
 abbrev pub holds : Width → ℕ → Bool
 holds width double = is_held width (double / 2 ^ 52 % 2048) (double % 2 ^ 52)
 

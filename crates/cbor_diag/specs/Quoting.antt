@@ -8,7 +8,7 @@ use Rattle.cbor_diag.specs.Notation.{body_text}
 
 -- ---- numbers for the facts that a writer tells, and for quotes
 
--- A number for a room: 0 if none is told, and otherwise the room and 1. A room of 5 has the number 6.
+-- A number for a room: 0 if none is told, and otherwise one more than the room. A room of 5 has the number 6.
 abbrev pub room_code : Option ℕ → ℕ
 room_code None = 0
 room_code (Some room) = suc room
