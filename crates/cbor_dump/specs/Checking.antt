@@ -18,6 +18,7 @@ AnswersAs checked result = ⊥
 
 module _ {R E W : Type 0} (source : Ghosts R E) where
   -- A check through a buffer of some room, at most a row's 16 bytes, would do what the dump did, and answers the same.
+  -- For `01 ff` it answers with `Break` at 1.
   pub record ReadsAsCheck (depth : ℕ) (old : Decoder R) (result : Result E (DumpError E W)) (new : Decoder R)
       : Type 0 where
     pub checked : Result (Sequence E) (Stopped E)

@@ -165,7 +165,7 @@ module _ {R E : Type 0} (source : Ghosts R E) where
 
   -- The bytes that a dump left are shown at the level, in at most one line. The bytes came one by one until the line
   -- was full or a read failed, and no read followed. If the reader is steady, no header waits, at most 16 bytes are
-  -- told and the offset fits them, the line has all of them.
+  -- told and the offset fits them, the line has all of them. The bytes `1c 01` make one line, and no bytes make none.
   pub record ShowsLeft (level : ℕ) (drawn then_drawn : Option (List Line)) (old new : Decoder R) : Type 0 where
     pub bytes : List ℕ
     pub draws : Draws drawn then_drawn (fault_lines level old.offset bytes)

@@ -167,7 +167,7 @@ Stands how depth before m.Bytes line = HasBody depth before Bytes line
 Stands how depth before m.Text line = HasBody depth before Text line × IsWritable Text line.bytes
 Stands how depth before m.Fault line = HasNoTitle how depth before line ⊎ HasNoText how depth before line
 
--- A line has at least one byte, and at most 16.
+-- A line has at least one byte, and at most 16. `82` fits a row, and 17 bytes do not.
 abbrev pub FitsRow : List ℕ → Type 0
 FitsRow bytes = (0 < length bytes) × (length bytes ≤ most_bytes)
 

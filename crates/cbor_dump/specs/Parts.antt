@@ -53,7 +53,7 @@ IsPartRow kind left error bytes = (bytes ≡ []) ⊎ ((kind ≡ Text) × IsCutTe
 
 module _ {R E : Type 0} (source : Ghosts R E) where
   -- The read of a body that has `left` bytes left failed as that of a skip does. The skip has a buffer of at most a
-  -- row's 16 bytes (RFC 7049, 2.1; RFC 3629, 4).
+  -- row's 16 bytes (RFC 7049, 2.1; RFC 3629, 4). If 2 bytes of a text are left, `ff 61` can give `Syntax`.
   abbrev pub FailsInBody : Kind → ℕ → ℕ → Decoder R → Error E → Decoder R → Type 0
   FailsInBody kind left place old error new =
       ThroughSomeRoom (λ room. EndsBody source kind [] left room place old (Err error) new)

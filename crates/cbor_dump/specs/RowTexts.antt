@@ -113,7 +113,7 @@ quoted_text bytes = 34 ∷ (characters_text (chars (shown_text bytes)) ++ 34 ∷
 
 -- ---- rows
 
--- The level that an indent shows: at most 256.
+-- The level that an indent shows: at most 256. The level 300 is shown as 256.
 abbrev pub shown_level : ℕ → ℕ
 shown_level level = min level 256
 

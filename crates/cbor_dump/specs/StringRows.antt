@@ -65,7 +65,7 @@ IsRest strict kind None bytes = EndsString strict kind bytes
 
 module _ {R E : Type 0} (source : Ghosts R E) where
   -- After an open the read of a string failed as that of a skip does (RFC 7049, 2.2.2). The skip has a buffer of at
-  -- most a row's 16 bytes.
+  -- most a row's 16 bytes. After `5f` the byte `1c` gives `Syntax`.
   abbrev pub FailsInside : Kind → Decoder R → Error E → Decoder R → Type 0
   FailsInside kind old error new = ThroughSomeRoom (λ room. StopsInside source kind room old error new)
 

@@ -21,7 +21,8 @@ taken_bytes taken = take taken.len taken.bytes
 abbrev pub most_bytes : ℕ
 most_bytes = 16
 
--- The relation holds for some room of a buffer, at most a row's 16 bytes.
+-- The relation holds for some room of a buffer, at most a row's 16 bytes. One that holds for 8 is such a relation, and
+-- one that holds for 17 alone is none.
 pub record ThroughSomeRoom (Holds : ℕ → Type 0) : Type 0 where
   pub room : ℕ
   pub held : room ≤ most_bytes

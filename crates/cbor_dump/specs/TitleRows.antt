@@ -57,6 +57,7 @@ module _ {E W : Type 0} where
 
 module _ {R E : Type 0} (source : Ghosts R E) where
   -- A string of this length failed as a skip of it does, through a buffer of at most a row's 16 bytes (RFC 7049, 2.2).
+  -- After `62` the body `ff 61` gives `Syntax`.
   abbrev pub FailsInString : Kind → Option ℕ → Decoder R → Error E → Decoder R → Type 0
   FailsInString kind len old error new = ThroughSomeRoom (λ room. SkipsString source kind len room old (Err error) new)
 
