@@ -22,7 +22,8 @@ abbrev pub column_after : ℕ → List ℕ → ℕ
 column_after column [] = column
 column_after column (byte ∷ bytes) = column_after (next_column column byte) bytes
 
--- The place of the error is within the text, and its line and its column are those of the place, both from 1.
+-- The place of the error is within the text, and its line and its column are those of the place, both from 1. At the
+-- place 2 of `[1` the line is 1, and the column 3.
 pub record IsFaultIn (text : List ℕ) (error : NotationError) : Type 0 where
   pub within : error.place ≤ length text
   pub line : error.line ≡ line_after 1 (take error.place text)
