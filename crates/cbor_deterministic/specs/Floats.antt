@@ -16,15 +16,15 @@ pub record Format : Type 0 where
   pub exponent : ℕ
   pub mantissa : ℕ
 
--- Floats of 16 bits: a sign, 5 bits of exponent and 10 of mantissa (IEEE 754, 3.6).
+-- Floats of 16 bits: a sign, 5 bits of exponent and 10 of mantissa (IEEE 754, 3.6). `3c 00` is 1.0.
 abbrev pub half : Format
 half = record { exponent = 5; mantissa = 10 }
 
--- Floats of 32 bits: a sign, 8 bits of exponent and 23 of mantissa (IEEE 754, 3.6).
+-- Floats of 32 bits: a sign, 8 bits of exponent and 23 of mantissa (IEEE 754, 3.6). `3f 80 00 00` is 1.0.
 abbrev pub single : Format
 single = record { exponent = 8; mantissa = 23 }
 
--- Floats of 64 bits: a sign, 11 bits of exponent and 52 of mantissa (IEEE 754, 3.6).
+-- Floats of 64 bits: a sign, 11 bits of exponent and 52 of mantissa (IEEE 754, 3.6). `3f f0 00 00 00 00 00 00` is 1.0.
 abbrev pub double : Format
 double = record { exponent = 11; mantissa = 52 }
 
