@@ -1,4 +1,9 @@
 -- Laws of the rewriting, and of its refusals.
+use Rattle.std.proofs.Common.{◌≤◌}
+use Rattle.cbor_skip.specs.Due.{ItemDue}
+use Rattle.cbor_deterministic.specs.declared.TheConstants.{MAX_DEPTH}
+use Rattle.cbor_canonical.specs.Meeting.{IsSameKey}
+use Rattle.cbor_canonical.specs.Refusals.{HasSameKey}
 use Rattle.std.proofs.Common.{◌≡◌, ℕ, ◌+◌, ◌-◌, ◌<◌, List, [], ◌++◌, length, length-append, refl, sym, ◌∙◌, ap, subst, arith, false, Bool}
 use Rattle.std.proofs.Common.{IsTrue, Some, Result, Ok, Err, MatchResult}
 use Rattle.ciborium_ll_io.specs.declared.io.Read.{Ghosts}
@@ -148,13 +153,63 @@ no_simple d left bytes stop (Refused r) e i s q =
     rw e.0 (i, f.0, no_simple_there d left r.place bytes f.1 e.1)
 no_simple d left bytes stop Memory e i s q = tt
 
+-- A key that a call meets is in the item, at the place that many bytes before the end.
+same_key_there : (d left place : ℕ) (bytes : List ℕ) → MeetsAt (IsSameKey left) d bytes
+    → place ≡ length bytes - left → HasSameKey d bytes place
+same_key_there d left place bytes m e =
+    let due = m.due false in
+    let k = m.is in
+    let whole : bytes ≡ m.before ++ (k.title ++ (k.front ++ (k.key ++ (k.between ++ (k.again ++ k.rest))))) =
+    m.whole ∙ ap (λ (z : List ℕ). m.before ++ z) k.is in
+    record {
+      before = m.before;
+      title = k.title;
+      count = k.count;
+      levels = k.inner;
+      closable = due.0;
+      item_due = subst (λ (n : ℕ). ItemDue false false d m.before n due.0) k.deeper due.1;
+      is_title = k.is_title;
+      pairs = k.pairs;
+      front = k.front;
+      front_items = k.before;
+      key = k.key;
+      is_key = k.is_key;
+      more = k.more;
+      between = k.between;
+      between_items = k.after;
+      again = k.again;
+      is_again = k.is_again;
+      value = k.value;
+      other = k.other;
+      key_encodes = k.key_encodes;
+      again_encodes = k.again_encodes;
+      same = k.same;
+      rest = k.rest;
+      is = whole;
+      place_is = omega (
+        arith,
+        e,
+        k.left_is,
+        ap (length {A = ℕ}) whole,
+        length-append m.before (k.title ++ (k.front ++ (k.key ++ (k.between ++ (k.again ++ k.rest))))),
+        length-append k.title (k.front ++ (k.key ++ (k.between ++ (k.again ++ k.rest)))),
+        length-append k.front (k.key ++ (k.between ++ (k.again ++ k.rest))),
+        length-append k.key (k.between ++ (k.again ++ k.rest)),
+        length-append k.between (k.again ++ k.rest),
+        length-append m.before (k.title ++ (k.front ++ (k.key ++ k.between))),
+        length-append k.title (k.front ++ (k.key ++ k.between)),
+        length-append k.front (k.key ++ k.between),
+        length-append k.key k.between,
+      );
+    }
+
 pub duplicate_key : (d left : ℕ) (bytes : List ℕ) (stop : Stop) (error : CanonicalError)
     → HasWhy w.DuplicateKey (length bytes - left) error → BeginsWithItem false d bytes → stop ≡ st.Duplicate left
-    → FailsItem d bytes stop → IsUnwritten d bytes error
-duplicate_key d left bytes stop (Refused r) e i s q =
+    → d ≤ MAX_DEPTH → FailsItem d bytes stop → IsUnwritten d bytes error
+duplicate_key d left bytes stop (Refused r) e i s shallow q =
     let f = subst (λ (z : Stop). FailsItem d bytes z) s q in
-    rw e.0 (i, f.0)
-duplicate_key d left bytes stop Memory e i s q = tt
+    rw e.0 (i, f.0, same_key_there d left r.place bytes (f.1 shallow) e.1)
+duplicate_key d left bytes stop Memory e i s shallow q = tt
 
 pub item_there : (d : ℕ) (bytes : List ℕ) (stop : Stop) → BeginsWithItem false d bytes → stop ≡ st.Malformed
     → FailsItem d bytes stop → ⊥

@@ -7,7 +7,9 @@ pub mod SortRuns
 pub mod ItemRuns
 pub mod PairRuns
 pub mod PlaceRuns
+pub mod IndexRuns
 pub mod OrderRuns
+pub mod WalkRuns
 pub mod MeetRuns
 pub mod FailRuns
 pub mod SameLaws

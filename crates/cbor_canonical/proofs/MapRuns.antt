@@ -35,10 +35,16 @@ use Rattle.cbor_deterministic.proofs.OneValue.{one_value}
 use Rattle.cbor_deterministic.proofs.Law.{one_deterministic}
 use Rattle.cbor_canonical.specs.declared.pairs.Span.{Span}
 use Rattle.cbor_canonical.specs.declared.Stop.{Stop}
-use Rattle.cbor_canonical.specs.Places.{WritesPairs, WritesMap, ArePlaced, IsOrdered, StopsOrder}
+use Rattle.cbor_canonical.specs.Places.{WritesPairs, WritesMap, ArePlaced, IsOrdered, StopsOrder, IsRepeated, HaveKeys}
+use Rattle.cbor_canonical.specs.Meeting.{MeetsAt, IsSameKey}
+use Rattle.cbor_canonical.proofs.MeetRuns.{meets_here}
+use Rattle.cbor_deterministic.specs.declared.TheConstants.{MAX_DEPTH}
+use Rattle.ciborium_ll_grammar.specs.Items.{IsItem}
+use Rattle.ciborium_ll_grammar.proofs.ItemJoins.{item_before}
+use Rattle.cbor_canonical.specs.Canonical.{IsRewritten}
 use Rattle.cbor_canonical.specs.Writing.{Adds, Extends, Inserts}
 use Rattle.std.proofs.Common.{take, take-take, take_at}
-use Rattle.std.proofs.lemmas.List.{length-take-le}
+use Rattle.std.proofs.lemmas.List.{length-take-le, get_or-take}
 use Rattle.cbor_canonical.specs.Runs.{Entry}
 use Rattle.cbor_canonical.specs.declared.Stop.TheVariants as st
 use Rattle.cbor_canonical.specs.Runs.{Turns, IsCompleted, EndsNest, counted, at_break, ArePairsOf, no_pairs}
@@ -504,11 +510,117 @@ pairs_sorted_there d done o bytes rest at end after old now new spans l g q = re
   within = q.wrote.within;
 }
 
+-- ---- a key that a map has twice
+
+-- The pair of an index, with the pairs before and after it.
+record PairOf (ord : Order) (d : ℕ) (bytes : List ℕ) (es : List Entry) (i : ℕ) : Type 0 where
+  pub front : List ℕ
+  pub key : List ℕ
+  pub value : List ℕ
+  pub others : List ℕ
+  pub before : ArePairsOf ord d front (take i es)
+  pub key_is : (x : Entry) → IsRewritten ord d key (slice_index_or es i x).key
+  pub value_is : IsItem false d value
+  pub many : ℕ
+  pub after : AreItems false d (2 * many) others
+  pub whole : bytes ≡ front ++ (key ++ (value ++ others))
+
+pair_of : {ord : Order} (d : ℕ) (bytes : List ℕ) (es : List Entry) (i : ℕ) → ArePairsOf ord d bytes es
+    → i < length es → PairOf ord d bytes es i
+pair_of d bytes es i no_pairs l = absurd (omega arith)
+pair_of d bytes es zero (more_pairs {bytes = f} {others = o} {entry = x} {entries = ys} r rs) l = record {
+  front = [];
+  key = r.key;
+  value = r.value;
+  others = o;
+  before = no_pairs;
+  key_is = λ x. r.key_is;
+  value_is = r.value_is.is_item;
+  many = length ys;
+  after = (read_pairs d o ys rs).items;
+  whole = ap (λ (z : List ℕ). z ++ o) r.whole ∙ append_assoc r.key r.value o;
+}
+pair_of d bytes es (suc i) (more_pairs {bytes = f} {others = o} {entry = x} {entries = ys} r rs) l =
+    let p = pair_of d o ys i rs (omega arith) in
+    record {
+      front = f ++ p.front;
+      key = p.key;
+      value = p.value;
+      others = p.others;
+      before = more_pairs r p.before;
+      key_is = p.key_is;
+      value_is = p.value_is;
+      many = p.many;
+      after = p.after;
+      whole = ap (λ (z : List ℕ). f ++ z) p.whole ∙ sym (append_assoc f p.front (p.key ++ (p.value ++ p.others)));
+    }
+
+-- No key of pairs that were read is empty.
+pub keys_there : {ord : Order} (d : ℕ) (bytes : List ℕ) (es : List Entry) → ArePairsOf ord d bytes es → HaveKeys es
+keys_there d bytes es no_pairs = tt
+keys_there {ord = w} d bytes es (more_pairs {others = o} {entry = x} {entries = ys} r rs) =
+    (written_some w d x.key r.key_is.is_deterministic, keys_there d o ys rs)
+
+-- A map with a key twice has the later of the two at its place.
+repeats_met : {ord : Order} (d left : ℕ) (o : Option ℕ) (bytes rest : List ℕ) (es : List Entry)
+    → TurnsPairs ord d o bytes rest es → IsRepeated d bytes es left → (t : List ℕ) → IsTitle t (h.Map o)
+    → suc d ≤ MAX_DEPTH → MeetsAt (IsSameKey left) (suc d) (t ++ bytes)
+repeats_met d left o bytes rest es g q t p shallow =
+    let nobody : Entry = record { key = []; value = [] } in
+    let b = pair_of d g.pairs es q.late g.are q.within in
+    let long : length (take q.late es) ≡ q.late = length-take-le q.late es (omega (arith, q.within)) in
+    let a = pair_of d b.front (take q.late es) q.early b.before (omega (arith, q.apart, long)) in
+    let one = a.key_is nobody in
+    let two = b.key_is nobody in
+    let keys : (slice_index_or (take q.late es) q.early nobody).key ≡ (slice_index_or es q.late nobody).key =
+    ap (λ (z : Entry). z.key) (get_or-take q.late es q.early nobody q.apart) ∙ q.keys nobody in
+    let values : one.same ≡ two.same =
+    (one_value one.same _ one.encodes two.same _ [] [] two.encodes
+    (ap (λ (z : List ℕ). z ++ []) keys)).0 in
+    let tail : List ℕ = b.value ++ (b.others ++ (g.tail ++ rest)) in
+    let all : bytes ≡ b.front ++ (b.key ++ tail) =
+    g.whole ∙ ap (λ (z : List ℕ). z ++ (g.tail ++ rest)) b.whole
+    ∙ append_assoc b.front (b.key ++ (b.value ++ b.others)) (g.tail ++ rest)
+    ∙ ap (λ (z : List ℕ). b.front ++ z) (append_assoc b.key (b.value ++ b.others) (g.tail ++ rest)
+    ∙ ap (λ (z : List ℕ). b.key ++ z) (append_assoc b.value b.others (g.tail ++ rest))) in
+    let before = read_pairs d b.front (take q.late es) b.before in
+    let early = read_pairs d a.front (take q.early (take q.late es)) a.before in
+    let odd : suc (2 * a.many) ≡ 2 * a.many + 1 = omega arith in
+    meets_here (IsSameKey left) (suc d) (t ++ bytes) (record {
+      title = t;
+      count = o;
+      inner = d;
+      deeper = refl;
+      is_title = p;
+      pairs = length (take q.early (take q.late es));
+      front = a.front;
+      before = early.items;
+      key = a.key;
+      is_key = one.is_item;
+      more = a.many;
+      between = a.value ++ a.others;
+      after = subst (λ (n : ℕ). AreItems false d n (a.value ++ a.others)) odd
+          (item_before false d (2 * a.many) a.value a.others a.value_is a.after);
+      again = b.key;
+      is_again = two.is_item;
+      value = one.value;
+      other = two.value;
+      key_encodes = one.spelled;
+      again_encodes = two.spelled;
+      same = same_trans (subst (λ (z : Value). Same one.value z) values one.to) (same_sym two.to);
+      rest = tail;
+      is = ap (λ (z : List ℕ). t ++ z) (all ∙ ap (λ (z : List ℕ). z ++ (b.key ++ tail)) a.whole
+          ∙ append_assoc a.front (a.key ++ (a.value ++ a.others)) (b.key ++ tail)
+          ∙ ap (λ (z : List ℕ). a.front ++ z) (append_assoc a.key (a.value ++ a.others) (b.key ++ tail)));
+      left_is = q.left_is b.front (b.key ++ tail) (omega (arith, shallow))
+          (subst (λ (n : ℕ). AreItems false d (2 * n) b.front) long before.items) all;
+    })
+
 -- A map whose pairs are not put in order has a key twice, or the memory is too small.
 pub order_stops : {ord : Order} (d : ℕ) (o : Option ℕ) (bytes rest : List ℕ) (es : List Entry) (stop : Stop)
-    → TurnsPairs ord d o bytes rest es → StopsOrder es stop → FailsRest (suc d) (h.Map o) bytes stop
+    → TurnsPairs ord d o bytes rest es → StopsOrder d bytes es stop → FailsRest (suc d) (h.Map o) bytes stop
 order_stops d o bytes rest es (st.Duplicate left) g q =
-    λ t p. (map_repeats d o bytes rest es q.sorted g q.same left q.equal t p, tt)
+    λ t p. (map_repeats d o bytes rest es q.sorted g q.same left q.equal t p, repeats_met d left o bytes rest es g q t p)
 order_stops d o bytes rest es st.Room g q = λ t p. (λ r f. f.is, tt)
 order_stops d o bytes rest es st.Malformed g q = absurd q
 order_stops d o bytes rest es (st.NoSimple left) g q = absurd q

@@ -1,4 +1,5 @@
 -- Where the fault of an item stands, through the nests around it.
+use Rattle.cbor_canonical.specs.Meeting.{MeetsPart, IsSameKey}
 use Rattle.std.proofs.Common.{◌≡◌, ℕ, suc, ◌+◌, ◌*◌, ◌%◌, ◌≤◌, ◌<◌, false, List, [], ◌∷◌, ◌++◌, length, Option}
 use Rattle.std.proofs.Common.{Some, None, refl, sym, ◌∙◌, ap, arith, append_assoc}
 use Rattle.ciborium_ll_grammar.specs.declared.hdr.Header.{Header}
@@ -48,6 +49,26 @@ module _ (P : ℕ → List ℕ → Type 0) where
   meets_more d n header bytes items rest w t a m =
       record { count = n; items = items; more = rest; takes = t; are = a; meets = m; whole = w }
 
+  -- What stands in the key of a pair.
+  pub part_key : (d : ℕ) (bytes : List ℕ) → MeetsAt P d bytes → MeetsPart P d bytes
+  part_key d bytes m =
+      record { count = 0; items = []; more = bytes; few = omega arith; are = none_any; meets = m; whole = refl }
+
+  -- What stands in the value of a pair.
+  pub part_value : (d : ℕ) (bytes key rest : List ℕ) → bytes ≡ key ++ rest → IsItem false d key → MeetsAt P d rest
+      → MeetsPart P d bytes
+  part_value d bytes key rest w i m =
+      record { count = 1; items = key; more = rest; few = omega arith; are = i; meets = m; whole = w }
+
+  -- What stands in a pair, after other pairs of a map.
+  pub part_map : (d m : ℕ) (o : Option ℕ) (bytes read rest : List ℕ) → bytes ≡ read ++ rest
+      → AreItems false d (2 * m) read → ((k : ℕ) → k < 2 → TakesMore (h.Map o) (2 * m + k)) → MeetsPart P d rest
+      → MeetsIn P d (h.Map o) bytes
+  part_map d m o bytes read rest w a f p =
+      meets_more d (2 * m + p.count) (h.Map o) bytes (read ++ p.items) p.more
+      (w ∙ ap (λ (z : List ℕ). read ++ z) p.whole ∙ sym (append_assoc read p.items p.more)) (f p.count p.few)
+      (items_joined false d (2 * m) p.count read p.items a p.are) p.meets
+
   -- What stands in a tag's item.
   pub meets_tag : (d n : ℕ) (bytes : List ℕ) → MeetsAt P d bytes → MeetsIn P d (h.Tag n) bytes
   meets_tag d n bytes m = meets_more d 0 (h.Tag n) bytes [] bytes refl (omega arith) none_any m
@@ -95,7 +116,8 @@ small_met d n left y t bytes e l p long = meets_here (IsNoValue left) d (t ++ by
 pub fault_nest : (d : ℕ) (header : Header) (stop : Stop) (title bytes : List ℕ) → IsTitle title header
     → MeetsWithin d header stop bytes → MeetsFault (suc d) stop (title ++ bytes)
 fault_nest d header (st.NoSimple left) title bytes t m = meets_nest (IsNoValue left) d header title bytes t m
-fault_nest d header (st.Duplicate left) title bytes t m = tt
+fault_nest d header (st.Duplicate left) title bytes t m = λ l.
+    meets_nest (IsSameKey left) d header title bytes t (m (omega (arith, l)))
 fault_nest d header st.Malformed title bytes t m = tt
 fault_nest d header st.Room title bytes t m = tt
 
@@ -103,43 +125,29 @@ pub fault_more : (d n : ℕ) (header : Header) (stop : Stop) (bytes items rest :
     → TakesMore header n → AreItems false d n items → MeetsFault d stop rest → MeetsWithin d header stop bytes
 fault_more d n header (st.NoSimple left) bytes items rest w t a m =
     meets_more (IsNoValue left) d n header bytes items rest w t a m
-fault_more d n header (st.Duplicate left) bytes items rest w t a m = tt
+fault_more d n header (st.Duplicate left) bytes items rest w t a m = λ l.
+    meets_more (IsSameKey left) d n header bytes items rest w t a (m l)
 fault_more d n header st.Malformed bytes items rest w t a m = tt
 fault_more d n header st.Room bytes items rest w t a m = tt
 
 pub fault_tag : (d n : ℕ) (stop : Stop) (bytes : List ℕ) → MeetsFault d stop bytes
     → MeetsWithin d (h.Tag n) stop bytes
 fault_tag d n (st.NoSimple left) bytes m = meets_tag (IsNoValue left) d n bytes m
-fault_tag d n (st.Duplicate left) bytes m = tt
+fault_tag d n (st.Duplicate left) bytes m = λ l. meets_tag (IsSameKey left) d n bytes (m l)
 fault_tag d n st.Malformed bytes m = tt
 fault_tag d n st.Room bytes m = tt
 
 pub fault_key : (d : ℕ) (stop : Stop) (bytes : List ℕ) → MeetsFault d stop bytes → MeetsInPair d stop bytes
-fault_key d (st.NoSimple left) bytes m = record {
-  count = 0;
-  items = [];
-  more = bytes;
-  few = omega arith;
-  are = none_any;
-  meets = m;
-  whole = refl;
-}
-fault_key d (st.Duplicate left) bytes m = tt
+fault_key d (st.NoSimple left) bytes m = part_key (IsNoValue left) d bytes m
+fault_key d (st.Duplicate left) bytes m = λ l. part_key (IsSameKey left) d bytes (m l)
 fault_key d st.Malformed bytes m = tt
 fault_key d st.Room bytes m = tt
 
 pub fault_value : (d : ℕ) (stop : Stop) (bytes key rest : List ℕ) → bytes ≡ key ++ rest → IsItem false d key
     → MeetsFault d stop rest → MeetsInPair d stop bytes
-fault_value d (st.NoSimple left) bytes key rest w i m = record {
-  count = 1;
-  items = key;
-  more = rest;
-  few = omega arith;
-  are = i;
-  meets = m;
-  whole = w;
-}
-fault_value d (st.Duplicate left) bytes key rest w i m = tt
+fault_value d (st.NoSimple left) bytes key rest w i m = part_value (IsNoValue left) d bytes key rest w i m
+fault_value d (st.Duplicate left) bytes key rest w i m = λ l.
+    part_value (IsSameKey left) d bytes key rest w i (m l)
 fault_value d st.Malformed bytes key rest w i m = tt
 fault_value d st.Room bytes key rest w i m = tt
 
@@ -157,9 +165,8 @@ takes_part (Some n) m k f l = omega (arith, f n refl, l)
 pub fault_pairs : (d m : ℕ) (o : Option ℕ) (stop : Stop) (bytes read rest : List ℕ) → bytes ≡ read ++ rest
     → AreItems false d (2 * m) read → ((n : ℕ) → o ≡ Some n → m < n) → MeetsInPair d stop rest → MeetsWithin d (h.Map o) stop bytes
 fault_pairs d m o (st.NoSimple left) bytes read rest w a f p =
-    meets_more (IsNoValue left) d (2 * m + p.count) (h.Map o) bytes (read ++ p.items) p.more
-    (w ∙ ap (λ (z : List ℕ). read ++ z) p.whole ∙ sym (append_assoc read p.items p.more))
-    (takes_part o m p.count f p.few) (items_joined false d (2 * m) p.count read p.items a p.are) p.meets
-fault_pairs d m o (st.Duplicate left) bytes read rest w a f p = tt
+    part_map (IsNoValue left) d m o bytes read rest w a (λ k. takes_part o m k f) p
+fault_pairs d m o (st.Duplicate left) bytes read rest w a f p = λ l.
+    part_map (IsSameKey left) d m o bytes read rest w a (λ k. takes_part o m k f) (p l)
 fault_pairs d m o st.Malformed bytes read rest w a f p = tt
 fault_pairs d m o st.Room bytes read rest w a f p = tt

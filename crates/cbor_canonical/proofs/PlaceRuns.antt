@@ -15,7 +15,7 @@ use Rattle.cbor_canonical.specs.Places.{key_at, value_at, entry_at, entries_at, 
 use Rattle.cbor_canonical.specs.Places.{HoldsTwo, IsSaved}
 use Rattle.cbor_canonical.specs.Writing.{Adds}
 use Rattle.cbor_canonical.proofs.PairRuns.{joined_last}
-use Rattle.cbor_canonical.proofs.SortRuns.{nowhere}
+use Rattle.cbor_canonical.specs.Places.{nowhere}
 use Rattle.cbor_canonical.specs.Runs.{Entry, joined_pairs}
 
 -- The bytes that stand after a front, by their offset and length.

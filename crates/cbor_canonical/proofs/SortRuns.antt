@@ -15,7 +15,7 @@ use Rattle.cbor_deterministic.proofs.OrderLaws.{Ranks, ranks_own, not_itself, no
 use Rattle.std.specs.List.{AllAdjacentBelow}
 use Rattle.std.proofs.lemmas.Bool.Decides.{nat_tests}
 use Rattle.cbor_canonical.specs.declared.pairs.Span.{Span}
-use Rattle.cbor_canonical.specs.Places.{key_at, entry_at, entries_at, HasDisorder}
+use Rattle.cbor_canonical.specs.Places.{key_at, entry_at, entries_at, nowhere, HasDisorder}
 use Rattle.cbor_canonical.specs.Runs.{Entry, IsBefore, AreSorted, HasEqualKeys}
 
 -- The ordering of two keys.
@@ -71,10 +71,6 @@ entry_of out (s ∷ ss) (suc k) d z l = entry_of out ss k d z (omega arith)
 pub entries_long : (out : List ℕ) (ss : List Span) → length (entries_at out ss) ≡ length ss
 entries_long out [] = refl
 entries_long out (s ∷ ss) = ap suc (entries_long out ss)
-
--- The place of no pair.
-abbrev pub nowhere : Span
-nowhere = record { start = 0; key_end = 0; end = 0 }
 
 abbrev pub span_before : Order → List ℕ → Span → Span → Bool
 span_before o out a b = is_lt (order_cmp o (key_at out a) (key_at out b))

@@ -1,9 +1,11 @@
 -- The places of pairs in the output.
 use Rattle.std.specs.Prelude.{◌≡◌, ℕ, ◌+◌, ◌-◌, ◌*◌, ◌<◌, ◌≤◌, List, [], ◌∷◌, ◌++◌, length, take, drop, map}
-use Rattle.std.specs.Prelude.{Option, Result, MatchResult, slice_index_or}
+use Rattle.std.specs.Prelude.{Option, Result, MatchResult, slice_index_or, false, cond, max, nat_lt}
 use Rattle.std.specs.List.{AllByRecursion}
 use Rattle.std.specs.List.Sorted.{IsPermutation}
 use Rattle.cbor_deterministic.specs.declared.Order.{Order}
+use Rattle.cbor_deterministic.specs.declared.TheConstants.{MAX_DEPTH}
+use Rattle.ciborium_ll_grammar.specs.Items.{AreItems}
 use Rattle.cbor_canonical.specs.declared.pairs.Span.{Span}
 use Rattle.cbor_canonical.specs.declared.Stop.{Stop}
 use Rattle.cbor_canonical.specs.declared.Stop.TheVariants as stop
@@ -126,22 +128,49 @@ pub record IsOrdered (order : Order) (at after : ℕ) (entries : List Entry) (ol
   pub up : DoAscend order sorted
   pub wrote : Adds (joined_pairs sorted) at after old new
 
--- Two of the pairs have the same key, as in `01 02 01 03`.
-pub record IsRepeated (entries : List Entry) : Type 0 where
+-- The place of no pair.
+abbrev pub nowhere : Span
+nowhere = record { start = 0; key_end = 0; end = 0 }
+
+-- 1 if a pair begins before this offset, and 0 otherwise. It is 1 for the place 5, 7, 8 and the offset 6.
+abbrev pub starts_before : ℕ → Span → ℕ
+starts_before offset span = cond (nat_lt span.start offset) 1 0
+
+-- The offset of the later of two pairs: of the one at this index, and of the one before it. For the places 5, 7, 8 and
+-- 2, 3, 5 at 1 it is 5.
+abbrev pub later_start : ℕ → List Span → ℕ
+later_start index spans =
+    max (slice_index_or spans (index - 1) nowhere).start (slice_index_or spans index nowhere).start
+
+-- Two of the pairs have the same key, as in `01 02 01 03`. If the bytes begin with items before the later of the two,
+-- this many bytes are left from its key on: 2 in these bytes.
+pub record IsRepeated (depth : ℕ) (bytes : List ℕ) (entries : List Entry) (left : ℕ) : Type 0 where
   pub sorted : List Entry
   pub same : IsPermutation entries sorted
   pub equal : HasEqualKeys sorted
+  pub early : ℕ
+  pub late : ℕ
+  pub apart : early < late
+  pub within : late < length entries
+  pub keys : (other : Entry) → (slice_index_or entries early other).key ≡ (slice_index_or entries late other).key
+  pub left_is : (front rest : List ℕ) → depth ≤ MAX_DEPTH → AreItems false depth (2 * late) front
+      → bytes ≡ front ++ rest → left ≡ length rest
 
 -- Why pairs are not put in order: two have the same key, or the memory is too small. For `01 02 01 03` it is
--- `Duplicate` or `Room`.
-abbrev pub StopsOrder : List Entry → Stop → Type 0
-StopsOrder entries (stop.Duplicate left) = IsRepeated entries
-StopsOrder entries stop.Room = Unit {0}
-StopsOrder entries stop.Malformed = ⊥
-StopsOrder entries (stop.NoSimple left) = ⊥
+-- `Duplicate`.
+abbrev pub StopsOrder : ℕ → List ℕ → List Entry → Stop → Type 0
+StopsOrder depth bytes entries (stop.Duplicate left) = IsRepeated depth bytes entries left
+StopsOrder depth bytes entries stop.Room = Unit {0}
+StopsOrder depth bytes entries stop.Malformed = ⊥
+StopsOrder depth bytes entries (stop.NoSimple left) = ⊥
 
--- The call put the pairs at these places in the order of their keys, or says why not. Of `02 01 01 02` it makes
--- `01 02 02 01`, or it says `Room`.
-abbrev pub OrdersPairs : Order → ℕ → ℕ → List Span → List ℕ → Result ℕ Stop → List ℕ → Type 0
-OrdersPairs order at end spans old result new = (entries : List Entry) → ArePlaced at end spans old entries
-    → MatchResult result (λ after. IsOrdered order at after entries old new) (StopsOrder entries)
+-- No key of the pairs is empty. That of `01 02` is not.
+abbrev pub HaveKeys : List Entry → Type 0
+HaveKeys entries = AllByRecursion (λ entry. 0 < length entry.key) entries
+
+-- The call put the pairs at these places in the order of their keys, or says why not. Of `02 01 01 02` it makes `01 02
+-- 02 01`, and for `01 02 01 03` it says `Duplicate`.
+abbrev pub OrdersPairs : Order → ℕ → List ℕ → ℕ → ℕ → List Span → List ℕ → Result ℕ Stop → List ℕ → Type 0
+OrdersPairs order depth bytes at end spans old result new = (entries : List Entry) → HaveKeys entries
+    → ArePlaced at end spans old entries
+    → MatchResult result (λ after. IsOrdered order at after entries old new) (StopsOrder depth bytes entries)

@@ -1,4 +1,10 @@
 -- Why an item of any spelling is not rewritten, and where.
+use Rattle.std.specs.Prelude.{Option, suc, ◌+◌, ◌*◌}
+use Rattle.ciborium_ll_grammar.specs.declared.hdr.Header.TheVariants as h
+use Rattle.ciborium_ll_grammar.specs.Items.{AreItems, IsItem}
+use Rattle.ciborium_ll_grammar.specs.Title.{IsTitle}
+use Rattle.cbor_deterministic.specs.Spellings.{Encodes}
+use Rattle.cbor_deterministic.specs.Values.{Value, Same}
 use Rattle.std.specs.Prelude.{◌≡◌, ℕ, ◌<◌, ◌≤◌, Bool, false, List, ◌∷◌, ◌++◌, length, Result, Ok, Err}
 use Rattle.ciborium_ll_grammar.specs.Faults.{Short, Syntax}
 use Rattle.ciborium_ll_decoder.specs.declared.dec.Error.TheVariants as e
@@ -29,6 +35,37 @@ pub record HasNoSimple (depth : ℕ) (bytes : List ℕ) (place : ℕ) : Type 0 w
   pub is : bytes ≡ before ++ 0xf8 ∷ number ∷ rest
   pub place_is : place ≡ length before
 
+-- After a beginning of an item a further item is due, and a map stands there that has two keys of the same value (RFC
+-- 8949, 5.6). The place is the offset of the later of the two. With depth 1, in `a2 01 00 01 00` it is 3.
+pub record HasSameKey (depth : ℕ) (bytes : List ℕ) (place : ℕ) : Type 0 where
+  pub before : List ℕ
+  pub title : List ℕ
+  pub count : Option ℕ
+  pub levels : ℕ
+  pub closable : Bool
+  pub item_due : ItemDue false false depth before (suc levels) closable
+  pub is_title : IsTitle title (h.Map count)
+  -- Pairs that come before the first of the two keys.
+  pub pairs : ℕ
+  pub front : List ℕ
+  pub front_items : AreItems false levels (2 * pairs) front
+  pub key : List ℕ
+  pub is_key : IsItem false levels key
+  -- The value of the first key, and pairs that come before the second one.
+  pub more : ℕ
+  pub between : List ℕ
+  pub between_items : AreItems false levels (2 * more + 1) between
+  pub again : List ℕ
+  pub is_again : IsItem false levels again
+  pub value : Value
+  pub other : Value
+  pub key_encodes : Encodes value key
+  pub again_encodes : Encodes other again
+  pub same : Same value other
+  pub rest : List ℕ
+  pub is : bytes ≡ before ++ (title ++ (front ++ (key ++ (between ++ (again ++ rest)))))
+  pub place_is : place ≡ length (before ++ (title ++ (front ++ (key ++ between))))
+
 -- `HasRefusal depth bytes why place`: no item to the depth begins the bytes, and `why` stops the read of one at this
 -- offset. Or an item begins them that spells no value, with a simple value from 24 to 31 at this offset (RFC 8949,
 -- 3.3). Or it spells no value whose maps have no key twice (5.6), and the place is any number. To a depth of 1 `82 01`
@@ -41,7 +78,8 @@ HasRefusal depth bytes w.Break place = (fault : HasEarlyBreak false depth bytes)
 HasRefusal depth bytes w.Deep place = (fault : HasDeepNest false depth bytes) × (place ≡ length fault.before)
 HasRefusal depth bytes w.NoSimple place =
     BeginsWithItem false depth bytes × NoneInFront IsSpelling bytes × HasNoSimple depth bytes place
-HasRefusal depth bytes w.DuplicateKey place = BeginsWithItem false depth bytes × NoneInFront IsFittingSpelling bytes
+HasRefusal depth bytes w.DuplicateKey place =
+    BeginsWithItem false depth bytes × NoneInFront IsFittingSpelling bytes × HasSameKey depth bytes place
 
 -- Why nothing is written: the bytes are refused, or no memory is left. For `1c` it is `Malformed` at 0, or `Memory`.
 abbrev pub IsUnwritten : ℕ → List ℕ → CanonicalError → Type 0

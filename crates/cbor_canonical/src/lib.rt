@@ -16,6 +16,7 @@ mod pairs;
 mod rewrite;
 mod strings;
 mod title;
+mod walk;
 
 use crate::check::check_item;
 pub use crate::pairs::Span;
@@ -119,7 +120,7 @@ impl From<Refusal> for CanonicalError {
 /// - [`Why::DuplicateKey`]: the place is the later of two same keys in an item.
 /// - [`CanonicalError::Memory`]: `out` or `spans` is too short.
 ///
-/// After an error the contents of `out` are unknown. Tests alone say the place of `DuplicateKey`.
+/// After an error the contents of `out` are unknown.
 ///
 /// # Time and memory
 ///

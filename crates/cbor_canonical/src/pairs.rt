@@ -1,23 +1,22 @@
 //! The pairs of a map, put in the order of their keys within the output.
 
-ghost use Rattle.std.specs.Prelude.{◌≡◌, ◌∷◌, ◌+◌, ◌-◌, ◌<◌, ◌≤◌, ◌++◌, [], List, ℕ, length, take, drop};
-ghost use Rattle.std.specs.Prelude.{IfOk, MatchOption, MatchResult, map, slice_index};
+ghost use Rattle.std.specs.Prelude.{◌≡◌, ◌+◌, ◌-◌, ◌*◌, ◌<◌, ◌≤◌, ◌++◌, List, ℕ, false, length, take, drop};
+ghost use Rattle.std.specs.Prelude.{IfOk, MatchOption, MatchResult, map, slice_index, slice_index_or};
+ghost use Rattle.std.specs.List.{sum_by};
 ghost use Rattle.std.specs.List.Sorted.{IsPermutation};
 ghost use Rattle.cbor_canonical.specs.declared.Stop.TheVariants.{Room as NoRoom};
 ghost use Rattle.cbor_canonical.specs.Runs.{AreSorted, DoAscend};
 ghost use Rattle.cbor_canonical.specs.Places.{entries_at, key_at, bounds, IsSaved, HasDisorder, OrdersPairs};
 ghost use Rattle.cbor_canonical.specs.Places.{MovesPairs, PutsSpan};
+ghost use Rattle.cbor_canonical.specs.Places.{later_start, nowhere, starts_before};
 ghost use Rattle.cbor_canonical.specs.Writing.{Adds};
+ghost use Rattle.cbor_deterministic.specs.declared.TheConstants.{MAX_DEPTH};
+ghost use Rattle.ciborium_ll_grammar.specs.Items.{AreItems};
 
 use crate::Stop;
-use cbor_deterministic::{MAX_DEPTH, Order, compare_keys};
-use cbor_skip::skip_item;
-use ciborium_ll_decoder::dec::Decoder;
-use ciborium_ll_io::io::SliceReader;
+use crate::walk::left_after;
+use cbor_deterministic::{Order, compare_keys};
 use std::cmp::Ordering;
-
-/// The most bytes of a string that a walk over pairs reads at a time.
-const BUFFER_SIZE: usize = 256;
 
 /// The place of a pair in the output, in bytes.
 #[derive(Clone, Copy, Debug, PartialEq, Eq, Drop)]
@@ -183,41 +182,37 @@ fn move_pairs(
     Ok(place)
 }
 
-/// Returns how many bytes are left from the key of a pair on, if so many pairs come before it.
-fn left_after(bytes: &[u8], depth: usize, pairs: usize) -> usize {
-    let mut buffer = [0; BUFFER_SIZE];
-    let mut decoder = Decoder::from(SliceReader::new(bytes));
-    let depth = depth.min(MAX_DEPTH);
-    let mut due = pairs;
-    'pairs: while due > 0 {
-        let key = skip_item(&mut decoder, depth, &mut buffer);
-        let value = skip_item(&mut decoder, depth, &mut buffer);
-        if key.is_err() || value.is_err() {
-            break;
-        }
-        due -= 1;
-    }
-    bytes.len().saturating_sub(decoder.offset())
-}
-
 /// Returns the offset of the key of the pair with this index, or 0 without such a pair.
-fn start_of(spans: &[Span], index: usize) -> usize {
+fn start_of(spans: &[Span], index: usize) -> usize
+    ensures { result ≡ (slice_index_or spans.now index nowhere).start }
+{
     match spans.get(index) {
         Some(span) => span.start,
         None => 0,
     }
 }
 
-/// Returns how many bytes are left from the later of two keys on, which are neighbours in the order of keys.
-fn later_left(bytes: &[u8], depth: usize, spans: &[Span], index: usize) -> usize {
-    let later = start_of(spans, index.saturating_sub(1)).max(start_of(spans, index));
+/// Returns how many pairs begin before this offset.
+fn count_before(spans: &[Span], offset: usize) -> usize
+    ensures { result ≡ sum_by (starts_before offset) spans.now }
+{
     let mut pairs = 0;
     for span in spans {
-        if span.start < later {
+        if span.start < offset {
             pairs += 1;
         }
     }
-    left_after(bytes, depth, pairs)
+    pairs
+}
+
+/// Returns how many bytes are left from the later of two keys on, which are neighbours in the order of keys.
+fn later_left(bytes: &[u8], depth: usize, spans: &[Span], index: usize) -> usize
+    ensures { (front rest : List ℕ) → depth ≤ MAX_DEPTH
+        → AreItems false depth (2 * sum_by (starts_before (later_start index spans.now)) spans.now) front
+        → bytes.now ≡ front ++ rest → result ≡ length rest }
+{
+    let later = start_of(spans, index.saturating_sub(1)).max(start_of(spans, index));
+    left_after(bytes, depth, count_before(spans, later))
 }
 
 /// Puts the pairs that stand from `at` to `end` of the output in the order of their keys. Their places are the first
@@ -235,7 +230,7 @@ pub(crate) fn order_pairs(
     requires start { at ≤ end }
     requires end { end ≤ length out.old }
     requires held { done ≤ length spans.old }
-    ensures { OrdersPairs order at end (take done spans.old) out.old result out.new }
+    ensures { OrdersPairs order depth bytes.now at end (take done spans.old) out.old result out.new }
 {
     let Some(_) = disorder(&spans[..done], out, order) else {
         return Ok(end);

@@ -10,7 +10,7 @@ pub returns-in-Err-Duplicate-clause-written : goal.returns-in-Err-Duplicate-clau
 returns-in-Err-Duplicate-clause-written c =
     duplicate_key c.args.depth c.in-Err-Duplicate.left c.args.bytes.now c.in-Err-Duplicate.field-0
     c.refused-in-Err-Duplicate.result c.refused-in-Err-Duplicate.ensures c.in_ok-check_item.ensures
-    c.in-Err-Duplicate.field-0-is c.in-Err-Duplicate.ensures
+    c.in-Err-Duplicate.field-0-is c.requires.shallow c.in-Err-Duplicate.ensures
 
 pub unreachable-requires : goal.unreachable-requires
 unreachable-requires c =

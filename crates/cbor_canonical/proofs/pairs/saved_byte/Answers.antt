@@ -1,5 +1,5 @@
 use Rattle.std.proofs.Common.{rules}
-use Rattle.cbor_canonical.proofs.SortRuns.{nowhere}
+use Rattle.cbor_canonical.specs.Places.{nowhere}
 use Rattle.cbor_canonical.proofs.PlaceRuns.{saved_high, cell_there}
 use Rattle.cbor_canonical.proofs.pairs.saved_byte.Goals as goal
 

@@ -11,7 +11,7 @@ use Rattle.cbor_canonical.proofs.FailRuns.{item_stops, no_title_stops, read_all,
 use Rattle.cbor_canonical.proofs.FailRuns.{pairs_stop, pairs_over, key_stops, value_stops, small_stops, string_stops}
 use Rattle.cbor_canonical.proofs.FailRuns.{tag_stops, array_stops, map_stops, break_stops, deep_stops}
 use Rattle.cbor_canonical.proofs.FailRuns.{after_stops}
-use Rattle.cbor_canonical.proofs.MapRuns.{map_told, map_open, pairs_placed, pairs_sorted_there, order_stops}
+use Rattle.cbor_canonical.proofs.MapRuns.{map_told, map_open, pairs_placed, pairs_sorted_there, order_stops, keys_there}
 use Rattle.cbor_canonical.proofs.rewrite.+rewrites.Goals as goal
 use Rattle.cbor_canonical.proofs.rewrite.+rewrites.Goals.{rewrite_rest-in-Tag+else-depth-gt0}
 use Rattle.cbor_canonical.proofs.rewrite.+rewrites.Goals.{rewrite_rest-in-Array+else-depth-gt0-2}
@@ -268,7 +268,7 @@ rewrite_sorted-returns-in_err-after t c =
     let p = err_from_is_err_and c.from_residual-in_err-after.result c.from_residual-in_err-after.ensures.1 in
     let g = c.in_ok-done.ensures in
     rw (p.1, p.2) (order_stops c.args.depth c.args.count c.args.bytes.now c.in_ok-done.rest.now g.entries _ g.turns
-    (c.in_err-after.ensures g.entries (pairs_placed c.args.depth c.in_ok-done.done c.args.count c.args.bytes.now
+    (c.in_err-after.ensures g.entries (keys_there c.args.depth g.turns.pairs g.entries g.turns.are) (pairs_placed c.args.depth c.in_ok-done.done c.args.count c.args.bytes.now
     c.in_ok-done.rest.now c.args.at c.in_ok-done.end c.args.out.now c.rewrite_pairs.new.out c.rewrite_pairs.new.spans
     c.requires g)))
 
@@ -278,7 +278,7 @@ rewrite_sorted-returns t c =
     pairs_sorted_there c.args.depth c.in_ok-done.done c.args.count c.args.bytes.now c.in_ok-done.rest.now c.args.at
     c.in_ok-done.end c.in_ok-after.after c.args.out.now c.rewrite_pairs.new.out c.order_pairs.new.out
     c.rewrite_pairs.new.spans c.requires g
-    (c.in_ok-after.ensures g.entries (pairs_placed c.args.depth c.in_ok-done.done c.args.count c.args.bytes.now
+    (c.in_ok-after.ensures g.entries (keys_there c.args.depth g.turns.pairs g.entries g.turns.are) (pairs_placed c.args.depth c.in_ok-done.done c.args.count c.args.bytes.now
     c.in_ok-done.rest.now c.args.at c.in_ok-done.end c.args.out.now c.rewrite_pairs.new.out c.rewrite_pairs.new.spans
     c.requires g))
 
