@@ -1,11 +1,11 @@
 -- Laws of the rewriting, and of its refusals.
 use Rattle.std.proofs.Common.{◌≤◌}
+use Rattle.std.proofs.Common.{◌≡◌, ℕ, ◌+◌, ◌-◌, ◌<◌, List, [], ◌++◌, length, length-append, refl, sym, ◌∙◌, ap, subst, arith, false, Bool}
+use Rattle.std.proofs.Common.{IsTrue, Some, Result, Ok, Err, MatchResult}
 use Rattle.cbor_skip.specs.Due.{ItemDue}
 use Rattle.cbor_deterministic.specs.declared.TheConstants.{MAX_DEPTH}
 use Rattle.cbor_canonical.specs.Meeting.{IsSameKey}
 use Rattle.cbor_canonical.specs.Refusals.{HasSameKey}
-use Rattle.std.proofs.Common.{◌≡◌, ℕ, ◌+◌, ◌-◌, ◌<◌, List, [], ◌++◌, length, length-append, refl, sym, ◌∙◌, ap, subst, arith, false, Bool}
-use Rattle.std.proofs.Common.{IsTrue, Some, Result, Ok, Err, MatchResult}
 use Rattle.ciborium_ll_io.specs.declared.io.Read.{Ghosts}
 use Rattle.ciborium_ll_grammar.specs.Items.{IsItem}
 use Rattle.ciborium_ll_decoder.specs.declared.dec.Decoder.{Decoder}

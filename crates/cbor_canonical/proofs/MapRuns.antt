@@ -2,6 +2,7 @@
 use Rattle.std.proofs.Common.{◌≡◌, ℕ, zero, suc, ◌+◌, ◌*◌, ◌<◌, ◌≤◌, ◌^◌, inl, inr, List, [], ◌∷◌, ◌++◌, length}
 use Rattle.std.proofs.Common.{Option, Some, refl, sym, ◌∙◌, ap, subst, arith, append_assoc, append-nil, false}
 use Rattle.std.proofs.Common.{slice_index_or, length-append, ◌⊎◌}
+use Rattle.std.proofs.Common.{take, take-take, take_at}
 use Rattle.std.specs.declared.cmp.Ordering.{Ordering}
 use Rattle.std.specs.declared.cmp.Ordering.TheVariants.{Less, Equal, Greater}
 use Rattle.std.specs.Ordering.{nat_cmp, MatchOrdering}
@@ -13,6 +14,7 @@ use Rattle.std.proofs.lemmas.List.Sorted.{IsPermutation-sym}
 use Rattle.std.proofs.lemmas.List.Sorted.{length_permutation}
 use Rattle.std.proofs.lemmas.List.Sums.{sum_by-cons}
 use Rattle.std.proofs.lemmas.List.Elements.{recursion_from_All, All-from_recursion}
+use Rattle.std.proofs.lemmas.List.{length-take-le, get_or-take}
 use Rattle.ciborium_ll_grammar.specs.declared.hdr.Header.TheVariants as h
 use Rattle.ciborium_ll_grammar.specs.Title.{shortest_title, IsInRange}
 use Rattle.ciborium_ll_grammar.specs.Items.{Completes as CompletesAny, AreItems, no_items as none_any}
@@ -43,8 +45,6 @@ use Rattle.ciborium_ll_grammar.specs.Items.{IsItem}
 use Rattle.ciborium_ll_grammar.proofs.ItemJoins.{item_before}
 use Rattle.cbor_canonical.specs.Canonical.{IsRewritten}
 use Rattle.cbor_canonical.specs.Writing.{Adds, Extends, Inserts}
-use Rattle.std.proofs.Common.{take, take-take, take_at}
-use Rattle.std.proofs.lemmas.List.{length-take-le, get_or-take}
 use Rattle.cbor_canonical.specs.Runs.{Entry}
 use Rattle.cbor_canonical.specs.declared.Stop.TheVariants as st
 use Rattle.cbor_canonical.specs.Runs.{Turns, IsCompleted, EndsNest, counted, at_break, ArePairsOf, no_pairs}

@@ -1,7 +1,7 @@
 -- Where the fault of an item stands, through the nests around it.
-use Rattle.cbor_canonical.specs.Meeting.{MeetsPart, IsSameKey}
 use Rattle.std.proofs.Common.{◌≡◌, ℕ, suc, ◌+◌, ◌*◌, ◌%◌, ◌≤◌, ◌<◌, false, List, [], ◌∷◌, ◌++◌, length, Option}
 use Rattle.std.proofs.Common.{Some, None, refl, sym, ◌∙◌, ap, arith, append_assoc}
+use Rattle.cbor_canonical.specs.Meeting.{MeetsPart, IsSameKey}
 use Rattle.ciborium_ll_grammar.specs.declared.hdr.Header.{Header}
 use Rattle.ciborium_ll_grammar.specs.declared.hdr.Header.TheVariants as h
 use Rattle.ciborium_ll_grammar.specs.Title.{IsTitle, numbered, alone, Unsigned, Negative, ByteString, TextString}

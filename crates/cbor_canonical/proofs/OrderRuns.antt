@@ -1,11 +1,12 @@
 -- Pairs that are put in the order of their keys.
-use Rattle.cbor_canonical.specs.Places.{spans_of}
 use Rattle.std.proofs.Common.{◌≡◌, ℕ, ◌+◌, ◌≤◌, List, ◌++◌, length, take, drop, sym, ◌∙◌, ap}
 use Rattle.std.proofs.Common.{subst, arith, append_assoc, length-append, take-append-drop, take_at}
+use Rattle.std.proofs.Common.{suc, ◌*◌, ◌-◌, ◌<◌, ◌⊎◌, inl, inr, false, slice_index_or}
 use Rattle.std.proofs.lemmas.List.{length-take-le}
 use Rattle.std.specs.List.{AllByRecursion, sum_by}
 use Rattle.std.specs.List.Sorted.{IsPermutation}
 use Rattle.std.proofs.lemmas.List.Sorted.{IsPermutation-map, IsPermutation-refl, length_permutation}
+use Rattle.cbor_canonical.specs.Places.{spans_of}
 use Rattle.cbor_deterministic.specs.declared.Order.{Order}
 use Rattle.cbor_canonical.specs.declared.pairs.Span.{Span}
 use Rattle.cbor_canonical.specs.declared.Stop.{Stop}
@@ -20,7 +21,6 @@ use Rattle.cbor_canonical.specs.Places.{HaveKeys, key_at, later_start, nowhere, 
 use Rattle.cbor_deterministic.specs.Orders.{Precedes}
 use Rattle.cbor_deterministic.specs.declared.TheConstants.{MAX_DEPTH}
 use Rattle.ciborium_ll_grammar.specs.Items.{AreItems}
-use Rattle.std.proofs.Common.{suc, ◌*◌, ◌-◌, ◌<◌, ◌⊎◌, inl, inr, false, slice_index_or}
 
 module _ (at end : ℕ) (out : List ℕ) (ss : List Span) (es : List Entry) (l : at ≤ end)
     (m : end ≤ length out) (p : ArePlaced at end ss out es) where

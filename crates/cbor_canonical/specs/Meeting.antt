@@ -1,12 +1,12 @@
 -- Where the fault of an item stands within it.
 use Rattle.std.specs.Prelude.{Option, ◌+◌, ◌*◌, suc}
+use Rattle.std.specs.Prelude.{◌≡◌, ℕ, ◌<◌, ◌≤◌, false, Bool, List, ◌∷◌, ◌++◌, length}
 use Rattle.ciborium_ll_grammar.specs.declared.hdr.Header.TheVariants as h
 use Rattle.ciborium_ll_grammar.specs.Items.{IsItem}
 use Rattle.ciborium_ll_grammar.specs.Title.{IsTitle}
 use Rattle.cbor_deterministic.specs.declared.TheConstants.{MAX_DEPTH}
 use Rattle.cbor_deterministic.specs.Spellings.{Encodes}
 use Rattle.cbor_deterministic.specs.Values.{Value, Same}
-use Rattle.std.specs.Prelude.{◌≡◌, ℕ, ◌<◌, ◌≤◌, false, Bool, List, ◌∷◌, ◌++◌, length}
 use Rattle.ciborium_ll_grammar.specs.declared.hdr.Header.{Header}
 use Rattle.ciborium_ll_grammar.specs.Items.{AreItems}
 use Rattle.cbor_skip.specs.Due.{ItemDue, TakesMore}

@@ -128,7 +128,7 @@ pub record IsOrdered (order : Order) (at after : ℕ) (entries : List Entry) (ol
   pub up : DoAscend order sorted
   pub wrote : Adds (joined_pairs sorted) at after old new
 
--- The place of no pair.
+-- The place of no pair: 0, 0, 0.
 abbrev pub nowhere : Span
 nowhere = record { start = 0; key_end = 0; end = 0 }
 

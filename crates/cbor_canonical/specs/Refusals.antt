@@ -1,11 +1,11 @@
 -- Why an item of any spelling is not rewritten, and where.
 use Rattle.std.specs.Prelude.{Option, suc, ◌+◌, ◌*◌}
+use Rattle.std.specs.Prelude.{◌≡◌, ℕ, ◌<◌, ◌≤◌, Bool, false, List, ◌∷◌, ◌++◌, length, Result, Ok, Err}
 use Rattle.ciborium_ll_grammar.specs.declared.hdr.Header.TheVariants as h
 use Rattle.ciborium_ll_grammar.specs.Items.{AreItems, IsItem}
 use Rattle.ciborium_ll_grammar.specs.Title.{IsTitle}
 use Rattle.cbor_deterministic.specs.Spellings.{Encodes}
 use Rattle.cbor_deterministic.specs.Values.{Value, Same}
-use Rattle.std.specs.Prelude.{◌≡◌, ℕ, ◌<◌, ◌≤◌, Bool, false, List, ◌∷◌, ◌++◌, length, Result, Ok, Err}
 use Rattle.ciborium_ll_grammar.specs.Faults.{Short, Syntax}
 use Rattle.ciborium_ll_decoder.specs.declared.dec.Error.TheVariants as e
 use Rattle.cbor_skip.specs.declared.SkipError.{SkipError}
