@@ -35,6 +35,19 @@ static const char *told(char *text, const cll_header *header)
     return text;
 }
 
+/* Shows titles as a row has them. */
+static void listed(char *text, const cll_title *titles, uint64_t count)
+{
+    char *end = text;
+    strcpy(text, "-");
+    for (uint64_t i = 0; i < count; i++) {
+        char value[24];
+        sprintf(value, "%" PRIu64, titles[i].value);
+        end += sprintf(end, "%s%s/%s/%" PRIu64 "/%" PRIu64, i == 0 ? "" : ",", kind_names[titles[i].kind],
+            titles[i].indefinite ? "*" : value, titles[i].start, titles[i].end);
+    }
+}
+
 /* Gives a checker the bytes one by one, and shows how long the item is, or how many more bytes are due. */
 static uint32_t fed(char *text, const uint8_t *data, size_t len, uint32_t depth, int strict, cll_report *report)
 {
@@ -123,6 +136,11 @@ static int holds(const struct row *row)
         report.place = 0;
         if (answer == CLL_OK)
             made = told(text, &header);
+    } else if (strcmp(row->call, "headers") == 0) {
+        cll_title titles[ROOM];
+        answer = cll_headers(data, row->len, titles, ROOM, &report);
+        listed(text, titles, report.written);
+        made = text;
     } else if (strcmp(row->call, "push") == 0) {
         answer = cll_push(&header, out, (size_t)row->number, &report);
         made = shown(text, out, report.written);
@@ -142,6 +160,11 @@ static int holds(const struct row *row)
         const cll_order order = strcmp(row->call, "deterministic") == 0 ? CLL_BYTEWISE : CLL_LENGTH_FIRST;
         answer = cll_deterministic(data, row->len, (uint32_t)row->number, order, &report);
         made = with_due(text, made, 1, answer, &report);
+    } else if (strcmp(row->call, "canonical") == 0 || strcmp(row->call, "canonical_length_first") == 0) {
+        const cll_order order = strcmp(row->call, "canonical") == 0 ? CLL_BYTEWISE : CLL_LENGTH_FIRST;
+        cll_span spans[ROOM];
+        answer = cll_canonical(data, row->len, (uint32_t)row->number, order, out, ROOM, spans, row->len, &report);
+        made = with_due(text, shown(text, out, report.written), 1, answer, &report);
     } else if (strcmp(row->call, "utf8") == 0) {
         answer = cll_utf8(data, row->len, &report);
     } else if (strcmp(row->call, "feed") == 0 || strcmp(row->call, "feed_strict") == 0) {

@@ -13,7 +13,7 @@ static const char *const answer_names[] = {"ok", "short", "syntax", "room", "too
 
 /* A row. The given bytes stand in `bytes`, and the given header of a push in `header`. */
 struct row {
-    char call[16];
+    char call[24];
     uint64_t number;
     uint8_t bytes[ROOM];
     size_t len;
@@ -38,7 +38,7 @@ static int parse(const char *line, struct row *row)
 {
     char number[24], given[3 * ROOM], answer[16], kind[16], value[24];
     unsigned byte;
-    if (sscanf(line, "%15s %23s %191s %15s %" SCNu64 " %" SCNu64 " %191s", row->call, number, given, answer,
+    if (sscanf(line, "%23s %23s %191s %15s %" SCNu64 " %" SCNu64 " %191s", row->call, number, given, answer,
             &row->consumed, &row->place, row->made) != 7)
         return 0;
     row->number = strtoull(number, NULL, 10);

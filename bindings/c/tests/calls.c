@@ -38,6 +38,8 @@ static int takes_null(void)
         && told(cll_strict(NULL, 0, 1, &report), CLL_SHORT, 0, 0, 1)
         && told(cll_skip(NULL, 0, 256, &report), CLL_SHORT, 0, 0, 1)
         && told(cll_deterministic(NULL, 0, 256, CLL_BYTEWISE, &report), CLL_SHORT, 0, 0, 0)
+        && told(cll_canonical(NULL, 0, 256, CLL_BYTEWISE, NULL, 0, NULL, 0, &report), CLL_SHORT, 0, 0, 0)
+        && told(cll_canonical(one, 1, 256, CLL_BYTEWISE, NULL, 0, NULL, 0, &report), CLL_ROOM, 0, 0, 0)
         && told(cll_utf8(NULL, 0, &report), CLL_OK, 0, 0, 0);
 }
 
@@ -531,9 +533,178 @@ static int checks_deterministic(void)
         && CLL_NOT_SHORTEST == 8 && CLL_INDEFINITE == 9 && CLL_KEY_ORDER == 10 && CLL_DUPLICATE_KEY == 11;
 }
 
+enum { SPANS = 64 };
+
+static cll_span spans[SPANS];
+
+/* Reads the bytes of digits in hexadecimal, and returns how many there are. */
+static size_t read_digits(const char *digits, uint8_t *bytes)
+{
+    size_t len = 0;
+    for (unsigned byte; sscanf(digits + 2 * len, "%2x", &byte) == 1; len++)
+        bytes[len] = (uint8_t)byte;
+    return len;
+}
+
+/* Tells whether the memory from `out` on holds nothing but the value with which it was filled. */
+static int is_filled(const uint8_t *out, size_t len)
+{
+    while (len > 0 && out[len - 1] == 0xee)
+        len--;
+    return len == 0;
+}
+
+/*
+ * Writes an item into each room and with each count of spans, from 0 up. It fits exactly if neither is less than what
+ * the row says. Nothing after the room and after the spans is written.
+ */
+static int fits_exactly(const uint8_t *data, size_t len, uint32_t order, const uint8_t *want, size_t room, size_t count)
+{
+    for (size_t there = 0; there <= room + 2; there++) {
+        for (size_t places = 0; places <= count + 2; places++) {
+            memset(space, 0xee, room + 8);
+            memset(spans, 0xee, sizeof spans);
+            const int is_enough = there >= room && places >= count;
+            const uint32_t answer = cll_canonical(data, len, 4, order, space, there, spans, places, &report);
+            if (!told(answer, is_enough ? CLL_OK : CLL_ROOM, is_enough ? len : 0, is_enough ? room : 0, 0)
+                || report.elements != 0 || report.whole != 0 || report.spelled != 0
+                || (is_enough && memcmp(space, want, room) != 0) || !is_filled(space + there, room + 8 - there)
+                || !is_filled((const uint8_t *)(spans + places), (SPANS - places) * sizeof *spans))
+                return 0;
+        }
+    }
+    return 1;
+}
+
+/*
+ * Writes items of RFC 8949, Appendix A, with other spellings of them, and maps with the keys of 4.2.1 and 4.2.3. The
+ * encodings follow from 4.2.1, and stand there a second time for the order of 4.2.3 if that is another one. The number
+ * is that of the spans: the pairs of a map whose keys ascend, or else half of the bytes of its pairs, rounded up. Of
+ * several maps the greatest number counts.
+ */
+static int writes_canonical(void)
+{
+    static const struct { const char *given, *bytewise, *other; size_t spans, other_spans; } rows[] = {
+        {"00", "00", NULL, 0, 0},
+        {"1bffffffffffffffff", "1bffffffffffffffff", NULL, 0, 0},
+        {"1a00000018", "1818", NULL, 0, 0},
+        {"f4", "f4", NULL, 0, 0},
+        {"f8ff", "f8ff", NULL, 0, 0},
+        {"fa7f800000", "f97c00", NULL, 0, 0},
+        {"fb7ff8000000000000", "f97e00", NULL, 0, 0},
+        {"fbfff0000000000000", "f9fc00", NULL, 0, 0},
+        {"fb8000000000000000", "f98000", NULL, 0, 0},
+        {"fb3ff199999999999a", "fb3ff199999999999a", NULL, 0, 0},
+        {"fa387fc000", "f903ff", NULL, 0, 0},
+        {"5f42010243030405ff", "450102030405", NULL, 0, 0},
+        {"7f657374726561646d696e67ff", "6973747265616d696e67", NULL, 0, 0},
+        {"5f5f4101ff41025f5f4103ff4104ffff", "4401020304", NULL, 0, 0},
+        {"c074323031332d30332d32315432303a30343a30305a", "c074323031332d30332d32315432303a30343a30305a", NULL, 0, 0},
+        {"9fff", "80", NULL, 0, 0},
+        {"9f018202039f0405ffff", "8301820203820405", NULL, 0, 0},
+        {"9f0102030405060708090a0b0c0d0e0f101112131415161718181819ff",
+            "98190102030405060708090a0b0c0d0e0f101112131415161718181819", NULL, 0, 0},
+        {"bfff", "a0", NULL, 0, 0},
+        {"bf61610161629f0203ffff", "a26161016162820203", NULL, 2, 0},
+        {"826161bf61626163ff", "826161a161626163", NULL, 1, 0},
+        {"bf6346756ef563416d7421ff", "a263416d74216346756ef5", NULL, 5, 0},
+        {"bff4006261610020008118640019000a00812000617a00186400ff", "a80a001864002000617a006261610081186400812000f400",
+            "a80a002000f400186400617a008120006261610081186400", 12, 12},
+        {"a101a2200019010000", "a101a2190100002000", "a101a2200019010000", 3, 2},
+        {"a2a20200010000a1010000", "a2a1010000a20100020000", NULL, 5, 0},
+        {"a4fa3f80000000f9800000f90000000100", "a40100f9000000f93c0000f9800000", NULL, 7, 0},
+        {"82a201000200a1626161f4", "82a201000200a1626161f4", NULL, 2, 0},
+    };
+    uint8_t data[64], want[64];
+    for (size_t i = 0; i < sizeof rows / sizeof *rows; i++) {
+        for (uint32_t order = CLL_BYTEWISE; order <= CLL_LENGTH_FIRST; order++) {
+            const int is_other = order == CLL_LENGTH_FIRST && rows[i].other != NULL;
+            const size_t len = read_digits(rows[i].given, data);
+            const size_t room = read_digits(is_other ? rows[i].other : rows[i].bytewise, want);
+            if (!fits_exactly(data, len, order, want, room, is_other ? rows[i].other_spans : rows[i].spans))
+                return 0;
+        }
+    }
+    return sizeof(cll_span) == 24;
+}
+
+/* Refuses an item for each reason, and says where. */
+static int refuses_canonical(void)
+{
+    static const struct { const char *given; uint32_t answer; uint64_t consumed, place; } rows[] = {
+        {"", CLL_SHORT, 0, 0},
+        {"9f01", CLL_SHORT, 2, 0},
+        {"82011903", CLL_SHORT, 4, 0},
+        {"5f4101", CLL_SHORT, 3, 0},
+        {"811f", CLL_SYNTAX, 1, 1},
+        {"5f6100ff", CLL_SYNTAX, 1, 1},
+        {"8161ff", CLL_SYNTAX, 1, 1},
+        {"a100f81800", CLL_SYNTAX, 2, 2},
+        {"8201f81f", CLL_SYNTAX, 2, 2},
+        {"ff", CLL_BREAK_DUE, 0, 0},
+        {"8201ff", CLL_BREAK_DUE, 2, 2},
+        {"bf01ff", CLL_BREAK_DUE, 2, 2},
+        {"8181c180", CLL_TOO_DEEP, 3, 3},
+        {"a201000100", CLL_DUPLICATE_KEY, 3, 3},
+        {"a3020001000200", CLL_DUPLICATE_KEY, 5, 5},
+        {"bf7f6161ff00616100ff", CLL_DUPLICATE_KEY, 6, 6},
+        {"a2a20100020000a20200010000", CLL_DUPLICATE_KEY, 7, 7},
+    };
+    static const uint8_t one[] = {0x05};
+    for (size_t i = 0; i < sizeof rows / sizeof *rows; i++) {
+        uint8_t data[64];
+        const size_t len = read_digits(rows[i].given, data);
+        for (uint32_t order = CLL_BYTEWISE; order <= CLL_LENGTH_FIRST; order++) {
+            const uint32_t answer = cll_canonical(data, len, 3, order, space, SPACE, spans, SPANS, &report);
+            if (!told(answer, rows[i].answer, rows[i].consumed, 0, rows[i].place) || report.elements != 0)
+                return 0;
+        }
+    }
+    memset(space, 0xee, SPACE);
+    return told(cll_canonical(one, 1, 257, CLL_BYTEWISE, space, SPACE, spans, SPANS, &report), CLL_ARGUMENT, 0, 0, 0)
+        && told(cll_canonical(one, 1, 1, 2, space, SPACE, spans, SPANS, &report), CLL_ARGUMENT, 0, 0, 0)
+        && is_filled(space, SPACE) && CLL_DUPLICATE_KEY == 11;
+}
+
+/*
+ * Tells whether bytes are written exactly if they begin with an item in which no simple value is from 24 to 31. A fault
+ * is that of cll_skip. What is written is in the deterministic encoding, and is written again as it is.
+ */
+static int writes_as_skip(const uint8_t *data, size_t len, uint32_t order)
+{
+    uint8_t again[32];
+    const uint32_t skipped = cll_skip(data, len, 256, &report);
+    const uint64_t length = report.consumed;
+    const int means_nothing = len == 2 && data[0] == 0xf8 && data[1] >= 24 && data[1] < 32;
+    const uint32_t answer = cll_canonical(data, len, 256, order, space, 32, spans, len, &report);
+    if (means_nothing)
+        return skipped == CLL_OK && told(answer, CLL_SYNTAX, 0, 0, 0);
+    if (answer != skipped || (answer == CLL_OK && report.consumed != length))
+        return 0;
+    const size_t written = (size_t)report.written;
+    return answer != CLL_OK
+        || (told(cll_deterministic(space, written, 256, order, &report), CLL_OK, written, 0, 0)
+            && cll_canonical(space, written, 256, order, again, 32, spans, written, &report) == CLL_OK
+            && report.consumed == written && report.written == written && memcmp(space, again, written) == 0);
+}
+
+/* Tries each list of one byte and of two. */
+static int writes_short_lists(void)
+{
+    for (uint32_t order = CLL_BYTEWISE; order <= CLL_LENGTH_FIRST; order++) {
+        for (unsigned number = 0; number < 65536; number++) {
+            const uint8_t data[] = {(uint8_t)(number >> 8), (uint8_t)number};
+            if (!writes_as_skip(data, 2, order) || (data[1] == 0 && !writes_as_skip(data, 1, order)))
+                return 0;
+        }
+    }
+    return 1;
+}
+
 /*
  * Goes through the bytes title by title as cll_headers has to, by cll_pull, and by cll_skip for a string of a definite
- * length. It compares the titles, the answer and the numbers of the report. The memory after the titles stays as it was.
+ * length. It compares the titles, the answer and the numbers of the report. The memory after the titles stays as it
+ * was.
  */
 static int lists_as_pull(const uint8_t *data, size_t len, size_t room)
 {
@@ -614,6 +785,7 @@ int main(void)
         {"no bytes to copy", copies_null}, {"no copier", refuses_copiers}, {"a copier", survives_damaged_copiers},
         {"no bytes of an item to copy", copies_item_null}, {"a copier of an item", survives_damaged_item_copiers},
         {"due", tells_what_is_due},     {"deterministic", checks_deterministic}, {"titles", lists_titles},
+        {"canonical", writes_canonical}, {"refused", refuses_canonical}, {"short lists", writes_short_lists},
     };
     for (size_t i = 0; i < sizeof rows / sizeof *rows; i++) {
         if (!rows[i].holds()) {

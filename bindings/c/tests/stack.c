@@ -1,8 +1,9 @@
 /*
  * Prints how many bytes of the stack each call uses, with one line NAME BYTES for each. It calls cll_skip for some
  * depths, each filled with nests of two kinds, down to a text and to a byte string of indefinite length. It calls
- * cll_deterministic for the same depths, filled with tags, arrays or maps down to texts, a byte string and a float. A
- * line NAME/short is for bytes that end too early, in one of the ways in which they can.
+ * cll_deterministic for the same depths, filled with tags, arrays or maps down to texts, a byte string and a float. It
+ * calls cll_canonical for all of these, and for maps with a few or many keys that have to be sorted. A line NAME/short
+ * is for bytes that end too early, in one of the ways in which they can, and NAME/room for an output that is too short.
  *
  * A call runs on a stack of its own, filled with one value before. The bytes that the call changed are the bytes that
  * it used. The program takes off the use of a call that does nothing.
@@ -15,7 +16,7 @@
 
 #include "ciborium_ll.h"
 
-enum { STACK = 1 << 18, FILL = 0xa5, DEEPEST = 256, ROOM = 4096, TITLE = 3 };
+enum { STACK = 1 << 20, FILL = 0xa5, DEEPEST = 256, ROOM = 4096, TITLE = 3 };
 
 static uint8_t data[ROOM], out[ROOM];
 static size_t len;
@@ -23,6 +24,7 @@ static uint32_t depth;
 static uint32_t answer;
 static cll_header header;
 static cll_title titles[8];
+static cll_span spans[ROOM];
 static cll_report report;
 static size_t consumed;
 static cll_checker checker;
@@ -39,6 +41,12 @@ static void strict(void) { answer = cll_strict(data, len, 1, &report); }
 static void skip(void) { answer = cll_skip(data, len, depth, &report); }
 static void deterministic(void) { answer = cll_deterministic(data, len, depth, CLL_BYTEWISE, &report); }
 static void length_first(void) { answer = cll_deterministic(data, len, depth, CLL_LENGTH_FIRST, &report); }
+static uint32_t rewrite(size_t from, size_t room, uint32_t order)
+{
+    return cll_canonical(data, from, depth, order, out, room, spans, ROOM, &report);
+}
+static void canonical(void) { answer = rewrite(len, sizeof out, CLL_BYTEWISE); }
+static void canonical_length_first(void) { answer = rewrite(len, sizeof out, CLL_LENGTH_FIRST); }
 static void utf8(void) { answer = cll_utf8(data + TITLE, len - TITLE, &report); }
 
 static void checker_init(void) { answer = cll_checker_init(&checker, DEEPEST); }
@@ -70,6 +78,11 @@ static void deterministic_cut(void)
     answer = cut(cll_deterministic(data, len - 1, depth, CLL_BYTEWISE, &report));
 }
 static void skip_cut(void) { answer = cut(cll_skip(data, len - 1, depth, &report)); }
+static void canonical_cut(void) { answer = cut(rewrite(len - 1, sizeof out, CLL_BYTEWISE)); }
+static void canonical_room(void)
+{
+    answer = rewrite(len, report.written - 1, CLL_BYTEWISE) == CLL_ROOM ? CLL_OK : CLL_ARGUMENT;
+}
 
 /* Calls it for titles that are whole, and with a fault after them: bytes that are cut off, or of no title. */
 static void list_cut(void) { answer = cut(cll_headers(data, len - 1, titles, 8, &report)); }
@@ -148,20 +161,25 @@ static void make_nests(int is_open, unsigned levels)
 }
 
 /*
- * Makes `levels` nests inside one another: tags, arrays, maps with the next nest as a key, or maps with it as a value.
- * In the innermost one are a short text, a byte string, a float and a text of 99 bytes.
+ * Makes `levels` nests inside one another: tags, arrays, maps with the next nest as a key, maps with it as a value, or
+ * maps with it as the value of a key that comes before another one. In the innermost one are a short text, a byte
+ * string, a float and a text of 99 bytes.
  */
 static void make_definite_nests(int kind, unsigned levels)
 {
     static const uint8_t inner[] = {0x84, 0x63, 0xe6, 0xb0, 0xb4, 0x42, 1, 2, 0xfb, 0x3f, 0xf1, 0x99, 0x99, 0x99, 0x99,
         0x99, 0x9a, 0x78, 99};
-    static const uint8_t titles[] = {0xc1, 0x82, 0xa1, 0xa1};
+    static const uint8_t titles[] = {0xc1, 0x82, 0xa1, 0xa1, 0xa2}, pair[] = {0x02, 0x00, 0x01};
     const size_t around = levels - 1;
     len = 0;
     for (size_t i = 0; i < around; i++) {
         data[len++] = titles[kind];
         if (kind == 3)
             data[len++] = 0x00;
+        if (kind == 4) {
+            memcpy(data + len, pair, sizeof pair);
+            len += sizeof pair;
+        }
     }
     memcpy(data + len, inner, sizeof inner);
     len += sizeof inner;
@@ -171,6 +189,22 @@ static void make_definite_nests(int kind, unsigned levels)
         memset(data + len, 0x00, around);
         len += around;
     }
+    depth = levels;
+}
+
+/* Makes `levels` nests inside one another: arrays of one, down to a map of 600 pairs whose keys have to be sorted. */
+static void make_pairs(unsigned levels)
+{
+    memset(data, 0x81, levels - 1);
+    data[levels - 1] = 0xbf;
+    len = levels;
+    for (unsigned i = 0; i < 600; i++) {
+        const unsigned key = i * 331 % 600;
+        const uint8_t pair[] = {0x19, (uint8_t)(4 + (key >> 8)), (uint8_t)key, 0x00};
+        memcpy(data + len, pair, sizeof pair);
+        len += sizeof pair;
+    }
+    data[len++] = 0xff;
     depth = levels;
 }
 
@@ -213,6 +247,15 @@ static void use_short(size_t plain)
     }
 }
 
+/* Prints the use of cll_canonical for the nests. */
+static void use_canonical(unsigned levels, size_t plain)
+{
+    printf("cll_canonical/%u %zu\n", levels, used(canonical) - plain);
+    printf("cll_canonical/room/%u %zu\n", levels, used(canonical_room) - plain);
+    printf("cll_canonical/length_first/%u %zu\n", levels, used(canonical_length_first) - plain);
+    printf("cll_canonical/short/%u %zu\n", levels, used(canonical_cut) - plain);
+}
+
 int main(void)
 {
     static const struct { const char *name; void (*call)(void); } calls[] = {
@@ -239,9 +282,15 @@ int main(void)
             make_nests(is_open, depths[i]);
             printf("cll_skip/%u %zu\n", depths[i], used(skip) - plain);
             printf("cll_skip/short/%u %zu\n", depths[i], used(skip_cut) - plain);
+            use_canonical(depths[i], plain);
         }
-        for (int kind = 0; kind < 4; kind++) {
+        make_pairs(depths[i]);
+        use_canonical(depths[i], plain);
+        for (int kind = 0; kind < 5; kind++) {
             make_definite_nests(kind, depths[i]);
+            use_canonical(depths[i], plain);
+            if (kind == 4)
+                continue;
             printf("cll_deterministic/%u %zu\n", depths[i], used(deterministic) - plain);
             printf("cll_deterministic/length_first/%u %zu\n", depths[i], used(length_first) - plain);
             printf("cll_deterministic/short/%u %zu\n", depths[i], used(deterministic_cut) - plain);
