@@ -12,6 +12,7 @@ import array
 import collections.abc
 import ctypes
 import enum
+import itertools
 import mmap
 import os
 from typing import Any, ClassVar, Dict, Iterator, NamedTuple, Optional, Tuple, Type, Union
@@ -19,7 +20,8 @@ from typing import Any, ClassVar, Dict, Iterator, NamedTuple, Optional, Tuple, T
 __all__ = ["Kind", "Header", "Title", "Recoded", "Error", "ShortError", "CborSyntaxError", "RoomError", "BreakDueError",
            "TooDeepError", "ArgumentError", "NotShortestError", "IndefiniteError", "KeyOrderError", "DuplicateKeyError",
            "Short", "Syntax", "Room", "BreakDue", "TooDeep", "Argument", "Order", "Progress", "Checker", "Copied",
-           "Copier", "ItemCopier", "pull", "push", "recode", "strict", "skip", "deterministic", "utf8", "headers"]
+           "Copier", "ItemCopier", "pull", "push", "recode", "strict", "skip", "deterministic", "canonical", "utf8",
+           "headers"]
 
 # An object with the buffer protocol. Python has a name for it from 3.12 on.
 _Bytes = getattr(collections.abc, "Buffer", Union[bytes, bytearray, memoryview, mmap.mmap, array.array])
@@ -199,7 +201,7 @@ class KeyOrderError(Error):
 
 
 class DuplicateKeyError(Error):
-    """At the place stands the same key as that of the pair before it."""
+    """At the place stands a key that its map has before it."""
 
     name = "duplicate_key"
 
@@ -208,7 +210,19 @@ class DuplicateKeyError(Error):
 Short, Syntax, Room, BreakDue, TooDeep, Argument = (
     ShortError, CborSyntaxError, RoomError, BreakDueError, TooDeepError, ArgumentError)
 
+_KINDS = tuple(Kind)
 _STRINGS = (Kind.BYTES, Kind.TEXT)
+
+# Headers are made once if their value is below this, by kind and value, and those of an indefinite form by kind.
+_SMALL = 256
+_HEADERS = tuple(tuple(Header(kind, value) for value in range(_SMALL)) for kind in _KINDS)
+_OPENS = tuple(Header(kind, None) for kind in _KINDS)
+
+# How many titles `headers` reads by its first call of the library, how many times more by the next, and the most.
+_FIRST, _TIMES, _MOST = 8, 4, 512
+
+# Makes a tuple of a class that NamedTuple made, in less time than the class does.
+_NEW = tuple.__new__
 
 # The errors by the numbers of the answers. The library never answers 4 for bytes in memory.
 _ERRORS: Dict[int, Type[Error]] = {1: ShortError, 2: CborSyntaxError, 3: RoomError, 5: BreakDueError, 6: TooDeepError,
@@ -218,6 +232,15 @@ _ERRORS: Dict[int, Type[Error]] = {1: ShortError, 2: CborSyntaxError, 3: RoomErr
 
 class _Header(ctypes.Structure):
     _fields_ = [("value", ctypes.c_uint64), ("kind", ctypes.c_uint8), ("indefinite", ctypes.c_uint8)]
+
+
+class _Title(ctypes.Structure):
+    _fields_ = [*((name, ctypes.c_uint64) for name in ("value", "start", "end")), ("kind", ctypes.c_uint8),
+                ("indefinite", ctypes.c_uint8)]
+
+
+class _Span(ctypes.Structure):
+    _fields_ = [(name, ctypes.c_uint64) for name in ("start", "key_end", "end")]
 
 
 class _Report(ctypes.Structure):
@@ -292,12 +315,14 @@ def _library() -> ctypes.CDLL:
     header, report = ctypes.POINTER(_Header), ctypes.POINTER(_Report)
     checker, copier, item = map(ctypes.POINTER, (_Checker, _Copier, _ItemCopier))
     calls.cll_pull.argtypes = [data, size, header, ctypes.POINTER(size)]
+    calls.cll_headers.argtypes = [data, size, data, size, report]
     calls.cll_push.argtypes = [header, data, size, report]
     calls.cll_push_wide.argtypes = [header, ctypes.c_uint32, data, size, report]
     calls.cll_recode.argtypes = [data, size, number, data, size, report]
     calls.cll_strict.argtypes = [data, size, number, report]
     calls.cll_skip.argtypes = [data, size, ctypes.c_uint32, report]
     calls.cll_deterministic.argtypes = [data, size, ctypes.c_uint32, ctypes.c_uint32, report]
+    calls.cll_canonical.argtypes = [data, size, ctypes.c_uint32, ctypes.c_uint32, data, size, data, size, report]
     calls.cll_utf8.argtypes = [data, size, report]
     calls.cll_checker_init.argtypes = [checker, ctypes.c_uint32]
     calls.cll_checker_init_strict.argtypes = [checker, ctypes.c_uint32]
@@ -311,7 +336,7 @@ def _library() -> ctypes.CDLL:
     calls.cll_item_copier_feed.argtypes = [item, data, size, data, size, report]
     calls.cll_item_copier_end.argtypes = [item, report]
     calls.cll_version.argtypes = []
-    for call in ("version pull push push_wide recode strict skip deterministic utf8 checker_init "
+    for call in ("version pull headers push push_wide recode strict skip deterministic canonical utf8 checker_init "
                  "checker_init_strict checker_feed checker_end copier_init copier_feed copier_end item_copier_init "
                  "item_copier_init_strict item_copier_feed item_copier_end").split():
         getattr(calls, f"cll_{call}").restype = ctypes.c_uint32
@@ -440,6 +465,38 @@ def deterministic(data: _Bytes, depth: int = 64, order: Order = Order.BYTEWISE, 
     return report.consumed
 
 
+def _memory_of(kind: Any, count: int) -> Tuple[bytearray, int]:
+    """Returns memory for that many of a type, and its address."""
+    space = bytearray(max(count, 1) * ctypes.sizeof(kind))
+    return space, ctypes.addressof(ctypes.c_char.from_buffer(space))
+
+
+def canonical(data: _Bytes, depth: int = 64, order: Order = Order.BYTEWISE, offset: int = 0) -> bytes:
+    """Returns the deterministic encoding of the item at the offset (RFC 8949, 4.2), whatever its spelling is.
+
+    The keys of its maps ascend in this order. The item contains at most ``depth`` levels, and no more than 256. The
+    call reads nothing of the bytes that follow the item: ``skip`` returns its length.
+
+    Raises:
+        DuplicateKeyError: a key of a map has the same value as one before it.
+        CborSyntaxError: as of ``skip``, or a simple value from 24 to 31, which means nothing.
+        Error: as of ``skip``.
+    """
+    depth, order, report = _held(depth, 32, "the depth"), _held(order, 32, "the order"), _Report()
+    with _Memory(data, offset) as (at, length):
+        # No encoding is longer than that.
+        room = length + length // 256 + 16
+        out, there = _memory_of(ctypes.c_uint8, room)
+        # As many spans as there are bytes are always enough, and most items need few.
+        count, answer = 0, 3
+        while answer == 3 and count < length + 16:
+            count = min(4 * count or length // 16 + 16, length + 16)
+            spans, places = _memory_of(_Span, count)
+            answer = _CALLS.cll_canonical(at, length, depth, order, there, room, places, count, report)
+        _check(answer, report, offset)
+    return bytes(memoryview(out)[:report.written])
+
+
 def utf8(data: _Bytes, offset: int = 0) -> int:
     """Returns the length of the bytes from the offset on, if all of them are UTF-8.
 
@@ -464,23 +521,86 @@ def _view(data: _Bytes) -> memoryview:
         return memoryview(view.tobytes()) if view.c_contiguous else view
 
 
+class _Titles:
+    """Memory for the titles that one call reads. It is seen by columns."""
+
+    __slots__ = ("report", "_there", "_values", "_ends", "_kinds", "_opens")
+
+    def __init__(self):
+        space, self._there = _memory_of(_Title, _MOST)
+        self.report, plain, words = _Report(), memoryview(space), memoryview(space).cast("Q")
+        self._values, self._ends, self._kinds, self._opens = words[::4], words[2::4], plain[24::32], plain[25::32]
+
+    def read(self, at, length, count):
+        """Reads up to ``count`` titles, and returns the answer of the library."""
+        return _CALLS.cll_headers(at, length, self._there, count, self.report)
+
+    def made(self, view, start):
+        """Returns an iterator over the titles that were read. They stand in the view, from ``start`` on."""
+        number = self.report.written
+        kinds, opens = self._kinds[:number].tobytes(), self._opens[:number].tobytes()
+        values = self._values[:number].tolist()
+        ends = [start + end for end in self._ends[:number].tolist()]
+        made = [_HEADERS[kind][value] if value < _SMALL else _NEW(Header, (_KINDS[kind], value))
+                for kind, value in zip(kinds, values)]
+        # A title starts at the end of the one before it, or of that one's body.
+        starts, bodies = [start, *ends], itertools.repeat(None)
+        if 1 in opens:
+            made = [_OPENS[kind] if is_open else header for kind, is_open, header in zip(kinds, opens, made)]
+        if 2 in kinds or 3 in kinds:
+            bodies = [None] * number
+            for at, kind in enumerate(kinds):
+                if 2 <= kind <= 3 and not opens[at]:
+                    end = starts[at + 1] = ends[at] + values[at]
+                    bodies[at] = view[ends[at]:end]
+        return itertools.starmap(_NEW, zip(itertools.repeat(Title), zip(made, starts, ends, bodies)))
+
+
+# Memory that no call uses. It makes a call over few bytes faster.
+_SPARE = [_Titles()]
+
+
+def _read(at, length, count, view, start):
+    """Reads up to ``count`` titles. Returns the answer, an iterator over the titles, and how many bytes they have."""
+    try:
+        titles = _SPARE.pop()
+    except IndexError:
+        titles = _Titles()
+    answer = titles.read(at, length, count)
+    made, consumed = titles.made(view, start), titles.report.consumed
+    if not _SPARE:
+        _SPARE.append(titles)
+    return answer, made, consumed
+
+
+def _one(at, length, view, start):
+    """Returns the title there, and how many bytes it has with its body. It starts at that offset of the view."""
+    header, consumed = _pulled(at, length, start)
+    if header.kind not in _STRINGS or header.value is None:
+        return Title(header, start, start + consumed, None), consumed
+    whole = _skipped(at, length, 0, start)
+    return Title(header, start, start + consumed, view[start + consumed:start + whole]), whole
+
+
 def headers(data: _Bytes, offset: int = 0) -> Iterator[Title]:
     """Gives each title from the offset on, up to the end of the bytes.
 
     The iterator reads a string of a definite length whole, and its body is a view of the bytes. The body of a text is
-    UTF-8. The iterator says nothing about how the titles nest. It holds the bytes in place up to its end.
+    UTF-8. The iterator says nothing about how the titles nest. It holds the bytes in place up to its end. It reads up
+    to 512 titles ahead, so bytes that change meanwhile may give titles as they were.
     """
     view = _view(data)
     with _Memory(view, offset) as (at, length):
-        start, stop = offset, offset + length
-        while start < stop:
-            here, left = at + start - offset, stop - start
-            header, consumed = _pulled(here, left, start)
-            end, body = start + consumed, None
-            if header.kind in _STRINGS and header.value is not None:
-                body = view[end:start + _skipped(here, left, 0, start)]
-            yield Title(header, start, end, body)
-            start = end if body is None else end + len(body)
+        done, count = 0, _FIRST
+        while done < length:
+            answer, titles, consumed = _read(at + done, length - done, count, view, offset + done)
+            yield from titles
+            done, count = done + consumed, min(_TIMES * count, _MOST)
+            if answer != 0:
+                # The calls for a title alone tell what its fault is.
+                title, whole = _one(at + done, length - done, view, offset + done)
+                yield title
+                done += whole
 
 
 class _Fed:

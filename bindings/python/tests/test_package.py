@@ -9,6 +9,7 @@ import inspect
 import io
 import mmap
 import pickle
+import random
 import re
 import sys
 import typing
@@ -56,7 +57,7 @@ class Bytes(unittest.TestCase):
     def test_memory_is_given_back(self):
         data = bytearray(b"\x9c")
         for call in (ciborium_ll.pull, ciborium_ll.recode, ciborium_ll.strict, ciborium_ll.skip, ciborium_ll.utf8,
-                     ciborium_ll.deterministic):
+                     ciborium_ll.deterministic, ciborium_ll.canonical):
             self.assertRaises(Error, call, data)
             self.assertRaises(IndexError, call, data, offset=2)
         # A buffer that was not released would refuse this.
@@ -68,6 +69,7 @@ class Bytes(unittest.TestCase):
             self.assertEqual(ciborium_ll.strict(data, 0), 0)
             self.assertEqual(ciborium_ll.utf8(data), 0)
             self.assertEqual(list(ciborium_ll.headers(data)), [])
+            self.assertRaises(ciborium_ll.Short, ciborium_ll.canonical, data)
 
 
 class Stub(unittest.TestCase):
@@ -141,6 +143,10 @@ class Numbers(unittest.TestCase):
         self.assertRaises(OverflowError, ciborium_ll.deterministic, MAP, 1 << 32)
         self.assertRaises(OverflowError, ciborium_ll.deterministic, MAP, 64, 1 << 32)
         self.assertRaises(ciborium_ll.Argument, ciborium_ll.deterministic, MAP, 64, 2)
+        self.assertRaises(OverflowError, ciborium_ll.canonical, MAP, -1)
+        self.assertRaises(OverflowError, ciborium_ll.canonical, MAP, 64, 1 << 32)
+        self.assertRaises(ciborium_ll.Argument, ciborium_ll.canonical, MAP, 257)
+        self.assertRaises(ciborium_ll.Argument, ciborium_ll.canonical, MAP, 64, 2)
         self.assertRaises(OverflowError, ciborium_ll.push, Header(256, 0))
         self.assertRaises(OverflowError, ciborium_ll.push, Header(Kind.MAP, 0), (1 << 32) + 1)
         self.assertRaises(ciborium_ll.Argument, ciborium_ll.push, Header(12, 0))
@@ -409,6 +415,151 @@ class Headers(unittest.TestCase):
         with self.assertRaises(ciborium_ll.Syntax) as caught:
             next(titles)
         self.assertEqual(caught.exception.place, 1)
+
+    def test_a_string_that_is_cut_has_no_title(self):
+        titles = ciborium_ll.headers(b"\x05\x62a")
+        self.assertEqual(next(titles).start, 0)
+        with self.assertRaises(ciborium_ll.Short) as caught:
+            next(titles)
+        error = caught.exception
+        self.assertEqual((error.place, error.consumed, error.due), (2, 1, 1))
+        self.assertEqual(list(titles), [])
+
+    def test_bytes_are_held_up_to_the_end_alone(self):
+        data = bytearray(b"\x05" * 2000)
+        titles = ciborium_ll.headers(data)
+        next(titles)
+        self.assertRaises(BufferError, data.append, 5)
+        self.assertEqual(len(list(titles)), 1999)
+        titles.close()
+        data.append(5)
+
+    def test_iterators_go_on_by_themselves(self):
+        data = [bytes([number]) * 600 for number in range(4)]
+        for got in zip(*(ciborium_ll.headers(it) for it in data)):
+            self.assertEqual([title.header.value for title in got], [0, 1, 2, 3])
+
+
+def one_by_one(data, offset):
+    """Gives each title as ``headers`` has to, by the calls that read one title and skip one string."""
+    view, start = memoryview(data), offset
+    while start < len(data):
+        title = ciborium_ll.pull(data, start)
+        end = title.end
+        if title.header.kind in (Kind.BYTES, Kind.TEXT) and title.header.value is not None:
+            end = start + ciborium_ll.skip(data, 0, start)
+            title = title._replace(body=view[title.end:end])
+        yield title
+        start = end
+
+
+def told_by(titles):
+    """Returns all titles with the types of their parts, and the error that ends them."""
+    told = []
+    try:
+        for title in titles:
+            told.append((type(title), title, type(title.header), type(title.header.kind), type(title.header.value),
+                         type(title.body)))
+    except Error as error:
+        told.append((type(error), str(error), vars(error)))
+    return told
+
+
+class Differences(unittest.TestCase):
+    """Holds ``headers``, which reads many titles by one call, to one call for each title."""
+
+    def setUp(self):
+        self.random = random.Random(7)
+
+    def title(self):
+        """Returns a title of any kind, with a body if a string has to have one, and sometimes with a damaged one."""
+        kind, pick = self.random.choice(list(Kind)), self.random.random()
+        if kind in (Kind.BYTES, Kind.TEXT) and pick < 0.9:
+            body = self.random.choice(["", "a", "\u204c", "\U000233b4", "z" * 300]).encode()
+            if pick < 0.01:
+                body = body[:-1]
+            width = self.random.choice([None, 4])
+            return ciborium_ll.push(Header(kind, len(body)), width) + body
+        if kind in (Kind.BYTES, Kind.TEXT, Kind.ARRAY, Kind.MAP) and pick < 0.95:
+            return ciborium_ll.push(Header(kind, None))
+        most = {Kind.BYTES: 20, Kind.TEXT: 20, Kind.SIMPLE: 255, Kind.HALF: 65535, Kind.SINGLE: (1 << 32) - 1}
+        if kind == Kind.BREAK:
+            return b"\xff"
+        value = self.random.choice([0, 20, 23, 255, 256, 65536, (1 << 64) - 1])
+        return ciborium_ll.push(Header(kind, min(value, most.get(kind, value))))
+
+    def same(self, data, offset=0):
+        self.assertEqual(told_by(ciborium_ll.headers(data, offset)), told_by(one_by_one(data, offset)), data.hex())
+
+    def test_all_lists_of_two_bytes(self):
+        for number in range(1 << 16):
+            self.same(number.to_bytes(2, "big"))
+
+    def test_titles_at_random(self):
+        for number in range(600):
+            titles = [self.title() for _ in range(self.random.choice([1, 7, 8, 9, 30, 41, 170]))]
+            data = bytes(self.random.randrange(4)) + b"".join(titles)
+            self.same(data, self.random.randrange(min(4, len(data) + 1)))
+            self.same(data[:self.random.randrange(len(data) + 1)])
+
+    def test_bytes_at_random(self):
+        for number in range(2000):
+            self.same(bytes(self.random.choices(range(256), k=self.random.randrange(40))))
+
+    def test_a_fault_after_each_number_of_titles(self):
+        for number in (*range(45), 167, 168, 169, 679, 680, 681, 1191, 1192, 1193):
+            for end in b"", b"\x1c", b"\x19", b"\x62a", b"\x62\xff\xff", b"\x7a\0\0\0\x02\xc3(", b"\x61a\x5b":
+                self.same(b"\x01" * number + end)
+
+
+class Canonical(unittest.TestCase):
+    def test_it_is_the_one_encoding(self):
+        keys = bytes.fromhex("bff400186400ff")
+        self.assertEqual(ciborium_ll.canonical(keys, 1), bytes.fromhex("a2186400f400"))
+        self.assertEqual(ciborium_ll.canonical(keys, 1, ciborium_ll.Order.LENGTH_FIRST), bytes.fromhex("a2f400186400"))
+        self.assertEqual(ciborium_ll.canonical(b"-\x18\x05-", offset=1), b"\x05")
+        self.assertIs(type(ciborium_ll.canonical(bytearray(MAP))), bytes)
+        self.assertEqual(ciborium_ll.canonical(memoryview(MAP)), MAP)
+
+    def test_places_are_those_of_all_the_bytes(self):
+        for digits, depth, error_type, place in (
+                ("a201000100", 1, ciborium_ll.DuplicateKeyError, 3), ("8201f818", 1, ciborium_ll.CborSyntaxError, 2),
+                ("bf01ff", 1, ciborium_ll.BreakDueError, 2), ("8180", 1, ciborium_ll.TooDeepError, 1),
+                ("5f4101", 0, ciborium_ll.ShortError, 3)):
+            with self.assertRaises(error_type) as caught:
+                ciborium_ll.canonical(b"-" + bytes.fromhex(digits), depth, offset=1)
+            error = caught.exception
+            self.assertEqual((error.place, error.consumed, error.written, error.due), (place + 1, place, 0, 0))
+
+    def test_maps_that_need_many_spans(self):
+        for pairs in (3, 40, 300, 3000):
+            # The keys are of one byte, of two, or of three. Each value is 0.
+            keys = [ciborium_ll.push(Header(Kind.POSITIVE, number)) for number in range(pairs)]
+            for given in keys, keys[::-1]:
+                data = b"\xbf" + b"".join(key + b"\0" for key in given) + b"\xff"
+                want = ciborium_ll.push(Header(Kind.MAP, pairs)) + b"".join(key + b"\0" for key in keys)
+                self.assertEqual(ciborium_ll.canonical(data, 1), want)
+
+    def test_encodings_that_are_longer_than_the_item(self):
+        # An array of indefinite length with 256 items has a shorter title than one of definite length.
+        data = b"\x9f" + b"\0" * 256 + b"\xff"
+        item = b"\x9f" + data * 40 + b"\xff"
+        want = b"\x98\x28" + (b"\x99\x01\0" + b"\0" * 256) * 40
+        self.assertGreater(len(want), len(item))
+        self.assertEqual(ciborium_ll.canonical(item), want)
+
+    def test_what_it_writes_is_deterministic_and_stays(self):
+        for number in range(1 << 16):
+            data = number.to_bytes(2, "big")
+            try:
+                made = ciborium_ll.canonical(data)
+            except Error as error:
+                # A simple value from 24 to 31 means nothing. Each other fault is that of a skip.
+                if not (data[0] == 0xf8 and 24 <= data[1] < 32 and isinstance(error, ciborium_ll.Syntax)):
+                    self.assertRaises(type(error), ciborium_ll.skip, data)
+                continue
+            self.assertEqual(ciborium_ll.deterministic(made), len(made))
+            self.assertEqual(ciborium_ll.canonical(made), made)
 
 
 if __name__ == "__main__":

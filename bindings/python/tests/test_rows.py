@@ -36,10 +36,26 @@ def made(call, number, given):
         return consumed, out.hex() or "-"
     if call == "utf8":
         return ciborium_ll.utf8(data), "-"
+    if call in ("canonical", "canonical_length_first"):
+        order = Order.BYTEWISE if call == "canonical" else Order.LENGTH_FIRST
+        out = ciborium_ll.canonical(data, number, order)
+        return ciborium_ll.skip(data, number), out.hex()
     if call in ("deterministic", "length_first"):
         order = Order.BYTEWISE if call == "deterministic" else Order.LENGTH_FIRST
         return ciborium_ll.deterministic(data, number, order), "-"
     return {"strict": ciborium_ll.strict, "skip": ciborium_ll.skip}[call](data, number), "-"
+
+
+def listed(data):
+    """Goes over the titles, and returns them and the answer as the table shows them."""
+    told_titles, taken, name, place = [], 0, "ok", 0
+    try:
+        for title in ciborium_ll.headers(data):
+            told_titles.append(f"{told(title.header)}/{title.start}/{title.end}")
+            taken = title.end + (0 if title.body is None else len(title.body))
+    except ciborium_ll.Error as error:
+        name, place = error.name, taken if error.name == "short" else error.place
+    return name, taken, place, ",".join(told_titles) or "-"
 
 
 def fed(depth, data, shortest):
@@ -86,6 +102,10 @@ class Rows(unittest.TestCase):
                 if call in ("feed", "feed_strict"):
                     data = b"" if given == "-" else bytes.fromhex(given)
                     got = fed(int(number), data, call == "feed_strict")
+                    self.assertEqual(got, (answer, int(consumed), int(place), want))
+                    continue
+                if call == "headers":
+                    got = listed(b"" if given == "-" else bytes.fromhex(given))
                     self.assertEqual(got, (answer, int(consumed), int(place), want))
                     continue
                 if call == "copy":
