@@ -2,8 +2,11 @@
 //! The calls over slices. Only this file calls functions that are not safe by their types. Each pointer is that of a
 //! slice or of a value. No pointer that is written overlaps another one.
 
-use crate::sys::{self, cll_checker, cll_copier, cll_header, cll_item_copier, cll_report};
+use crate::sys::{
+    self, cll_checker, cll_copier, cll_header, cll_item_copier, cll_report, cll_span, cll_title,
+};
 use crate::{Error, Header};
+use core::mem::MaybeUninit;
 use core::str;
 
 /// How many bytes a call consumed and wrote, and how many elements it did.
@@ -48,10 +51,15 @@ pub struct Stopped {
 /// Reads the title with which the bytes begin. Returns its header and its length. An error counts its offset from
 /// `offset` on.
 pub(crate) fn pull(bytes: &[u8], offset: usize) -> Result<(Header, usize), Error> {
+    pull_parts(bytes, offset).map(|(parts, length)| (Header::of(&parts), length))
+}
+
+/// Reads a title as [`pull`] does, and returns the parts of its header.
+pub(crate) fn pull_parts(bytes: &[u8], offset: usize) -> Result<(cll_header, usize), Error> {
     let (mut parts, mut consumed) = (cll_header::default(), 0);
     // SAFETY: as this file says.
     match unsafe { sys::cll_pull(bytes.as_ptr(), bytes.len(), &mut parts, &mut consumed) } {
-        0 => Ok((Header::of(&parts), consumed)),
+        0 => Ok((parts, consumed)),
         answer => {
             let report = cll_report {
                 consumed: consumed as u64,
@@ -59,6 +67,93 @@ pub(crate) fn pull(bytes: &[u8], offset: usize) -> Result<(Header, usize), Error
             };
             Err(Error::of(answer, &report, offset))
         }
+    }
+}
+
+/// Returns the parts of the header of a title.
+#[inline]
+pub(crate) fn header_of(title: &cll_title) -> cll_header {
+    cll_header {
+        value: title.value,
+        kind: title.kind,
+        indefinite: title.indefinite,
+    }
+}
+
+/// How many titles one call reads at most.
+pub(crate) const MOST: usize = 16;
+
+/// The titles with which some bytes begin, as one call read them. The body of each string of a definite length is there
+/// whole, and that of a text is UTF-8.
+#[derive(Clone)]
+pub(crate) struct Titles<'a> {
+    bytes: &'a [u8],
+    titles: MaybeUninit<[cll_title; MOST]>,
+    /// How many titles were read. Those after them were never written.
+    count: usize,
+}
+
+impl<'a> Titles<'a> {
+    /// Returns no titles.
+    #[inline]
+    pub(crate) fn none() -> Titles<'a> {
+        Titles {
+            bytes: &[],
+            titles: MaybeUninit::uninit(),
+            count: 0,
+        }
+    }
+
+    /// Reads up to `most` of the titles that come first, in place of those that were read before.
+    pub(crate) fn read(&mut self, bytes: &'a [u8], most: usize) {
+        let mut report = cll_report::default();
+        let (data, len) = (bytes.as_ptr(), bytes.len());
+        let (there, most) = (self.titles.as_mut_ptr().cast(), most.min(MOST));
+        // The answer tells why no more titles were read. A caller that asks for it asks the calls for one title.
+        // SAFETY: as this file says. The call only writes titles.
+        let _answer = unsafe { sys::cll_headers(data, len, there, most, &mut report) };
+        self.bytes = bytes;
+        // The call writes no more than that.
+        self.count = most.min(report.written as usize);
+    }
+
+    /// Forgets the titles that were read.
+    pub(crate) fn clear(&mut self) {
+        self.count = 0;
+    }
+
+    /// Returns how many titles were read.
+    #[inline]
+    pub(crate) fn count(&self) -> usize {
+        self.count
+    }
+
+    /// Returns a title that was read. Its offsets count from the start of the bytes.
+    #[inline]
+    pub(crate) fn get(&self, at: usize) -> Option<&cll_title> {
+        let titles: *const cll_title = self.titles.as_ptr().cast();
+        // SAFETY: the call wrote the first `count` titles.
+        (at < self.count).then(|| unsafe { &*titles.add(at) })
+    }
+
+    /// Returns the body of a title that was read, if it is the title of a string of a definite length.
+    #[inline]
+    pub(crate) fn body(&self, at: usize) -> Option<&'a [u8]> {
+        let title = self.get(at)?;
+        let is_string = (title.kind == 2 || title.kind == 3) && title.indefinite == 0;
+        let start = title.end as usize;
+        is_string.then(|| &self.bytes[start..start + title.value as usize])
+    }
+
+    /// Returns the body of a title that was read, if it is the title of a text of a definite length.
+    #[inline]
+    pub(crate) fn text(&self, at: usize) -> Option<&'a str> {
+        if self.get(at)?.kind != 3 {
+            return None;
+        }
+        // SAFETY: the call takes the body of a text only if it is UTF-8.
+        self.body(at)
+            .map(|body| unsafe { str::from_utf8_unchecked(body) })
     }
 }
 
@@ -166,6 +261,105 @@ pub fn deterministic(bytes: &[u8], depth: u32, order: Order) -> Result<usize, Er
     match unsafe { sys::cll_deterministic(data, bytes.len(), depth, order, &mut report) } {
         0 => Ok(report.consumed as usize),
         answer => Err(Error::of(answer, &report, 0)),
+    }
+}
+
+/// Memory that [`canonical_into`] needs for a pair of a map. What it holds before and after a call means nothing.
+#[derive(Clone, Copy, Debug, Default)]
+#[repr(transparent)]
+pub struct Span(cll_span);
+
+/// Writes the deterministic encoding of the item with which the bytes begin to the start of the output (RFC 8949, 4.2).
+/// The item may have any spelling. The keys of its maps ascend in this order. The item may contain at most `depth`
+/// levels, and no more than 256.
+///
+/// Returns the lengths of the item and of its encoding. The call counts no elements.
+///
+/// An output of `n + n / 256 + 16` bytes and `n` spans are always enough for `n` bytes. A map whose keys ascend needs a
+/// span for each pair, and any other map also one for two bytes of its pairs.
+///
+/// # Errors
+///
+/// After an error the contents of the output are unknown.
+///
+/// - `Short` if the bytes end before the item does. It does not say how many bytes are due.
+/// - `Syntax` as of [`skip_item`], or if a simple value is from 24 to 31, which means nothing.
+/// - `BreakDue` and `TooDeep` as of [`skip_item`].
+/// - `DuplicateKey` if a key of a map has the same value as one before it.
+/// - `Room` if the output or `spans` is too short.
+/// - `Argument` if `depth` is above 256.
+///
+/// ```
+/// use ciborium_ll_proved::{canonical_into, Order, Span};
+///
+/// let (mut out, mut spans) = ([0; 32], [Span::default(); 8]);
+/// let copied = canonical_into(b"\xbf\x02\0\x01\0\xff", 16, Order::Bytewise, &mut out, &mut spans)?;
+/// assert_eq!((copied.consumed, &out[..copied.written]), (6, &b"\xa2\x01\0\x02\0"[..]));
+/// # Ok::<(), ciborium_ll_proved::Error>(())
+/// ```
+pub fn canonical_into(
+    bytes: &[u8],
+    depth: u32,
+    order: Order,
+    out: &mut [u8],
+    spans: &mut [Span],
+) -> Result<Copied, Error> {
+    let mut report = cll_report::default();
+    let (data, len, order) = (bytes.as_ptr(), bytes.len(), order as u32);
+    let (to, room, places) = (out.as_mut_ptr(), out.len(), spans.as_mut_ptr().cast());
+    let count = spans.len();
+    // SAFETY: as this file says.
+    let answer = unsafe {
+        sys::cll_canonical(
+            data,
+            len,
+            depth,
+            order,
+            to,
+            room,
+            places,
+            count,
+            &mut report,
+        )
+    };
+    match answer {
+        0 => Ok(Copied::of(&report)),
+        answer => Err(Error::of(answer, &report, 0)),
+    }
+}
+
+/// Returns the deterministic encoding of the item with which the bytes begin, as [`canonical_into`] writes it. It says
+/// nothing about the bytes that follow the item, whose length [`skip_item`] returns.
+///
+/// # Errors
+///
+/// Those of [`canonical_into`] except `Room`.
+///
+/// ```
+/// use ciborium_ll_proved::{canonical, Error, Order};
+///
+/// let made = canonical(b"\xbf\x02\xfa\x3f\xc0\0\0\x18\x01\0\xff", 16, Order::Bytewise);
+/// assert_eq!(made, Ok(b"\xa2\x01\0\x02\xf9\x3e\0".to_vec()));
+/// let twice = canonical(b"\xa2\x01\0\x18\x01\0", 16, Order::Bytewise);
+/// assert_eq!(twice, Err(Error::DuplicateKey(3)));
+/// ```
+#[cfg(feature = "std")]
+pub fn canonical(bytes: &[u8], depth: u32, order: Order) -> Result<Vec<u8>, Error> {
+    let len = bytes.len();
+    // No encoding is longer than that.
+    let mut out = vec![0; len + len / 256 + 16];
+    // As many spans as there are bytes are always enough, and most items need few.
+    let mut count = len / 16 + 16;
+    loop {
+        let mut spans = vec![Span::default(); count];
+        match canonical_into(bytes, depth, order, &mut out, &mut spans) {
+            Ok(copied) => {
+                out.truncate(copied.written);
+                return Ok(out);
+            }
+            Err(Error::Room) if count < len => count = len.min(4 * count),
+            Err(error) => return Err(error),
+        }
     }
 }
 

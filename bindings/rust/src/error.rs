@@ -31,7 +31,7 @@ pub enum Error {
     Indefinite(usize),
     /// At this offset stands a key that comes before the key of the pair before it.
     KeyOrder(usize),
-    /// At this offset stands the same key as that of the pair before it.
+    /// At this offset stands a key that its map has before it.
     DuplicateKey(usize),
 }
 

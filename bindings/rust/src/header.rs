@@ -38,7 +38,8 @@ pub enum Header {
 }
 
 impl Header {
-    /// Returns the header of parts that `cll_pull` gave.
+    /// Returns the header of parts that a call gave.
+    #[inline]
     pub(crate) fn of(parts: &cll_header) -> Header {
         let value = parts.value;
         let length = (parts.indefinite == 0).then_some(value as usize);

@@ -1,6 +1,7 @@
 // SPDX-License-Identifier: Apache-2.0
-use crate::calls::{pull, skip, utf8};
+use crate::calls::{header_of, pull, skip, Titles, MOST};
 use crate::{Error, Header};
+use core::fmt;
 use core::iter::FusedIterator;
 
 /// A header, and the place of its title.
@@ -41,63 +42,93 @@ impl<'a> Title<'a> {
 /// assert_eq!(titles.next(), None);
 /// # Ok::<(), Error>(())
 /// ```
+#[inline]
 pub fn headers(bytes: &[u8]) -> Headers<'_> {
-    Headers { bytes, offset: 0 }
+    Headers {
+        bytes,
+        offset: 0,
+        titles: Titles::none(),
+        base: 0,
+        next: 0,
+    }
 }
 
 /// The titles of a slice, as [`headers`] gives them.
-#[derive(Clone, Debug)]
+#[derive(Clone)]
 #[must_use = "the titles come one by one"]
 pub struct Headers<'a> {
     bytes: &'a [u8],
     /// How many of the bytes were taken. After an error it is all of them.
     offset: usize,
+    /// Titles that one call read, and the offset from which they count theirs.
+    titles: Titles<'a>,
+    base: usize,
+    /// The place among them of the title that comes next.
+    next: usize,
 }
 
 impl<'a> Headers<'a> {
-    /// Reads the title that comes next.
-    fn read(&mut self) -> Result<Title<'a>, Error> {
-        let (start, rest) = (self.offset, &self.bytes[self.offset..]);
-        let (header, length) = pull(rest, start)?;
-        let end = start + length;
-        let mut title = Title {
-            header,
-            start,
-            end,
-            body: None,
-            text: None,
+    /// Returns the title that comes next, if it was read.
+    #[inline]
+    fn take(&mut self) -> Option<Title<'a>> {
+        let title = self.titles.get(self.next)?;
+        let (start, end) = (title.start as usize, title.end as usize);
+        let body = self.titles.body(self.next);
+        let taken = Title {
+            header: Header::of(&header_of(title)),
+            start: self.base + start,
+            end: self.base + end,
+            body,
+            text: self.titles.text(self.next),
         };
-        self.offset = end;
-        if let Header::Bytes(Some(length)) | Header::Text(Some(length)) = header {
-            let body = rest[end - start..].get(..length);
-            let is_text = matches!(header, Header::Text(_));
-            if is_text {
-                title.text = body.and_then(|body| utf8(body).ok());
-            }
-            // If the body is missing, or is not UTF-8, a skip says why. A string has no levels.
-            if body.is_none() || is_text && title.text.is_none() {
-                skip(rest, 0, start)?;
-            }
-            title.body = body;
-            self.offset = end + length;
+        self.next += 1;
+        self.offset = taken.end + body.map_or(0, <[u8]>::len);
+        Some(taken)
+    }
+
+    /// Reads the titles that come next. If there are none, the calls for one title tell why.
+    fn read(&mut self) -> Result<(), Error> {
+        let (start, rest) = (self.offset, &self.bytes[self.offset..]);
+        self.base = start;
+        self.next = 0;
+        self.titles.read(rest, MOST);
+        if self.titles.count() == 0 {
+            pull(rest, start)?;
+            // A string has no levels.
+            skip(rest, 0, start)?;
         }
-        Ok(title)
+        Ok(())
     }
 }
 
 impl<'a> Iterator for Headers<'a> {
     type Item = Result<Title<'a>, Error>;
 
+    #[inline]
     fn next(&mut self) -> Option<Self::Item> {
+        if let Some(title) = self.take() {
+            return Some(Ok(title));
+        }
         if self.offset == self.bytes.len() {
             return None;
         }
-        let got = self.read();
-        if got.is_err() {
-            self.offset = self.bytes.len();
+        match self.read() {
+            Ok(()) => self.take().map(Ok),
+            Err(error) => {
+                self.offset = self.bytes.len();
+                Some(Err(error))
+            }
         }
-        Some(got)
     }
 }
 
 impl FusedIterator for Headers<'_> {}
+
+impl fmt::Debug for Headers<'_> {
+    fn fmt(&self, f: &mut fmt::Formatter<'_>) -> fmt::Result {
+        f.debug_struct("Headers")
+            .field("bytes", &self.bytes)
+            .field("offset", &self.offset)
+            .finish()
+    }
+}

@@ -2,8 +2,11 @@
 //! Reads CBOR (RFC 7049, 2.1 to 2.4) out of slices and writes it into slices, one header at a time. Every answer of the
 //! library is proved.
 //!
-//! Items that mean the same as in the crate `ciborium-ll` have its names. Nothing here takes memory. Without the
-//! feature `std`, which is on by default, the crate needs `core` alone.
+//! Items that mean the same as in the crate `ciborium-ll` have its names. Nothing here takes memory but `canonical`,
+//! which returns a vector. Without the feature `std`, which is on by default, the crate needs `core` alone.
+//!
+//! [`headers`] and [`Decoder`] read titles ahead, up to 16 by one call of the library. A decoder reads one title by
+//! itself first, and again after it turned elsewhere than to the next one.
 //!
 //! [`stream`] has the names of `ciborium-ll` over any reader and writer of `std`.
 //!
@@ -38,8 +41,11 @@ mod headers;
 pub mod stream;
 pub mod sys;
 
+#[cfg(feature = "std")]
+pub use calls::canonical;
 pub use calls::{
-    deterministic, recode, skip_item, strict, strict_len, utf8, Copied, Order, Stopped,
+    canonical_into, deterministic, recode, skip_item, strict, strict_len, utf8, Copied, Order,
+    Span, Stopped,
 };
 pub use checker::{Checker, Feed, Progress};
 pub use copier::{Copier, Copying, Fed, ItemCopier};

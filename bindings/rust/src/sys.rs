@@ -15,13 +15,41 @@ pub struct cll_header {
     pub indefinite: u8,
 }
 
+/// A header, and the place of its title.
+#[repr(C)]
+#[derive(Clone, Copy, Debug, Default)]
+pub struct cll_title {
+    /// As of [`cll_header`].
+    pub value: u64,
+    /// The offset at which the title starts.
+    pub start: u64,
+    /// The offset at which the title ends.
+    pub end: u64,
+    /// As of [`cll_header`].
+    pub kind: u8,
+    /// As of [`cll_header`].
+    pub indefinite: u8,
+}
+
+/// Memory that `cll_canonical` needs for a pair of a map. Its numbers mean nothing after the call.
+#[repr(C)]
+#[derive(Clone, Copy, Debug, Default)]
+pub struct cll_span {
+    /// The offset in the output at which the key begins.
+    pub start: u64,
+    /// The offset at which the key ends.
+    pub key_end: u64,
+    /// The offset at which the value ends.
+    pub end: u64,
+}
+
 /// How far a call came.
 #[repr(C)]
 #[derive(Clone, Copy, Debug, Default)]
 pub struct cll_report {
     /// How many bytes were consumed.
     pub consumed: u64,
-    /// How many bytes were written.
+    /// How many bytes were written, or of `cll_headers` how many titles.
     pub written: u64,
     /// The offset that the answer names, if it names one, and 0 otherwise.
     pub place: u64,
@@ -66,6 +94,13 @@ extern "C" {
         header: *mut cll_header,
         consumed: *mut usize,
     ) -> u32;
+    pub fn cll_headers(
+        data: *const u8,
+        len: usize,
+        titles: *mut cll_title,
+        titles_len: usize,
+        report: *mut cll_report,
+    ) -> u32;
     pub fn cll_push(
         header: *const cll_header,
         out: *mut u8,
@@ -94,6 +129,17 @@ extern "C" {
         len: usize,
         depth: u32,
         order: u32,
+        report: *mut cll_report,
+    ) -> u32;
+    pub fn cll_canonical(
+        data: *const u8,
+        len: usize,
+        depth: u32,
+        order: u32,
+        out: *mut u8,
+        room: usize,
+        spans: *mut cll_span,
+        spans_len: usize,
         report: *mut cll_report,
     ) -> u32;
     pub fn cll_utf8(data: *const u8, len: usize, report: *mut cll_report) -> u32;

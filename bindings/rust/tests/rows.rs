@@ -2,8 +2,8 @@
 //! Holds the crate to the table of rows that every binding is held to.
 
 use ciborium_ll_proved::{
-    deterministic, recode, skip_item, strict_len, utf8, Checker, Copier, Copying, Decoder, Encoder,
-    Error, Float, Header, Order, Progress,
+    canonical_into, deterministic, headers, recode, skip_item, strict_len, utf8, Checker, Copier,
+    Copying, Decoder, Encoder, Error, Float, Header, Order, Progress, Span,
 };
 
 const TABLE: &str = include_str!("../../tests/rows");
@@ -118,9 +118,50 @@ fn made(call: &str, number: u64, given: &str) -> Result<(usize, String), Error> 
             let length = deterministic(&data, number as u32, Order::LengthFirst)?;
             Ok((length, "-".to_string()))
         }
+        "canonical" => rewritten(&data, number as u32, Order::Bytewise),
+        "canonical_length_first" => rewritten(&data, number as u32, Order::LengthFirst),
         "utf8" => Ok((utf8(&data)?.len(), "-".to_string())),
         _ => panic!("a row of no call: {call}"),
     }
+}
+
+/// Returns the length of an item and its deterministic encoding.
+fn rewritten(data: &[u8], depth: u32, order: Order) -> Result<(usize, String), Error> {
+    let mut out = vec![0; data.len() + 16];
+    let mut spans = vec![Span::default(); data.len()];
+    let copied = canonical_into(data, depth, order, &mut out, &mut spans)?;
+    assert_eq!(
+        (copied.elements, copied.whole, copied.spelled),
+        (0, 0, 0),
+        "a rewrite counts no elements"
+    );
+    Ok((copied.consumed, hex_of(&out[..copied.written])))
+}
+
+/// Goes over the titles. Returns them and the answer as the table shows them.
+fn listed(data: &[u8]) -> String {
+    let (mut titles, mut taken, mut answer) = (Vec::new(), 0, ("ok", 0));
+    for title in headers(data) {
+        match title {
+            Ok(title) => {
+                titles.push(format!(
+                    "{}/{}/{}",
+                    told(title.header),
+                    title.start,
+                    title.end
+                ));
+                taken = title.end + title.body.map_or(0, <[u8]>::len);
+            }
+            Err(Error::Short { .. }) => answer = ("short", taken),
+            Err(error) => answer = (error.name(), error.place().unwrap()),
+        }
+    }
+    let made = if titles.is_empty() {
+        "-".to_string()
+    } else {
+        titles.join(",")
+    };
+    format!("{} {taken} {} {made}", answer.0, answer.1)
 }
 
 /// Gives a checker the bytes one by one. Returns its answer as the table shows it.
@@ -223,6 +264,11 @@ fn rows_hold() {
         if call == "feed" || call == "feed_strict" {
             let got = fed(number as u32, &bytes_of(given), call == "feed_strict");
             assert_eq!(got, words[3..].join(" "), "{row}");
+            count += 1;
+            continue;
+        }
+        if call == "headers" {
+            assert_eq!(listed(&bytes_of(given)), words[3..].join(" "), "{row}");
             count += 1;
             continue;
         }

@@ -2,8 +2,8 @@
 //! Tries how the types show themselves, whether an item has ended, and the iterator over titles.
 
 use ciborium_ll_proved::{
-    deterministic, headers, recode, skip_item, Checker, Copier, Error, Header, ItemCopier, Order,
-    Progress,
+    canonical_into, deterministic, headers, recode, skip_item, Checker, Copier, Decoder, Error,
+    Header, ItemCopier, Order, Progress, Span,
 };
 use std::collections::HashSet;
 
@@ -33,6 +33,58 @@ fn the_deterministic_encoding_is_checked() {
     assert_eq!(check(b"\x82\x01"), Err(Error::Short { place: 2, due: 0 }));
     let deep = deterministic(b"\x05", 257, Order::LengthFirst);
     assert_eq!(deep, Err(Error::Argument));
+}
+
+#[test]
+fn the_deterministic_encoding_is_written() {
+    let keys = b"\xbf\xf4\0\x18\x64\0\xff";
+    let write = |order, out: &mut [u8], spans: &mut [Span]| {
+        canonical_into(keys, 1, order, out, spans).map(|copied| (copied.consumed, copied.written))
+    };
+    let (mut out, mut spans) = ([0; 6], [Span::default(); 3]);
+    assert_eq!(write(Order::Bytewise, &mut out, &mut spans), Ok((7, 6)));
+    assert_eq!(&out, b"\xa2\x18\x64\0\xf4\0");
+    assert_eq!(write(Order::LengthFirst, &mut out, &mut spans), Ok((7, 6)));
+    assert_eq!(&out, b"\xa2\xf4\0\x18\x64\0");
+    let order = Order::Bytewise;
+    assert_eq!(write(order, &mut out[..5], &mut spans), Err(Error::Room));
+    assert_eq!(write(order, &mut out, &mut spans[..2]), Err(Error::Room));
+    assert_eq!(write(order, &mut [], &mut []), Err(Error::Room));
+}
+
+#[cfg(feature = "std")]
+#[test]
+fn the_deterministic_encoding_is_returned() {
+    use ciborium_ll_proved::canonical;
+    let of = |bytes: &[u8]| canonical(bytes, 1, Order::Bytewise);
+    assert_eq!(of(b"\x18\x05\x1c"), Ok(vec![5]));
+    assert_eq!(of(b"\xa2\x01\0\x18\x01\0"), Err(Error::DuplicateKey(3)));
+    assert_eq!(of(b"\x82\x01\xf8\x18"), Err(Error::Syntax(2)));
+    assert_eq!(of(b"\xbf\x01\xff"), Err(Error::BreakDue(2)));
+    assert_eq!(of(b"\x81\x80"), Err(Error::TooDeep(1)));
+    assert_eq!(of(b"\x5f\x41\x01"), Err(Error::Short { place: 3, due: 0 }));
+    assert_eq!(
+        canonical(b"\x05", 257, Order::Bytewise),
+        Err(Error::Argument)
+    );
+    // Maps that need many spans, and an encoding that is longer than the item.
+    for pairs in [3u16, 40, 300, 3000] {
+        let pair = |number: u16| [0x1a, 1, 0, (number >> 8) as u8, number as u8, 0];
+        let mut given = vec![0xbf];
+        given.extend((0..pairs).rev().flat_map(pair));
+        given.push(0xff);
+        let made = of(&given).unwrap();
+        let sorted: Vec<u8> = (0..pairs).flat_map(pair).collect();
+        assert_eq!(made[made.len() - sorted.len()..], sorted);
+        assert_eq!(deterministic(&made, 1, Order::Bytewise), Ok(made.len()));
+    }
+    let zeros = [&[0x9f][..], &[0; 256], &[0xff]].concat();
+    let longer = canonical(
+        &[&[0x98, 40][..], &zeros.repeat(40)].concat(),
+        2,
+        Order::Bytewise,
+    );
+    assert_eq!(longer.unwrap().len(), 2 + 40 * 259);
 }
 
 #[cfg(feature = "std")]
@@ -66,6 +118,22 @@ fn an_item_of_no_bytes_has_not_ended() {
     assert_eq!(copier.feed(b"", &mut out).unwrap().written, 1);
     assert!(copier.is_ended());
     assert!(Copier::new(0).is_ended() && !Copier::new(1).is_ended());
+}
+
+#[test]
+fn readers_are_shown_by_how_far_they_are() {
+    let mut decoder = Decoder::from(&b"\x05\x06"[..]);
+    assert_eq!(decoder.pull(), Ok(Header::Positive(5)));
+    assert_eq!(
+        format!("{decoder:?}"),
+        "Decoder { bytes: [5, 6], offset: 1, last: Some((Positive(5), 0)) }"
+    );
+    let mut titles = headers(b"\x05\x06");
+    assert!(titles.next().is_some());
+    assert_eq!(
+        format!("{titles:?}"),
+        "Headers { bytes: [5, 6], offset: 1 }"
+    );
 }
 
 #[test]
