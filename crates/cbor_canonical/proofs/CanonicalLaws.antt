@@ -87,7 +87,7 @@ module _ {R E : Type 0} (source : Ghosts R E) where
   }
 
   refusal_go : (d : ℕ) (bytes : List ℕ) (old new : Decoder R) (skipped : Result (Unit {0}) (SkipError E))
-      (result : Result (Unit {0}) Refusal) → SkipsTold source false d bytes old skipped new → old.offset ≡ 0
+      (result : Result ℕ Refusal) → SkipsTold source false d bytes old skipped new → old.offset ≡ 0
       → IsRefusalOf (length bytes) skipped result
       → MatchResult result (λ done. BeginsWithItem false d bytes) (λ r. HasRefusal d bytes r.why r.place)
   refusal_go d bytes old new (Ok done) (Ok other) told start is = told.front
@@ -109,7 +109,7 @@ module _ {R E : Type 0} (source : Ghosts R E) where
   refusal_go d bytes old new (Err (s.Read e.Waiting)) result told start is = absurd told
 
   pub refusal_said : (d : ℕ) (bytes : List ℕ) (old new : Decoder R) (skipped : Result (Unit {0}) (SkipError E))
-      (result : Result (Unit {0}) Refusal) → SkipsTold source old.strict d bytes old skipped new
+      (result : Result ℕ Refusal) → SkipsTold source old.strict d bytes old skipped new
       → old.strict ≡ false → old.offset ≡ 0 → IsRefusalOf (length bytes) skipped result
       → MatchResult result (λ done. BeginsWithItem false d bytes) (λ r. HasRefusal d bytes r.why r.place)
   refusal_said d bytes old new skipped result told mode start is =

@@ -93,7 +93,7 @@ HasWhy why place Memory = ⊥
 
 -- The refusal for the error of a skip over this many bytes, or none without an error. Over 3 bytes `Break` at 1 gives
 -- `Break` at 1, and an error of the reader gives `Cut` at 3.
-abbrev pub IsRefusalOf : {E : Type 0} → ℕ → Result (Unit {0}) (SkipError E) → Result (Unit {0}) Refusal → Type 0
+abbrev pub IsRefusalOf : {E : Type 0} → ℕ → Result (Unit {0}) (SkipError E) → Result ℕ Refusal → Type 0
 IsRefusalOf len (Ok done) (Ok other) = Unit {0}
 IsRefusalOf len (Err (s.Break place)) (Err refusal) = (refusal.why ≡ w.Break) × (refusal.place ≡ place)
 IsRefusalOf len (Err (s.Deep place)) (Err refusal) = (refusal.why ≡ w.Deep) × (refusal.place ≡ place)

@@ -13,24 +13,28 @@ use ciborium_ll_io::io::{EndOfFile, SliceReader};
 /// The most bytes of a string that the check reads at a time.
 const BUFFER_SIZE: usize = 256;
 
-/// Checks that an item to the depth begins the bytes.
-pub(crate) fn check_item(bytes: &[u8], depth: usize) -> Result<(), Refusal>
+/// Checks that an item to the depth begins the bytes, and returns its length.
+pub(crate) fn check_item(bytes: &[u8], depth: usize) -> Result<usize, Refusal>
     requires shallow { depth ≤ MAX_DEPTH }
-    ensures { MatchResult result (λ done. BeginsWithItem false depth bytes.now)
+    ensures { MatchResult result (λ len. BeginsWithItem false depth bytes.now)
         (λ refusal. HasRefusal depth bytes.now refusal.why refusal.place) }
 {
     let mut buffer = [0; BUFFER_SIZE];
     let mut decoder = Decoder::from(SliceReader::new(bytes));
     let skipped = skip_item(&mut decoder, depth, &mut buffer);
-    refusal_of(skipped, bytes.len())
+    refusal_of(skipped, bytes.len(), decoder.offset())
 }
 
-/// Returns the refusal for an error of a skip over `len` bytes.
-fn refusal_of(skipped: Result<(), SkipError<EndOfFile>>, len: usize) -> Result<(), Refusal>
+/// Returns the refusal for an error of a skip over `len` bytes, or how many bytes it skipped.
+fn refusal_of(
+    skipped: Result<(), SkipError<EndOfFile>>,
+    len: usize,
+    offset: usize,
+) -> Result<usize, Refusal>
     ensures { IsRefusalOf len skipped result }
 {
     match skipped {
-        Ok(()) => Ok(()),
+        Ok(()) => Ok(offset),
         Err(SkipError::Break(place)) => Err(Refusal {
             why: Why::Break,
             place,

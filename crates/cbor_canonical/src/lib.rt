@@ -5,7 +5,8 @@
 //! narrows a float. [`laws`] says what the encoding keeps.
 #![tactic(auto)]
 
-ghost use Rattle.std.specs.Prelude.{◌≡◌, ◌≤◌, ◌-◌, IfOk, MatchResult, length, take};
+ghost use Rattle.std.specs.Prelude.{◌≡◌, ◌≤◌, ◌-◌, IfOk, MatchResult, false, length, take};
+ghost use Rattle.cbor_skip.specs.ItemFaults.{BeginsWithItem};
 ghost use Rattle.cbor_canonical.specs.Canonical.{IsCanonical};
 ghost use Rattle.cbor_canonical.specs.Refusals.{HasWhy, IsUnwritten};
 
@@ -141,6 +142,23 @@ pub fn canonical_into<'a>(
     ensures within { IfOk result (λ found. found.0 ≤ length out.new) }
 {
     check_item(bytes, depth)?;
+    rewrite_checked(bytes, depth, order, out, spans)
+}
+
+/// Writes as [`canonical_into`] does, for bytes that begin with an item.
+fn rewrite_checked<'a>(
+    bytes: &'a [u8],
+    depth: usize,
+    order: Order,
+    out: &mut [u8],
+    spans: &mut [Span],
+) -> Result<(usize, &'a [u8]), CanonicalError>
+    requires shallow { depth ≤ MAX_DEPTH }
+    requires begins { BeginsWithItem false depth bytes.now }
+    ensures written { MatchResult result
+        (λ found. IsCanonical order depth bytes.now found.1.now (take found.0 out.new)) (IsUnwritten depth bytes.now) }
+    ensures within { IfOk result (λ found. found.0 ≤ length out.new) }
+{
     match rewrite_item(bytes, depth, order, out, 0, spans) {
         Ok((rest, end)) => Ok((end, rest)),
         Err(Stop::NoSimple(left)) => Err(refused(Why::NoSimple, bytes.len(), left)),
@@ -159,7 +177,7 @@ pub fn canonical_into<'a>(
 ///
 /// # Time and memory
 ///
-/// The call takes `n + n / 256 + 16` bytes and half as many spans for `n` bytes, and gives the spans back.
+/// The call takes `n + n / 256 + 16` bytes and half as many spans for an item of `n` bytes, and gives the spans back.
 pub fn canonical(
     alloc: Global,
     bytes: &[u8],
@@ -170,22 +188,15 @@ pub fn canonical(
     ensures { MatchResult result (λ found. IsCanonical order depth bytes.now found.1.now found.0.items)
         (IsUnwritten depth bytes.now) }
 {
-    let room = bytes
-        .len()
-        .saturating_add(bytes.len() / 256)
-        .saturating_add(SPARE_ROOM);
+    let len = check_item(bytes, depth)?;
+    let room = len.saturating_add(len / 256).saturating_add(SPARE_ROOM);
     let mut out = Vec::new(alloc);
     out.resize(room, 0)?;
     let mut spans = Vec::new(alloc);
     spans.resize(room / 2, NO_SPAN)?;
-    let (len, rest) = canonical_into(
-        bytes,
-        depth,
-        order,
-        out.as_mut_slice(),
-        spans.as_mut_slice(),
-    )?;
-    out.truncate(len);
+    let (out_bytes, places) = (out.as_mut_slice(), spans.as_mut_slice());
+    let (end, rest) = rewrite_checked(bytes, depth, order, out_bytes, places)?;
+    out.truncate(end);
     Ok((out, rest))
 }
 
