@@ -185,6 +185,13 @@ private:
     char text_[48];
 };
 
+namespace detail {
+
+/* Changes the value of a result in place. */
+struct access;
+
+} /* namespace detail */
+
 /* A value, or a fault. It has the names of std::expected, and `fault()` is a second name of `error()`. */
 template <typename T>
 class [[nodiscard]] result {
@@ -224,6 +231,8 @@ public:
 #endif
 
 private:
+    friend struct detail::access;
+
     std::optional<T> value_;
     ciborium_ll::fault fault_{answer::ok, 0, 0, 0, 0, 0, 0, 0};
 };
@@ -241,6 +250,15 @@ struct copied {
 };
 
 namespace detail {
+
+struct access {
+    /* Returns the value, which has to be there. */
+    template <typename T>
+    static T &value_of(result<T> &of) noexcept
+    {
+        return *of.value_;
+    }
+};
 
 inline cll_header parts_of(const header &header) noexcept
 {
@@ -347,6 +365,27 @@ inline result<std::size_t> deterministic(input bytes, std::uint32_t depth = 64, 
     if (code != CLL_OK)
         return detail::fault_of(code, report);
     return static_cast<std::size_t>(report.consumed);
+}
+
+/*
+ * Writes the deterministic encoding of the item that comes first, whatever its spelling is, and returns both lengths.
+ * The keys of its maps ascend in this order. The item contains at most `depth` levels, which is at most 256.
+ *
+ * `spans` is an array, a vector or another object with elements of the type `cll_span` one after the other. For `n`
+ * bytes an output of `n + n / 256 + 16` bytes and `n` spans are always enough. Fewer do as cll_canonical says. `out`
+ * must not overlap `bytes`, and after a fault its contents are unknown.
+ */
+template <typename Spans>
+inline result<copied> canonical(input bytes, output out, Spans &&spans, std::uint32_t depth = 64,
+    order keys = order::bytewise) noexcept
+{
+    cll_report report;
+    const auto number = static_cast<std::uint32_t>(keys);
+    const std::uint32_t code = cll_canonical(bytes.data(), bytes.size(), depth, number, out.data(), out.size(),
+        std::data(spans), std::size(spans), &report);
+    if (code != CLL_OK)
+        return detail::fault_of(code, report);
+    return copied{static_cast<std::size_t>(report.consumed), static_cast<std::size_t>(report.written)};
 }
 
 /*
@@ -606,6 +645,7 @@ struct located {
 /*
  * Goes over the titles of bytes, up to their end. Each title is a `result`, and a fault is the last one. A string of a
  * definite length is read whole, and the next title is the one after its body. Nothing is said of how the titles nest.
+ * An iterator reads up to 16 titles ahead by one call.
  */
 class headers {
 public:
@@ -648,46 +688,81 @@ public:
             step();
         }
 
-        /* Reads the next title, or ends. */
+        /* Takes the next title, or ends. */
         void step() noexcept
         {
             if (left_ == 0 || (now_ && !*now_)) {
                 now_.reset();
                 return;
             }
-            const input rest{next_, left_};
-            const auto start = static_cast<std::size_t>(next_ - begin_);
-            const result<title> got = pull(rest);
-            if (!got) {
-                stop(got.error(), start);
-                return;
-            }
-            located found{got->header, start, start + got->length, std::nullopt};
-            std::size_t length = got->length;
-            if ((got->header.kind == kind::bytes || got->header.kind == kind::text) && got->header.value) {
-                /* A string has no levels. */
-                const result<std::size_t> whole = skip(rest, 0);
-                if (!whole) {
-                    stop(whole.error(), start);
-                    return;
-                }
-                found.body = rest.first(*whole).behind(length);
-                length = *whole;
-            }
-            next_ += length;
-            left_ -= length;
-            now_.emplace(found);
+            if (at_ == count_)
+                read();
+            if (at_ == count_)
+                stop();
+            else
+                take(titles_[at_++]);
         }
 
-        void stop(fault why, std::size_t start) noexcept
+        /* Reads the titles that come next. */
+        void read() noexcept
         {
-            why.place += start;
+            cll_report report;
+            /* A fault comes after the titles before it. */
+            (void)cll_headers(next_, left_, titles_, most, &report);
+            base_ = static_cast<std::size_t>(next_ - begin_);
+            at_ = 0;
+            count_ = static_cast<std::size_t>(report.written);
+        }
+
+        /* Goes over a title that was read, and its body. */
+        void take(const cll_title &got) noexcept
+        {
+            const auto start = static_cast<std::size_t>(got.start), end = static_cast<std::size_t>(got.end);
+            const bool is_string = got.kind == CLL_BYTES || got.kind == CLL_TEXT;
+            if (!now_)
+                now_.emplace(located{});
+            located &found = detail::access::value_of(*now_);
+            found.header.kind = static_cast<kind>(got.kind);
+            found.start = base_ + start;
+            found.end = base_ + end;
+            found.body.reset();
+            next_ += end - start;
+            left_ -= end - start;
+            if (got.indefinite != 0) {
+                found.header.value.reset();
+                return;
+            }
+            found.header.value = got.value;
+            if (is_string) {
+                found.body = input(next_, static_cast<std::size_t>(got.value));
+                next_ += found.body->size();
+                left_ -= found.body->size();
+            }
+        }
+
+        /* Finds the fault of the title that comes next, by the calls for one title. */
+        void stop() noexcept
+        {
+            const input rest{next_, left_};
+            fault why = pull(rest).fault();
+            /* A string has no levels. */
+            if (why.code == answer::ok)
+                why = skip(rest, 0).fault();
+            why.place += static_cast<std::size_t>(next_ - begin_);
             now_.emplace(why);
         }
+
+        /* How many titles one call reads at most. */
+        static constexpr std::size_t most = 16;
 
         const std::uint8_t *begin_ = nullptr;
         const std::uint8_t *next_ = nullptr;
         std::size_t left_ = 0;
+        /* Titles that were read, the offset from which they count theirs, and which one comes next. */
+        cll_title titles_[most] = {};
+        std::size_t base_ = 0;
+        std::size_t count_ = 0;
+        std::size_t at_ = 0;
         std::optional<value_type> now_;
     };
 

@@ -29,13 +29,19 @@ std::string shown(cll::input bytes)
     return text.empty() ? "-" : text;
 }
 
+/* Shows a header as a row has it. */
+std::string named(const cll::header &header)
+{
+    return std::string(kind_names[static_cast<int>(header.kind)]) + '/'
+        + (header.value ? std::to_string(*header.value) : "*");
+}
+
 /* Shows a header and the shortest title that is written for it. */
 std::string told(const cll::header &header)
 {
     std::array<std::uint8_t, 9> title;
     const auto length = cll::push(header, title);
-    return std::string(kind_names[static_cast<int>(header.kind)]) + '/'
-        + (header.value ? std::to_string(*header.value) : "*") + '/' + shown({title.data(), length.value()});
+    return named(header) + '/' + shown({title.data(), length.value()});
 }
 
 /* Shows how many more bytes are due, if the bytes end too early. */
@@ -52,6 +58,36 @@ bool fits(const row &row, const cll::result<T> &got, std::uint64_t consumed, con
     const std::string name = got ? "ok" : got.fault().name();
     return name == answer_names[row.answer] && (got ? consumed : got.fault().consumed) == row.consumed
         && got.fault().place == row.place && made == row.made;
+}
+
+/* Goes over the titles. With `short` the place is where the titles end that came before the fault. */
+bool lists(const row &row, const std::vector<std::uint8_t> &data)
+{
+    std::string name = "ok", made;
+    std::uint64_t taken = 0, place = 0;
+    for (const auto &got : cll::headers(data)) {
+        if (!got) {
+            name = got.fault().name();
+            place = name == "short" ? taken : got.fault().place;
+            continue;
+        }
+        made += (made.empty() ? "" : ",") + named(got->header) + '/' + std::to_string(got->start) + '/'
+            + std::to_string(got->end);
+        taken = got->end + (got->body ? got->body->size() : 0);
+    }
+    return name == answer_names[row.answer] && taken == row.consumed && place == row.place
+        && (made.empty() ? "-" : made) == row.made;
+}
+
+/* Writes the deterministic encoding. */
+bool rewrites(const row &row, const std::vector<std::uint8_t> &data, cll::order keys)
+{
+    std::vector<std::uint8_t> out(data.size() + 16);
+    std::vector<cll_span> spans(data.size());
+    const auto got = cll::canonical(data, out, spans, static_cast<std::uint32_t>(row.number), keys);
+    const auto lacks = due(got);
+    const auto made = got ? shown({out.data(), got->written}) : "-";
+    return fits(row, got, got ? got->consumed : 0, lacks.empty() ? made : lacks);
 }
 
 /* Gives a checker the bytes one by one. */
@@ -122,6 +158,10 @@ int holds(const row *row)
         const auto made = shown({out.data(), written});
         return fits(*row, got, got ? got->consumed : 0, lacks.empty() ? made : made + '/' + lacks);
     }
+    if (call == "headers")
+        return lists(*row, data);
+    if (call == "canonical" || call == "canonical_length_first")
+        return rewrites(*row, data, call == "canonical" ? cll::order::bytewise : cll::order::length_first);
     if (call == "feed" || call == "feed_strict")
         return feeds(*row, data);
     if (call == "copy")
@@ -179,6 +219,105 @@ bool goes_over()
     return whole && none.begin() == none.end() && first && empty && fault.code == cll::answer::syntax
         && fault.place == 2 && last == damaged.end() && due.code == cll::answer::too_short && due.place == 2 && due.due == 1
         && std::distance(damaged.begin(), damaged.end()) == 3;
+}
+
+/* The title and the body that `headers` has to give for a part of some bytes, by the calls for one title. */
+cll::result<cll::located> one_title(cll::input rest, std::size_t start)
+{
+    const auto moved = [start](cll::fault why) {
+        why.place += start;
+        return why;
+    };
+    const auto got = cll::pull(rest);
+    if (!got)
+        return moved(got.fault());
+    cll::located found{got->header, start, start + got->length, std::nullopt};
+    if ((found.header.kind == cll::kind::bytes || found.header.kind == cll::kind::text) && found.header.value) {
+        const auto whole = cll::skip(rest, 0);
+        if (!whole)
+            return moved(whole.fault());
+        found.body = rest.first(*whole).behind(got->length);
+    }
+    return found;
+}
+
+bool is_same(const cll::result<cll::located> &a, const cll::result<cll::located> &b)
+{
+    if (!a || !b) {
+        const cll::fault &one = a.fault(), &other = b.fault();
+        return a.has_value() == b.has_value() && one.code == other.code && one.place == other.place
+            && one.consumed == other.consumed && one.written == other.written && one.due == other.due;
+    }
+    return a->header == b->header && a->start == b->start && a->end == b->end
+        && a->body.has_value() == b->body.has_value()
+        && (!a->body || (a->body->data() == b->body->data() && a->body->size() == b->body->size()));
+}
+
+/* Tells whether the titles of some bytes are those that the calls for one title give, and whether a copy goes on. */
+bool goes_as_one_by_one(const std::vector<std::uint8_t> &data)
+{
+    const cll::input bytes(data);
+    std::size_t start = 0;
+    for (auto at = cll::headers(bytes).begin(); at != cll::headers(bytes).end();) {
+        if (start == bytes.size() || !is_same(*at, one_title(bytes.behind(start), start)))
+            return false;
+        const auto got = *at;
+        const auto old = at++;
+        start = got ? got->end + (got->body ? got->body->size() : 0) : bytes.size();
+        if (!is_same(*old, got))
+            return false;
+    }
+    return start == bytes.size();
+}
+
+/* Goes over many titles, with each fault after each number of them, and with each byte replaced by some others. */
+bool goes_over_many()
+{
+    const std::string_view mixed = "\x82\x19\x03\xe8\x42\xff\x1c\x62\xc3\xa9\xf6\x5f\x41\x01\xff\xfb\x3f\xf1\x99\x99\x99\x99\x99\x9a"sv;
+    const std::string_view ends[] = {""sv, "\x1c"sv, "\x19"sv, "\x62z"sv, "\x62\xff\xff"sv, "\x7a\0\0\0\x02\xc3("sv};
+    for (std::size_t count = 0; count < 50; count++) {
+        for (const auto end : ends) {
+            std::vector<std::uint8_t> data(count, 0x01);
+            data.insert(data.end(), end.begin(), end.end());
+            if (!goes_as_one_by_one(data))
+                return false;
+        }
+    }
+    std::vector<std::uint8_t> data;
+    for (int times = 0; times < 3; times++)
+        data.insert(data.end(), mixed.begin(), mixed.end());
+    for (std::uint8_t &byte : data) {
+        const std::uint8_t old = byte;
+        for (const unsigned other : {0x00u, 0x1cu, 0x38u, 0x43u, 0x5fu, 0x61u, 0x7au, 0xffu}) {
+            byte = static_cast<std::uint8_t>(other);
+            if (!goes_as_one_by_one(data))
+                return false;
+        }
+        byte = old;
+    }
+    return goes_as_one_by_one(data);
+}
+
+/* Writes an item in the deterministic encoding, in both orders of keys, into memory of several types. */
+bool rewrites_items()
+{
+    std::array<std::uint8_t, 6> out;
+    std::array<cll_span, 3> spans;
+    cll_span places[3];
+    const std::string_view data = "\xbf\xf4\x01\x18\x64\x01\xff\x05"sv;
+    const auto one = cll::canonical(data, out, spans);
+    const bool bytewise = shown(out) == "a2186401f401";
+    const auto other = cll::canonical(data, out, places, 1, cll::order::length_first);
+    const bool length_first = shown(out) == "a2f401186401";
+    const auto none = cll::canonical(data, {out.data(), 5}, spans).fault();
+    const auto few = cll::canonical(data, out, std::vector<cll_span>(2)).fault();
+    const auto twice = cll::canonical("\xa2\x01\x02\x18\x01\x02"sv, out, spans).fault();
+    static_assert(noexcept(cll::canonical(data, out, spans)));
+    return one && one->consumed == 7 && one->written == 6 && bytewise && other && length_first
+        && none.code == cll::answer::room && few.code == cll::answer::room && few.written == 0
+        && twice.code == cll::answer::duplicate_key && twice.place == 3 && twice.consumed == 3
+        && cll::canonical(data, out, spans, 0).fault().code == cll::answer::too_deep
+        && cll::canonical(data, out, spans, 257).fault().code == cll::answer::argument;
 }
 
 #if defined(__cpp_lib_ranges)
@@ -323,7 +462,7 @@ bool spans()
 int main(int argc, char **argv)
 {
     if (argc != 2 || !has_values() || !goes_over() || !throws() || !goes_on() || !reads() || !joins() || !checks()
-        || !copies_on() || !copies_item() || !spans())
+        || !copies_on() || !copies_item() || !spans() || !goes_over_many() || !rewrites_items())
         return 2;
     return go_through(argv[1], holds);
 }
