@@ -5,6 +5,8 @@
 #[cfg(test)]
 mod calls;
 #[cfg(test)]
+mod canonical;
+#[cfg(test)]
 mod copiers;
 #[cfg(test)]
 mod counts;
