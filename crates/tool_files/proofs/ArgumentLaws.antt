@@ -309,11 +309,13 @@ about_no_word (w.Show v.Titles) first words wanted named (version is none same) 
 about_no_word (w.Show v.Notation) first words wanted named (version is none same) = grind (arith, named, is)
 about_no_word w.Encode first words wanted named (version is none same) = grind (arith, named, is)
 about_no_word w.Canon first words wanted named (version is none same) = grind (arith, named, is)
+about_no_word w.Recode first words wanted named (version is none same) = grind (arith, named, is)
 about_no_word w.Check first words wanted named (topic which is names same) = grind (arith, named, is)
 about_no_word (w.Show v.Titles) first words wanted named (topic which is names same) = grind (arith, named, is)
 about_no_word (w.Show v.Notation) first words wanted named (topic which is names same) = grind (arith, named, is)
 about_no_word w.Encode first words wanted named (topic which is names same) = grind (arith, named, is)
 about_no_word w.Canon first words wanted named (topic which is names same) = grind (arith, named, is)
+about_no_word w.Recode first words wanted named (topic which is names same) = grind (arith, named, is)
 
 module _ (name : String Global) (words rest : List (String Global)) (is : words ≡ name ∷ rest) where
   -- If the first word is a word for a look at files, the words ask for a look or its help.

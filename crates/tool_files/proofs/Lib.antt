@@ -2,3 +2,6 @@ pub mod ArgumentLaws
 pub mod CanonLaws
 pub mod InputLaws
 pub mod PatientLaws
+pub mod RecodeLaws
+pub mod RecodePlaces
+pub mod RecodeRuns

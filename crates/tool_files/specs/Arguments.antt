@@ -28,6 +28,7 @@ word_name (w.Show v.Titles) = codes "dump"
 word_name (w.Show v.Notation) = codes "diag"
 word_name w.Encode = codes "encode"
 word_name w.Canon = codes "canon"
+word_name w.Recode = codes "recode"
 
 -- The name of an option, without its value: `--depth` for a depth of 3.
 abbrev pub setting_name : Setting → List ℕ
@@ -66,41 +67,50 @@ IsKnown w.Check s.Strict = Unit {0}
 IsKnown (w.Show view) s.Strict = Unit {0}
 IsKnown w.Encode s.Strict = ⊥
 IsKnown w.Canon s.Strict = ⊥
+IsKnown w.Recode s.Strict = ⊥
 IsKnown w.Check s.Deterministic = Unit {0}
 IsKnown (w.Show view) s.Deterministic = ⊥
 IsKnown w.Encode s.Deterministic = ⊥
 IsKnown w.Canon s.Deterministic = ⊥
+IsKnown w.Recode s.Deterministic = ⊥
 IsKnown w.Check (s.Order order) = Unit {0}
 IsKnown (w.Show view) (s.Order order) = ⊥
 IsKnown w.Encode (s.Order order) = ⊥
 IsKnown w.Canon (s.Order order) = Unit {0}
+IsKnown w.Recode (s.Order order) = ⊥
 IsKnown w.Check s.Hex = Unit {0}
 IsKnown (w.Show view) s.Hex = Unit {0}
 IsKnown w.Encode s.Hex = ⊥
 IsKnown w.Canon s.Hex = ⊥
+IsKnown w.Recode s.Hex = ⊥
 IsKnown w.Check s.One = Unit {0}
 IsKnown (w.Show view) s.One = ⊥
 IsKnown w.Encode s.One = Unit {0}
 IsKnown w.Canon s.One = ⊥
+IsKnown w.Recode s.One = ⊥
 IsKnown w.Check s.Names = Unit {0}
 IsKnown (w.Show view) s.Names = ⊥
 IsKnown w.Encode s.Names = ⊥
 IsKnown w.Canon s.Names = ⊥
+IsKnown w.Recode s.Names = ⊥
 IsKnown w.Check s.Offsets = ⊥
 IsKnown (w.Show v.Titles) s.Offsets = Unit {0}
 IsKnown (w.Show v.Notation) s.Offsets = ⊥
 IsKnown w.Encode s.Offsets = ⊥
 IsKnown w.Canon s.Offsets = ⊥
+IsKnown w.Recode s.Offsets = ⊥
 IsKnown w.Check (s.Colors colors) = ⊥
 IsKnown (w.Show v.Titles) (s.Colors colors) = Unit {0}
 IsKnown (w.Show v.Notation) (s.Colors colors) = ⊥
 IsKnown w.Encode (s.Colors colors) = ⊥
 IsKnown w.Canon (s.Colors colors) = ⊥
+IsKnown w.Recode (s.Colors colors) = ⊥
 IsKnown w.Check s.Pretty = ⊥
 IsKnown (w.Show v.Titles) s.Pretty = ⊥
 IsKnown (w.Show v.Notation) s.Pretty = Unit {0}
 IsKnown w.Encode s.Pretty = ⊥
 IsKnown w.Canon s.Pretty = ⊥
+IsKnown w.Recode s.Pretty = ⊥
 
 -- If the option is a depth, it is at most the greatest depth that the program takes. 256 is, and 257 is not.
 abbrev pub IsShallow : Setting → Type 0

@@ -6,4 +6,5 @@ pub mod Canon
 pub mod Encodes
 pub mod Inputs
 pub mod Patience
+pub mod Recodes
 pub mod Shows

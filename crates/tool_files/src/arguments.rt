@@ -30,6 +30,7 @@ impl Word {
             "diag" => Some(Word::Show(View::Notation)),
             "encode" => Some(Word::Encode),
             "canon" => Some(Word::Canon),
+            "recode" => Some(Word::Recode),
             _ => None,
         }
     }

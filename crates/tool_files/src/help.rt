@@ -15,7 +15,7 @@ pub const WORDS: [&str; 7] = ["check", "dump", "diag", "encode", "canon", "recod
 pub fn help_text(topic: Topic) -> &'static str {
     match topic {
         Topic::Program => PROGRAM,
-        Topic::Recode => RECODE,
+        Topic::Recode | Topic::Word(Word::Recode) => RECODE,
         Topic::Word(Word::Check) => CHECK,
         Topic::Word(Word::Show(View::Titles)) => DUMP,
         Topic::Word(Word::Show(View::Notation)) => DIAG,

@@ -2,9 +2,9 @@
 //! Looks at files of CBOR, over any reader and writer of std.
 //!
 //! `check` says whether bytes are well-formed, `dump` shows them title by title, `diag` writes them in diagnostic
-//! notation, and `encode` reads that notation. `canon` writes the deterministic encoding of bytes. Each function is safe
-//! and returns. Contracts say which request the words of the command line spell, and that each input is read from its
-//! start with the options that they set. Tests try the printed texts.
+//! notation, and `encode` reads that notation. `canon` writes the deterministic encoding of bytes, and `recode` their
+//! shortest spelling. Each function is safe and returns. Contracts say which request the words of the command line
+//! spell, and that each input is read from its start with the options that they set. Tests try the printed texts.
 #![tactic(auto)]
 
 pub mod arguments;
@@ -20,6 +20,7 @@ pub mod input;
 mod options;
 mod patient;
 pub mod progress;
+pub mod recode;
 mod request;
 pub mod said;
 mod shared;

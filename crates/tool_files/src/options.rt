@@ -17,6 +17,8 @@ pub enum Word {
     Encode,
     /// It writes the input in the deterministic encoding.
     Canon,
+    /// It copies the input in its shortest spelling.
+    Recode,
 }
 
 /// The view of an input.

@@ -11,7 +11,7 @@ pub enum Topic {
     Program,
     /// A word that looks at files.
     Word(Word),
-    /// The word `recode`.
+    /// The word `recode`, with a count or without.
     Recode,
 }
 

@@ -73,6 +73,7 @@ fn name_of(word: Word) -> &'static str {
         Word::Show(View::Notation) => "diag",
         Word::Encode => "encode",
         Word::Canon => "canon",
+        Word::Recode => "recode",
     }
 }
 
@@ -100,6 +101,7 @@ pub fn options_of(word: Word) -> &'static [&'static str] {
         Word::Show(View::Notation) => &["--strict", "--depth", "--pretty", "--hex", "--help"],
         Word::Encode => &["--depth", "--one", "--help"],
         Word::Canon => &["--order", "--depth", "--help"],
+        Word::Recode => &["--depth", "--help"],
     }
 }
 

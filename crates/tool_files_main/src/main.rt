@@ -3,7 +3,7 @@
 //!
 //! It joins the words on its command line with the calls of the libraries. `check` says whether the bytes are
 //! well-formed, `dump` shows them title by title, `diag` writes them in diagnostic notation, and `encode` reads that
-//! notation. `canon` writes the deterministic encoding of bytes.
+//! notation. `canon` writes the deterministic encoding of bytes, and `recode` copies them in their shortest spelling.
 #![tactic(auto)]
 
 use cbor_encode::{Expected, NotationError};
@@ -22,6 +22,7 @@ use tool_files::encode::{EncodeFault, encode_input};
 use tool_files::help::{VERSION, help_text};
 use tool_files::input::Input;
 use tool_files::progress::Watched;
+use tool_files::recode::copy_items;
 use tool_files::said::Said;
 use tool_files::shown::Shown;
 use tool_verdicts::verdict::{Status, Verdict};
@@ -143,6 +144,7 @@ fn run_stream<R: io::Read + Drop>(rt: &HostRuntime, task: Task, file: &str, read
         Word::Show(view) => show_stream(rt, task, file, view, reader),
         Word::Encode => encode_stream(rt, task, file, reader),
         Word::Canon => canon_stream(rt, task, file, reader),
+        Word::Recode => recode_stream(rt, task, file, reader),
     }
 }
 
@@ -269,6 +271,21 @@ fn canon_stream<R: io::Read + Drop>(rt: &HostRuntime, task: Task, file: &str, re
     match canon_input(rt.alloc(), reader, &mut writer, task.options) {
         Ok(()) => Status::Well,
         Err(fault) => name_fault(rt, file, fault.verdict()),
+    }
+}
+
+/// Copies the items of a reader in their shortest spelling. It writes output that is ready before it waits for more of
+/// the input.
+fn recode_stream<R: io::Read + Drop>(
+    rt: &HostRuntime,
+    task: Task,
+    file: &str,
+    reader: R,
+) -> Status {
+    let (_, _, copied) = copy_items(reader, io::writer(rt), task.options);
+    match copied {
+        Ok(()) => Status::Well,
+        Err(verdict) => name_fault(rt, file, verdict),
     }
 }
 

@@ -1,0 +1,296 @@
+-- A copy of items, from one piece of a copier to the next.
+use Rattle.std.proofs.Common.{◌≡◌, ℕ, ◌+◌, ◌-◌, ◌<◌, ◌≤◌, ◌⊎◌, inl, inr, false, true, List, [], ◌∷◌, ◌++◌}
+use Rattle.std.proofs.Common.{length, refl, sym, ap, subst, ◌∙◌, arith, append_assoc, append-nil, length-append}
+use Rattle.std.proofs.Common.{take, drop, Option, Some, None, rules}
+use Rattle.std.specs.Io.KnownBytes.{Appends, Consumes, IsAtEnd, Keeps}
+use Rattle.std.proofs.lemmas.List.{take-append-drop, take_rest}
+use Rattle.std.proofs.Math.Seq.{take-add, take-length}
+use Rattle.cbor_checker.specs.declared.phase.Fault.{Fault}
+use Rattle.cbor_checker.specs.declared.phase.Fault.TheVariants as f
+use Rattle.cbor_checker.specs.declared.phase.Phase.{Phase}
+use Rattle.cbor_checker.specs.declared.phase.Phase.TheVariants as p
+use Rattle.cbor_checker.specs.declared.progress.Progress.{Progress as Checked}
+use Rattle.cbor_checker.specs.declared.progress.Progress.TheVariants as c
+use Rattle.cbor_checker.specs.Spots.{Spot}
+use Rattle.cbor_checker.specs.Steps as checks
+use Rattle.cbor_checker.specs.Telling as checker
+use Rattle.cbor_copier.specs.Spots.{Spot as Elements}
+use Rattle.cbor_copier.specs.Steps as copies
+use Rattle.cbor_copier.proofs.FrontLaws.{few_held}
+use Rattle.cbor_item_copier.specs.declared.copier.ItemCopier.{ItemCopier}
+use Rattle.cbor_item_copier.specs.declared.progress.Progress.{Progress}
+use Rattle.cbor_item_copier.specs.declared.progress.Progress.TheVariants as r
+use Rattle.cbor_item_copier.specs.Copying.{IsItemCopied, elements_spot, held, item_spot, most, pending}
+use Rattle.cbor_item_copier.specs.Telling.{IsAnswer, IsRoom, Tells, TellsWhole, of_checker, progress_of}
+use Rattle.cbor_item_copier.proofs.StateLaws.{fresh_fed, one_fed}
+use Rattle.cbor_item_copier.proofs.TellLaws.{copier_tells, more_due}
+use Rattle.tool_files.specs.Recodes.{AreRespelled, EndWithin, Names, StopAt, Stands, TooMany, fault_place}
+use Rattle.tool_files.specs.Recodes.{Feeds, TellsSome, fault_said, more}
+use Rattle.tool_verdicts.specs.declared.verdict.Verdict.{Verdict}
+use Rattle.tool_files.proofs.RecodePlaces.{place_within}
+
+-- ---- before the first byte
+
+-- The states before the first byte of an item, and the output.
+fresh_spots : (depth : ℕ) (copier : ItemCopier) → IsItemCopied false depth [] [] copier
+    → (item_spot copier ≡ checks.start false depth) × (elements_spot copier ≡ copies.start most)
+    × (pending copier ≡ [])
+fresh_spots depth copier was =
+    one_fed false depth [] (pending copier) [] (item_spot copier) (checks.start false depth) (elements_spot copier)
+    (copies.start most) was
+    (fresh_fed false depth (checks.start false depth) (copies.start most) [] checks.fresh copies.fresh)
+
+fresh_due : (depth : ℕ) (bytes : List ℕ) (spot : Spot) → bytes ≡ [] → spot ≡ checks.start false depth
+    → r.More 1 ≡ progress_of bytes spot
+fresh_due depth bytes spot given start = rw (given, start) refl
+
+-- A copy of items stands at the start of an item, after these items.
+pub fresh_stands : (depth start : ℕ) (items outputs : List ℕ) (copier : ItemCopier)
+    → IsItemCopied false depth [] [] copier → AreRespelled depth items outputs → start ≡ length items
+    → Stands depth start items outputs copier
+fresh_stands depth start items outputs copier was are is =
+    let spots = fresh_spots depth copier was in
+    let told = copier_tells copier (r.More 1) (fresh_due depth (pending copier) (item_spot copier) spots.2 spots.0)
+    false depth [] [] was in
+    record {
+      within = record {
+        before = items;
+        outputs = outputs;
+        part = [];
+        front = [];
+        due = 1;
+        are = are;
+        told = told;
+        is = sym (append-nil items);
+        written = sym (append-nil outputs);
+      };
+      copied = was;
+      none = spots.2;
+      start_is = is;
+    }
+
+-- Nothing is held back before the first byte.
+pub fresh_held : (depth : ℕ) (copier : ItemCopier) → IsItemCopied false depth [] [] copier → held copier ≡ 0
+fresh_held depth copier was =
+    let spots = fresh_spots depth copier was in
+    let front = ap (λ (z : Elements). length z.front) spots.1 in
+    omega (arith, front, ap (length {A = ℕ}) spots.2)
+
+-- If nothing is pending, at most eight bytes are held back.
+pub few : (copier : ItemCopier) → pending copier ≡ [] → held copier ≤ 8
+few copier given = omega (
+  arith,
+  few_held copier.copier.phase copier.copier.front copier.copier.room,
+  ap (length {A = ℕ}) given,
+)
+
+-- ---- after a piece of a copier
+
+-- The fault of an answer is that of the checker.
+named : (bytes : List ℕ) (spot : Spot) (fault : Fault) → r.Fault fault ≡ progress_of bytes spot
+    → checker.progress_of spot ≡ c.Fault fault
+named [] spot fault is = of_fault (checker.progress_of spot) is
+  where
+    of_fault : (progress : Checked) → r.Fault fault ≡ of_checker progress → progress ≡ c.Fault fault
+    of_fault (c.Fault found) same = cc
+    of_fault (c.More due) same = absurd cc
+    of_fault (c.Ended len) same = absurd cc
+    of_fault c.TooLong same = absurd cc
+named (byte ∷ bytes) spot fault is = absurd cc
+
+due_more : (phase : Phase) (spot : Spot) → checker.is_due phase ≡ true
+    → (due : ℕ) × (checker.progress_in phase spot ≡ c.More due)
+due_more p.Title spot due = (_, refl)
+due_more (p.Bytes left) spot due = (left, refl)
+due_more (p.Text left state) spot due = (left, refl)
+due_more p.Ended spot due = absurd cc
+due_more (p.Faulted fault) spot due = absurd cc
+
+module _ (depth start : ℕ) (fed given : List ℕ) (old new : ItemCopier) (stands : Stands depth start fed given old)
+    (bytes out : List ℕ) (progress : Progress)
+    (copied : IsItemCopied false depth (stands.within.part ++ bytes) (stands.within.front ++ out) new)
+    (tells : Tells false depth (stands.within.part ++ bytes) (stands.within.front ++ out) progress)
+    (answers : IsAnswer progress (pending new) (item_spot new)) where
+  all_fed : fed ++ bytes ≡ stands.within.before ++ (stands.within.part ++ bytes)
+  all_fed = ap (λ (z : List ℕ). z ++ bytes) stands.within.is
+      ∙ append_assoc stands.within.before stands.within.part bytes
+
+  all_given : given ++ out ≡ stands.within.outputs ++ (stands.within.front ++ out)
+  all_given = ap (λ (z : List ℕ). z ++ out) stands.within.written
+      ∙ append_assoc stands.within.outputs stands.within.front out
+
+  end_within : (due : ℕ) → TellsWhole false depth (stands.within.part ++ bytes) (stands.within.front ++ out) (r.More due)
+      → EndWithin depth (fed ++ bytes) (given ++ out)
+  end_within due told = record {
+    before = stands.within.before;
+    outputs = stands.within.outputs;
+    part = stands.within.part ++ bytes;
+    front = stands.within.front ++ out;
+    due = due;
+    are = stands.within.are;
+    told = told;
+    is = all_fed;
+    written = all_given;
+  }
+
+  -- More bytes of the item are due.
+  pub stands_on : (due : ℕ) → progress ≡ r.More due → Stands depth start (fed ++ bytes) (given ++ out) new
+  unfolding end_within
+  stands_on due is =
+      let answer : r.More due ≡ progress_of (pending new) (item_spot new) =
+      subst (λ (z : Progress). IsAnswer z (pending new) (item_spot new)) is answers in
+      let told = subst (Tells false depth (stands.within.part ++ bytes) (stands.within.front ++ out)) is tells in
+      record {
+        within = end_within due told;
+        copied = copied;
+        none = (more_due (pending new) (item_spot new) due answer).0;
+        start_is = stands.start_is;
+      }
+
+  -- The item has ended.
+  pub one_more : (len : ℕ) → progress ≡ r.Ended len → AreRespelled depth (fed ++ bytes) (given ++ out)
+  one_more len is =
+      let told = subst (Tells false depth (stands.within.part ++ bytes) (stands.within.front ++ out)) is tells in
+      rw (all_fed, all_given) (more stands.within.are told.0.0 told.1)
+
+  -- An item that ends takes a byte.
+  pub some_taken : (len : ℕ) → progress ≡ r.Ended len → 0 < length bytes
+  some_taken len is =
+      let told = subst (Tells false depth (stands.within.part ++ bytes) (stands.within.front ++ out)) is tells in
+      let due = stands.within.told.0 in
+      omega (arith, due.0, due.2 bytes told.0.0)
+
+  -- The checker names the fault.
+  pub names : (fault : Fault) → progress ≡ r.Fault fault → Names depth (stands.within.part ++ bytes) fault
+  names fault is =
+      let answer : r.Fault fault ≡ progress_of (pending new) (item_spot new) =
+      subst (λ (z : Progress). IsAnswer z (pending new) (item_spot new)) is answers in
+      record {
+        spot = item_spot new;
+        is_fed = copied.checked;
+        answers = named (pending new) (item_spot new) fault answer;
+      }
+
+  -- The place of the fault is within the bytes so far.
+  pub place_fits : (fault : Fault) → progress ≡ r.Fault fault → fault_place fault + start ≤ length (fed ++ bytes)
+  place_fits fault is =
+      let found = names fault is in
+      omega (
+        arith,
+        place_within false depth (stands.within.part ++ bytes) found.spot fault found.is_fed found.answers,
+        stands.start_is,
+        ap (length {A = ℕ}) all_fed,
+        length-append stands.within.before (stands.within.part ++ bytes),
+      )
+
+  -- No item goes on from these bytes.
+  pub stop_at : (fault : Fault) (verdict : Verdict) (all rest : List ℕ) → progress ≡ r.Fault fault
+      → verdict ≡ fault_said start fault → all ≡ (fed ++ bytes) ++ rest → StopAt depth all verdict (given ++ out)
+  stop_at fault verdict all rest is said whole = record {
+    before = stands.within.before;
+    outputs = stands.within.outputs;
+    fed = stands.within.part ++ bytes;
+    front = stands.within.front ++ out;
+    rest = rest;
+    fault = fault;
+    are = stands.within.are;
+    told = subst (Tells false depth (stands.within.part ++ bytes) (stands.within.front ++ out)) is tells;
+    names = names fault is;
+    is = whole ∙ ap (λ (z : List ℕ). z ++ rest) all_fed
+        ∙ append_assoc stands.within.before (stands.within.part ++ bytes) rest;
+    written = all_given;
+    said = said ∙ ap (λ (z : ℕ). fault_said z fault) stands.start_is;
+  }
+
+  -- No more bytes can be counted.
+  pub too_many : (all rest : List ℕ) → progress ≡ r.TooLong → checker.is_due (item_spot new).phase ≡ true
+      → 0 < length rest → all ≡ (fed ++ bytes) ++ rest → TooMany depth all (given ++ out)
+  too_many all rest is due some whole =
+      let clear = subst (λ (z : Progress). IsAnswer z (pending new) (item_spot new)) is answers in
+      let long = subst (Tells false depth (stands.within.part ++ bytes) (stands.within.front ++ out)) is tells in
+      let more = due_more (item_spot new).phase (item_spot new) due in
+      let answer : r.More more.0 ≡ progress_of (pending new) (item_spot new) =
+      rw clear (ap of_checker (sym more.1)) in
+      let told = copier_tells new (r.More more.0) answer false depth (stands.within.part ++ bytes)
+      (stands.within.front ++ out) copied in
+      record {
+        fed = fed ++ bytes;
+        rest = rest;
+        within = end_within more.0 told;
+        is = whole;
+        many = omega (
+          arith,
+          some,
+          long.0,
+          ap (length {A = ℕ}) whole,
+          length-append (fed ++ bytes) rest,
+          ap (length {A = ℕ}) all_fed,
+          length-append stands.within.before (stands.within.part ++ bytes),
+        );
+      }
+
+-- If there is room, the answer is `TooLong`.
+pub only_long : (progress : Progress) → (progress ≡ r.Room) ⊎ (progress ≡ r.TooLong) → (IsRoom progress → ⊥)
+    → progress ≡ r.TooLong
+only_long progress (inl is) room = absurd (room (rw is tt))
+only_long progress (inr is) room = is
+
+-- ---- a piece of the input, from a place on
+
+-- The bytes that a copier took are the next bytes of the piece.
+pub fed_more : (fed piece : List ℕ) (at taken : ℕ)
+    → (fed ++ take at piece) ++ take taken (take (length piece - at) (drop at piece)) ≡ fed ++ take (at + taken) piece
+fed_more fed piece at taken = rw (append_assoc, take_rest piece at, take-add at taken piece) refl
+
+-- The bytes after them are the rest of the piece.
+pub fed_rest : (fed piece : List ℕ) (at : ℕ) → fed ++ piece ≡ (fed ++ take at piece) ++ drop at piece
+fed_rest fed piece at =
+    ap (λ (z : List ℕ). fed ++ z) (sym (take-append-drop at piece))
+    ∙ sym (append_assoc fed (take at piece) (drop at piece))
+
+-- A whole piece was taken.
+pub fed_all : (fed piece : List ℕ) (at : ℕ) → at ≡ length piece → fed ++ take at piece ≡ fed ++ piece
+fed_all fed piece at is = ap (λ (z : List ℕ). fed ++ z) (ap (λ (n : ℕ). take n piece) is ∙ take-length piece)
+
+-- A fault stops the copy.
+pub feeds_stop : (depth : ℕ) (bytes given : List ℕ) (from : ℕ) (fault : Fault) (verdict : Verdict) (start : ℕ)
+    (copier : ItemCopier) → verdict ≡ fault_said from fault → StopAt depth bytes verdict given
+    → Feeds depth bytes given (Some verdict) start copier
+feeds_stop depth bytes given from (f.Syntax place) verdict start copier is stop = rw is (rw is at stop)
+feeds_stop depth bytes given from (f.Break place) verdict start copier is stop = rw is (rw is at stop)
+feeds_stop depth bytes given from (f.Deep place) verdict start copier is stop = rw is (rw is at stop)
+
+-- ---- what the reader and the writer tell
+
+-- Known bytes that begin with these.
+pub consumed_known : (old new : Option (List ℕ)) (bytes rest : List ℕ) → Consumes old new bytes → old ≡ Some rest
+    → (rest' : List ℕ) × (new ≡ Some rest') × (rest ≡ bytes ++ rest')
+consumed_known None new bytes rest is known = absurd cc
+consumed_known (Some xs) None bytes rest is known = absurd is
+consumed_known (Some xs) (Some ys) bytes rest is known = (ys, refl, search rules)
+
+pub kept_known : (old new : Option (List ℕ)) (rest : List ℕ) → Keeps old new → old ≡ Some rest → new ≡ Some rest
+kept_known None new rest keeps known = absurd cc
+kept_known (Some xs) None rest keeps known = absurd keeps
+kept_known (Some xs) (Some ys) rest keeps known = ap Some keeps ∙ known
+
+pub end_known : (known : Option (List ℕ)) (rest : List ℕ) → IsAtEnd known → known ≡ Some rest → rest ≡ []
+end_known None rest end is = absurd cc
+end_known (Some xs) rest end is = search rules
+
+-- Known bytes to which these were appended.
+appended_known : (old new : Option (List ℕ)) (bytes written : List ℕ) → Appends old new bytes
+    → old ≡ Some written → new ≡ Some (written ++ bytes)
+appended_known None new bytes written is known = absurd cc
+appended_known (Some xs) None bytes written is known = absurd is
+appended_known (Some xs) (Some ys) bytes written is known = search rules
+
+-- A writer got a beginning of these bytes.
+pub some_written : {W : Type 0} (got : W → Option (List ℕ)) (written bytes : List ℕ) (old writer : W) (count : ℕ)
+    → got old ≡ Some written → Appends (got old) (got writer) (take count bytes) → TellsSome got written bytes writer
+some_written got written bytes old writer count known part = record {
+  front = take count bytes;
+  lost = drop count bytes;
+  parted = sym (take-append-drop count bytes);
+  tells = appended_known _ _ (take count bytes) written part known;
+}

@@ -1,0 +1,160 @@
+-- The items of an input in their shortest spelling (RFC 7049, 3.9, and RFC 8742), and what `recode` writes of them.
+use Rattle.std.specs.Prelude.{◌≡◌, ℕ, ◌+◌, ◌<◌, ◌≤◌, ◌^◌, false, List, [], ◌++◌, length, Option, None, Some}
+use Rattle.std.specs.Prelude.{Result, Ok, Err, ◌==◌, if◌then◌else◌}
+use Rattle.ciborium_ll_grammar.specs.Items.{IsItem}
+use Rattle.cbor_checker.specs.declared.phase.Fault.{Fault}
+use Rattle.cbor_checker.specs.declared.phase.Fault.TheVariants as f
+use Rattle.cbor_checker.specs.declared.progress.Progress.TheVariants as c
+use Rattle.cbor_checker.specs.Spots.{Spot}
+use Rattle.cbor_checker.specs.Steps.{IsFed}
+use Rattle.cbor_checker.specs.Telling.{progress_of}
+use Rattle.cbor_item_copier.specs.declared.copier.ItemCopier.{ItemCopier}
+use Rattle.cbor_item_copier.specs.declared.progress.Progress.TheVariants as r
+use Rattle.cbor_item_copier.specs.Copying.{IsItemCopied, pending}
+use Rattle.cbor_item_copier.specs.Telling.{IsSpelled, TellsWhole}
+use Rattle.tool_verdicts.specs.declared.verdict.Verdict.{Verdict}
+use Rattle.tool_verdicts.specs.declared.verdict.Verdict.TheVariants as v
+
+-- `AreRespelled depth items output`: items of any spelling, joined, and their shortest spellings, joined in the same
+-- order. The items `18 01 58 01 ff` have the output `01 41 ff`.
+pub data AreRespelled (depth : ℕ) : List ℕ → List ℕ → Type 0 where
+  none : AreRespelled depth [] []
+  more : {items outputs item output : List ℕ} → AreRespelled depth items outputs → IsItem false depth item
+      → IsSpelled item output → AreRespelled depth (items ++ item) (outputs ++ output)
+
+-- The bytes end with a part of an item, after any number of whole items. More bytes are due, and all that can be
+-- written was written. With depth 1, `18 01 82 18` has the output `01 82`. The part may have no byte.
+pub record EndWithin (depth : ℕ) (bytes output : List ℕ) : Type 0 where
+  pub before : List ℕ
+  pub outputs : List ℕ
+  pub part : List ℕ
+  pub front : List ℕ
+  pub due : ℕ
+  pub are : AreRespelled depth before outputs
+  pub told : TellsWhole false depth part front (r.More due)
+  pub is : bytes ≡ before ++ part
+  pub written : output ≡ outputs ++ front
+
+-- The place of a fault, from the start of its item.
+abbrev pub fault_place : Fault → ℕ
+fault_place (f.Syntax place) = place
+fault_place (f.Break place) = place
+fault_place (f.Deep place) = place
+
+-- The verdict for a fault of an item from this offset on: `break 2` for `Break` at 1 of an item at 1.
+abbrev pub fault_said : ℕ → Fault → Verdict
+fault_said start (f.Syntax place) = v.Syntax (start + place)
+fault_said start (f.Break place) = v.Break (start + place)
+fault_said start (f.Deep place) = v.Deep (start + place)
+
+-- The answer at the end of an input of this length, if the item that would be next begins at `start`: a cut item, or
+-- none.
+abbrev pub end_said : ℕ → ℕ → Result (Unit {0}) Verdict
+end_said start len = if start == len then Ok tt else Err (v.Short len)
+
+-- A checker of one item that was fed these bytes answers this fault: `Break` at 0 for `ff`.
+pub record Names (depth : ℕ) (fed : List ℕ) (fault : Fault) : Type 0 where
+  pub spot : Spot
+  pub is_fed : IsFed false depth fed spot
+  pub answers : progress_of spot ≡ c.Fault fault
+
+-- After whole items come bytes with which no item begins, whatever follows them. The last one of these is the first
+-- byte that shows it, and the output is that of the bytes before it. The verdict names the fault as a checker of that
+-- item does, from the start of all bytes. `18 01 82 ff` has the output `01 82` and the verdict `break 3`.
+pub record StopAt (depth : ℕ) (bytes : List ℕ) (verdict : Verdict) (output : List ℕ) : Type 0 where
+  pub before : List ℕ
+  pub outputs : List ℕ
+  pub fed : List ℕ
+  pub front : List ℕ
+  pub rest : List ℕ
+  pub fault : Fault
+  pub are : AreRespelled depth before outputs
+  pub told : TellsWhole false depth fed front (r.Fault fault)
+  pub names : Names depth fed fault
+  pub is : bytes ≡ before ++ (fed ++ rest)
+  pub written : output ≡ outputs ++ front
+  pub said : verdict ≡ fault_said (length before) fault
+
+-- A beginning of the bytes ends within items, and this is its output. There are more bytes than an offset counts.
+pub record TooMany (depth : ℕ) (bytes output : List ℕ) : Type 0 where
+  pub fed : List ℕ
+  pub rest : List ℕ
+  pub within : EndWithin depth fed output
+  pub is : bytes ≡ fed ++ rest
+  pub many : 2 ^ 64 ≤ length bytes
+
+-- The reader has these bytes left, and the bytes before them end within items, of which this is the output.
+pub record StopsReading {R : Type 0} (left : R → Option (List ℕ)) (depth : ℕ) (due output : List ℕ) (reader : R)
+    : Type 0 where
+  pub fed : List ℕ
+  pub rest : List ℕ
+  pub within : EndWithin depth fed output
+  pub is : due ≡ fed ++ rest
+  pub tells : left reader ≡ Some rest
+
+-- The output of a beginning of the bytes, which ends within items or with a fault. Of `18 01 82 ff` it may be `01` or
+-- `01 82`.
+pub data IsOutput (depth : ℕ) (bytes output : List ℕ) : Type 0 where
+  within : (fed rest : List ℕ) → bytes ≡ fed ++ rest → EndWithin depth fed output → IsOutput depth bytes output
+  stopped : (verdict : Verdict) → StopAt depth bytes verdict output → IsOutput depth bytes output
+
+-- ---- what is written
+
+-- The writer tells the bytes that it had, and then exactly these.
+abbrev pub TellsAll : {W : Type 0} → (W → Option (List ℕ)) → List ℕ → List ℕ → W → Type 0
+TellsAll told written output writer = told writer ≡ Some (written ++ output)
+
+-- The writer tells the bytes that it had, and then a beginning of these. Of `01 82` it may tell `01`.
+pub record TellsSome {W : Type 0} (told : W → Option (List ℕ)) (written output : List ℕ) (writer : W) : Type 0 where
+  pub front : List ℕ
+  pub lost : List ℕ
+  pub parted : output ≡ front ++ lost
+  pub tells : told writer ≡ Some (written ++ front)
+
+-- What an answer of `recode` says of the bytes of the input and of the bytes that were written.
+--
+-- `Ok`: the bytes are whole items, and their shortest spellings are written. `short`: they end within an item, and the
+-- place is their end. `syntax`, `break` and `deep`: no item begins there. After each of these, and after `too long`
+-- and a failed read, all output is written. If the writer failed, it has a beginning of the output.
+abbrev pub CopiesItems : {R W : Type 0} → (R → Option (List ℕ)) → (W → Option (List ℕ)) → ℕ → List ℕ → List ℕ
+    → Result (Unit {0}) Verdict → R → W → Type 0
+CopiesItems left got depth due written (Ok done) reader writer =
+    (output : List ℕ) × AreRespelled depth due output × TellsAll got written output writer
+CopiesItems left got depth due written (Err (v.Short place)) reader writer = (output : List ℕ)
+    × (within : EndWithin depth due output) × (0 < length within.part) × (place ≡ length due)
+    × TellsAll got written output writer
+CopiesItems left got depth due written (Err (v.Syntax place)) reader writer =
+    (output : List ℕ) × StopAt depth due (v.Syntax place) output × TellsAll got written output writer
+CopiesItems left got depth due written (Err (v.Break place)) reader writer =
+    (output : List ℕ) × StopAt depth due (v.Break place) output × TellsAll got written output writer
+CopiesItems left got depth due written (Err (v.Deep place)) reader writer =
+    (output : List ℕ) × StopAt depth due (v.Deep place) output × TellsAll got written output writer
+CopiesItems left got depth due written (Err v.TooLong) reader writer =
+    (output : List ℕ) × TooMany depth due output × TellsAll got written output writer
+CopiesItems left got depth due written (Err (v.Failed error)) reader writer =
+    (output : List ℕ) × StopsReading left depth due output reader × TellsAll got written output writer
+CopiesItems left got depth due written (Err (v.Output error)) reader writer =
+    (output : List ℕ) × IsOutput depth due output × TellsSome got written output writer
+CopiesItems left got depth due written (Err verdict) reader writer = ⊥
+
+-- ---- a copy between two pieces
+
+-- The copy took these bytes and put out these. The item that it copies begins at `start`.
+pub record Stands (depth start : ℕ) (fed given : List ℕ) (copier : ItemCopier) : Type 0 where
+  pub within : EndWithin depth fed given
+  pub copied : IsItemCopied false depth within.part within.front copier
+  pub none : pending copier ≡ []
+  pub start_is : start ≡ length within.before
+
+-- The copy took some bytes, this many.
+pub record IsAfter (depth start read : ℕ) (copier : ItemCopier) : Type 0 where
+  pub fed : List ℕ
+  pub given : List ℕ
+  pub stands : Stands depth start fed given copier
+  pub long : length fed ≡ read
+
+-- The copy took the bytes so far, and their output is `given`. Or it stops in them, with this verdict and this output.
+abbrev pub Feeds : ℕ → List ℕ → List ℕ → Option Verdict → ℕ → ItemCopier → Type 0
+Feeds depth bytes given None start copier = Stands depth start bytes given copier
+Feeds depth bytes given (Some v.TooLong) start copier = TooMany depth bytes given
+Feeds depth bytes given (Some verdict) start copier = StopAt depth bytes verdict given

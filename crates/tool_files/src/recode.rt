@@ -1,0 +1,193 @@
+//! The word `recode` without a count.
+
+ghost use Rattle.std.specs.Prelude.{◌≡◌, ◌+◌, ◌≤◌, ◌++◌, ℕ, List, [], Some, IfNone, OnErr, OnOk, length, take};
+ghost use Rattle.ciborium_ll.specs.Limits.{MOST_LEVELS};
+ghost use Rattle.ciborium_ll_streams.specs.Streams.{stream_sink};
+ghost use Rattle.tool_files.specs.Recodes.{CopiesItems, TellsAll, TellsSome, end_said, fault_place, fault_said};
+
+use crate::check::ROOM;
+use crate::options::Options;
+use cbor_checker::Fault;
+use cbor_item_copier::{ItemCopier, Progress};
+use ciborium_ll::io::{StdWriter, Write, WriteFault};
+use std::io;
+use tool_verdicts::verdict::Verdict;
+
+/// How many bytes there is room for: those that a piece has, eight of a title that an earlier piece began, and eight that
+/// a copier wants to be free.
+const MOST_OUT: usize = ROOM + 16;
+
+/// Returns the verdict that names the fault of an item from this offset on.
+fn fault_verdict(start: usize, fault: Fault) -> Verdict
+    requires { fault_place fault + start ≤ usize.MAX }
+    ensures { result ≡ fault_said start fault }
+{
+    match fault {
+        Fault::Syntax(place) => Verdict::Syntax(start + place),
+        Fault::Break(place) => Verdict::Break(start + place),
+        Fault::Deep(place) => Verdict::Deep(start + place),
+    }
+}
+
+/// A copy of items, between two pieces of their bytes.
+#[derive(Drop)]
+struct ItemsCopy {
+    copier: ItemCopier,
+    /// The offset of the item that the copier copies.
+    start: usize,
+    depth: usize,
+    ghost shallow: { depth ≤ MOST_LEVELS },
+}
+
+impl ItemsCopy {
+    ghost use Rattle.tool_files.specs.Recodes.{Feeds, IsAfter, Stands};
+
+    /// Makes a copy of items before their first byte.
+    fn new(depth: usize) -> ItemsCopy
+        requires { depth ≤ MOST_LEVELS }
+        ensures depth { result.depth ≡ depth }
+        ensures stands { Stands depth 0 [] [] result.copier }
+        ensures start { result.start ≡ 0 }
+    {
+        ItemsCopy {
+            copier: ItemCopier::new(depth),
+            start: 0,
+            depth,
+        }
+    }
+
+    /// Takes a piece of the bytes, which begins at the offset `read`, and writes what it puts out to the start of
+    /// `out`. Returns how many bytes that is, and why the copy stops, if it does.
+    fn feed(&mut self, read: usize, piece: &[u8], out: &mut [u8]) -> (usize, Option<Verdict>)
+        requires counted { read + length piece.now ≤ usize.MAX }
+        requires room { length piece.now + 16 ≤ length out.old }
+        requires after { IsAfter self.old.depth self.old.start read self.old.copier }
+        ensures written { result.0 ≤ length out.new }
+        ensures depth { self.new.depth ≡ self.old.depth }
+        ensures after { IfNone result.1
+            (IsAfter self.new.depth self.new.start (read + length piece.now) self.new.copier) }
+        ensures feeds { (fed given : List ℕ) → Stands self.old.depth self.old.start fed given self.old.copier
+            → length fed ≡ read → Feeds self.old.depth (fed ++ piece.now) (given ++ take result.0 out.new) result.1
+            self.new.start self.new.copier }
+    {
+        let mut at = 0;
+        let mut written = 0;
+        'items: while at < piece.len() {
+            let copied = self.copier.feed(&piece[at..], &mut out[written..]);
+            at += copied.taken;
+            written += copied.written;
+            match copied.progress {
+                Progress::More(_) => {}
+                Progress::Ended(_) => {
+                    self.copier = ItemCopier::new(self.depth);
+                    self.start = read + at;
+                }
+                Progress::Fault(fault) => {
+                    return (written, Some(fault_verdict(self.start, fault)));
+                }
+                Progress::Room | Progress::TooLong => return (written, Some(Verdict::TooLong)),
+            }
+        }
+        (written, None)
+    }
+}
+
+/// Writes bytes, and flushes them. For no bytes it makes no call.
+///
+/// # Errors
+///
+/// The error of the write or of the flush. The writer then got a beginning of the bytes, or all of them.
+fn send<W: io::Write>(writer: &mut StdWriter<W>, bytes: &[u8]) -> Result<(), io::Error>
+    ensures all { (written : List ℕ) → W.contents (stream_sink writer.old) ≡ Some written
+        → OnOk result (TellsAll W.contents written bytes.now (stream_sink writer.new)) }
+    ensures some { (written : List ℕ) → W.contents (stream_sink writer.old) ≡ Some written
+        → OnErr result (TellsSome W.contents written bytes.now (stream_sink writer.new)) }
+{
+    if bytes.is_empty() {
+        return Ok(());
+    }
+    writer.write_all(bytes).map_err(output_error)?;
+    writer.flush().map_err(output_error)
+}
+
+/// Returns the error of a writer that failed, or that took no byte.
+fn output_error(fault: WriteFault) -> io::Error {
+    match fault {
+        WriteFault::Failed(error) => error,
+        WriteFault::Zero => io::Error::from(io::ErrorKind::WriteZero),
+    }
+}
+
+/// Copies items in pieces.
+fn copy_pieces<R: io::Read, W: io::Write>(
+    reader: &mut R,
+    writer: &mut StdWriter<W>,
+    depth: usize,
+) -> Result<(), Verdict>
+    requires { depth ≤ MOST_LEVELS }
+    ensures { (due written : List ℕ) → R.remaining reader.old ≡ Some due
+        → W.contents (stream_sink writer.old) ≡ Some written
+        → CopiesItems R.remaining W.contents depth due written result reader.new (stream_sink writer.new) }
+{
+    let mut copy = ItemsCopy::new(depth);
+    let mut piece = [0; ROOM];
+    let mut out = [0; MOST_OUT];
+    let mut read = 0;
+    'pieces: loop {
+        let count = reader.read(&mut piece).map_err(Verdict::Failed)?;
+        if count == 0 {
+            return ended(copy.start, read);
+        }
+        if count > usize::MAX - read {
+            return Err(Verdict::TooLong);
+        }
+        let (written, stop) = copy.feed(read, &piece[..count], &mut out);
+        send(writer, &out[..written]).map_err(Verdict::Output)?;
+        if let Some(verdict) = stop {
+            return Err(verdict);
+        }
+        read += count;
+    }
+}
+
+/// Returns the answer at the end of an input of this length, if the item that would be next begins at `start`.
+fn ended(start: usize, len: usize) -> Result<(), Verdict>
+    ensures { result ≡ end_said start len }
+{
+    if start == len {
+        Ok(())
+    } else {
+        Err(Verdict::Short(len))
+    }
+}
+
+/// Copies the items of a reader's bytes, up to their end, each in its shortest spelling (RFC 7049, 3.9). Any number of
+/// items may stand there (RFC 8742). Tags, arrays and maps nest at most as deep as the options say. It returns the
+/// reader and the writer.
+///
+/// The copy reads at most [`ROOM`] bytes at once, and writes and flushes all that they put out before it reads on. It
+/// holds no more of the input in memory.
+///
+/// If both tell their bytes, `Ok` says that the input was whole items. The writer then got exactly their shortest
+/// spellings.
+///
+/// # Errors
+///
+/// - `Syntax`, `Break` and `Deep`: whatever follows, no item begins there. The place is that of `check`. The output of
+///   all bytes before the first byte that shows it is written.
+/// - `Short`: the input ends within an item, at this offset. All that can be written of its bytes is written.
+/// - `Failed`: a read failed. All that can be written of the bytes that came is written.
+/// - `TooLong`: the input is longer than a `usize` counts.
+/// - `Output`: a write or a flush failed. The writer got a beginning of the output.
+pub fn copy_items<R: io::Read, W: io::Write>(
+    mut reader: R,
+    writer: W,
+    options: Options,
+) -> (R, W, Result<(), Verdict>)
+    ensures { (due written : List ℕ) → R.remaining reader ≡ Some due → W.contents writer ≡ Some written
+        → CopiesItems R.remaining W.contents options.depth due written result.2 result.0 result.1 }
+{
+    let mut writer = StdWriter::new(writer);
+    let copied = copy_pieces(&mut reader, &mut writer, options.depth);
+    (reader, writer.into_inner(), copied)
+}
