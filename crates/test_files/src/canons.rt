@@ -51,7 +51,7 @@ static ROWS: [(&str, &str, &str); 24] = [
 ];
 
 // Returns the bytes that some digits spell.
-fn spelled(rt: &impl Abort, alloc: Global, digits: &str) -> Vec<u8> {
+pub fn spelled(rt: &impl Abort, alloc: Global, digits: &str) -> Vec<u8> {
     let mut bytes = Vec::new(alloc);
     let mut reader = Digits::new(digits.as_bytes());
     holds(rt, reader.read_to_end(&mut bytes).is_ok(), "digits", digits);

@@ -411,7 +411,9 @@ pub static WORDS: [(&str, Option<&str>); 79] = [
     ("Check", None),
     ("", None),
     ("help", None),
-    ("recode", None),
+    ("recode", Some("")),
+    ("recode a --depth 3 ./5", Some("a ./5")),
+    ("recode --strict", None),
 ];
 
 // Words, and the start of the text that they ask for.

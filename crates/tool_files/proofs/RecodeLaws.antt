@@ -27,6 +27,7 @@ use Rattle.cbor_item_copier.proofs.TellLaws.{copier_tells, more_due}
 use Rattle.tool_files.specs.Recodes.{AreRespelled, EndWithin, Names, StopAt, Stands, TooMany, fault_place}
 use Rattle.tool_files.specs.Recodes.{Feeds, TellsSome, fault_said, more}
 use Rattle.tool_verdicts.specs.declared.verdict.Verdict.{Verdict}
+use Rattle.tool_files.proofs.RecodeItems.{fault_begins_none}
 use Rattle.tool_files.proofs.RecodePlaces.{place_within}
 
 -- ---- before the first byte
@@ -196,6 +197,9 @@ module _ (depth start : ℕ) (fed given : List ℕ) (old new : ItemCopier) (stan
     are = stands.within.are;
     told = subst (Tells false depth (stands.within.part ++ bytes) (stands.within.front ++ out)) is tells;
     names = names fault is;
+    begins_none = fault_begins_none depth stands.within.before stands.within.outputs (stands.within.part ++ bytes)
+        (stands.within.front ++ out) fault stands.within.are
+        (subst (Tells false depth (stands.within.part ++ bytes) (stands.within.front ++ out)) is tells) (names fault is);
     is = whole ∙ ap (λ (z : List ℕ). z ++ rest) all_fed
         ∙ append_assoc stands.within.before (stands.within.part ++ bytes) rest;
     written = all_given;

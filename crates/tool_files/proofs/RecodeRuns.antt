@@ -41,6 +41,7 @@ stop_later depth bytes more verdict output stop = record {
   are = stop.are;
   told = stop.told;
   names = stop.names;
+  begins_none = stop.begins_none;
   is = ap (λ (z : List ℕ). z ++ more) stop.is ∙ append_assoc stop.before (stop.fed ++ stop.rest) more
       ∙ ap (λ (z : List ℕ). stop.before ++ z) (append_assoc stop.fed stop.rest more);
   written = stop.written;

@@ -1,7 +1,7 @@
 -- The items of an input in their shortest spelling (RFC 7049, 3.9, and RFC 8742), and what `recode` writes of them.
 use Rattle.std.specs.Prelude.{◌≡◌, ℕ, ◌+◌, ◌<◌, ◌≤◌, ◌^◌, false, List, [], ◌++◌, length, Option, None, Some}
 use Rattle.std.specs.Prelude.{Result, Ok, Err, ◌==◌, if◌then◌else◌}
-use Rattle.ciborium_ll_grammar.specs.Items.{IsItem}
+use Rattle.ciborium_ll_grammar.specs.Items.{AreItems, IsItem}
 use Rattle.cbor_checker.specs.declared.phase.Fault.{Fault}
 use Rattle.cbor_checker.specs.declared.phase.Fault.TheVariants as f
 use Rattle.cbor_checker.specs.declared.progress.Progress.TheVariants as c
@@ -58,6 +58,11 @@ pub record Names (depth : ℕ) (fed : List ℕ) (fault : Fault) : Type 0 where
   pub is_fed : IsFed false depth fed spot
   pub answers : progress_of spot ≡ c.Fault fault
 
+-- Whatever follows these bytes, they are no beginning of a list of items. `01 ff` is none, and `01 82` is one, if the
+-- depth is 1 or more.
+abbrev pub BeginsNone : ℕ → List ℕ → Type 0
+BeginsNone depth bytes = (more : List ℕ) (count : ℕ) → AreItems false depth count (bytes ++ more) → ⊥
+
 -- After whole items come bytes with which no item begins, whatever follows them. The last one of these is the first
 -- byte that shows it, and the output is that of the bytes before it. The verdict names the fault as a checker of that
 -- item does, from the start of all bytes. `18 01 82 ff` has the output `01 82` and the verdict `break 3`.
@@ -71,6 +76,7 @@ pub record StopAt (depth : ℕ) (bytes : List ℕ) (verdict : Verdict) (output :
   pub are : AreRespelled depth before outputs
   pub told : TellsWhole false depth fed front (r.Fault fault)
   pub names : Names depth fed fault
+  pub begins_none : BeginsNone depth (before ++ fed)
   pub is : bytes ≡ before ++ (fed ++ rest)
   pub written : output ≡ outputs ++ front
   pub said : verdict ≡ fault_said (length before) fault
@@ -136,6 +142,15 @@ CopiesItems left got depth due written (Err (v.Failed error)) reader writer =
 CopiesItems left got depth due written (Err (v.Output error)) reader writer =
     (output : List ℕ) × IsOutput depth due output × TellsSome got written output writer
 CopiesItems left got depth due written (Err verdict) reader writer = ⊥
+
+-- The answer for whole items: all of them are copied, or the reader or the writer failed, or there are more bytes than
+-- an offset counts. For `01 80` it is never `short 2`.
+abbrev pub AnswersItems : Result (Unit {0}) Verdict → Type 0
+AnswersItems (Ok done) = Unit {0}
+AnswersItems (Err v.TooLong) = Unit {0}
+AnswersItems (Err (v.Failed error)) = Unit {0}
+AnswersItems (Err (v.Output error)) = Unit {0}
+AnswersItems (Err verdict) = ⊥
 
 -- ---- a copy between two pieces
 

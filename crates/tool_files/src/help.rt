@@ -34,7 +34,7 @@ usage: cbor WORD [OPTION..] [FILE..]
     diag        writes files in diagnostic notation
     encode      writes the bytes that diagnostic notation spells
     canon       writes files in the deterministic encoding
-    recode      copies elements as raw bytes, each in its shortest spelling
+    recode      copies elements, or the items of files, as raw bytes in their shortest spelling
     help WORD   lists the options, the statuses and examples of a word, as WORD --help does
     --version   says the version
 
@@ -191,15 +191,25 @@ the output can't be written, and 141 if the reader of the output has gone away.
 /// How `recode` is used.
 pub const RECODE: &str = "\
 usage: cbor recode COUNT
+       cbor recode [OPTION..] [FILE..]
 
-Copies COUNT elements from standard input to standard output as raw bytes, each in its shortest spelling. It has no
-options.
+Copies COUNT elements from standard input to standard output as raw bytes, each in its shortest spelling. Without a
+COUNT it copies whole items so, to the end of each file. What is ready is written before more is read, and no file is
+held in memory. A fault of an item is named on standard error with its offset, after the output of the bytes before the
+byte at fault. A word of digits is a COUNT, so a file with such a name is given as ./123.
+
+    --depth N   without a COUNT takes tags, arrays and maps nested at most N levels deep. N is at most 256, which also
+                holds without it
+    --help      prints this text, as -h does
 
     $ printf '\\x58\\x01\\x01' | ./cbor recode 1 | od -An -tx1
      41 01
-    $ printf '\\x18\\x01\\x19\\x00\\xff' | ./cbor recode 2 | od -An -tx1
-     01 18 ff
+    $ printf '\\x18\\x01\\x98\\x01\\x18\\x02' | ./cbor recode | od -An -tx1
+     01 81 02
+    $ printf '\\x18\\x01\\xff' | ./cbor recode 2>&1 > /dev/null || true
+    cbor: -: break 2
 
-The status is 0 if all elements were copied, 1 after a fault, 2 after other arguments, and 3 if the program can't be
-built.
+The status is 0 if all was copied, 1 after a fault, 2 after other arguments, and 3 if the program can't be built. Without
+a COUNT it is also 3 if a file can't be read or the output can't be written, and 141 if the reader of the output has
+gone away.
 ";

@@ -1,9 +1,10 @@
 //! The word `recode` without a count.
 
-ghost use Rattle.std.specs.Prelude.{◌≡◌, ◌+◌, ◌≤◌, ◌++◌, ℕ, List, [], Some, IfNone, OnErr, OnOk, length, take};
+ghost use Rattle.std.specs.Prelude.{◌≡◌, ◌+◌, ◌≤◌, ◌++◌, ℕ, List, [], false, Some, IfNone, OnErr, OnOk, length, take};
 ghost use Rattle.ciborium_ll.specs.Limits.{MOST_LEVELS};
+ghost use Rattle.ciborium_ll_grammar.specs.Items.{AreItems};
 ghost use Rattle.ciborium_ll_streams.specs.Streams.{stream_sink};
-ghost use Rattle.tool_files.specs.Recodes.{CopiesItems, TellsAll, TellsSome, end_said, fault_place, fault_said};
+ghost use Rattle.tool_files.specs.Recodes.{AnswersItems, CopiesItems, TellsAll, TellsSome, end_said, fault_place, fault_said};
 
 use crate::check::ROOM;
 use crate::options::Options;
@@ -184,8 +185,10 @@ pub fn copy_items<R: io::Read, W: io::Write>(
     writer: W,
     options: Options,
 ) -> (R, W, Result<(), Verdict>)
-    ensures { (due written : List ℕ) → R.remaining reader ≡ Some due → W.contents writer ≡ Some written
+    ensures copies { (due written : List ℕ) → R.remaining reader ≡ Some due → W.contents writer ≡ Some written
         → CopiesItems R.remaining W.contents options.depth due written result.2 result.0 result.1 }
+    ensures items { (due written : List ℕ) → R.remaining reader ≡ Some due → W.contents writer ≡ Some written
+        → (count : ℕ) → AreItems false options.depth count due → AnswersItems result.2 }
 {
     let mut writer = StdWriter::new(writer);
     let copied = copy_pieces(&mut reader, &mut writer, options.depth);
