@@ -1,0 +1,25 @@
+-- The characters that a terminal acts on, and their escapes.
+use Rattle.std.specs.Prelude.{ℕ, ◌/◌, ◌%◌, Bool, ◌&&◌, ◌||◌, ◌==◌, nat_le, nat_lt, List, ◌∷◌, ◌++◌}
+use Rattle.ciborium_ll_text.specs.Digits.{hex_text}
+
+-- The control characters: U+0000 to U+001F and U+007F to U+009F (Unicode, 23.1). U+000A is one, and U+0020 is none.
+abbrev pub is_control : ℕ → Bool
+is_control code = nat_lt code 0x20 || (nat_le 0x7f code && nat_le code 0x9f)
+
+-- The characters with the property Bidi_Control (Unicode, PropList.txt of UAX #44; UAX #9, 2): U+061C, U+200E, U+200F,
+-- U+202A to U+202E and U+2066 to U+2069. U+202E shows what follows it from right to left, and U+202F is none of these.
+abbrev pub is_bidi_control : ℕ → Bool
+is_bidi_control code =
+    code == 0x61c
+    || ((nat_le 0x200e code && nat_le code 0x200f)
+    || ((nat_le 0x202a code && nat_le code 0x202e) || (nat_le 0x2066 code && nat_le code 0x2069)))
+
+-- A terminal acts on the character, or shows the text around it in another order. It acts on U+001B and on U+202E, but
+-- not on U+0061.
+abbrev pub is_acted_on : ℕ → Bool
+is_acted_on code = is_control code || is_bidi_control code
+
+-- The escape of a character below U+10000: a backslash, `u` and four digits in lower case (RFC 8259, 7). U+202E gives
+-- `\u202e`.
+abbrev pub escape_text : ℕ → List ℕ
+escape_text code = 92 ∷ 117 ∷ (hex_text (code / 256) ++ hex_text (code % 256))
