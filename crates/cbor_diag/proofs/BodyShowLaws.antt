@@ -9,20 +9,25 @@ use Rattle.ciborium_ll.specs.Types.Error.{Error}
 use Rattle.ciborium_ll.specs.Types.RecodeError.{RecodeError}
 use Rattle.ciborium_ll.specs.Types.RecodeError.TheVariants as r
 use Rattle.ciborium_ll.specs.Transfer.{Target}
-use Rattle.ciborium_ll.specs.Strings.{Kind}
+use Rattle.ciborium_ll.specs.Strings.{IsWritable, Kind}
 use Rattle.ciborium_ll.specs.Encoding.{WritesAll, WritesFront}
 use Rattle.ciborium_ll.specs.Recoding.{BodyUnwritten, CopiesBody}
 use Rattle.ciborium_ll.specs.Sides.{sides}
 use Rattle.cbor_diag.specs.declared.strings.quotes.Quotes.{Quotes}
+use Rattle.cbor_diag.specs.declared.strings.held.Held.TheVariants as h
+use Rattle.cbor_diag.specs.ItemTexts.{kind_quotes}
 use Rattle.cbor_diag.specs.Notation.{body_text}
+use Rattle.cbor_diag.specs.Passing.{passed_text}
 use Rattle.ciborium_ll.proofs.DecodingLaws.{ReadsPast-none}
+use Rattle.ciborium_ll_decoder.proofs.BodyLaws.{writable_nil}
 use Rattle.cbor_diag.proofs.QuoteLaws.{wrote_both, wrote_first}
 use Rattle.cbor_skip.specs.declared.SkipError.TheVariants as s
 use Rattle.cbor_diag.specs.declared.DiagError.{DiagError}
 use Rattle.cbor_diag.specs.declared.DiagError.TheVariants as d
 use Rattle.cbor_diag.specs.Showing.{ShowsText}
 use Rattle.cbor_diag.specs.StringShows.{BodyUnshown, CopiesQuoted, ShowsBody, closing, opening}
-use Rattle.cbor_diag.proofs.QuotedLaws.{body_text-append, front_longer}
+use Rattle.cbor_diag.proofs.PassedLaws.{body_text-nil, passed_body, passed_text-append}
+use Rattle.cbor_diag.proofs.QuotedLaws.{front_longer}
 
 -- Two targets that are told to be the same are equal.
 pub same_target : {one other : Target} → Some one ≡ Some other → one ≡ other
@@ -41,11 +46,12 @@ module _ {R E W F V : Type 0} (source : Reader R E) (sink : Writer W F) (given :
   }
 
   module _ (kind : Kind) (quotes : Quotes) (len room place : ℕ) (old new : Decoder R) (v v' : V) (w w' : W)
-      (none : given v ≡ [])
-      (all : count v' ≡ count v → WritesAll sink w (body_text quotes (given v')) w')
-      (front : count v' ≡ count v + 1 → WritesFront sink w (body_text quotes (given v')) w') where
-    quoted_front : (bytes : List ℕ) → WritesAll quoting v bytes v' → WritesAll sink w (body_text quotes bytes) w'
-    quoted_front bytes written = grind (arith, all)
+      (is : quotes ≡ kind_quotes kind) (none : given v ≡ [])
+      (all : count v' ≡ count v → WritesAll sink w (passed_text quotes h.Nothing (given v')) w')
+      (front : count v' ≡ count v + 1 → WritesFront sink w (passed_text quotes h.Nothing (given v')) w') where
+    quoted_front : (bytes : List ℕ) → IsWritable kind bytes → WritesAll quoting v bytes v'
+        → WritesAll sink w (body_text quotes bytes) w'
+    quoted_front bytes sound written = rw (← passed_body kind quotes bytes is sound) (grind (arith, all))
 
     quoted_part : BodyUnwritten source quoting kind len room (sides old v) (sides new v')
         → BodyUnshown source sink kind len (body_text quotes) (sides old w) (sides new w')
@@ -59,7 +65,12 @@ module _ {R E W F V : Type 0} (source : Reader R E) (sink : Writer W F) (given :
           passed = rw append_assoc stops.passed;
           within = omega (arith, stops.within, stops.filled, length-append stops.front stops.chunk);
           few = stops.few;
-          stopped = rw (← whole, body_text-append quotes (given v') behind) (front_longer sink w w' _ _
+          sound = stops.sound;
+          stopped = rw (
+            ← passed_body kind quotes (stops.front ++ stops.chunk) is stops.sound,
+            ← whole,
+            passed_text-append quotes h.Nothing (given v') behind,
+          ) (front_longer sink w w' _ _
               (front (stops.stopped.failures ∙ ap (λ (m : ℕ). m + 1) stops.written.failures)));
         }
 
@@ -67,9 +78,10 @@ module _ {R E W F V : Type 0} (source : Reader R E) (sink : Writer W F) (given :
     pub through_quotes : (result : Result (Unit {0}) (RecodeError E F))
         → CopiesBody source quoting kind len room place (sides old v) result (sides new v')
         → CopiesQuoted source sink kind len room place quotes (sides old w) result (sides new w')
-    through_quotes (Ok done) copied = record { ends = copied.ends; written = quoted_front _ copied.written }
+    through_quotes (Ok done) copied =
+        record { ends = copied.ends; written = quoted_front _ copied.ends.sound copied.written }
     through_quotes (Err (r.Read error)) copied =
-        record { ends = copied.ends; written = quoted_front _ copied.written }
+        record { ends = copied.ends; written = quoted_front _ copied.ends.part.sound copied.written }
     through_quotes (Err (r.Write fault)) stops = quoted_part stops
 
 module _ {R E W F : Type 0} (source : Reader R E) (sink : Writer W F) (kind : Kind) (quotes : Quotes)
@@ -84,7 +96,8 @@ module _ {R E W F : Type 0} (source : Reader R E) (sink : Writer W F) (kind : Ki
     passed = ReadsPast-none source old;
     within = omega arith;
     few = omega arith;
-    stopped = front_longer sink w w' _ (closing quotes) (rw append-nil said);
+    sound = writable_nil kind;
+    stopped = front_longer sink w w' _ (closing quotes) (rw (body_text-nil quotes, append-nil) said);
   }
 
   module _ {opened : W} (begun : WritesAll sink w (opening quotes) opened) (new : Decoder R) (behind : W) where
@@ -106,6 +119,7 @@ module _ {R E W F : Type 0} (source : Reader R E) (sink : Writer W F) (kind : Ki
       passed = stops.passed;
       within = stops.within;
       few = stops.few;
+      sound = stops.sound;
       stopped = front_longer sink w behind _ (closing quotes) (wrote_first begun fault stops.stopped);
     }
 
@@ -125,5 +139,6 @@ module _ {R E W F : Type 0} (source : Reader R E) (sink : Writer W F) (kind : Ki
       passed = rw append-nil copied.ends.passed;
       within = omega (arith, copied.ends.all);
       few = omega arith;
+      sound = copied.ends.sound;
       stopped = wrote_first (wrote_both begun copied.written) fault said;
     }

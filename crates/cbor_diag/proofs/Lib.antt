@@ -3,6 +3,7 @@ mod FloatLaws
 mod ItemTextLaws
 mod ItemLaws
 mod MoveLaws
+mod PassedLaws
 mod QuoteLaws
 mod QuotedLaws
 mod ShowLaws

@@ -1,6 +1,6 @@
 -- The bytes that a quoting writer has written to the writer within, step by step.
-use Rattle.std.proofs.Common.{◌+◌, ◌≡◌, ℕ, ◌-◌, ◌<◌, Bool, true, false, List, [], ◌∷◌, ◌++◌, length, take, Option, Some}
-use Rattle.std.proofs.Common.{None, IfSome, refl, sym, subst, arith, append_assoc, length-append}
+use Rattle.std.proofs.Common.{◌+◌, ◌≡◌, ℕ, ◌-◌, ◌<◌, Bool, true, false, List, ◌++◌, length, take, Option, Some}
+use Rattle.std.proofs.Common.{None, IfSome, sym, subst, arith, length-append}
 use Rattle.std.proofs.Math.Logic.{∥∥₁_elim, ∥∥₁_map}
 use Rattle.std.proofs.lemmas.List.{length-take-le}
 use Rattle.std.proofs.Props.{props}
@@ -11,16 +11,13 @@ use Rattle.ciborium_ll.specs.Transfer.{Shrinks, AppendsFirst, AppendsFront}
 use Rattle.ciborium_ll.specs.Encoding.{WritesAll, WritesFront}
 use Rattle.ciborium_ll.proofs.EncodingLaws.{AppendsFront-longer}
 use Rattle.cbor_diag.specs.declared.strings.quotes.Quotes.{Quotes}
-use Rattle.cbor_diag.specs.Notation.{body_text}
+use Rattle.cbor_diag.specs.declared.strings.held.Held.TheVariants as h
+use Rattle.cbor_diag.specs.Passing.{passed_held, passed_text}
+use Rattle.cbor_diag.proofs.PassedLaws.{passed_text-append}
 use Rattle.cbor_diag.proofs.QuoteLaws.{wrote_both, wrote_first}
 use Rattle.cbor_diag.specs.Quoting.{failure_count, IsQuoted, WritesUntil, quotes_code, writer_code}
 
--- ---- the text of joined bytes
-
-pub body_text-append : (quotes : Quotes) (xs ys : List ℕ)
-    → body_text quotes (xs ++ ys) ≡ body_text quotes xs ++ body_text quotes ys
-body_text-append quotes [] ys = refl
-body_text-append quotes (x ∷ xs) ys = rw (body_text-append quotes xs ys, append_assoc)
+-- ---- numbers
 
 -- Quotes with the same number are the same.
 pub same_quotes : (quotes quotes' : Quotes) → quotes_code quotes ≡ quotes_code quotes' → quotes ≡ quotes'
@@ -104,22 +101,28 @@ module _ {W F : Type 0} (sink : Ghosts W F) where
 
   module _ (began : List ℕ) (quotes : Quotes) (failed : Bool) (given more all : List ℕ) (now : W)
       (joined : all ≡ given ++ more) (so_far : ∥ IsQuoted sink began quotes failed given now ∥₁) where
+    -- The text of the given bytes, and the text of further bytes after them.
+    abbrev first : List ℕ
+    first = passed_text quotes h.Nothing given
+
+    abbrev next : List ℕ
+    next = passed_text quotes (passed_held quotes h.Nothing given) more
+
     -- A further write keeps the relation between the given and the written bytes.
     quoted_step : (before after : Bool) (new : W) → failed ≡ before
-        → ((old : W) → WritesUntil sink before old (body_text quotes given) now
-        → WritesUntil sink after old (body_text quotes given ++ body_text quotes more) new)
+        → ((old : W) → WritesUntil sink before old first now → WritesUntil sink after old (first ++ next) new)
         → ∥ IsQuoted sink began quotes after all new ∥₁
     quoted_step before after new same step = ∥∥₁_map
         (subst (λ (b : Bool). ∥ IsQuoted sink began quotes b given now ∥₁) same so_far)
-        (λ quoted old is. rw (joined, body_text-append quotes given more) (step old (quoted old is)))
+        (λ quoted old is. rw (joined, passed_text-append quotes h.Nothing given more) (step old (quoted old is)))
 
     -- More bytes were given, and all of them were written.
-    pub quoted_more : (new : W) → failed ≡ false → WritesAll sink now (body_text quotes more) new
+    pub quoted_more : (new : W) → failed ≡ false → WritesAll sink now next new
         → ∥ IsQuoted sink began quotes failed all new ∥₁
     quoted_more new sound wrote = rw sound (quoted_step false false new sound (λ old told. wrote_both told wrote))
 
     -- More bytes were given, and the writer failed at them.
-    pub quoted_fails : (new : W) (fault : F) → failed ≡ false → WritesFront sink now (body_text quotes more) new
+    pub quoted_fails : (new : W) (fault : F) → failed ≡ false → WritesFront sink now next new
         → ∥ IsQuoted sink began quotes true all new ∥₁
     quoted_fails new fault sound stopped =
         quoted_step false true new sound (λ old told. wrote_first told fault stopped)
@@ -134,10 +137,10 @@ module _ {W F : Type 0} (sink : Ghosts W F) where
   pub quoted_ends : (began : List ℕ) (quotes quotes' : Quotes) (failed : Bool) (given : List ℕ) (old now : W)
       (count count' : ℕ) → began ≡ writer_code sink old → quotes' ≡ quotes
       → ∥ IsQuoted sink began quotes' failed given now ∥₁ → count ≡ 0 → count' ≡ failure_count failed
-      → (count' ≡ count → WritesAll sink old (body_text quotes given) now)
-      × (count' ≡ count + 1 → WritesFront sink old (body_text quotes given) now)
+      → (count' ≡ count → WritesAll sink old (passed_text quotes h.Nothing given) now)
+      × (count' ≡ count + 1 → WritesFront sink old (passed_text quotes h.Nothing given) now)
   quoted_ends began quotes quotes' failed given old now count count' is kind quoted none counted =
-      let in_all : (b : Bool) → failed ≡ b → ∥ WritesUntil sink b old (body_text quotes given) now ∥₁ =
+      let in_all : (b : Bool) → failed ≡ b → ∥ WritesUntil sink b old (passed_text quotes h.Nothing given) now ∥₁ =
       λ b same. ∥∥₁_map quoted (λ since. rw (same, kind) at (since old (sym is))) in (
         λ same. merely_all old _ now (in_all false (none_failed failed (omega arith))),
         λ more. merely_front old _ now (in_all true (one_failed failed (omega arith))),

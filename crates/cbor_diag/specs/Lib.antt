@@ -3,6 +3,7 @@ pub mod Floats
 pub mod ItemStops
 pub mod ItemTexts
 pub mod Notation
+pub mod Passing
 pub mod Quoting
 pub mod Showing
 pub mod StringShows

@@ -1,10 +1,13 @@
 -- The diagnostic notation of a header that is a whole item, and of bytes in quotes (RFC 8949, section 8).
-use Rattle.std.specs.Prelude.{ℕ, ◌==◌, nat_lt, List, [], ◌∷◌, ◌++◌, codes, decimal, if◌then◌else◌}
+use Rattle.std.specs.Prelude.{ℕ, ◌==◌, List, [], ◌∷◌, ◌++◌, codes, decimal, if◌then◌else◌}
 use Rattle.std.specs.Prelude.{Option, Some, None, negsuc}
+use Rattle.std.specs.Char.{encode_utf8}
 use Rattle.std.specs.Fmt.{signed_decimal}
+use Rattle.std.specs.Str.{chars}
 use Rattle.ciborium_ll_text.specs.Digits.{hex_text}
 use Rattle.ciborium_ll.specs.Types.Header.{Header}
 use Rattle.ciborium_ll.specs.Types.Header.TheVariants as h
+use Rattle.cbor_escapes.specs.Escapes.{escape_text, is_acted_on}
 use Rattle.cbor_diag.specs.declared.strings.quotes.Quotes.{Quotes}
 use Rattle.cbor_diag.specs.declared.strings.quotes.Quotes.TheVariants as q
 
@@ -26,29 +29,33 @@ header_notation (h.Negative number) = Some (signed_decimal (negsuc number))
 header_notation (h.Simple number) = Some (simple_notation number)
 header_notation header = None
 
--- A byte of a text between its quotes, with the escapes of JSON (RFC 8259, 7). A backslash, which is 92, precedes a
--- quote, a backslash, the letter of a control character, or u and four digits. Each other byte stands for itself. `0a`
--- gives `\n`, and `01` gives `\u0001`.
-abbrev pub escaped_text : ℕ → List ℕ
-escaped_text byte =
-    if byte == 34 then 92 ∷ 34 ∷ []
-    else (if byte == 92 then 92 ∷ 92 ∷ []
-    else (if byte == 8 then 92 ∷ 98 ∷ []
-    else (if byte == 9 then 92 ∷ 116 ∷ []
-    else (if byte == 10 then 92 ∷ 110 ∷ []
-    else (if byte == 12 then 92 ∷ 102 ∷ []
-    else (if byte == 13 then 92 ∷ 114 ∷ []
-    else (if nat_lt byte 32 then (92 ∷ 117 ∷ 48 ∷ 48 ∷ []) ++ hex_text byte
-    else byte ∷ [])))))))
+-- A character of a text between its quotes, with the escapes of JSON (RFC 8259, 7). A backslash, which is 92, precedes a
+-- quote, a backslash or the letter of a control character. Each other character that a terminal acts on has `u` and four
+-- digits, and any other character stands for itself. U+000A gives `\n`, and U+202E gives `\u202e`.
+abbrev pub character_notation : ℕ → List ℕ
+character_notation character =
+    if character == 34 then 92 ∷ 34 ∷ []
+    else (if character == 92 then 92 ∷ 92 ∷ []
+    else (if character == 8 then 92 ∷ 98 ∷ []
+    else (if character == 9 then 92 ∷ 116 ∷ []
+    else (if character == 10 then 92 ∷ 110 ∷ []
+    else (if character == 12 then 92 ∷ 102 ∷ []
+    else (if character == 13 then 92 ∷ 114 ∷ []
+    else (if is_acted_on character then escape_text character
+    else encode_utf8 character)))))))
 
--- A byte between quotes of the kind. A byte string has two digits for each byte, in h'' (RFC 8949, 8). `61` gives `61`
--- in a byte string, and `a` in a text.
-abbrev pub byte_text : Quotes → ℕ → List ℕ
-byte_text q.Hex byte = hex_text byte
-byte_text q.Text byte = escaped_text byte
+-- Characters of a text between its quotes, one after the other: U+0061 and U+009B give `a\u009b`.
+abbrev pub characters_notation : List ℕ → List ℕ
+characters_notation [] = []
+characters_notation (character ∷ characters) = character_notation character ++ characters_notation characters
 
--- Bytes between quotes of the kind, one after the other (RFC 8949, 8). `61 0a` gives `610a` in a byte string, and `a\n`
--- in a text.
+-- Bytes of a byte string, with two digits for each (RFC 8949, 8). `61 0a` gives `610a`.
+abbrev pub bytes_notation : List ℕ → List ℕ
+bytes_notation [] = []
+bytes_notation (byte ∷ bytes) = hex_text byte ++ bytes_notation bytes
+
+-- A body between quotes of the kind: by its digits, or, if it is a text in UTF-8, by its characters (RFC 8949, 8).
+-- `61 0a` gives `610a` in a byte string, and `a\n` in a text.
 abbrev pub body_text : Quotes → List ℕ → List ℕ
-body_text quotes [] = []
-body_text quotes (byte ∷ bytes) = byte_text quotes byte ++ body_text quotes bytes
+body_text q.Hex bytes = bytes_notation bytes
+body_text q.Text bytes = characters_notation (chars bytes)

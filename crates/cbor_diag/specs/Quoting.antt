@@ -4,7 +4,8 @@ use Rattle.ciborium_ll.specs.Types.Write.{Ghosts}
 use Rattle.ciborium_ll.specs.Encoding.{WritesAll, WritesFront}
 use Rattle.cbor_diag.specs.declared.strings.quotes.Quotes.{Quotes}
 use Rattle.cbor_diag.specs.declared.strings.quotes.Quotes.TheVariants as q
-use Rattle.cbor_diag.specs.Notation.{body_text}
+use Rattle.cbor_diag.specs.declared.strings.held.Held.TheVariants.{Nothing}
+use Rattle.cbor_diag.specs.Passing.{passed_text}
 
 -- ---- numbers for the facts that a writer tells, and for quotes
 
@@ -48,8 +49,8 @@ module _ {W F : Type 0} (sink : Ghosts W F) where
   WritesUntil false old text new = WritesAll sink old text new
   WritesUntil true old text new = WritesFront sink old text new
 
-  -- Since the writer within told the numbers of this list, these bytes were written to it as they stand between quotes.
-  -- Or it failed at them. The byte `0a` stands as `0a` in a byte string, and as `\n` in a text.
+  -- Since the writer within told the numbers of this list, the text of these bytes was written to it, or it failed at
+  -- that text. The byte `0a` stands as `0a` in a byte string, and as `\n` in a text.
   abbrev pub IsQuoted : List ℕ → Quotes → Bool → List ℕ → W → Type 0
   IsQuoted began quotes failed given writer =
-      (before : W) → writer_code before ≡ began → WritesUntil failed before (body_text quotes given) writer
+      (before : W) → writer_code before ≡ began → WritesUntil failed before (passed_text quotes Nothing given) writer

@@ -9,7 +9,7 @@ use Rattle.ciborium_ll.specs.Types.Error.{Error}
 use Rattle.ciborium_ll.specs.Types.RecodeError.{RecodeError}
 use Rattle.ciborium_ll.specs.Types.RecodeError.TheVariants as r
 use Rattle.ciborium_ll.specs.Title.{IsTitle, shortest_title}
-use Rattle.ciborium_ll.specs.Strings.{Kind, kind_header, IsString, most_kept}
+use Rattle.ciborium_ll.specs.Strings.{Kind, kind_header, IsString, IsWritable, most_kept}
 use Rattle.ciborium_ll.specs.Faults.{IsInside}
 use Rattle.ciborium_ll.specs.Decoding.{ReadsPast, DecoderPullAnswer, PullsTitle}
 use Rattle.ciborium_ll.specs.Encoding.{WritesAll, WritesFront}
@@ -45,14 +45,15 @@ begun_text quotes front = opening quotes ++ body_text quotes front
 -- ---- one body
 
 module _ {R E W F : Type 0} (source : Reader R E) (sink : Writer W F) (kind : Kind) (len : ℕ) where
-  -- The writer failed within the text of these bytes of the body, which were read. Up to three more bytes of a text
-  -- string were read after them. For the body `01 02` in quotes it can have written `h'01`.
+  -- The writer failed within the text of these bytes of the body, which were read. Those of a text are whole characters,
+  -- and up to three more bytes were read after them. For the body `01 02` in quotes it can have written `h'01`.
   pub record BodyUnshown (text : List ℕ → List ℕ) (old new : Sides R W) : Type 0 where
     pub bytes : List ℕ
     pub kept : List ℕ
     pub passed : ReadsPast source old.decoder (bytes ++ kept) new.decoder
     pub within : length bytes + length kept ≤ len
     pub few : length kept ≤ most_kept kind
+    pub sound : IsWritable kind bytes
     pub stopped : WritesFront sink old.writer (text bytes) new.writer
 
 module _ {R E W F : Type 0} (source : Reader R E) (sink : Writer W F) (kind : Kind) (len room place : ℕ) where

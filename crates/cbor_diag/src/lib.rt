@@ -58,8 +58,9 @@ impl<E, F> From<Error<E>> for DiagError<E, F> {
 ///   point, and a sign at an exponent, as the kit's `ryu` lays them out. Tests alone say that they are the shortest.
 /// - `_2` or `_3` follows a float exactly if a shorter width holds the same value. The text shows the length of no
 ///   other title.
-/// - A byte string is `h'0102'`. A text string has the escapes of JSON in `""`. Bodies of the indefinite form stand in
-///   `(_ )`, with commas, and no body gives `''_` or `""_`.
+/// - A byte string is `h'0102'`. A text string has the escapes of JSON in `""`, also for each other character that a
+///   terminal acts on: U+007F to U+009F, and bidirectional controls as `\u202e`.
+/// - Bodies of the indefinite form stand in `(_ )`, with commas, and no body gives `''_` or `""_`.
 /// - A tag is `1(2)`, an array `[1, 2]`, a map `{1: 2}`, and an indefinite form `[_ 1]`.
 ///
 /// # Errors

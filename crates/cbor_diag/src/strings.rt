@@ -13,8 +13,10 @@ ghost use Rattle.ciborium_ll.specs.Skipping.{SkipsString};
 ghost use Rattle.ciborium_ll.specs.Sides.{sides};
 ghost use Rattle.cbor_diag.specs.Showing.{IsWriting, OnString, ShowsText};
 ghost use Rattle.cbor_diag.specs.declared.strings.TheConstants.{BUFFER_SIZE};
+ghost use Rattle.cbor_diag.specs.ItemTexts.{kind_quotes};
 ghost use Rattle.cbor_diag.specs.StringShows.{CopiesQuoted, ShowsBody, ShowsString, end_text, is_indefinite, lead_text};
 
+mod held;
 mod noted;
 mod quoted;
 mod quotes;
@@ -73,6 +75,7 @@ fn show_segments<R: Read, W: Write, P: Chunked>(
     is_open: bool,
 ) -> Result<(), DiagError<R::Error, W::Error>>
     requires fresh { IsAtBeginning segments.old }
+    requires kind { quotes ≡ kind_quotes P.kind }
     ensures reads { (opened : AnyDecoder R) (len : Option ℕ) → IsInRange (kind_header P.kind len)
         → waiting_of opened ≡ None → TakesBack R.Read opened (kind_header P.kind len) (string_decoder segments.old)
         → string_strict segments.old ≡ strict_of opened
@@ -137,6 +140,7 @@ fn show_body<R: Read, W: Write, P: Chunked>(
     quotes: Quotes,
 ) -> Result<(), DiagError<R::Error, W::Error>>
     requires none_waits { waiting_of (string_decoder segments.old) ≡ None }
+    requires kind { quotes ≡ kind_quotes P.kind }
     ensures reads { OnString (λ answer. EndsBody R.Read P.kind [] body.length BUFFER_SIZE body.place
         (string_decoder segments.old) answer (string_decoder segments.new)) result }
     ensures text { ShowsBody R.Read W.Write P.kind body.length BUFFER_SIZE body.place quotes
@@ -163,6 +167,7 @@ fn copy_quoted<R: Read, W: Write, P: Chunked>(
     quotes: Quotes,
 ) -> Result<(), RecodeError<R::Error, W::Error>>
     requires none_waits { waiting_of (string_decoder segments.old) ≡ None }
+    requires kind { quotes ≡ kind_quotes P.kind }
     ensures copied { CopiesQuoted R.Read W.Write P.kind body.length BUFFER_SIZE body.place quotes
         (sides (string_decoder segments.old) writer.old) result (sides (string_decoder segments.new) writer.new) }
     ensures same_reference { string_reference segments.new ≡ string_reference segments.old }

@@ -1,8 +1,11 @@
 //! A writer that writes bytes as they stand between quotes, and tells the bytes that it got.
 
 ghost use Rattle.std.specs.Prelude.{◌≡◌, ◌∷◌, [], Some, None, false};
+ghost use Rattle.cbor_diag.specs.declared.strings.held.Held.TheVariants.{Nothing as NothingHeld};
+ghost use Rattle.cbor_diag.specs.Passing.{passed_held};
 ghost use Rattle.cbor_diag.specs.Quoting.{IsQuoted, failure_count, quotes_code, writer_code};
 
+use super::held::Held;
 use super::noted::{Noted, Tells};
 use super::quotes::{Quotes, show_quoted};
 use ciborium_ll::io::{Failures, Write};
@@ -14,7 +17,8 @@ impl<W: Write> Tells<W> for Told {
     ghost told = { λ writer. writer_code W.Write writer };
 }
 
-/// Writes bytes to another writer as they stand between quotes. After a failure it writes nothing more.
+/// Writes bytes to another writer as they stand between quotes, each character of a text at its last byte. After a
+/// failure it writes nothing more.
 ///
 /// It tells the bytes that it got. It notes in `began` the facts that the other writer told at the start of the loan.
 /// Its ghost field relates these to the bytes that were written to the other writer since.
@@ -22,11 +26,13 @@ impl<W: Write> Tells<W> for Told {
 pub(super) struct Quoted<'w, W: Write> {
     writer: &'w mut W,
     quotes: Quotes,
+    held: Held,
     failed: bool,
     failures: Failures,
     began: Noted,
     given: Noted,
     ghost counted: { failures.count ≡ failure_count failed },
+    ghost holds: { failed ≡ false → held ≡ passed_held quotes NothingHeld given.bytes },
     ghost quoted: { ∥ IsQuoted W.Write began.bytes quotes failed given.bytes writer.now ∥₁ },
 }
 
@@ -43,6 +49,7 @@ impl<'w, W: Write> Quoted<'w, W> {
         Quoted {
             writer,
             quotes,
+            held: Held::Nothing,
             failed: false,
             failures: Failures::new(),
             began,
@@ -78,7 +85,7 @@ impl<'w, W: Write> Write for Quoted<'w, W> {
         if self.failed {
             return Ok(());
         }
-        match show_quoted(&mut *self.writer, self.quotes, data) {
+        match show_quoted(&mut *self.writer, self.quotes, &mut self.held, data) {
             Ok(()) => Ok(()),
             Err(fault) => {
                 self.failed = true;

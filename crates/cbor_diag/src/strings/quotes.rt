@@ -1,11 +1,12 @@
 //! The text of bytes between quotes.
 
-ghost use Rattle.std.specs.Prelude.{◌≡◌, ◌<◌, true};
+ghost use Rattle.std.specs.Prelude.{◌≡◌, IfOk, true};
 ghost use Rattle.ciborium_ll.specs.Encoding.{WritesBytes};
-ghost use Rattle.ciborium_ll_text.specs.Digits.{hex_digit, hex_text};
-ghost use Rattle.cbor_diag.specs.Notation.{body_text, byte_text, escaped_text};
+ghost use Rattle.ciborium_ll_text.specs.Digits.{hex_text};
+ghost use Rattle.cbor_diag.specs.Passing.{byte_held, byte_text, passed_held, passed_text};
 
-use crate::put::{put, put_two};
+use super::held::{Held, digit, show_next};
+use crate::put::put;
 use ciborium_ll::io::Write;
 
 /// How the body of a string is shown.
@@ -40,6 +41,16 @@ impl Quotes {
         }
     }
 
+    /// Returns the bytes that are held after the next byte.
+    fn hold(self, held: Held, byte: u8) -> Held
+        ensures { result ≡ byte_held self held byte }
+    {
+        match self {
+            Quotes::Hex => held,
+            Quotes::Text => held.after(byte),
+        }
+    }
+
     /// Returns the text of a string of the indefinite form that has no body (RFC 8949, 8.1).
     pub(crate) fn none(self) -> &'static [u8]
         ensures { result.now ≡ end_text true self true }
@@ -51,27 +62,30 @@ impl Quotes {
     }
 }
 
-/// Shows bytes as they stand between quotes.
+/// Shows bytes as they stand between quotes. The bytes of a character that are not whole are held.
 pub(super) fn show_quoted<W: Write>(
     writer: &mut W,
     quotes: Quotes,
+    held: &mut Held,
     bytes: &[u8],
 ) -> Result<(), W::Error>
-    ensures { WritesBytes W.Write writer.old result (body_text quotes bytes.now) writer.new }
+    ensures written { WritesBytes W.Write writer.old result (passed_text quotes held.old bytes.now) writer.new }
+    ensures held { IfOk result (λ _. held.new ≡ passed_held quotes held.old bytes.now) }
 {
     'bytes: for byte in bytes {
-        show_byte(writer, quotes, *byte)?;
+        show_byte(writer, quotes, *held, *byte)?;
+        *held = quotes.hold(*held, *byte);
     }
     Ok(())
 }
 
-/// Shows a byte as it stands between quotes.
-fn show_byte<W: Write>(writer: &mut W, quotes: Quotes, byte: u8) -> Result<(), W::Error>
-    ensures { WritesBytes W.Write writer.old result (byte_text quotes byte) writer.new }
+/// Shows a byte as it stands between quotes, after the bytes that are held.
+fn show_byte<W: Write>(writer: &mut W, quotes: Quotes, held: Held, byte: u8) -> Result<(), W::Error>
+    ensures { WritesBytes W.Write writer.old result (byte_text quotes held byte) writer.new }
 {
     match quotes {
         Quotes::Hex => show_hex(writer, byte),
-        Quotes::Text => show_escaped(writer, byte),
+        Quotes::Text => show_next(writer, held, byte),
     }
 }
 
@@ -80,33 +94,4 @@ fn show_hex<W: Write>(writer: &mut W, byte: u8) -> Result<(), W::Error>
     ensures { WritesBytes W.Write writer.old result (hex_text byte) writer.new }
 {
     put(writer, &[digit(byte / 16), digit(byte % 16)])
-}
-
-/// Returns the hexadecimal digit of a number below 16.
-fn digit(number: u8) -> u8
-    requires { number < 16 }
-    ensures { result ≡ hex_digit number }
-{
-    if number < 10 {
-        b'0' + number
-    } else {
-        b'a' - 10 + number
-    }
-}
-
-/// Shows a byte of a text, with the escapes of JSON (RFC 8259, 7).
-fn show_escaped<W: Write>(writer: &mut W, byte: u8) -> Result<(), W::Error>
-    ensures { WritesBytes W.Write writer.old result (escaped_text byte) writer.new }
-{
-    match byte {
-        b'"' => put(writer, b"\\\""),
-        b'\\' => put(writer, b"\\\\"),
-        0x08 => put(writer, b"\\b"),
-        b'\t' => put(writer, b"\\t"),
-        b'\n' => put(writer, b"\\n"),
-        0x0c => put(writer, b"\\f"),
-        b'\r' => put(writer, b"\\r"),
-        0..=0x1f => put_two(writer, b"\\u00", &[digit(byte / 16), digit(byte % 16)]),
-        _ => put(writer, &[byte]),
-    }
 }
