@@ -1,18 +1,14 @@
 -- The texts of rows, as they are written step by step.
 use Rattle.std.proofs.lemmas.Bool.Decides.{nat_tests}
-use Rattle.std.proofs.Common.{◌≡◌, ◌∙◌, ℕ, zero, suc, ◌+◌, ◌<◌, List, [], ◌∷◌, ◌++◌, refl, sym, ap, arith, false, ◌-◌}
-use Rattle.std.proofs.Common.{◌^◌}
+use Rattle.std.proofs.Common.{◌≡◌, ◌∙◌, ℕ, zero, suc, ◌+◌, ◌<◌, List, [], ◌∷◌, ◌++◌, refl, sym, ap, arith, ◌-◌}
 use Rattle.std.proofs.Common.{append-nil, append_assoc, length, take, get_or, Option, Some, Result, subst}
 use Rattle.std.proofs.Common.{◌*◌, min, ◌⊎◌, inl, inr}
 use Rattle.std.proofs.lemmas.List.{take_more}
 use Rattle.std.proofs.lemmas.Str.{IsUtf8-from_is_utf8, is_utf8-from_IsUtf8}
 use Rattle.std.specs.Result.{MatchResult, result_unwrap_or}
 use Rattle.std.specs.Str.{IsUtf8, is_utf8}
-use Rattle.std.proofs.lemmas.Fmt.{hex_byte}
 use Rattle.std.proofs.lemmas.Grind.{put_two}
-use Rattle.std.specs.Fmt.{HasWritten, IsPlainFormatter, DisplaysOnOk, WritesOnOk, digits, format_spec, padded_integral}
-use Rattle.std.specs.Fmt.{digits_output, styled_digits_output, shown_prefix, radix_prefix}
-use Rattle.std.specs.Option.{option_map}
+use Rattle.std.specs.Fmt.{HasWritten, IsPlainFormatter, DisplaysOnOk, WritesOnOk}
 use Rattle.std.specs.declared.fmt.Formatter.{Formatter}
 use Rattle.ciborium_ll_text.specs.Digits.{hex_text}
 use Rattle.cbor_dump.specs.RowTexts.{blank, joined_text, more_text, characters_text, character_text}
@@ -28,21 +24,6 @@ blank_more zero = refl
 blank_more (suc count) =
     let same : suc (count + 1) ≡ suc count + 1 = omega arith in
     ap (λ (z : List ℕ). 32 ∷ z) (blank_more count) ∙ ap blank same
-
--- A format with two hexadecimal digits writes the two digits of a byte.
-pub two_digits : (byte : ℕ) → byte < 256
-    → padded_integral (format_spec 32 0 4 2 (2 ^ 64 - 1)) false [] (digits 16 false byte) ≡ hex_text byte
-two_digits byte small = hex_byte false byte small
-
--- If a format is this one, it writes the two digits of a byte.
-pub hex_shown : (radix : _) (spec : _) (byte : ℕ) → spec ≡ format_spec 32 0 4 2 (2 ^ 64 - 1)
-    → digits_output radix ≡ Some (digits 16 false byte) → byte < 256
-    → styled_digits_output radix spec ≡ Some (hex_text byte)
-hex_shown radix spec byte laid digits_are small =
-    let prefix = radix_prefix radix.base in
-    ap (option_map (padded_integral spec false (shown_prefix spec prefix))) digits_are
-    ∙ (ap (λ z. Some (padded_integral z false (shown_prefix z prefix) (digits 16 false byte))) laid
-    ∙ ap Some (two_digits byte small))
 
 -- The digits of one more byte follow without a space.
 pub joined_more : (bytes : List ℕ) (byte : ℕ) → joined_text (bytes ++ byte ∷ []) ≡ joined_text bytes ++ hex_text byte

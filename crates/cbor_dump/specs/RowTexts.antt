@@ -1,6 +1,6 @@
 -- The text of a row of a dump: its bytes as digits, indented by its level, and after a `#` their meaning, as RFC 8949
 -- shows its examples (section 3).
-use Rattle.std.specs.Prelude.{ℕ, zero, suc, ◌+◌, ◌-◌, ◌*◌, ◌==◌, min, nat_lt, List, [], ◌∷◌, ◌++◌, length}
+use Rattle.std.specs.Prelude.{ℕ, zero, suc, ◌+◌, ◌-◌, ◌*◌, ◌==◌, min, List, [], ◌∷◌, ◌++◌, length}
 use Rattle.std.specs.Prelude.{◌≢◌, ◌<◌, ◌≤◌, slice_index}
 use Rattle.std.specs.Prelude.{codes, decimal, negsuc, Option, Some, None, if◌then◌else◌}
 use Rattle.std.specs.Char.{encode_utf8}
@@ -8,6 +8,7 @@ use Rattle.std.specs.Fmt.{signed_decimal}
 use Rattle.std.specs.Int.{to_be_bytes, w16, w32, w64}
 use Rattle.std.specs.Str.{chars, is_utf8}
 use Rattle.ciborium_ll_text.specs.Digits.{hex_text}
+use Rattle.cbor_escapes.specs.Escapes.{escape_text, is_acted_on}
 use Rattle.ciborium_ll.specs.Types.Float.{Float}
 use Rattle.ciborium_ll.specs.Types.Float.TheVariants as f
 use Rattle.ciborium_ll.specs.Types.Header.{Header}
@@ -77,9 +78,9 @@ header_text (h.Map len) = counted_text (codes "map") len
 
 -- ---- characters
 
--- A character between quotes, with the escapes of JSON (RFC 8259, 7), also of U+007F to U+009F. A backslash, which is
--- 92, precedes a quote, a backslash, the letter of a control character, or u and four digits. A line feed gives `\n`,
--- and U+0001 gives `\u0001`.
+-- A character between quotes, with the escapes of JSON (RFC 8259, 7). A backslash, which is 92, precedes a quote, a
+-- backslash or the letter of a control character. Each other character that a terminal acts on has `u` and four digits,
+-- and any other character stands for itself. A line feed gives `\n`, and U+202E gives `\u202e`.
 abbrev pub character_text : ℕ → List ℕ
 character_text character =
     if character == 34 then 92 ∷ 34 ∷ []
@@ -87,10 +88,8 @@ character_text character =
     else (if character == 10 then 92 ∷ 110 ∷ []
     else (if character == 13 then 92 ∷ 114 ∷ []
     else (if character == 9 then 92 ∷ 116 ∷ []
-    else (if nat_lt character 32 then 92 ∷ 117 ∷ 48 ∷ 48 ∷ hex_text character
-    else (if nat_lt character 127 then encode_utf8 character
-    else (if nat_lt character 160 then 92 ∷ 117 ∷ 48 ∷ 48 ∷ hex_text character
-    else encode_utf8 character)))))))
+    else (if is_acted_on character then escape_text character
+    else encode_utf8 character)))))
 
 -- Characters that stand for themselves between quotes: ASCII without control characters, quotes and backslashes.
 -- `61 20` are such, and `0a`, `22` and `7f` are none.
