@@ -1,6 +1,6 @@
 -- The text of a body as its bytes pass is the text of its characters.
-use Rattle.std.proofs.Common.{◌≡◌, ◌∙◌, ℕ, ◌+◌, ◌/◌, ◌%◌, ◌<◌, ◌≤◌, ◌==◌, Bool, true, false, if◌then◌else◌, List, [], ◌∷◌}
-use Rattle.std.proofs.Common.{◌++◌, append_assoc, append-nil, ap, arith, inl, inr, nat_lt, refl, subst, sym}
+use Rattle.std.proofs.Common.{◌≡◌, ◌∙◌, ℕ, ◌+◌, ◌/◌, ◌%◌, ◌<◌, ◌≤◌, ◌==◌, Bool, true, false, if◌then◌else◌, List, []}
+use Rattle.std.proofs.Common.{◌∷◌, ◌++◌, append_assoc, append-nil, ap, arith, inl, inr, nat_lt, refl, subst, sym}
 use Rattle.std.proofs.lemmas.Bool.{cases_lt}
 use Rattle.std.proofs.lemmas.Bool.Decides.{nat_tests}
 use Rattle.std.proofs.lemmas.Str.{chars-encodes, encode_ascii}
@@ -51,8 +51,8 @@ record IsShownAs (bytes text : List ℕ) : Type 0 where
 alone : (byte : ℕ) (bytes text : List ℕ) → is_lead byte ≡ false → IsShownAs bytes text
     → IsShownAs (byte ∷ bytes) (byte_notation byte ++ text)
 alone byte bytes text is rest = record {
-  text_is = rw (off (is_lead byte) [] (byte_notation byte) is, off (is_lead byte) (h.One byte) h.Nothing is, rest.text_is)
-      refl;
+  text_is = rw (off (is_lead byte) [] (byte_notation byte) is, off (is_lead byte) (h.One byte) h.Nothing is,
+      rest.text_is) refl;
   none = rw (off (is_lead byte) (h.One byte) h.Nothing is) rest.none;
 }
 

@@ -29,9 +29,9 @@ header_notation (h.Negative number) = Some (signed_decimal (negsuc number))
 header_notation (h.Simple number) = Some (simple_notation number)
 header_notation header = None
 
--- A character of a text between its quotes, with the escapes of JSON (RFC 8259, 7). A backslash, which is 92, precedes a
--- quote, a backslash or the letter of a control character. Each other character that a terminal acts on has `u` and four
--- digits, and any other character stands for itself. U+000A gives `\n`, and U+202E gives `\u202e`.
+-- A character of a text between its quotes, with the escapes of JSON (RFC 8259, 7). A backslash, which is 92, precedes
+-- a quote, a backslash or the letter of a control character. Each other character that a terminal acts on has `u` and
+-- four digits, and any other character stands for itself. U+000A gives `\n`, and U+202E gives `\u202e`.
 abbrev pub character_notation : ℕ → List ℕ
 character_notation character =
     if character == 34 then 92 ∷ 34 ∷ []

@@ -45,8 +45,9 @@ begun_text quotes front = opening quotes ++ body_text quotes front
 -- ---- one body
 
 module _ {R E W F : Type 0} (source : Reader R E) (sink : Writer W F) (kind : Kind) (len : ℕ) where
-  -- The writer failed within the text of these bytes of the body, which were read. Those of a text are whole characters,
-  -- and up to three more bytes were read after them. For the body `01 02` in quotes it can have written `h'01`.
+  -- The writer failed within the text of these bytes of the body, which were read. Those of a text are whole
+  -- characters, and up to three more bytes were read after them. For the body `01 02` in quotes it can have written
+  -- `h'01`.
   pub record BodyUnshown (text : List ℕ → List ℕ) (old new : Sides R W) : Type 0 where
     pub bytes : List ℕ
     pub kept : List ℕ

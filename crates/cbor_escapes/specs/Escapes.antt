@@ -1,5 +1,7 @@
 -- The characters that a terminal acts on, and their escapes.
-use Rattle.std.specs.Prelude.{ℕ, ◌/◌, ◌%◌, Bool, ◌&&◌, ◌||◌, ◌==◌, nat_le, nat_lt, List, ◌∷◌, ◌++◌}
+use Rattle.std.specs.Prelude.{ℕ, ◌/◌, ◌%◌, Bool, ◌&&◌, ◌||◌, ◌==◌, nat_le, nat_lt, List, [], ◌∷◌, ◌++◌}
+use Rattle.std.specs.Prelude.{if◌then◌else◌}
+use Rattle.std.specs.Char.{encode_utf8}
 use Rattle.ciborium_ll_text.specs.Digits.{hex_text}
 
 -- The control characters: U+0000 to U+001F and U+007F to U+009F (Unicode, 23.1). U+000A is one, and U+0020 is none.
@@ -23,3 +25,13 @@ is_acted_on code = is_control code || is_bidi_control code
 -- `\u202e`.
 abbrev pub escape_text : ℕ → List ℕ
 escape_text code = 92 ∷ 117 ∷ (hex_text (code / 256) ++ hex_text (code % 256))
+
+-- A character as a text for a terminal has it: its escape if a terminal acts on it, and otherwise its bytes in UTF-8.
+-- U+202E gives `\u202e`, and U+0061 gives `a`.
+abbrev pub terminal_text : ℕ → List ℕ
+terminal_text character = if is_acted_on character then escape_text character else encode_utf8 character
+
+-- Characters as a text for a terminal has them, one after the other: U+0061 and U+000A give `a\u000a`.
+abbrev pub terminal_texts : List ℕ → List ℕ
+terminal_texts [] = []
+terminal_texts (character ∷ characters) = terminal_text character ++ terminal_texts characters

@@ -5,7 +5,10 @@
 #![tactic(auto)]
 
 ghost use Rattle.std.specs.Prelude.{◌≡◌};
-ghost use Rattle.cbor_escapes.specs.Escapes.{is_acted_on};
+ghost use Rattle.std.specs.Fmt.{WritesOnOk};
+ghost use Rattle.cbor_escapes.specs.Escapes.{is_acted_on, terminal_text};
+
+use std::fmt;
 
 /// Returns whether a terminal acts on the character of this code.
 ///
@@ -23,4 +26,22 @@ pub fn is_acted_on(code: u32) -> bool
             | 0x202a..=0x202e
             | 0x2066..=0x2069
     )
+}
+
+/// Writes a character as a text for a terminal has it: by its escape if a terminal acts on it, and otherwise itself.
+///
+/// The escape is that of JSON (RFC 8259, 7): `\u` and four digits in lower case.
+///
+/// # Errors
+///
+/// - The formatter failed.
+pub fn write_shown<W: fmt::Write>(f: &mut fmt::Formatter<W>, character: char) -> fmt::Result
+    ensures { WritesOnOk W.Write.write_str_gives f.old result (terminal_text character) f.new }
+{
+    let code = u32::from(character);
+    if is_acted_on(code) {
+        write!(f, "\\u{:02x}{:02x}", code / 256, code % 256)
+    } else {
+        write!(f, "{character}")
+    }
 }

@@ -29,5 +29,5 @@ returns-clause-copied g c =
     subst (λ w. CopiesQuoted g.R.Read g.W.Write g.P.Parser.kind c.args.body.length 64 c.args.body.place c.args.quotes
     (sides old writer) c.copy.result (sides new w)) (sym ended)
     (through_quotes g.R.Read g.W.Write (λ q. q.given.bytes) (λ q. q.failures.count) _ _ g.P.Parser.kind c.args.quotes
-    c.args.body.length 64 c.args.body.place old new begun behind writer behind.writer.now c.requires.kind made.given ends.0 ends.1
-    c.copy.result c.copy.ensures.copied)
+    c.args.body.length 64 c.args.body.place old new begun behind writer behind.writer.now c.requires.kind made.given
+    ends.0 ends.1 c.copy.result c.copy.ensures.copied)
