@@ -121,6 +121,12 @@ static LONG: [&str; 12] = [
     "5f5801005900025858ff",
 ];
 
+// Texts with characters that a terminal acts on: U+007F, U+0080, U+009F, U+061C, U+200E, U+200F, U+202A, U+202E, U+2066
+// and U+2069.
+static ACTED_ON: &str = "\
+677fc280c29fd89c \"\\u007f\\u0080\\u009f\\u061c\"
+72e2808ee2808fe280aae280aee281a6e281a9 \"\\u200e\\u200f\\u202a\\u202e\\u2066\\u2069\"";
+
 // Writes the notation of an item to the start of the space. Returns how many bytes it has.
 fn notation_len(bytes: &[u8], layout: Layout, space: &mut [u8]) -> Option<usize> {
     let mut decoder = Decoder::from(SliceReader::new(bytes));
@@ -183,12 +189,14 @@ fn notation_is_encoded(rt: HostRuntime) {
     are_encoded(&rt, rt.alloc(), VECTORS);
     are_encoded(&rt, rt.alloc(), OTHER_VECTORS);
     are_encoded(&rt, rt.alloc(), SPELLED);
+    are_encoded(&rt, rt.alloc(), ACTED_ON);
 }
 
 #[test]
 fn bytes_come_back(rt: HostRuntime) {
     rows_come_back(&rt, rt.alloc(), VECTORS);
     rows_come_back(&rt, rt.alloc(), OTHER_VECTORS);
+    rows_come_back(&rt, rt.alloc(), ACTED_ON);
 }
 
 #[test]

@@ -173,8 +173,9 @@ fn texts_of_dumps(rt: HostRuntime) {
     each_dumped(&rt, rt.alloc(), Options::new(), DUMPS, 10);
 }
 
-// Texts with escaped characters: a line feed, U+007F, U+009B, and the characters at the bounds of the escaped ranges.
-// Beyond these bounds a space, `~` and U+00A0 stand for themselves.
+// Texts with escaped characters: a line feed, U+007F, U+009B, and the characters at the bounds of the escaped ranges,
+// those of the bidirectional controls among them (Unicode, PropList.txt). Characters beyond these bounds, such as a
+// space, `~` and U+00A0, stand for themselves.
 static ESCAPED: &str = "\
 = 63 0a6666
 63                                  # text 3
@@ -188,11 +189,23 @@ static ESCAPED: &str = "\
 = 6a 00090d1f207ec29fc2a0
 6a                                  # text 10
    00 09 0d 1f 20 7e c2 9f c2 a0    #   \"\\u0000\\t\\r\\u001f ~\\u009f\u{a0}\"
+= 69 d89bd89cd89de2808d
+69                                  # text 9
+   d8 9b d8 9c d8 9d e2 80 8d       #   \"\u{61b}\\u061c\u{61d}\u{200d}\"
+= 69 e2808ee2808fe28090
+69                                  # text 9
+   e2 80 8e e2 80 8f e2 80 90       #   \"\\u200e\\u200f\u{2010}\"
+= 6c e280a9e280aae280aee280af
+6c                                  # text 12
+   e2 80 a9 e2 80 aa e2 80 ae e2 80 af #   \"\u{2029}\\u202a\\u202e\u{202f}\"
+= 6c e281a5e281a6e281a9e281aa
+6c                                  # text 12
+   e2 81 a5 e2 81 a6 e2 81 a9 e2 81 aa #   \"\u{2065}\\u2066\\u2069\u{206a}\"
 ";
 
 #[test]
 fn escapes_of_dumps(rt: HostRuntime) {
-    each_dumped(&rt, rt.alloc(), Options::new(), ESCAPED, 4);
+    each_dumped(&rt, rt.alloc(), Options::new(), ESCAPED, 8);
 }
 
 // Dumps with offsets.

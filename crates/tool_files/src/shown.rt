@@ -1,5 +1,6 @@
 //! Names as the program prints them.
 
+use cbor_escapes::is_acted_on;
 use std::fmt;
 use std::fmt::Write;
 
@@ -13,19 +14,13 @@ pub struct Shown<'n>(pub &'n str);
 impl fmt::Display for Shown<'_> {
     fn fmt<W: fmt::Write>(&self, f: &mut fmt::Formatter<W>) -> fmt::Result {
         for character in self.0.chars() {
-            if is_acted_on(character) {
-                write!(f, "\\u{:04x}", character as u32)?;
+            let code = u32::from(character);
+            if is_acted_on(code) {
+                write!(f, "\\u{code:04x}")?;
             } else {
                 f.write_char(character)?;
             }
         }
         Ok(())
     }
-}
-
-/// Returns whether a terminal acts on a character, or lets it move what is printed after it.
-fn is_acted_on(character: char) -> bool {
-    matches!(character,
-        '\u{0}'..='\u{1f}' | '\u{7f}'..='\u{9f}' | '\u{200e}' | '\u{200f}' | '\u{202a}'..='\u{202e}'
-        | '\u{2066}'..='\u{2069}')
 }
