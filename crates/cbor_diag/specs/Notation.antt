@@ -1,13 +1,12 @@
 -- The diagnostic notation of a header that is a whole item, and of bytes in quotes (RFC 8949, section 8).
 use Rattle.std.specs.Prelude.{ℕ, ◌==◌, List, [], ◌∷◌, ◌++◌, codes, decimal, if◌then◌else◌}
 use Rattle.std.specs.Prelude.{Option, Some, None, negsuc}
-use Rattle.std.specs.Char.{encode_utf8}
 use Rattle.std.specs.Fmt.{signed_decimal}
 use Rattle.std.specs.Str.{chars}
 use Rattle.ciborium_ll_text.specs.Digits.{hex_text}
 use Rattle.ciborium_ll.specs.Types.Header.{Header}
 use Rattle.ciborium_ll.specs.Types.Header.TheVariants as h
-use Rattle.cbor_escapes.specs.Escapes.{escape_text, is_acted_on}
+use Rattle.cbor_escapes.specs.Escapes.{terminal_text}
 use Rattle.cbor_diag.specs.declared.strings.quotes.Quotes.{Quotes}
 use Rattle.cbor_diag.specs.declared.strings.quotes.Quotes.TheVariants as q
 
@@ -41,8 +40,7 @@ character_notation character =
     else (if character == 10 then 92 ∷ 110 ∷ []
     else (if character == 12 then 92 ∷ 102 ∷ []
     else (if character == 13 then 92 ∷ 114 ∷ []
-    else (if is_acted_on character then escape_text character
-    else encode_utf8 character)))))))
+    else terminal_text character))))))
 
 -- Characters of a text between its quotes, one after the other: U+0061 and U+009B give `a\u009b`.
 abbrev pub characters_notation : List ℕ → List ℕ

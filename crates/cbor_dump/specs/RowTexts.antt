@@ -3,12 +3,11 @@
 use Rattle.std.specs.Prelude.{ℕ, zero, suc, ◌+◌, ◌-◌, ◌*◌, ◌==◌, min, List, [], ◌∷◌, ◌++◌, length}
 use Rattle.std.specs.Prelude.{◌≢◌, ◌<◌, ◌≤◌, slice_index}
 use Rattle.std.specs.Prelude.{codes, decimal, negsuc, Option, Some, None, if◌then◌else◌}
-use Rattle.std.specs.Char.{encode_utf8}
 use Rattle.std.specs.Fmt.{signed_decimal}
 use Rattle.std.specs.Int.{to_be_bytes, w16, w32, w64}
 use Rattle.std.specs.Str.{chars, is_utf8}
 use Rattle.ciborium_ll_text.specs.Digits.{hex_text}
-use Rattle.cbor_escapes.specs.Escapes.{escape_text, is_acted_on}
+use Rattle.cbor_escapes.specs.Escapes.{terminal_text}
 use Rattle.ciborium_ll.specs.Types.Float.{Float}
 use Rattle.ciborium_ll.specs.Types.Float.TheVariants as f
 use Rattle.ciborium_ll.specs.Types.Header.{Header}
@@ -88,8 +87,7 @@ character_text character =
     else (if character == 10 then 92 ∷ 110 ∷ []
     else (if character == 13 then 92 ∷ 114 ∷ []
     else (if character == 9 then 92 ∷ 116 ∷ []
-    else (if is_acted_on character then escape_text character
-    else encode_utf8 character)))))
+    else terminal_text character))))
 
 -- Characters that stand for themselves between quotes: ASCII without control characters, quotes and backslashes.
 -- `61 20` are such, and `0a`, `22` and `7f` are none.

@@ -1,18 +1,17 @@
 //! The rows of a dump, and their text.
 
-ghost use Rattle.std.specs.Prelude.{◌≡◌, ◌<◌, List, OnErr, OnOk, [], ◌∷◌, ◌++◌, Some, negsuc, true};
+ghost use Rattle.std.specs.Prelude.{◌≡◌, List, OnErr, OnOk, [], ◌∷◌, ◌++◌, Some, negsuc, true};
 ghost use Rattle.std.specs.Fmt.{WritesOnOk, signed_decimal};
 ghost use Rattle.std.specs.Str.{chars};
 ghost use Rattle.std.specs.declared.option.Option.{Option};
 ghost use Rattle.ciborium_ll_text.specs.Digits.{hex_text};
-ghost use Rattle.cbor_escapes.specs.Escapes.{escape_text};
 ghost use Rattle.cbor_dump.specs.Levels.{Line};
 ghost use Rattle.cbor_dump.specs.Dumps.{Draws};
 ghost use Rattle.cbor_dump.specs.RowTexts.{ArePlain, blank, character_text, characters_text, counted_text, digits_text};
 ghost use Rattle.cbor_dump.specs.RowTexts.{float_text};
 ghost use Rattle.cbor_dump.specs.RowTexts.{header_text, joined_text, margin_text, quoted_text, row_text, simple_text};
 
-use cbor_escapes::is_acted_on;
+use cbor_escapes::write_shown;
 use ciborium_ll::{Float, Header, simple};
 use std::fmt;
 
@@ -211,26 +210,14 @@ fn header<W: fmt::Write>(f: &mut fmt::Formatter<W>, header: Header) -> fmt::Resu
 fn character<W: fmt::Write>(f: &mut fmt::Formatter<W>, c: char) -> fmt::Result
     ensures { WritesOnOk W.Write.write_str_gives f.old result (character_text c) f.new }
 {
-    let code = u32::from(c);
     match c {
         '"' => f.write_str("\\\""),
         '\\' => f.write_str("\\\\"),
         '\n' => f.write_str("\\n"),
         '\r' => f.write_str("\\r"),
         '\t' => f.write_str("\\t"),
-        _ if is_acted_on(code) => escape(f, code),
-        _ => write!(f, "{c}"),
+        _ => write_shown(f, c),
     }
-}
-
-/// Writes the escape of a character below U+10000.
-fn escape<W: fmt::Write>(f: &mut fmt::Formatter<W>, code: u32) -> fmt::Result
-    requires { code < 65536 }
-    ensures { WritesOnOk W.Write.write_str_gives f.old result (escape_text code) f.new }
-{
-    f.write_str("\\u")?;
-    f.write_str(digits_of((code / 256) as u8))?;
-    f.write_str(digits_of((code % 256) as u8))
 }
 
 /// Writes a text between quotes. If the bytes are no UTF-8, the quotes are empty.
