@@ -1,11 +1,13 @@
--- The texts of formats with two hexadecimal digits.
-use Rattle.std.proofs.Common.{◌≡◌, ◌∙◌, ℕ, ◌<◌, ◌^◌, ◌-◌, false, [], List, Option, Some, Result, ap, subst}
+-- The texts of characters, and of formats with two hexadecimal digits.
+use Rattle.std.proofs.Common.{◌≡◌, ◌∙◌, ℕ, ◌<◌, ◌^◌, ◌-◌, false, [], ◌∷◌, ◌++◌, List, Option, Some, Result, ap}
+use Rattle.std.proofs.Common.{append_assoc, append-nil, subst, sym}
 use Rattle.std.proofs.lemmas.Fmt.{hex_byte}
 use Rattle.std.specs.Fmt.{DisplaysOnOk, WritesOnOk, digits, digits_output, format_spec, padded_integral, radix_prefix}
 use Rattle.std.specs.Fmt.{shown_prefix, styled_digits_output}
 use Rattle.std.specs.Option.{option_map}
 use Rattle.std.specs.declared.fmt.Formatter.{Formatter}
 use Rattle.ciborium_ll_text.specs.Digits.{hex_text}
+use Rattle.cbor_escapes.specs.Escapes.{terminal_text, terminal_texts}
 
 -- A format with two hexadecimal digits writes the two digits of a byte.
 two_digits : (byte : ℕ) → byte < 256
@@ -27,3 +29,11 @@ pub shows : {W : Type 0} (took : W → List ℕ → W → Type 0) (f g : Formatt
     (output : Option (List ℕ)) (text : List ℕ) → output ≡ Some text → DisplaysOnOk took f result output g
     → WritesOnOk took f result text g
 shows took f g result output text same wrote = subst (λ o. DisplaysOnOk took f result o g) same wrote
+
+-- The text of one more character follows those of the others.
+pub texts_more : (characters : List ℕ) (character : ℕ)
+    → terminal_texts (characters ++ character ∷ []) ≡ terminal_texts characters ++ terminal_text character
+texts_more [] character = append-nil (terminal_text character)
+texts_more (first ∷ characters) character =
+    ap (λ (z : List ℕ). terminal_text first ++ z) (texts_more characters character)
+    ∙ sym (append_assoc (terminal_text first) (terminal_texts characters) (terminal_text character))

@@ -6,7 +6,8 @@
 
 ghost use Rattle.std.specs.Prelude.{◌≡◌};
 ghost use Rattle.std.specs.Fmt.{WritesOnOk};
-ghost use Rattle.cbor_escapes.specs.Escapes.{is_acted_on, terminal_text};
+ghost use Rattle.std.specs.Str.{chars};
+ghost use Rattle.cbor_escapes.specs.Escapes.{is_acted_on, terminal_text, terminal_texts};
 
 use std::fmt;
 
@@ -44,4 +45,18 @@ pub fn write_shown<W: fmt::Write>(f: &mut fmt::Formatter<W>, character: char) ->
     } else {
         write!(f, "{character}")
     }
+}
+
+/// Writes the characters of a text as [`write_shown`] does, one after the other.
+///
+/// # Errors
+///
+/// - The formatter failed.
+pub fn write_text<W: fmt::Write>(f: &mut fmt::Formatter<W>, text: &str) -> fmt::Result
+    ensures { WritesOnOk W.Write.write_str_gives f.old result (terminal_texts (chars text.now)) f.new }
+{
+    'characters: for character in text.chars() {
+        write_shown(f, character)?;
+    }
+    Ok(())
 }

@@ -1,8 +1,11 @@
 //! Names as the program prints them.
 
-use cbor_escapes::is_acted_on;
+ghost use Rattle.std.specs.Prelude.{Some};
+ghost use Rattle.std.specs.Str.{chars};
+ghost use Rattle.cbor_escapes.specs.Escapes.{terminal_texts};
+
+use cbor_escapes::write_text;
 use std::fmt;
-use std::fmt::Write;
 
 /// Prints a name without the characters that a terminal acts on.
 ///
@@ -12,15 +15,9 @@ use std::fmt::Write;
 pub struct Shown<'n>(pub &'n str);
 
 impl fmt::Display for Shown<'_> {
+    ghost output = { λ shown. Some (terminal_texts (chars shown.0.now)) };
+
     fn fmt<W: fmt::Write>(&self, f: &mut fmt::Formatter<W>) -> fmt::Result {
-        for character in self.0.chars() {
-            let code = u32::from(character);
-            if is_acted_on(code) {
-                write!(f, "\\u{code:04x}")?;
-            } else {
-                f.write_char(character)?;
-            }
-        }
-        Ok(())
+        write_text(f, self.0)
     }
 }

@@ -17,6 +17,6 @@ returns-then-is_acted_on g c =
     c.laid_out-then-is_acted_on.ensures c.in_radix-then-is_acted_on.ensures (omega arith) in
     let begun = Some (92 ∷ 117 ∷ []) in
     let last = styled_digits_output c.in_radix-then-is_acted_on.result c.laid_out-then-is_acted_on.result in
-    shows g.W.Write.write_str_gives _ _ c.write.result _ _
+    shows g.W.Write.write_str_gives c.args.f.now c.write.new.self c.write.result _ (terminal_text c.args.character)
     (ap (λ z. begun ++? (z ++? last)) high
     ∙ (ap (λ z. begun ++? (Some (hex_text (code / 256)) ++? z)) low ∙ ap Some (sym text))) c.write.ensures.writes
