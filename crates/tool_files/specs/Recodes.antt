@@ -35,7 +35,7 @@ pub record EndWithin (depth : ℕ) (bytes output : List ℕ) : Type 0 where
   pub is : bytes ≡ before ++ part
   pub written : output ≡ outputs ++ front
 
--- The place of a fault, from the start of its item.
+-- The place of a fault, from the start of its item: 1 for `Break` at 1.
 abbrev pub fault_place : Fault → ℕ
 fault_place (f.Syntax place) = place
 fault_place (f.Break place) = place
@@ -48,7 +48,7 @@ fault_said start (f.Break place) = v.Break (start + place)
 fault_said start (f.Deep place) = v.Deep (start + place)
 
 -- The answer at the end of an input of this length, if the item that would be next begins at `start`: a cut item, or
--- none.
+-- none. With the start 1 it is `short 2` for the length 2, and `Ok` for the length 1.
 abbrev pub end_said : ℕ → ℕ → Result (Unit {0}) Verdict
 end_said start len = if start == len then Ok tt else Err (v.Short len)
 
@@ -81,7 +81,8 @@ pub record StopAt (depth : ℕ) (bytes : List ℕ) (verdict : Verdict) (output :
   pub written : output ≡ outputs ++ front
   pub said : verdict ≡ fault_said (length before) fault
 
--- A beginning of the bytes ends within items, and this is its output. There are more bytes than an offset counts.
+-- A beginning of the bytes ends within items, and this is its output. There are more bytes than an offset counts: 2^64
+-- zeros are too many.
 pub record TooMany (depth : ℕ) (bytes output : List ℕ) : Type 0 where
   pub fed : List ℕ
   pub rest : List ℕ
@@ -89,7 +90,8 @@ pub record TooMany (depth : ℕ) (bytes output : List ℕ) : Type 0 where
   pub is : bytes ≡ fed ++ rest
   pub many : 2 ^ 64 ≤ length bytes
 
--- The reader has these bytes left, and the bytes before them end within items, of which this is the output.
+-- The reader has a rest of the bytes left, and the bytes before it end within items, of which this is the output. If
+-- `18 01 02` was due and `02` is left, the output is `01`.
 pub record StopsReading {R : Type 0} (left : R → Option (List ℕ)) (depth : ℕ) (due output : List ℕ) (reader : R)
     : Type 0 where
   pub fed : List ℕ
@@ -106,7 +108,7 @@ pub data IsOutput (depth : ℕ) (bytes output : List ℕ) : Type 0 where
 
 -- ---- what is written
 
--- The writer tells the bytes that it had, and then exactly these.
+-- The writer tells the bytes that it had, and then exactly these: `01 82` if it had `01` and got `82`.
 abbrev pub TellsAll : {W : Type 0} → (W → Option (List ℕ)) → List ℕ → List ℕ → W → Type 0
 TellsAll told written output writer = told writer ≡ Some (written ++ output)
 
@@ -121,7 +123,8 @@ pub record TellsSome {W : Type 0} (told : W → Option (List ℕ)) (written outp
 --
 -- `Ok`: the bytes are whole items, and their shortest spellings are written. `short`: they end within an item, and the
 -- place is their end. `syntax`, `break` and `deep`: no item begins there. After each of these, and after `too long`
--- and a failed read, all output is written. If the writer failed, it has a beginning of the output.
+-- and a failed read, all output is written. If the writer failed, it has a beginning of the output. Of `18 01 ff` the
+-- answer is `break 2`, and `01` is written.
 abbrev pub CopiesItems : {R W : Type 0} → (R → Option (List ℕ)) → (W → Option (List ℕ)) → ℕ → List ℕ → List ℕ
     → Result (Unit {0}) Verdict → R → W → Type 0
 CopiesItems left got depth due written (Ok done) reader writer =
@@ -154,14 +157,15 @@ AnswersItems (Err verdict) = ⊥
 
 -- ---- a copy between two pieces
 
--- The copy took these bytes and put out these. The item that it copies begins at `start`.
+-- The copy took these bytes and put out these. The item that it copies begins at `start`: at 2 after `18 01 82`, with
+-- the output `01 82`.
 pub record Stands (depth start : ℕ) (fed given : List ℕ) (copier : ItemCopier) : Type 0 where
   pub within : EndWithin depth fed given
   pub copied : IsItemCopied false depth within.part within.front copier
   pub none : pending copier ≡ []
   pub start_is : start ≡ length within.before
 
--- The copy took some bytes, this many.
+-- The copy took some bytes, this many: 3 after `18 01 82`.
 pub record IsAfter (depth start read : ℕ) (copier : ItemCopier) : Type 0 where
   pub fed : List ℕ
   pub given : List ℕ
