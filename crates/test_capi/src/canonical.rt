@@ -6,6 +6,7 @@ use std::process::Abort;
 
 // How long the output is, and how many spans there are.
 const ROOM: usize = 32;
+
 const SPANS: usize = 16;
 
 // What stands in the output before the call.
@@ -90,7 +91,14 @@ static WRITTEN: [Row; 13] = [
         (24, 0),
         LENGTH_FIRST,
     ),
-    (&[0x05, 0x1c], (0, 0), (1, 0), CllAnswer::Ok, (1, 0), &[0x05]),
+    (
+        &[0x05, 0x1c],
+        (0, 0),
+        (1, 0),
+        CllAnswer::Ok,
+        (1, 0),
+        &[0x05],
+    ),
     (
         &[0x1b, 0, 0, 0, 0, 0, 0, 0, 0x18],
         (0, 1),
@@ -157,7 +165,14 @@ static WRITTEN: [Row; 13] = [
             0xa2, 0x63, 0x41, 0x6d, 0x74, 0x21, 0x63, 0x46, 0x75, 0x6e, 0xf5,
         ],
     ),
-    (&[0xd8, 0x01, 0x40], (1, 0), (2, 0), CllAnswer::Ok, (3, 0), &[0xc1, 0x40]),
+    (
+        &[0xd8, 0x01, 0x40],
+        (1, 0),
+        (2, 0),
+        CllAnswer::Ok,
+        (3, 0),
+        &[0xc1, 0x40],
+    ),
 ];
 
 static REFUSED: [Row; 24] = [
@@ -185,22 +200,92 @@ static REFUSED: [Row; 24] = [
         &[],
     ),
     (&[0x81, 0x1c], (1, 0), ALL, CllAnswer::Syntax, (1, 1), &[]),
-    (&[0x81, 0xf8, 0x18], (1, 0), ALL, CllAnswer::Syntax, (1, 1), &[]),
-    (&[0x81, 0x61, 0xff], (1, 0), ALL, CllAnswer::Syntax, (1, 1), &[]),
-    (&[0x5f, 0x60, 0xff], (0, 1), ALL, CllAnswer::Syntax, (1, 1), &[]),
+    (
+        &[0x81, 0xf8, 0x18],
+        (1, 0),
+        ALL,
+        CllAnswer::Syntax,
+        (1, 1),
+        &[],
+    ),
+    (
+        &[0x81, 0x61, 0xff],
+        (1, 0),
+        ALL,
+        CllAnswer::Syntax,
+        (1, 1),
+        &[],
+    ),
+    (
+        &[0x5f, 0x60, 0xff],
+        (0, 1),
+        ALL,
+        CllAnswer::Syntax,
+        (1, 1),
+        &[],
+    ),
     (&[0xff], (0, 0), ALL, CllAnswer::BreakDue, (0, 0), &[]),
-    (&[0x82, 0x05, 0xff], (1, 0), ALL, CllAnswer::BreakDue, (2, 2), &[]),
-    (&[0xbf, 0x05, 0xff], (1, 0), ALL, CllAnswer::BreakDue, (2, 2), &[]),
+    (
+        &[0x82, 0x05, 0xff],
+        (1, 0),
+        ALL,
+        CllAnswer::BreakDue,
+        (2, 2),
+        &[],
+    ),
+    (
+        &[0xbf, 0x05, 0xff],
+        (1, 0),
+        ALL,
+        CllAnswer::BreakDue,
+        (2, 2),
+        &[],
+    ),
     // Cut before a title, within one, within a body, and before a segment.
     (&[], (0, 0), ALL, CllAnswer::Short, (0, 0), &[]),
     (&[0x82, 0x01], (1, 0), ALL, CllAnswer::Short, (2, 0), &[]),
-    (&[0x81, 0x19, 0x03], (1, 0), ALL, CllAnswer::Short, (3, 0), &[]),
-    (&[0x81, 0x43, 0x01], (1, 1), ALL, CllAnswer::Short, (3, 0), &[]),
-    (&[0x5f, 0x41, 0x01], (0, 0), ALL, CllAnswer::Short, (3, 0), &[]),
+    (
+        &[0x81, 0x19, 0x03],
+        (1, 0),
+        ALL,
+        CllAnswer::Short,
+        (3, 0),
+        &[],
+    ),
+    (
+        &[0x81, 0x43, 0x01],
+        (1, 1),
+        ALL,
+        CllAnswer::Short,
+        (3, 0),
+        &[],
+    ),
+    (
+        &[0x5f, 0x41, 0x01],
+        (0, 0),
+        ALL,
+        CllAnswer::Short,
+        (3, 0),
+        &[],
+    ),
     (&[0x00], (257, 0), ALL, CllAnswer::Argument, (0, 0), &[]),
-    (&[0x00], (u32::MAX, 1), ALL, CllAnswer::Argument, (0, 0), &[]),
+    (
+        &[0x00],
+        (u32::MAX, 1),
+        ALL,
+        CllAnswer::Argument,
+        (0, 0),
+        &[],
+    ),
     (&[0x00], (0, 2), ALL, CllAnswer::Argument, (0, 0), &[]),
-    (&[0x00], (0, u32::MAX), ALL, CllAnswer::Argument, (0, 0), &[]),
+    (
+        &[0x00],
+        (0, u32::MAX),
+        ALL,
+        CllAnswer::Argument,
+        (0, 0),
+        &[],
+    ),
 ];
 
 #[test]
