@@ -52,7 +52,9 @@ ghost use Rattle.capi.specs.Titles.{FillsTitles, Gives, HasTitles, StopsTitles};
 ghost use Rattle.capi.specs.Widths.{PushesWide};
 ghost use Rattle.ciborium_ll.specs.Limits.{MOST_LEVELS};
 
-pub use capi::{CllAnswer, CllChecker, CllCopier, CllHeader, CllItemCopier, CllReport, CllTitle, Span};
+pub use capi::{
+    CllAnswer, CllChecker, CllCopier, CllHeader, CllItemCopier, CllReport, CllTitle, Span,
+};
 
 /// Returns the version, which is 0.1.0: 65536 times its major number, 256 times its minor one, and its patch number.
 #[unsafe(no_mangle)]

@@ -51,8 +51,11 @@ record IsShownAs (bytes text : List ℕ) : Type 0 where
 alone : (byte : ℕ) (bytes text : List ℕ) → is_lead byte ≡ false → IsShownAs bytes text
     → IsShownAs (byte ∷ bytes) (byte_notation byte ++ text)
 alone byte bytes text is rest = record {
-  text_is = rw (off (is_lead byte) [] (byte_notation byte) is, off (is_lead byte) (h.One byte) h.Nothing is,
-      rest.text_is) refl;
+  text_is = rw (
+    off (is_lead byte) [] (byte_notation byte) is,
+    off (is_lead byte) (h.One byte) h.Nothing is,
+    rest.text_is,
+  ) refl;
   none = rw (off (is_lead byte) (h.One byte) h.Nothing is) rest.none;
 }
 
