@@ -86,8 +86,8 @@ fn copies_of_items(rt: HostRuntime) {
     }
 }
 
-// An array of two numbers in a longer spelling, its shortest spelling, and how much of that is put out by each number of
-// bytes.
+// An array of two numbers in a longer spelling, its shortest spelling, and how much of that each number of bytes puts
+// out.
 const LONG: &[u8] = b"\x98\x02\x01\x18\x02";
 
 const SHORT: &[u8] = b"\x82\x01\x02";

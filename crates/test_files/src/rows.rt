@@ -326,7 +326,7 @@ pub static SPELLED: [(&str, &str, &str); 64] = [
 ];
 
 // Words, and the files that they name, if they ask for a look at files.
-pub static WORDS: [(&str, Option<&str>); 79] = [
+pub static WORDS: [(&str, Option<&str>); 81] = [
     ("check", Some("")),
     ("check -", Some("-")),
     ("check a b", Some("a b")),

@@ -1,6 +1,7 @@
 -- Whole items in front of other bytes, and bytes that begin no list of items.
 use Rattle.std.proofs.Common.{◌≡◌, ℕ, ◌<◌, ◌⊎◌, inl, inr, false, List, [], ◌∷◌, ◌++◌, length}
-use Rattle.std.proofs.Common.{refl, sym, ap, subst, ◌∙◌, arith, append_assoc, append-nil, length-append, Ok, Err, Result, Option}
+use Rattle.std.proofs.Common.{refl, sym, ap, subst, ◌∙◌, arith, append_assoc, append-nil, length-append}
+use Rattle.std.proofs.Common.{Ok, Err, Result, Option}
 use Rattle.ciborium_ll_grammar.specs.Items.{AreItems, IsItem, more_items, no_items}
 use Rattle.ciborium_ll_grammar.proofs.AloneLaws.{title_some}
 use Rattle.ciborium_ll_grammar.proofs.ItemLaws.{one_item}

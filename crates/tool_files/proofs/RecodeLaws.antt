@@ -120,7 +120,8 @@ module _ (depth start : ℕ) (fed given : List ℕ) (old new : ItemCopier) (stan
   all_given = ap (λ (z : List ℕ). z ++ out) stands.within.written
       ∙ append_assoc stands.within.outputs stands.within.front out
 
-  end_within : (due : ℕ) → TellsWhole false depth (stands.within.part ++ bytes) (stands.within.front ++ out) (r.More due)
+  end_within : (due : ℕ)
+      → TellsWhole false depth (stands.within.part ++ bytes) (stands.within.front ++ out) (r.More due)
       → EndWithin depth (fed ++ bytes) (given ++ out)
   end_within due told = record {
     before = stands.within.before;
@@ -199,7 +200,8 @@ module _ (depth start : ℕ) (fed given : List ℕ) (old new : ItemCopier) (stan
     names = names fault is;
     begins_none = fault_begins_none depth stands.within.before stands.within.outputs (stands.within.part ++ bytes)
         (stands.within.front ++ out) fault stands.within.are
-        (subst (Tells false depth (stands.within.part ++ bytes) (stands.within.front ++ out)) is tells) (names fault is);
+        (subst (Tells false depth (stands.within.part ++ bytes) (stands.within.front ++ out)) is tells)
+        (names fault is);
     is = whole ∙ ap (λ (z : List ℕ). z ++ rest) all_fed
         ∙ append_assoc stands.within.before (stands.within.part ++ bytes) rest;
     written = all_given;

@@ -80,7 +80,8 @@ said_stop start (f.Syntax place) = tt
 said_stop start (f.Break place) = tt
 said_stop start (f.Deep place) = tt
 
-module _ {R W : Type 0} (left : R → Option (List ℕ)) (got : W → Option (List ℕ)) (depth : ℕ) (due written : List ℕ) where
+module _ {R W : Type 0} (left : R → Option (List ℕ)) (got : W → Option (List ℕ)) (depth : ℕ)
+    (due written : List ℕ) where
   -- The copy took `fed` and put out `given`, which is written. What the reader has comes next.
   pub record Held (start read : ℕ) (copier : ItemCopier) (reader : R) (writer : W) : Type 0 where
     pub fed : List ℕ
@@ -105,7 +106,8 @@ module _ {R W : Type 0} (left : R → Option (List ℕ)) (got : W → Option (Li
     all = all ∙ ap Some (sym (append-nil written));
   }
 
-  module _ {start read : ℕ} {copier : ItemCopier} {reader : R} {writer : W} (held : Held start read copier reader writer)
+  module _ {start read : ℕ} {copier : ItemCopier} {reader : R} {writer : W}
+      (held : Held start read copier reader writer)
       (reader' : R) where
     pub read_failed : (error : Error) → Keeps (left reader) (left reader')
         → CopiesItems left got depth due written (Err (v.Failed error)) reader' writer

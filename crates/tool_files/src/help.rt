@@ -209,7 +209,7 @@ byte at fault. A word of digits is a COUNT, so a file with such a name is given 
     $ printf '\\x18\\x01\\xff' | ./cbor recode 2>&1 > /dev/null || true
     cbor: -: break 2
 
-The status is 0 if all was copied, 1 after a fault, 2 after other arguments, and 3 if the program can't be built. Without
-a COUNT it is also 3 if a file can't be read or the output can't be written, and 141 if the reader of the output has
-gone away.
+The status is 0 if all was copied, 1 after a fault, 2 after other arguments, and 3 if the program can't be built.
+Without a COUNT it is also 3 if a file can't be read or the output can't be written, and 141 if the reader of the output
+has gone away.
 ";

@@ -4,7 +4,8 @@ ghost use Rattle.std.specs.Prelude.{◌≡◌, ◌+◌, ◌≤◌, ◌++◌, ℕ
 ghost use Rattle.ciborium_ll.specs.Limits.{MOST_LEVELS};
 ghost use Rattle.ciborium_ll_grammar.specs.Items.{AreItems};
 ghost use Rattle.ciborium_ll_streams.specs.Streams.{stream_sink};
-ghost use Rattle.tool_files.specs.Recodes.{AnswersItems, CopiesItems, TellsAll, TellsSome, end_said, fault_place, fault_said};
+ghost use Rattle.tool_files.specs.Recodes.{AnswersItems, CopiesItems, TellsAll, TellsSome, end_said, fault_place};
+ghost use Rattle.tool_files.specs.Recodes.{fault_said};
 
 use crate::check::ROOM;
 use crate::options::Options;
@@ -14,8 +15,8 @@ use ciborium_ll::io::{StdWriter, Write, WriteFault};
 use std::io;
 use tool_verdicts::verdict::Verdict;
 
-/// How many bytes there is room for: those that a piece has, eight of a title that an earlier piece began, and eight that
-/// a copier wants to be free.
+/// How many bytes there is room for: those of a piece, eight of a title that an earlier piece began, and eight that a
+/// copier wants to be free.
 const MOST_OUT: usize = ROOM + 16;
 
 /// Returns the verdict that names the fault of an item from this offset on.

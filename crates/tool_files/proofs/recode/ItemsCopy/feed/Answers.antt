@@ -1,4 +1,5 @@
-use Rattle.std.proofs.Common.{rules, refl, sym, ap, ◌∙◌, arith, append-nil, ◌≡◌, ◌+◌, ◌-◌, ◌++◌, ◌≤◌, ◌<◌, ℕ, List, length, take, drop, length-append, false}
+use Rattle.std.proofs.Common.{rules, refl, sym, ap, ◌∙◌, arith, append-nil, ◌≡◌, ◌+◌, ◌-◌, ◌++◌, ◌≤◌, ◌<◌, ℕ}
+use Rattle.std.proofs.Common.{List, length, take, drop, length-append, false}
 use Rattle.std.proofs.lemmas.List.{length-drop, length-take-le}
 use Rattle.cbor_item_copier.proofs.PieceLaws.{given_front}
 use Rattle.cbor_item_copier.specs.Telling.{IsRoom}
@@ -171,7 +172,8 @@ returns-in-Fault-clause-feeds c = λ fed given was long.
     (take taken rest) (take c.feed-copied.result.written new_out) c.feed-copied.result.progress
     (c.feed-copied.ensures.copied false c.args.self.now.depth s.within.part s.within.front s.copied)
     (c.feed-copied.ensures.tells false c.args.self.now.depth s.within.part s.within.front s.copied)
-    c.feed-copied.ensures.answers c.in-Fault.fault c.fault_verdict.result (fed ++ piece) (drop (c.items.at + taken) piece) c.in-Fault.is said whole in
+    c.feed-copied.ensures.answers c.in-Fault.fault c.fault_verdict.result (fed ++ piece)
+    (drop (c.items.at + taken) piece) c.in-Fault.is said whole in
     feeds_stop _ _ _ _ c.in-Fault.fault c.fault_verdict.result _ _ said
     (rw (← given_front c.items.written c.feed-copied.result.written k c.items.out new_out
     (omega (arith, c.items.auto.written-fits)) refl out_len (omega (arith, out_len)) given) on)
@@ -201,7 +203,8 @@ returns-in-Room-clause-feeds c = λ fed given was long.
     )) in
     let is = only_long c.feed-copied.result.progress c.in-Room.is lacks in
     let due = c.feed-copied.ensures.cut false c.args.self.now.depth t.within.part t.within.front t.copied is in
-    let some : 0 < length (drop (c.items.at + taken) piece) = omega (arith, c.feed-copied.ensures.long is, rest_len, length-drop (c.items.at + taken) piece) in
+    let some : 0 < length (drop (c.items.at + taken) piece) =
+    omega (arith, c.feed-copied.ensures.long is, rest_len, length-drop (c.items.at + taken) piece) in
     let s = c.items.invariant.stands fed given was long in
     let on = too_many c.args.self.now.depth c.items.self.start _ _ c.items.self.copier c.feed-copied.new.self s
     (take taken rest) (take c.feed-copied.result.written new_out) c.feed-copied.result.progress
