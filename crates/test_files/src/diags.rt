@@ -7,8 +7,9 @@ use tool_files::diag::diag_input;
 use tool_files::digits::Digits;
 use tool_verdicts::verdict::Verdict;
 
-// Options, digits, and the text that is written. If there is a fault, the text before it ends its line.
-static TEXTS: [(&str, &str, &str); 14] = [
+// Options, digits, and the text that is written. If there is a fault, the text before it ends its line. In the last row
+// the 64th byte of the body begins a character that is escaped.
+static TEXTS: [(&str, &str, &str); 15] = [
     ("diag", "", ""),
     ("diag", "82 1903e8 6161", "[1000, \"a\"]\n"),
     ("diag", "01 f6 8102", "1\nnull\n[2]\n"),
@@ -31,6 +32,11 @@ static TEXTS: [(&str, &str, &str); 14] = [
     ("diag --depth 0", "0080", "0\n"),
     ("diag --depth 1", "8180", "[\n"),
     ("diag --strict", "820a180a", "[10\n"),
+    (
+        "diag",
+        "7843 616161616161616161616161616161616161616161616161616161616161616161616161616161616161616161616161616161616161616161616161616161e280ae61",
+        "\"aaaaaaaaaaaaaaaaaaaaaaaaaaaaaaaaaaaaaaaaaaaaaaaaaaaaaaaaaaaaaaa\\u202ea\"\n",
+    ),
 ];
 
 // Returns whether the text is this.

@@ -108,8 +108,7 @@ fa47800000 65536.0
 fa80000000 -0.0_2";
 
 // Strings and maps of the indefinite form without bodies, and with empty ones; nested opens; escapes (RFC 8259, 7).
-// Control characters and bidirectional controls are escaped (Unicode, PropList.txt), and their neighbours are not. In
-// the last row the 64th byte of the body begins such a character.
+// Control characters and bidirectional controls are escaped (Unicode, PropList.txt), and their neighbours are not.
 static STRINGS: &str = "\
 5fff ''_
 7fff \"\"_
@@ -119,8 +118,7 @@ static STRINGS: &str = "\
 bfff {_ }
 6908090a0c0d001f7f2f \"\\b\\t\\n\\f\\r\\u0000\\u001f\\u007f/\"
 781a7e7fc280c29fc2a0d89bd89cd89de2808de2808ee2808fe28090 \"~\\u007f\\u0080\\u009f\u{a0}\u{61b}\\u061c\u{61d}\u{200d}\\u200e\\u200f\u{2010}\"
-781ce280a9e280aae280aee280afe281a5e281a6e281a9e281aaf0908880 \"\u{2029}\\u202a\\u202e\u{202f}\u{2065}\\u2066\\u2069\u{206a}\u{10200}\"
-7843616161616161616161616161616161616161616161616161616161616161616161616161616161616161616161616161616161616161616161616161616161e280ae61 \"aaaaaaaaaaaaaaaaaaaaaaaaaaaaaaaaaaaaaaaaaaaaaaaaaaaaaaaaaaaaaaa\\u202ea\"";
+781ce280a9e280aae280aee280afe281a5e281a6e281a9e281aaf0908880 \"\u{2029}\\u202a\\u202e\u{202f}\u{2065}\\u2066\\u2069\u{206a}\u{10200}\"";
 
 // A show of an item. It has how the show ends, as a skip of the item does, or `None` if there is no room for its text.
 // It also has the offset after the show, and how many bytes of text are written.
