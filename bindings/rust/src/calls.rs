@@ -50,11 +50,13 @@ pub struct Stopped {
 
 /// Reads the title with which the bytes begin. Returns its header and its length. An error counts its offset from
 /// `offset` on.
+#[inline]
 pub(crate) fn pull(bytes: &[u8], offset: usize) -> Result<(Header, usize), Error> {
     pull_parts(bytes, offset).map(|(parts, length)| (Header::of(&parts), length))
 }
 
 /// Reads a title as [`pull`] does, and returns the parts of its header.
+#[inline]
 pub(crate) fn pull_parts(bytes: &[u8], offset: usize) -> Result<(cll_header, usize), Error> {
     let (mut parts, mut consumed) = (cll_header::default(), 0);
     // SAFETY: as this file says.
@@ -383,6 +385,7 @@ pub fn utf8(bytes: &[u8]) -> Result<&str, Error> {
 
 /// Returns the longest front of the bytes that is UTF-8, and whether more bytes may complete the rest.
 #[cfg(feature = "std")]
+#[inline]
 pub(crate) fn utf8_in_front(bytes: &[u8]) -> (&str, bool) {
     let mut report = cll_report::default();
     // SAFETY: as this file says.

@@ -37,12 +37,14 @@ impl<R: Read> Decoder<R> {
         }
         let (start, mut title) = (self.offset, [0; 9]);
         self.read_exact(&mut title[..1])?;
-        // How many bytes follow the first one.
+        // How many bytes follow the first one. Each read is of a known length, which a reader over a slice does at once.
         let width = match title[0] & 31 {
-            more @ 24..=27 => 1 << (more - 24),
-            _ => 0,
-        };
-        self.read_exact(&mut title[1..=width])?;
+            24 => self.read_exact(&mut title[1..2]).map(|()| 1),
+            25 => self.read_exact(&mut title[1..3]).map(|()| 2),
+            26 => self.read_exact(&mut title[1..5]).map(|()| 4),
+            27 => self.read_exact(&mut title[1..9]).map(|()| 8),
+            _ => Ok(0),
+        }?;
         match calls::pull(&title[..=width], 0) {
             Ok((header, _)) => Ok(header.into()),
             Err(_) => Err(Error::Syntax(start)),

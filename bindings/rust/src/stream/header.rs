@@ -27,6 +27,7 @@ pub enum Header {
 }
 
 impl From<crate::Header> for Header {
+    #[inline]
     fn from(header: crate::Header) -> Self {
         match header {
             crate::Header::Positive(n) => Header::Positive(n),
@@ -69,6 +70,7 @@ pub(super) fn title_of(header: Header) -> ([u8; 9], usize) {
 }
 
 /// Returns the length of the shortest title of a header.
+#[inline]
 pub(super) fn length_of(header: Header) -> usize {
     let value = match header {
         Header::Positive(n) | Header::Negative(n) | Header::Tag(n) => n,
