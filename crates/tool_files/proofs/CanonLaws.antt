@@ -1,5 +1,5 @@
 -- The places of refusals, and the encodings of one item more.
-use Rattle.std.proofs.Common.{◌≡◌, ◌≤◌, ◌+◌, ◌-◌, ℕ, List, [], ◌++◌, length, arith, Bool, false, Option, None, Some}
+use Rattle.std.proofs.Common.{◌≡◌, ◌≤◌, ◌+◌, ℕ, List, [], ◌++◌, length, arith, Bool, false, Option, None, Some}
 use Rattle.std.proofs.Common.{IfSome, length-append, append_assoc, refl, sym, ◌∙◌, ap, subst, ◌^◌, ◌<◌, min, ◌∷◌}
 use Rattle.ciborium_ll_grammar.specs.Faults.{Answer, BodyDue, Due, FirstFault, In, Point, Syntax}
 use Rattle.ciborium_ll_grammar.specs.Faults.{CutTitle, NoTitle, LongTitle, OtherTitle, DamagedText, CutBody}
@@ -89,9 +89,28 @@ moved_to start depth ahead w.Deep place moved fits refused is =
     let parts = length-append refused.0.before (refused.0.title ++ refused.0.rest) in
     (place, refused, omega (arith, is, within, fits, all, parts))
 moved_to start depth ahead w.NoSimple place moved fits refused is =
-    (moved - start, refused, omega (arith, is, fits))
+    let k = refused.2 in
+    let all = ap (length {A = ℕ}) k.is in
+    let parts = length-append k.before (0xf8 ∷ k.number ∷ k.rest) in
+    (place, refused, omega (arith, is, k.place_is, fits, all, parts))
 moved_to start depth ahead w.DuplicateKey place moved fits refused is =
-    (moved - start, refused, omega (arith, is, fits))
+    let k = refused.2 in
+    let within : place ≤ length ahead =
+    omega (
+      arith,
+      k.place_is,
+      ap (length {A = ℕ}) k.is,
+      length-append k.before (k.title ++ (k.front ++ (k.key ++ (k.between ++ (k.again ++ k.rest))))),
+      length-append k.title (k.front ++ (k.key ++ (k.between ++ (k.again ++ k.rest)))),
+      length-append k.front (k.key ++ (k.between ++ (k.again ++ k.rest))),
+      length-append k.key (k.between ++ (k.again ++ k.rest)),
+      length-append k.between (k.again ++ k.rest),
+      length-append k.before (k.title ++ (k.front ++ (k.key ++ k.between))),
+      length-append k.title (k.front ++ (k.key ++ k.between)),
+      length-append k.front (k.key ++ k.between),
+      length-append k.key k.between,
+    ) in
+    (place, refused, omega (arith, is, within, fits))
 
 -- ---- items and their encodings
 
