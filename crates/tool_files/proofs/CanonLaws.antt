@@ -1,5 +1,5 @@
 -- The places of refusals, and the encodings of one item more.
-use Rattle.std.proofs.Common.{◌≡◌, ◌≤◌, ◌+◌, ℕ, List, [], ◌++◌, length, arith, Bool, false, Option, None, Some}
+use Rattle.std.proofs.Common.{◌≡◌, ◌≤◌, ◌+◌, ◌-◌, ℕ, List, [], ◌++◌, length, arith, Bool, false, Option, None, Some}
 use Rattle.std.proofs.Common.{IfSome, length-append, append_assoc, refl, sym, ◌∙◌, ap, subst, ◌^◌, ◌<◌, min, ◌∷◌}
 use Rattle.ciborium_ll_grammar.specs.Faults.{Answer, BodyDue, Due, FirstFault, In, Point, Syntax}
 use Rattle.ciborium_ll_grammar.specs.Faults.{CutTitle, NoTitle, LongTitle, OtherTitle, DamagedText, CutBody}
