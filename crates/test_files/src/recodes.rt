@@ -86,19 +86,26 @@ fn copies_of_items(rt: HostRuntime) {
     }
 }
 
-// An array of two numbers in a longer spelling, its shortest spelling, and how much of that each number of bytes puts
-// out.
+// An array of two numbers in a longer spelling, and its shortest spelling.
 const LONG: &[u8] = b"\x98\x02\x01\x18\x02";
 
 const SHORT: &[u8] = b"\x82\x01\x02";
 
-const PUT_OUT: [usize; 6] = [0, 0, 1, 2, 2, 3];
+// For each read of one byte, the output of the bytes before it.
+static PUT_OUT: [(usize, &[u8]); 6] = [
+    (1, b""),
+    (2, b""),
+    (3, b"\x82"),
+    (4, b"\x82\x01"),
+    (5, b"\x82\x01"),
+    (6, b"\x82\x01\x02"),
+];
 
-// Returns whether a failed read is found, and all output of the bytes before it is written.
-fn is_failed_read(alloc: Global, call: usize) -> bool {
-    let reader = PartReader::new(LONG, 1).failing_at(call + 1, io::ErrorKind::TimedOut);
+// Returns whether a read of this number that fails is found, and exactly these bytes are written.
+fn is_failed_read(alloc: Global, call: usize, output: &[u8]) -> bool {
+    let reader = PartReader::new(LONG, 1).failing_at(call, io::ErrorKind::TimedOut);
     let (_, writer, copied) = copy_items(reader, PartWriter::new(alloc, 1), Options::new());
-    matches!(copied, Err(Verdict::Failed(_))) && writer.taken.as_slice() == &SHORT[..PUT_OUT[call]]
+    matches!(copied, Err(Verdict::Failed(_))) && writer.taken.as_slice() == output
 }
 
 // Returns whether a writer is found whose call of this number fails, or takes no byte.
@@ -110,8 +117,8 @@ fn is_failed_call(alloc: Global, call: usize, kind: Option<io::ErrorKind>) -> bo
 
 #[test]
 fn copies_that_fail(rt: HostRuntime) {
-    for call in 0..6 {
-        holds_at(&rt, is_failed_read(rt.alloc(), call), "read", call);
+    for &(call, output) in &PUT_OUT {
+        holds_at(&rt, is_failed_read(rt.alloc(), call, output), "read", call);
     }
     for call in 1..=3 {
         let is_failed = is_failed_call(rt.alloc(), call, None)
