@@ -1,4 +1,4 @@
-/* The programs in C that are compared share this. */
+/* The programs in C and C++ that are compared share this. */
 #include <stddef.h>
 #include <stdint.h>
 #include <stdio.h>
@@ -7,7 +7,7 @@
 /* Reads standard input whole. Returns NULL if there is no memory. */
 static uint8_t *input(size_t *size) {
     size_t room = 1 << 20;
-    uint8_t *bytes = malloc(room);
+    uint8_t *bytes = (uint8_t *)malloc(room);
     *size = 0;
     while (bytes) {
         size_t count = fread(bytes + *size, 1, room - *size, stdin);
@@ -15,7 +15,7 @@ static uint8_t *input(size_t *size) {
         if (count == 0)
             return bytes;
         if (*size == room)
-            bytes = realloc(bytes, room *= 2);
+            bytes = (uint8_t *)realloc(bytes, room *= 2);
     }
     return NULL;
 }
