@@ -8,6 +8,7 @@ difference between a program that does its work twice and one that does it once.
 """
 import argparse
 import collections
+import functools
 import os
 import random
 import re
@@ -20,11 +21,13 @@ import ciborium_ll
 from ciborium_ll import Header, Kind
 
 TITLES = 200000
-PAIRS = 10000
+MAPS = 10000
 HERE = os.path.dirname(os.path.abspath(__file__))
 
-# Bytes with the words for them, and how many titles they have.
-Data = collections.namedtuple("Data", "words data titles")
+ITEM = "an item of 0.5 MB"
+
+# Bytes with the words for them, how many titles they have, and the sum that each side has to give.
+Data = collections.namedtuple("Data", "words data titles sum")
 
 # A program with the name of its work, and how often a timed run does it.
 Side = collections.namedtuple("Side", "command work times")
@@ -43,51 +46,53 @@ def text(body):
     return title(Kind.TEXT, len(body)) + body.encode()
 
 
-def integers(source, widths):
+def integers(words, source, widths):
     """Returns titles of numbers. The width of each, in bits, is one of these."""
-    return b"".join(title(Kind.POSITIVE, source.getrandbits(source.choice(widths))) for _ in range(TITLES))
+    numbers = [source.getrandbits(source.choice(widths)) for _ in range(TITLES)]
+    made = b"".join(title(Kind.POSITIVE, number) for number in numbers)
+    return Data(words, made, TITLES, sum(numbers) % 2 ** 64)
 
 
-def maps(source):
+def maps(words, source):
     """Returns maps of two pairs with short texts, of five titles each."""
-    made = []
-    for number in range(TITLES // 5):
+    made, count, total = [], TITLES // 5, 0
+    for number in range(count):
         name = "abcdefghijklmnopqrstuvwxyz"[:4 + source.getrandbits(4)]
         made += title(Kind.MAP, 2), text("id"), title(Kind.POSITIVE, number), text("name"), text(name)
-    return b"".join(made)
+        total += 1 + len("id") + number + len("name") + len(name)
+    return Data(words, b"".join(made), TITLES, total)
 
 
 def item():
-    """Returns an array of maps of four pairs, in the deterministic encoding."""
-    made = [title(Kind.ARRAY, PAIRS)]
-    for number in range(PAIRS):
+    """Returns an array of maps of four pairs, in the deterministic encoding. The sum is its length."""
+    made = [title(Kind.ARRAY, MAPS)]
+    for number in range(MAPS):
         made += title(Kind.MAP, 4), text("id"), title(Kind.POSITIVE, number), text("age")
         made += title(Kind.POSITIVE, number % 90), text("name"), text("Hello, World!"), text("email")
         made.append(text(f"user{number}@example.com"))
     made = b"".join(made)
-    assert ciborium_ll.deterministic(made) == len(made)
-    return made
+    return Data(ITEM, made, 1 + 9 * MAPS, len(made))
 
 
 def data_by_name():
     """Returns the data, always the same."""
     source = random.Random(1)
     return {
-        "small": Data("small integers", integers(source, [4]), TITLES),
-        "widths": Data("integers of all widths", integers(source, [4, 8, 16, 32, 64]), TITLES),
-        "maps": Data("maps with short texts", maps(source), TITLES),
-        "item": Data("an item of 0.5 MB", item(), 1 + 9 * PAIRS),
+        "small": integers("small integers", source, [4]),
+        "widths": integers("integers of all widths", source, [4, 8, 16, 32, 64]),
+        "maps": maps("maps with short texts", source),
+        "item": item(),
     }
 
 
 def rows(folder):
     """Returns all rows. The other side of a row is None if its program is not there."""
-    def side(name, work, times=200):
+    def side(name, work, times=100):
         program = os.path.join(folder, name)
-        return Side([program], work, times) if os.path.exists(program) else None
+        return Side((program,), work, times) if os.path.exists(program) else None
 
     def python(work, times):
-        return Side([sys.executable, os.path.join(HERE, "works.py")], work, times)
+        return Side((sys.executable, os.path.join(HERE, "works.py")), work, times)
 
     rust, crate = "rust/release/works_rust", "rust/release/works_beside"
     for data in "small", "widths", "maps":
@@ -117,16 +122,13 @@ def run(side, data, times, before=()):
 
 
 def agree(sides, data):
-    """Ends the program if the sides give other sums."""
-    # The package for Python does not sum what it only goes over.
-    summed = [side._replace(work="sum") if "works.py" in side.command[-1] and side.work == "headers" else side
-              for side in sides]
-    sums = {run(side, data, 1)[0] for side in summed}
-    # Works over integers and texts give the sum that Python's package does.
-    if data.words != "an item of 0.5 MB":
-        sums.add(run(Side([sys.executable, os.path.join(HERE, "works.py")], "sum", 1), data, 1)[0])
-    if len(sums) != 1:
-        raise SystemExit(f"the sides of {[side.work for side in sides]} over {data.words} give {sums}")
+    """Ends the program if a side gives another sum than that of the data."""
+    for side in sides:
+        # The package for Python does not sum what it only goes over.
+        work = "sum" if side.work == "headers" and side.command[0] == sys.executable else side.work
+        given = run(side._replace(work=work), data, 1)[0].decode()
+        if given != str(data.sum):
+            raise SystemExit(f"{side.command} {work} over {data.words} gives {given}, and not {data.sum}")
 
 
 def best_times(sides, data, rounds):
@@ -140,6 +142,7 @@ def best_times(sides, data, rounds):
     return [max(least[1] - least[0], 1e-4) / side.times for side, least in zip(sides, best)]
 
 
+@functools.lru_cache(None)
 def instructions(side, data):
     """Returns how many instructions the work takes once, the system's not counted. It is None without valgrind."""
     if not shutil.which("valgrind"):
@@ -152,27 +155,22 @@ def instructions(side, data):
     return counts[1] - counts[0]
 
 
-def speed(data, seconds):
-    """Returns the speed: titles a second, or MB/s of the item."""
-    if data.words == "an item of 0.5 MB":
-        return f"{len(data.data) / 1e6 / seconds:.0f} MB/s"
-    return f"{data.titles / 1e6 / seconds:.1f} M titles/s"
-
-
 def line_of(row, data, rounds):
     """Measures a row, and returns its line of the table."""
     sides = [side for side in (row.ours, row.other) if side]
     agree(sides, data)
     times = best_times(sides, data, rounds)
     counts = [instructions(side, data) for side in sides]
-    by_title = [f"{count / data.titles:.0f}" if count else "-" for count in counts]
-    cells = [row.language, row.call, data.words, row.beside if row.other else "-", speed(data, times[0])]
+    speeds = [f"{len(data.data) / 1e6 / time:.1f}" for time in times]
+    by_time = by_count = beside = "-"
     if row.other:
-        ratio = f"{counts[1] / counts[0]:.2f}" if counts[0] else "-"
-        cells += [speed(data, times[1]), f"{times[1] / times[0]:.2f}", *by_title, ratio]
+        beside, by_time = row.beside, f"{times[1] / times[0]:.2f}"
+        by_count = f"{counts[1] / counts[0]:.2f}" if counts[0] else "-"
     else:
-        cells += ["-", "-", by_title[0], "-", "-"]
-    return "| " + " | ".join(cells) + " |"
+        speeds.append("-")
+    by_title = f"{counts[0] / data.titles:.0f}" if counts[0] else "-"
+    cells = [row.language, row.call, data.words, beside, *speeds, by_time, by_count]
+    return f"| {' | '.join(cells)} | {data.titles / 1e6 / times[0]:.1f} | {by_title} |"
 
 
 def main():
@@ -185,7 +183,8 @@ def main():
     data = data_by_name()
     # No hash of Python may change the count of instructions.
     os.environ["PYTHONHASHSEED"] = "0"
-    print("| language | call | over | beside | ours | other | by time | instructions a title | of the other | ratio |")
+    print("| language | call | over | beside | ours, MB/s | other, MB/s | by time | by instructions "
+          "| ours, million titles/s | ours, instructions a title |")
     print("|---|---|---|---|---|---|---|---|---|---|")
     for row in rows(asked.folder):
         if row.ours and asked.rows in f"{row.language} {row.call} {data[row.data].words} {row.beside}":
