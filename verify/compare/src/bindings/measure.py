@@ -24,7 +24,7 @@ TITLES = 200000
 MAPS = 10000
 HERE = os.path.dirname(os.path.abspath(__file__))
 
-ITEM = "an item of 0.5 MB"
+ITEM = "an item of 0.6 MB"
 
 # Bytes with the words for them, how many titles they have, and the sum that each side has to give.
 Data = collections.namedtuple("Data", "words data titles sum")
@@ -106,7 +106,8 @@ def rows(folder):
     for data in "small", "widths", "maps":
         yield Row("C++", "`headers`", data, side("works_cpp", "headers"), "`cll_headers`", side("works_c", "headers"))
     for data in "small", "widths", "maps":
-        yield Row("C", "`cll_headers`", data, side("works_c", "headers"), "`cll_pull`", side("works_c", "pull"))
+        yield Row("C", "`cll_headers`", data, side("works_c", "headers"), "`cll_pull` and `cll_utf8`",
+                  side("works_c", "pull"))
     for work in "canonical", "deterministic":
         yield Row("C", f"`cll_{work}`", "item", side("works_c", work), "`cll_recode`", side("works_c", "recode"))
 
