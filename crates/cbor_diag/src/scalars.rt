@@ -3,16 +3,17 @@
 ghost use Rattle.std.specs.Prelude.{◌≡◌, ◌<◌, ◌≤◌, [], negsuc, decimal, if◌then◌else◌};
 ghost use Rattle.std.specs.Fmt.{signed_decimal};
 ghost use Rattle.ciborium_ll.specs.Encoding.{WritesBytes};
-ghost use Rattle.cbor_diag.specs.Floats.{IsFloatText, IsNumberText, half_size, half_value, holds, is_held};
-ghost use Rattle.cbor_diag.specs.Floats.{power_of_two, with_point};
+ghost use Rattle.cbor_diag.specs.Floats.{IsFloatText, holds, is_held};
 ghost use Rattle.cbor_diag.specs.Notation.{simple_notation};
+ghost use Rattle.cbor_floats.specs.Floats.{IsNumberText, with_point};
 ghost use Rattle.cbor_diag.specs.Writing.{ShowsMarked, ShowsOne};
 
 use crate::put::{put, put_three, put_two};
+use cbor_floats::{float_value, number_name, point_due};
 use ciborium_ll::io::Write;
 use ciborium_ll::{Float, simple};
 use itoa::Buffer;
-use std::num::{f32_from_bits_with_nan, f64_from_bits_with_nan, f64_to_bits_with_nan};
+use std::num::f64_to_bits_with_nan;
 
 /// Shows an integer that is not negative.
 pub(crate) fn show_positive<W: Write>(writer: &mut W, number: u64) -> Result<(), W::Error>
@@ -75,53 +76,18 @@ const SINGLE: Width = Width {
 pub(crate) fn show_float<W: Write>(writer: &mut W, float: Float) -> Result<(), W::Error>
     ensures { ShowsOne W.Write (IsFloatText float) writer.old result writer.new }
 {
+    let value = float_value(float);
     match float {
-        Float::Half(bits) => show_number(writer, half_value(bits), b""),
-        Float::Single(bits) => {
-            let value = f64::from(f32_from_bits_with_nan(bits));
+        Float::Half(_) => show_number(writer, value, b""),
+        Float::Single(_) => {
             let mark = mark(f64_to_bits_with_nan(value), HALF, b"_2");
             show_number(writer, value, mark)
         }
         Float::Double(bits) => {
             let mark = mark(bits, SINGLE, b"_3");
-            show_number(writer, f64_from_bits_with_nan(bits), mark)
+            show_number(writer, value, mark)
         }
     }
-}
-
-/// Returns the value of a half (RFC 8949, appendix D).
-fn half_value(bits: u16) -> f64
-    ensures { result ≡ half_value bits }
-{
-    let size = half_size(bits / 1024 % 32, bits % 1024);
-    if bits < 0x8000 { size } else { -size }
-}
-
-/// Returns the value of a half without its sign.
-fn half_size(exponent: u16, fraction: u16) -> f64
-    requires exponent { exponent < 32 }
-    requires fraction { fraction < 1024 }
-    ensures { result ≡ half_size exponent fraction }
-{
-    if exponent == 31 {
-        return if fraction == 0 {
-            f64::INFINITY
-        } else {
-            f64::NAN
-        };
-    }
-    if exponent == 0 {
-        return f64::from(fraction) * power_of_two(1);
-    }
-    f64::from(fraction + 1024) * power_of_two(exponent)
-}
-
-/// Returns two to the power of the exponent less 25.
-fn power_of_two(exponent: u16) -> f64
-    requires { exponent < 32 }
-    ensures { result ≡ power_of_two exponent }
-{
-    f64_from_bits_with_nan((u64::from(exponent) + 998) * 0x10_0000_0000_0000)
 }
 
 /// Returns the mark if the width holds the double too, and otherwise nothing.
@@ -168,37 +134,22 @@ fn is_held(width: Width, exponent: u64, fraction: u64) -> bool
 fn show_number<W: Write>(writer: &mut W, value: f64, mark: &[u8]) -> Result<(), W::Error>
     ensures { ShowsMarked W.Write (IsNumberText value) mark.now writer.old result writer.new }
 {
-    if value.is_nan() {
-        return put_two(writer, b"NaN", mark);
+    if let Some(name) = number_name(value) {
+        return put_two(writer, name.as_bytes(), mark);
     }
-    if value.is_finite() {
-        show_digits(
-            writer,
-            ryu::Buffer::new().format_finite_with_plus(value).as_bytes(),
-        )?;
-        return put(writer, mark);
-    }
-    if value.is_sign_negative() {
-        put_two(writer, b"-Infinity", mark)
-    } else {
-        put_two(writer, b"Infinity", mark)
-    }
+    show_digits(
+        writer,
+        ryu::Buffer::new().format_finite_with_plus(value).as_bytes(),
+    )?;
+    put(writer, mark)
 }
 
 /// Shows digits as the standard spells them, with a point before the exponent.
 fn show_digits<W: Write>(writer: &mut W, digits: &[u8]) -> Result<(), W::Error>
     ensures { WritesBytes W.Write writer.old result (with_point digits.now) writer.new }
 {
-    let mut rest = digits;
-    'digits: while let Some((first, behind)) = rest.split_first() {
-        if *first == b'.' {
-            return put(writer, rest);
-        }
-        if *first == b'e' {
-            return put_two(writer, b".0", rest);
-        }
-        put(writer, &[*first])?;
-        rest = behind;
+    match point_due(digits) {
+        Some(at) => put_three(writer, &digits[..at], b".0", &digits[at..]),
+        None => put(writer, digits),
     }
-    Ok(())
 }
