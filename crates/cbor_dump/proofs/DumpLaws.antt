@@ -107,7 +107,7 @@ pub title_row : {E : Type 0} (strict : Bool) (kind : Kind) (opens : ℕ) (error 
 title_row strict kind opens error bytes p q = grind (arith, nat_tests)
 
 full_cut : (left : ℕ) (bytes : List ℕ) → IsCutText left bytes → IsFullPart Text left bytes
-full_cut left bytes cut = let many = cut.many in omega (arith, many)
+full_cut left bytes cut = (let many = cut.many in omega (arith, many), cut.soon)
 
 -- Bytes that were read of a body before an error are a full part of a text at fault.
 pub part_row : {E : Type 0} (strict : Bool) (kind : Kind) (left : ℕ) (error : Error E) (bytes : List ℕ)

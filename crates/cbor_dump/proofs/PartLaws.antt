@@ -2,7 +2,8 @@
 use Rattle.std.proofs.lemmas.Bool.Decides.{nat_tests}
 use Rattle.std.proofs.Common.{◌≡◌, ℕ, ◌+◌, ◌<◌, ◌≤◌, Bool, true, false, List, [], ◌∷◌, ◌++◌, length}
 use Rattle.std.proofs.Common.{Result, Ok, Err, inl, inr, refl, sym, ap, subst, ◌∙◌, arith, append_assoc}
-use Rattle.std.proofs.Common.{length-append, None}
+use Rattle.std.proofs.Common.{length-append, None, take, take_at}
+use Rattle.std.proofs.lemmas.List.{take-append-le}
 use Rattle.std.proofs.lemmas.Bool.{cases_lt}
 use Rattle.std.proofs.lemmas.Bool.Decides.{nat_tests}
 use Rattle.ciborium_ll.specs.Types.Read.{Ghosts}
@@ -22,7 +23,8 @@ use Rattle.ciborium_ll_text.specs.declared.state.State.{State}
 use Rattle.ciborium_ll_text.specs.declared.state.State.TheVariants as t
 use Rattle.ciborium_ll_text.proofs.StateLaws.{after-append, text_ends, text_from, none_goes_on, some_goes_on}
 use Rattle.cbor_dump.specs.Takings.{ReadsMore, most_text}
-use Rattle.cbor_dump.specs.Parts.{is_between, is_inside, FailsInBody, IsCutText, IsSound, ReadsPart, ReadsTextPart}
+use Rattle.cbor_dump.specs.Parts.{is_between, is_inside, EndsSoon, FailsInBody, IsCutText, IsSound, ReadsPart}
+use Rattle.cbor_dump.specs.Parts.{ReadsTextPart}
 use Rattle.cbor_dump.proofs.PullLaws.{passes_idle, first_passed}
 
 -- ---- states
@@ -96,8 +98,25 @@ cut_of bytes is =
     ]
 
 pub cut_text : (left : ℕ) (bytes : List ℕ) → is_inside (after t.Between bytes) ≡ true → most_text ≤ length bytes
-    → length bytes < left → IsCutText left bytes
-cut_text left bytes is many less = grind (arith, nat_tests, some_goes_on, inside_not, inside_broken)
+    → EndsSoon bytes → length bytes < left → IsCutText left bytes
+cut_text left bytes is many soon less = grind (arith, nat_tests, some_goes_on, inside_not, inside_broken)
+
+-- A byte that follows bytes that end inside a character leaves no further character.
+pub inside_more : (row next byte : List ℕ) → next ≡ row ++ byte → length byte ≡ 1
+    → ((count : ℕ) → most_text ≤ count → count < length row → is_inside (after t.Between (take count row)) ≡ true)
+    → is_inside (after t.Between row) ≡ true → (count : ℕ) → most_text ≤ count → count < length next
+    → is_inside (after t.Between (take count next)) ≡ true
+inside_more row next byte is one earlier here count least less =
+    let long = ap length is in
+    let both = length-append row byte in
+    elim (cases_lt count (length row)) [
+      | inl before ↦ (let same : take count next ≡ take count row =
+          ap (λ (z : List ℕ). take count z) is ∙ take-append-le count row byte (omega (arith, before)) in
+          rw same (earlier count least before))
+      | inr behind ↦ (let all : count ≡ length row = omega (arith, long, both, one, less, behind) in
+          let same : take count next ≡ row = ap (λ (z : List ℕ). take count z) is ∙ take_at row byte count (sym all) in
+          rw same here)
+    ]
 
 -- The bytes do not end inside a character, or are all that was left. Then they are characters, or they begin no text.
 pub sound_of : (left : ℕ) (bytes : List ℕ) (whole : Bool) → whole ≡ is_between (after t.Between bytes)

@@ -1,7 +1,7 @@
 -- The texts of rows, as they are written step by step.
 use Rattle.std.proofs.lemmas.Bool.Decides.{nat_tests}
 use Rattle.std.proofs.Common.{◌≡◌, ◌∙◌, ℕ, zero, suc, ◌+◌, ◌<◌, List, [], ◌∷◌, ◌++◌, refl, sym, ap, arith, ◌-◌}
-use Rattle.std.proofs.Common.{append-nil, append_assoc, length, take, get_or, Option, Some, Result, subst}
+use Rattle.std.proofs.Common.{append-nil, append_assoc, length, take, get_or, Option, None, Some, Result, subst}
 use Rattle.std.proofs.Common.{◌*◌, min, ◌⊎◌, inl, inr}
 use Rattle.std.proofs.lemmas.List.{take_more}
 use Rattle.std.proofs.lemmas.Str.{IsUtf8-from_is_utf8, is_utf8-from_IsUtf8}
@@ -11,12 +11,14 @@ use Rattle.std.proofs.lemmas.Grind.{put_two}
 use Rattle.std.specs.Fmt.{HasWritten, IsPlainFormatter, DisplaysOnOk, WritesOnOk}
 use Rattle.std.specs.declared.fmt.Formatter.{Formatter}
 use Rattle.ciborium_ll_text.specs.Digits.{hex_text}
-use Rattle.cbor_dump.specs.RowTexts.{blank, joined_text, more_text, characters_text, character_text}
+use Rattle.cbor_dump.specs.RowTexts.{blank, more_text, characters_text, character_text}
 use Rattle.cbor_dump.specs.RowTexts.{shown_text}
-use Rattle.cbor_dump.specs.RowTexts.{digits_text, margin_text, meaning_text, row_text}
+use Rattle.cbor_dump.specs.RowTexts.{IsHeaderValue, IsRowText, IsValue, WritesOneOnOk, known_header, known_of, known_text}
+use Rattle.cbor_dump.specs.RowTexts.{row_text}
 use Rattle.cbor_dump.specs.declared.rows.Meaning.{Meaning}
 use Rattle.cbor_dump.specs.declared.rows.Meaning.TheVariants as m
 use Rattle.cbor_dump.specs.declared.rows.Row.{Row}
+use Rattle.ciborium_ll.specs.Types.Header.{Header}
 
 -- One more space follows this many spaces.
 pub blank_more : (count : ℕ) → blank count ++ 32 ∷ [] ≡ blank (count + 1)
@@ -25,22 +27,12 @@ blank_more (suc count) =
     let same : suc (count + 1) ≡ suc count + 1 = omega arith in
     ap (λ (z : List ℕ). 32 ∷ z) (blank_more count) ∙ ap blank same
 
--- The digits of one more byte follow without a space.
-pub joined_more : (bytes : List ℕ) (byte : ℕ) → joined_text (bytes ++ byte ∷ []) ≡ joined_text bytes ++ hex_text byte
-joined_more [] byte = append-nil (hex_text byte)
-joined_more (first ∷ bytes) byte = ap (λ (z : List ℕ). hex_text first ++ z) (joined_more bytes byte)
-
 -- The digits of one more byte follow after a space.
 pub more_more : (bytes : List ℕ) (byte : ℕ) → more_text (bytes ++ byte ∷ []) ≡ more_text bytes ++ (32 ∷ hex_text byte)
 more_more [] byte = refl
 more_more (first ∷ bytes) byte = ap (λ (z : List ℕ). 32 ∷ (hex_text first ++ z)) (more_more bytes byte)
 
 -- The digits up to the next place add those of one byte.
-pub joined_at : (bytes : List ℕ) (at : ℕ) → at < length bytes
-    → joined_text (take (at + 1) bytes) ≡ joined_text (take at bytes) ++ hex_text (get_or bytes at 0)
-joined_at bytes at less =
-    ap joined_text (take_more bytes at 0 less) ∙ joined_more (take at bytes) (get_or bytes at 0)
-
 pub more_at : (bytes : List ℕ) (at : ℕ) → at < length bytes
     → more_text (take (at + 1) bytes) ≡ more_text (take at bytes) ++ (32 ∷ hex_text (get_or bytes at 0))
 more_at bytes at less = ap more_text (take_more bytes at 0 less) ∙ more_more (take at bytes) (get_or bytes at 0)
@@ -79,29 +71,31 @@ module _ {W : Type 0} (took : W → List ℕ → W → Type 0) where
       → output ≡ Some text → DisplaysOnOk took f result output g → WritesOnOk took f result text g
   shows f g result output text same wrote = subst (λ o. DisplaysOnOk took f result o g) same wrote
 
--- The text of a row is the indent, the bytes, and the text of their meaning.
-pub row_is : (row : Row) (shown : ℕ) (meaning : Meaning) (text : List ℕ) → shown ≡ min row.level 256
-    → row.meaning ≡ meaning → meaning_text meaning row.level row.bytes.now ≡ text
-    → blank (3 * shown) ++ (digits_text row.bytes.now ++ text) ≡ row_text row
-row_is row shown meaning text same means is =
-    ap (λ (n : ℕ). blank (3 * n) ++ (digits_text row.bytes.now ++ text)) same
-    ∙ ap (λ (z : List ℕ). blank (3 * min row.level 256) ++ (digits_text row.bytes.now ++ z))
-    (sym is ∙ ap (λ (z : Meaning). meaning_text z row.level row.bytes.now) (sym means))
+-- Either the text of a row is known, and no value follows it, or it is not known.
+known_title : (header : Header) (text : List ℕ)
+    → (known_header header text ≡ None)
+    ⊎ ((known_header header text ≡ Some text) × ((value : List ℕ) → IsHeaderValue header value → value ≡ []))
+known_title header text = grind arith
 
--- The text of a row of bytes, or of bytes at fault, is the indent and the bytes.
-pub row_bare : (row : Row) (shown : ℕ) → shown ≡ min row.level 256
-    → (row.meaning ≡ m.Bytes) ⊎ (row.meaning ≡ m.Fault)
-    → blank (3 * shown) ++ digits_text row.bytes.now ≡ row_text row
-row_bare row shown same means =
-    ap (λ (z : List ℕ). blank (3 * shown) ++ z) (sym (append-nil (digits_text row.bytes.now)))
-    ∙ (elim means [
-      | inl is ↦ row_is row shown m.Bytes [] same is refl
-      | inr is ↦ row_is row shown m.Fault [] same is refl
-    ])
+known_is : (meaning : Meaning) (text : List ℕ)
+    → (known_of meaning text ≡ None)
+    ⊎ ((known_of meaning text ≡ Some text) × ((value : List ℕ) → IsValue meaning value → value ≡ []))
+known_is (m.Header header) text = known_title header text
+known_is m.Text text = inr (refl, λ value is. is)
+known_is m.Bytes text = inr (refl, λ value is. is)
+known_is m.Fault text = inr (refl, λ value is. is)
 
--- The margin is the space that is left, a `#`, and the indent.
-pub margin_is : (level count shown left : ℕ) → shown ≡ min level 256 → left ≡ 36 - (3 * shown + 3 * count)
-    → blank left ++ (32 ∷ 35 ∷ 32 ∷ blank (2 * shown)) ≡ margin_text level count
-margin_is level count shown left same less =
-    ap (λ (n : ℕ). blank n ++ (32 ∷ 35 ∷ 32 ∷ blank (2 * shown))) less
-    ∙ ap (λ (n : ℕ). blank (36 - (3 * n + 3 * count)) ++ (32 ∷ 35 ∷ 32 ∷ blank (2 * n))) same
+-- If a row was written, the text that is known of it was written.
+pub known_written : {W : Type 0} (took : W → List ℕ → W → Type 0) (row : Row) (f g : Formatter W)
+    (result : Result (Unit {0}) _) → WritesOneOnOk took f result (IsRowText row) g
+    → DisplaysOnOk took f result (known_text row) g
+known_written took row f g result wrote =
+    elim (known_is row.meaning (row_text row)) [
+      | inl none ↦ subst (λ (o : Option (List ℕ)). DisplaysOnOk took f result o g) (sym none) tt
+      | inr some ↦ subst (λ (o : Option (List ℕ)). DisplaysOnOk took f result o g) (sym some.0) (λ plain ok.
+          let one = wrote plain ok in
+          let is = one.is_text in
+          text_is took f g one.text (row_text row)
+          (is.is ∙ (ap (λ (z : List ℕ). row_text row ++ z) (some.1 is.value is.is_value)
+          ∙ append-nil (row_text row))) one.written)
+    ]

@@ -137,7 +137,7 @@ IsTitleFault Failed kind opens bytes = IsFirstByte bytes
 IsTitleFault Stopped kind opens bytes = IsFirstByte bytes
 
 -- The bytes of a text's body that a line at fault has, if `left` bytes of the body are left: bytes that are no text, or
--- the first bytes of a text that was cut. For `Refused` they can be `ff`. If 14 bytes are left, they can be twelve `61`
+-- the first bytes of a text that was cut. For `Refused` they can be `ff`. If 9 bytes are left, they can be seven `61`
 -- and a `c3` for `Failed`.
 abbrev pub IsTextFault : Ending → ℕ → List ℕ → Type 0
 IsTextFault Meant left bytes = ⊥

@@ -10,3 +10,4 @@ pub mod Takings
 pub mod TitleRows
 pub mod Walks
 pub mod Checking
+pub mod Tags

@@ -1,5 +1,6 @@
 -- The read of a part of a body, compared with a skip of the string.
-use Rattle.std.specs.Prelude.{◌≡◌, ℕ, ◌<◌, ◌≤◌, ◌⊎◌, min, Bool, true, false, List, [], ◌++◌, length, Result, Ok, Err}
+use Rattle.std.specs.Prelude.{◌≡◌, ℕ, ◌<◌, ◌≤◌, ◌⊎◌, min, Bool, true, false, List, [], ◌++◌, length, take}
+use Rattle.std.specs.Prelude.{Result, Ok, Err}
 use Rattle.ciborium_ll.specs.Types.Read.{Ghosts}
 use Rattle.ciborium_ll.specs.Types.Decoder.{Decoder}
 use Rattle.ciborium_ll.specs.Types.Error.{Error}
@@ -10,7 +11,8 @@ use Rattle.ciborium_ll.specs.Finishing.{EndsBody, IsNoText}
 use Rattle.ciborium_ll_text.specs.Text.{IsCharacters}
 use Rattle.ciborium_ll_text.specs.declared.state.State.{State}
 use Rattle.ciborium_ll_text.specs.declared.state.State.TheVariants as t
-use Rattle.cbor_dump.specs.Takings.{ThroughSomeRoom, most_bytes, most_text}
+use Rattle.ciborium_ll_text.specs.States.{after}
+use Rattle.cbor_dump.specs.Takings.{ThroughSomeRoom, most_bytes, most_text, widest_text}
 
 -- The bytes so far end between two characters (Unicode, Table 3-7), as `c3 a9` does.
 abbrev pub is_between : State → Bool
@@ -29,20 +31,29 @@ abbrev pub IsSound : ℕ → List ℕ → Bool → Type 0
 IsSound left bytes true = IsCharacters bytes
 IsSound left bytes false = IsNoText [] left bytes
 
+-- The bytes of a row of a text, up to the end of the character that the eighth byte is in: at most 11 bytes. Each
+-- shorter front of at least 8 bytes ends inside a character (Unicode, Table 3-7). Seven `61` and `c3 a9` are such, and
+-- nine `61` are none.
+pub record EndsSoon (bytes : List ℕ) : Type 0 where
+  pub few : length bytes ≤ widest_text
+  pub inside : (count : ℕ) → most_text ≤ count → count < length bytes
+      → is_inside (after t.Between (take count bytes)) ≡ true
+
 -- The first bytes of a text that was cut, of a body that has `left` bytes left. They end inside a character (RFC 3629,
--- 4), as twelve `61` and a `c3` do.
+-- 4), as seven `61` and a `c3` do.
 pub record IsCutText (left : ℕ) (bytes : List ℕ) : Type 0 where
   pub many : most_text ≤ length bytes
+  pub soon : EndsSoon bytes
   pub due : length bytes < left
   pub no_text : IsCharacters bytes → ⊥
   pub more : List ℕ
   pub goes_on : IsCharacters (bytes ++ more)
 
--- The bytes are as many as a row has, of a body that has `left` bytes left: 16, or at least 13 of a text, or all that
--- is left. A byte string of 20 bytes has parts of 16 and 4 bytes.
+-- The bytes are as many as a row has, of a body that has `left` bytes left: 16, or 8 of a text with the rest of their
+-- last character, or all that is left. A byte string of 20 bytes has parts of 16 and 4 bytes.
 abbrev pub IsFullPart : Kind → ℕ → List ℕ → Type 0
 IsFullPart Bytes left bytes = min left most_bytes ≤ length bytes
-IsFullPart Text left bytes = min left most_text ≤ length bytes
+IsFullPart Text left bytes = (min left most_text ≤ length bytes) × EndsSoon bytes
 
 -- The bytes that were read of a body that has `left` bytes left, if the read stopped with this error. For `Syntax` they
 -- are a full part of a text's body that is no text, or begins none. Otherwise there are none, or they are the first

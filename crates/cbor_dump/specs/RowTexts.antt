@@ -1,10 +1,11 @@
 -- The text of a row of a dump: its bytes as digits, indented by its level, and after a `#` their meaning, as RFC 8949
 -- shows its examples (section 3).
-use Rattle.std.specs.Prelude.{ℕ, zero, suc, ◌+◌, ◌-◌, ◌*◌, ◌==◌, min, List, [], ◌∷◌, ◌++◌, length}
-use Rattle.std.specs.Prelude.{◌≢◌, ◌<◌, ◌≤◌, slice_index}
+use Rattle.std.specs.Prelude.{◌≡◌, ℕ, zero, suc, ◌-◌, ◌*◌, ◌==◌, min, List, [], ◌∷◌, ◌++◌, length, nat_le}
+use Rattle.std.specs.Prelude.{◌≢◌, ◌<◌, ◌≤◌, slice_index, IsOk, Result}
 use Rattle.std.specs.Prelude.{codes, decimal, negsuc, Option, Some, None, if◌then◌else◌}
-use Rattle.std.specs.Fmt.{signed_decimal}
-use Rattle.std.specs.Int.{to_be_bytes, w16, w32, w64}
+use Rattle.std.specs.Fmt.{HasWritten, IsPlainFormatter, signed_decimal}
+use Rattle.std.specs.declared.fmt.Error.{Error}
+use Rattle.std.specs.declared.fmt.Formatter.{Formatter}
 use Rattle.std.specs.Str.{chars, is_utf8}
 use Rattle.ciborium_ll_text.specs.Digits.{hex_text}
 use Rattle.cbor_escapes.specs.Escapes.{terminal_text}
@@ -12,6 +13,8 @@ use Rattle.ciborium_ll.specs.Types.Float.{Float}
 use Rattle.ciborium_ll.specs.Types.Float.TheVariants as f
 use Rattle.ciborium_ll.specs.Types.Header.{Header}
 use Rattle.ciborium_ll.specs.Types.Header.TheVariants as h
+use Rattle.cbor_floats.specs.Floats.{IsNumberText, float_value}
+use Rattle.cbor_dump.specs.Tags.{tag_name}
 use Rattle.cbor_dump.specs.declared.rows.Meaning.{Meaning}
 use Rattle.cbor_dump.specs.declared.rows.Meaning.TheVariants as m
 use Rattle.cbor_dump.specs.declared.rows.Row.{Row}
@@ -22,11 +25,6 @@ use Rattle.cbor_dump.specs.declared.rows.Row.{Row}
 abbrev pub blank : ℕ → List ℕ
 blank zero = []
 blank (suc count) = 32 ∷ blank count
-
--- Bytes as digits, joined: `83 01` gives `8301`.
-abbrev pub joined_text : List ℕ → List ℕ
-joined_text [] = []
-joined_text (byte ∷ bytes) = hex_text byte ++ joined_text bytes
 
 -- The bytes after the first byte, as digits, each after a space: `01 02` gives ` 01 02`.
 abbrev pub more_text : List ℕ → List ℕ
@@ -55,20 +53,29 @@ simple_text number =
     else (if number == 23 then codes "undefined"
     else codes "simple " ++ decimal number)))
 
--- A float by its width and its bits (RFC 7049, 2.3): `half 3c00` is 1.0.
-abbrev pub float_text : Float → List ℕ
-float_text (f.Half bits) = codes "half " ++ joined_text (to_be_bytes w16 bits)
-float_text (f.Single bits) = codes "single " ++ joined_text (to_be_bytes w32 bits)
-float_text (f.Double bits) = codes "double " ++ joined_text (to_be_bytes w64 bits)
+-- The width of a float, which its value follows (RFC 7049, 2.3): `f9 3c 00` gives `half `.
+abbrev pub width_text : Float → List ℕ
+width_text (f.Half bits) = codes "half "
+width_text (f.Single bits) = codes "single "
+width_text (f.Double bits) = codes "double "
 
--- The text of a header (RFC 7049, 2.1 to 2.4): `20` gives `-1`, `c1` gives `tag 1`, `82` gives `array 2`, and `ff`
+-- A name in parentheses, if there is one: `epoch time` gives ` (epoch time)`.
+abbrev pub name_text : Option (List ℕ) → List ℕ
+name_text (Some name) = codes " (" ++ (name ++ codes ")")
+name_text None = []
+
+-- A tag by its number, and by its name if it is a common one: `tag 1 (epoch time)` or `tag 6`.
+abbrev pub tag_text : ℕ → List ℕ
+tag_text number = codes "tag " ++ (decimal number ++ name_text (tag_name number))
+
+-- The text of a header, without the value of a float (RFC 7049, 2.1 to 2.4): `20` gives `-1`, `c6` gives `tag 6`, `82` gives `array 2`, and `ff`
 -- gives `break`.
 abbrev pub header_text : Header → List ℕ
 header_text (h.Positive number) = decimal number
 header_text (h.Negative number) = signed_decimal (negsuc number)
-header_text (h.Float float) = float_text float
+header_text (h.Float float) = width_text float
 header_text (h.Simple number) = simple_text number
-header_text (h.Tag number) = codes "tag " ++ decimal number
+header_text (h.Tag number) = tag_text number
 header_text h.Break = codes "break"
 header_text (h.Bytes len) = counted_text (codes "bytes") len
 header_text (h.Text len) = counted_text (codes "text") len
@@ -110,26 +117,93 @@ quoted_text bytes = 34 ∷ (characters_text (chars (shown_text bytes)) ++ 34 ∷
 
 -- ---- rows
 
--- The level that an indent shows: at most 256. The level 300 is shown as 256.
-abbrev pub shown_level : ℕ → ℕ
-shown_level level = min level 256
+-- The column of the `#` before a comment. In the row of the title `01` 34 spaces precede it.
+abbrev pub comment_column : ℕ
+comment_column = 36
 
--- The text between the bytes of a row and their meaning. The meaning begins in one column, or further right after
--- longer bytes, and is indented too. After one byte at the level 0 it is 33 spaces and ` # `.
-abbrev pub margin_text : ℕ → ℕ → List ℕ
-margin_text level count =
-    blank (36 - (3 * shown_level level + 3 * count)) ++ (codes " # " ++ blank (2 * shown_level level))
+-- The most levels that an indent shows.
+abbrev pub most_indent : ℕ
+most_indent = 8
 
--- The text that follows the bytes of a row, which is empty for bytes of a byte string and for bytes at fault. At the
--- level 0 the text row of `61` gives 33 spaces and ` # "a"`.
-abbrev pub meaning_text : Meaning → ℕ → List ℕ → List ℕ
-meaning_text (m.Header header) level bytes = margin_text level (length bytes) ++ header_text header
-meaning_text m.Text level bytes = margin_text level (length bytes) ++ quoted_text bytes
-meaning_text m.Bytes level bytes = []
-meaning_text m.Fault level bytes = []
+-- The columns of an indent: three for each level that it shows. At the level 2 they are 6, and at 9 they are 24.
+abbrev pub indent : ℕ → ℕ
+indent level = 3 * min level most_indent
 
--- The text of a row. At the level 1 the row of the title `01` is 3 spaces, `01`, 30 spaces and ` #   1`.
+-- A row without a comment: the indent and the bytes. At the level 1 the byte `01` has 3 spaces before it.
+abbrev pub bare_text : ℕ → List ℕ → List ℕ
+bare_text level bytes = blank (indent level) ++ digits_text bytes
+
+-- The columns that are left of so many bytes, each with a space, before a comment: 33 of one byte, and 9 of nine.
+abbrev pub room_before : ℕ → ℕ
+room_before count = comment_column - 3 * count
+
+-- A row up to its comment: the indent, the bytes, and the `#` in its column. The indent is at most the room that the
+-- bytes leave. At the level 1 the byte `01` has 3 spaces before it, and 30 spaces and ` # ` after it.
+abbrev pub commented_text : ℕ → List ℕ → List ℕ
+commented_text level bytes =
+    let room = room_before (length bytes) in
+    let shift = min (indent level) room in
+    blank shift ++ (digits_text bytes ++ (blank (room - shift) ++ codes " # "))
+
+-- The level of a title that an indent can't show: the level 12 gives `level 12 `, and the level 8 gives nothing.
+abbrev pub level_text : ℕ → List ℕ
+level_text level = if nat_le level most_indent then [] else codes "level " ++ (decimal level ++ codes " ")
+
+-- The text of a row of this meaning, without the value of a float. Bytes of a byte string and bytes at fault have no
+-- comment. At the level 0 the text row of `61` gives `61`, 33 spaces and ` # "a"`.
+abbrev pub text_of : Meaning → ℕ → List ℕ → List ℕ
+text_of (m.Header header) level bytes = commented_text level bytes ++ (level_text level ++ header_text header)
+text_of m.Text level bytes = commented_text level bytes ++ quoted_text bytes
+text_of m.Bytes level bytes = bare_text level bytes
+text_of m.Fault level bytes = bare_text level bytes
+
+-- The text of a row, without the value of a float. At the level 1 the row of the title `01` is 3 spaces, `01`, 30
+-- spaces and ` # 1`.
 abbrev pub row_text : Row → List ℕ
-row_text row =
-    blank (3 * shown_level row.level)
-    ++ (digits_text row.bytes.now ++ meaning_text row.meaning row.level row.bytes.now)
+row_text row = text_of row.meaning row.level row.bytes.now
+
+-- ---- values
+
+-- The text of a float's value, in diagnostic notation (RFC 8949, 8), and no text for other headers. For `f9 3c 00` it is
+-- `1.0`.
+abbrev pub IsHeaderValue : Header → List ℕ → Type 0
+IsHeaderValue (h.Float float) text = IsNumberText (float_value float) text
+IsHeaderValue header text = text ≡ []
+
+-- The text of a float's value, and no text for other meanings. For a part of a text it is empty.
+abbrev pub IsValue : Meaning → List ℕ → Type 0
+IsValue (m.Header header) text = IsHeaderValue header text
+IsValue meaning text = text ≡ []
+
+-- The whole text of a row: the value of a float follows the name of its width. The row of `f9 3c 00` ends with
+-- ` # half 1.0`.
+pub record IsRowText (row : Row) (text : List ℕ) : Type 0 where
+  pub value : List ℕ
+  pub is_value : IsValue row.meaning value
+  pub is : text ≡ row_text row ++ value
+
+-- The text of a row whose header is this, unless several digits are read as its value. `01` has one such text.
+abbrev pub known_header : Header → List ℕ → Option (List ℕ)
+known_header (h.Float float) text = None
+known_header header text = Some text
+
+-- The text of a row of this meaning, unless several digits are read as its value: a float's.
+abbrev pub known_of : Meaning → List ℕ → Option (List ℕ)
+known_of (m.Header header) text = known_header header text
+known_of meaning text = Some text
+
+-- The one text of a row, unless it shows a float. The row of `01` has one text, and that of `f9 3c 00` has several.
+abbrev pub known_text : Row → Option (List ℕ)
+known_text row = known_of row.meaning (row_text row)
+
+-- A text with these facts was written. For the value 1.0 it can be `1.0`.
+pub record HasWrittenOne {W : Type 0} (took : W → List ℕ → W → Type 0) (f : Formatter W) (IsText : List ℕ → Type 0)
+    (g : Formatter W) : Type 0 where
+  pub text : List ℕ
+  pub is_text : IsText text
+  pub written : HasWritten took f text g
+
+-- If the formatter is plain and the answer is `Ok`, a text with these facts was written: `1.0` for the value 1.0.
+abbrev pub WritesOneOnOk : {W : Type 0} → (W → List ℕ → W → Type 0) → Formatter W → Result (Unit {0}) Error
+    → (List ℕ → Type 0) → Formatter W → Type 0
+WritesOneOnOk took f result IsText g = IsPlainFormatter f → IsOk result → HasWrittenOne took f IsText g

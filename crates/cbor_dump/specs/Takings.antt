@@ -28,10 +28,14 @@ pub record ThroughSomeRoom (Holds : ℕ → Type 0) : Type 0 where
   pub held : room ≤ most_bytes
   pub holds : Holds room
 
--- The most bytes of a text that are read at once. The row then has room for the rest of a character: after twelve `61`
--- and a `f0` three more bytes fit.
+-- The most bytes of a text that are read at once. The rest of a character follows them: after seven `61` and a `f0`
+-- three more bytes.
 abbrev pub most_text : ℕ
-most_text = 13
+most_text = 8
+
+-- The most bytes of a row of a text: seven of a byte each, and a character of four bytes.
+abbrev pub widest_text : ℕ
+widest_text = 11
 
 -- The answer of a decoder, strict or not, about a first byte and as many bytes as it announces (RFC 7049, 2.1 to 2.3).
 -- They are a title of the header, which is strict if the decoder is (3.9). Or they are none, as `1c`, or as `18 17` for

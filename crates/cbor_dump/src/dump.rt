@@ -51,7 +51,8 @@ pub enum DumpError<E, W> {
 /// Unless a row was refused, after a fault too:
 ///
 /// - A row has 1 to 16 bytes, at the level that [`Row`] says.
-/// - A part of a body has 16 bytes, at least 13 bytes of a text, or all that is left.
+/// - A part of a byte string has 16 bytes, or all that is left. A part of a text has 8 bytes and the rest of their last
+///   character, or all that is left.
 /// - If the reader is steady and no header waits, the rows have exactly the consumed bytes. On `Ok` these are a
 ///   sequence of items to the depth, in the dump's spelling.
 ///
@@ -62,7 +63,7 @@ pub enum DumpError<E, W> {
 /// - `Item` with `Error::Syntax`: the last row is at fault. It has all bytes of a title that its first byte, a strict
 ///   dump or its string refuses, or bytes with which a body is no text.
 /// - `Item` with another error of a read: the last row can be at fault, with the first byte of a longer title, or at
-///   least 13 bytes of a text that end inside a character.
+///   least 8 bytes of a text that end inside a character.
 /// - `Item` with `SkipError::Break`: the last row shows a misplaced break.
 /// - `Item` with `SkipError::Deep`: the last row shows a title that is too deep.
 /// - `Item` with `Error::Waiting`: a header waits. The dump draws no row and reads nothing.

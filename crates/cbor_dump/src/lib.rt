@@ -7,9 +7,11 @@
 pub mod dump;
 mod fronts;
 pub mod left;
+mod numbers;
 pub mod rows;
 pub mod sequence;
 pub mod single;
 mod strings;
+mod tags;
 mod taken;
 mod walk;

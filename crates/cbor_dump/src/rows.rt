@@ -1,25 +1,29 @@
 //! The rows of a dump, and their text.
 
-ghost use Rattle.std.specs.Prelude.{◌≡◌, List, OnErr, OnOk, [], ◌∷◌, ◌++◌, Some, negsuc, true};
-ghost use Rattle.std.specs.Fmt.{WritesOnOk, signed_decimal};
+ghost use Rattle.std.specs.Prelude.{◌≡◌, List, OnErr, OnOk, [], ◌∷◌, None, negsuc, true};
+ghost use Rattle.std.specs.Fmt.{DisplaysOnOk, DisplaysStyledOnOk, WritesOnOk, signed_decimal};
 ghost use Rattle.std.specs.Str.{chars};
 ghost use Rattle.std.specs.declared.option.Option.{Option};
 ghost use Rattle.ciborium_ll_text.specs.Digits.{hex_text};
 ghost use Rattle.cbor_dump.specs.Levels.{Line};
 ghost use Rattle.cbor_dump.specs.Dumps.{Draws};
 ghost use Rattle.cbor_dump.specs.RowTexts.{ArePlain, blank, character_text, characters_text, counted_text, digits_text};
-ghost use Rattle.cbor_dump.specs.RowTexts.{float_text};
-ghost use Rattle.cbor_dump.specs.RowTexts.{header_text, joined_text, margin_text, quoted_text, row_text, simple_text};
+ghost use Rattle.cbor_dump.specs.RowTexts.{IsHeaderValue, IsRowText, IsValue, WritesOneOnOk, bare_text};
+ghost use Rattle.cbor_dump.specs.RowTexts.{commented_text, header_text, indent, known_text, level_text, quoted_text};
+ghost use Rattle.cbor_dump.specs.RowTexts.{row_text, simple_text, tag_text, width_text};
 
+use crate::numbers::number;
+use crate::tags::name_of;
 use cbor_escapes::write_shown;
+use cbor_floats::float_value;
 use ciborium_ll::{Float, Header, simple};
 use std::fmt;
 
-/// How many columns the bytes of a row take at least.
-const COLUMNS: usize = 36;
+/// The column of the `#` before a comment.
+const COMMENT: usize = 36;
 
 /// How many levels an indent shows at most.
-const MOST_INDENT: usize = 256;
+const MOST_INDENT: usize = 8;
 
 /// A space and two digits for each byte, from 00 to ff.
 const DIGITS: &str = " \
@@ -166,25 +170,24 @@ fn simple<W: fmt::Write>(f: &mut fmt::Formatter<W>, number: u8) -> fmt::Result
     }
 }
 
-/// Writes the name of a float's width, and its bits.
-fn bits<W: fmt::Write>(f: &mut fmt::Formatter<W>, name: &str, bytes: &[u8]) -> fmt::Result
-    ensures { WritesOnOk W.Write.write_str_gives f.old result (name.now ++ joined_text bytes.now) f.new }
-{
-    f.write_str(name)?;
-    'bytes: for byte in bytes {
-        f.write_str(digits_of(*byte))?;
-    }
-    Ok(())
-}
-
-/// Writes a float by its width and its bits.
+/// Writes the name of a float's width, before its value.
 fn float<W: fmt::Write>(f: &mut fmt::Formatter<W>, value: Float) -> fmt::Result
-    ensures { WritesOnOk W.Write.write_str_gives f.old result (float_text value) f.new }
+    ensures { WritesOnOk W.Write.write_str_gives f.old result (width_text value) f.new }
 {
     match value {
-        Float::Half(number) => bits(f, "half ", &number.to_be_bytes()),
-        Float::Single(number) => bits(f, "single ", &number.to_be_bytes()),
-        Float::Double(number) => bits(f, "double ", &number.to_be_bytes()),
+        Float::Half(_) => f.write_str("half "),
+        Float::Single(_) => f.write_str("single "),
+        Float::Double(_) => f.write_str("double "),
+    }
+}
+
+/// Writes a tag by its number, and by its name if it is a common one.
+fn tag<W: fmt::Write>(f: &mut fmt::Formatter<W>, number: u64) -> fmt::Result
+    ensures { WritesOnOk W.Write.write_str_gives f.old result (tag_text number) f.new }
+{
+    match name_of(number) {
+        Some(name) => write!(f, "tag {number} ({name})"),
+        None => write!(f, "tag {number}"),
     }
 }
 
@@ -197,7 +200,7 @@ fn header<W: fmt::Write>(f: &mut fmt::Formatter<W>, header: Header) -> fmt::Resu
         Header::Negative(number) => negative(f, number),
         Header::Float(value) => float(f, value),
         Header::Simple(number) => simple(f, number),
-        Header::Tag(number) => write!(f, "tag {number}"),
+        Header::Tag(number) => tag(f, number),
         Header::Break => f.write_str("break"),
         Header::Bytes(len) => counted(f, "bytes", len),
         Header::Text(len) => counted(f, "text", len),
@@ -256,35 +259,97 @@ fn characters<W: fmt::Write>(f: &mut fmt::Formatter<W>, text: &str) -> fmt::Resu
     Ok(())
 }
 
-/// Writes the space, the `#` and the indent between the `count` bytes of a row and their meaning.
-fn margin<W: fmt::Write>(f: &mut fmt::Formatter<W>, level: usize, count: usize) -> fmt::Result
-    ensures { WritesOnOk W.Write.write_str_gives f.old result (margin_text level count) f.new }
+/// Returns the columns of an indent: three for each level, and at most 24.
+fn indent(level: usize) -> usize
+    ensures { result ≡ indent level }
 {
-    let shown = level.min(MOST_INDENT);
-    let width = (3 * shown).saturating_add(count.saturating_mul(3));
-    spaces(f, COLUMNS.saturating_sub(width))?;
-    f.write_str(" # ")?;
-    spaces(f, 2 * shown)
+    3 * level.min(MOST_INDENT)
+}
+
+/// Writes the bytes of a row that has no comment, indented by its level.
+fn bare<W: fmt::Write>(f: &mut fmt::Formatter<W>, level: usize, bytes: &[u8]) -> fmt::Result
+    ensures { WritesOnOk W.Write.write_str_gives f.old result (bare_text level bytes.now) f.new }
+{
+    spaces(f, indent(level))?;
+    digits(f, bytes)
+}
+
+/// Writes the bytes of a row, and the `#` before its comment.
+///
+/// The bytes are indented by the level. If they are so many that no room is left for that, they begin further left.
+fn commented<W: fmt::Write>(f: &mut fmt::Formatter<W>, level: usize, bytes: &[u8]) -> fmt::Result
+    ensures { WritesOnOk W.Write.write_str_gives f.old result (commented_text level bytes.now) f.new }
+{
+    let room = COMMENT.saturating_sub(bytes.len().saturating_mul(3));
+    let shift = indent(level).min(room);
+    spaces(f, shift)?;
+    digits(f, bytes)?;
+    spaces(f, room - shift)?;
+    f.write_str(" # ")
+}
+
+/// Writes the level of a title that an indent can't show.
+fn deep<W: fmt::Write>(f: &mut fmt::Formatter<W>, level: usize) -> fmt::Result
+    ensures { WritesOnOk W.Write.write_str_gives f.old result (level_text level) f.new }
+{
+    if level <= MOST_INDENT {
+        return Ok(());
+    }
+    write!(f, "level {level} ")
+}
+
+/// Writes a row without the value of a float.
+fn front<W: fmt::Write>(f: &mut fmt::Formatter<W>, row: &Row<'_>) -> fmt::Result
+    ensures { WritesOnOk W.Write.write_str_gives f.old result (row_text row.now) f.new }
+{
+    match row.meaning {
+        Meaning::Header(title) => {
+            commented(f, row.level, row.bytes)?;
+            deep(f, row.level)?;
+            header(f, title)
+        }
+        Meaning::Text => {
+            commented(f, row.level, row.bytes)?;
+            quoted(f, row.bytes)
+        }
+        Meaning::Bytes | Meaning::Fault => bare(f, row.level, row.bytes),
+    }
+}
+
+/// Writes the value of a float after its width. After any other header the call writes nothing.
+fn header_value<W: fmt::Write>(f: &mut fmt::Formatter<W>, header: Header) -> fmt::Result
+    ensures { WritesOneOnOk W.Write.write_str_gives f.old result (IsHeaderValue header) f.new }
+{
+    match header {
+        Header::Float(value) => number(f, float_value(value)),
+        _ => Ok(()),
+    }
+}
+
+/// Writes the value of a float after its width. After any other meaning the call writes nothing.
+fn value<W: fmt::Write>(f: &mut fmt::Formatter<W>, meaning: Meaning) -> fmt::Result
+    ensures { WritesOneOnOk W.Write.write_str_gives f.old result (IsValue meaning) f.new }
+{
+    match meaning {
+        Meaning::Header(header) => header_value(f, header),
+        Meaning::Text | Meaning::Bytes | Meaning::Fault => Ok(()),
+    }
 }
 
 impl fmt::Display for Row<'_> {
-    ghost output = { λ row. Some (row_text row) };
+    ghost output = { known_text };
 
-    /// Writes the bytes as digits, indented by the level, and their meaning after a `#`. Parts of byte strings and
+    /// Writes the bytes as digits, indented by the level, and after a `#` their meaning. Parts of byte strings and
     /// bytes at fault have no `#`.
-    fn fmt<W: fmt::Write>(&self, f: &mut fmt::Formatter<W>) -> fmt::Result {
-        spaces(f, 3 * self.level.min(MOST_INDENT))?;
-        digits(f, self.bytes)?;
-        match self.meaning {
-            Meaning::Header(value) => {
-                margin(f, self.level, self.bytes.len())?;
-                header(f, value)
-            }
-            Meaning::Text => {
-                margin(f, self.level, self.bytes.len())?;
-                quoted(f, self.bytes)
-            }
-            Meaning::Bytes | Meaning::Fault => Ok(()),
-        }
+    ///
+    /// A row of a [`dump`](crate::dump::dump) has at most 100 columns, if its level is below 1000. An indent shows at
+    /// most 8 levels. A title that is deeper has its level after the `#`.
+    fn fmt<W: fmt::Write>(&self, f: &mut fmt::Formatter<W>) -> fmt::Result
+        ensures writes { DisplaysOnOk W.Write.write_str_gives f.old result (known_text self.now) f.new }
+        ensures styled { DisplaysStyledOnOk W.Write.write_str_gives f.old result None f.new }
+        ensures text { WritesOneOnOk W.Write.write_str_gives f.old result (IsRowText self.now) f.new }
+    {
+        front(f, self)?;
+        value(f, self.meaning)
     }
 }

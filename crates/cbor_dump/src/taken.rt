@@ -13,6 +13,9 @@ use ciborium_ll_grammar::hdr::table::row_of;
 /// How many bytes a row has at most.
 pub(crate) const MOST_BYTES: usize = 16;
 
+/// How many bytes of a text are read at once. The rest of a character follows, which is at most three bytes.
+const MOST_TEXT: usize = 8;
+
 /// The bytes that were read for one row.
 #[derive(Drop)]
 pub(crate) struct Taken {
@@ -160,7 +163,7 @@ impl Taken {
             → ReadsTextPart R.Read left (taken_bytes self.new) decoder.old result decoder.new }
         ensures moves { ReadsBy R.Read result decoder.old decoder.new }
     {
-        self.read(decoder, left.min(MOST_BYTES - 3))?;
+        self.read(decoder, left.min(MOST_TEXT))?;
         // There is room: after the first byte of a character at most three more are due.
         'more: while self.len() < left && is_cut(self.bytes()) {
             self.read(decoder, 1)?;

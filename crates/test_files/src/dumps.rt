@@ -41,35 +41,36 @@ pub fn are_digits(alloc: Global, digits: &str) -> bool {
 }
 
 // Digits after `=`, and the dump of their bytes below them. From the fifth dump on they end within an affix of two
-// bytes and of eight, within bodies, and within a character after 12 others. All are one text, since a proof that names
-// a table of long texts takes far longer.
+// bytes and of eight, within bodies, and within a character after seven others. All are one text, since a proof that
+// names a table of long texts takes far longer.
 static DUMPS: &str = "\
 = 82 1903e8 6161
 82                                  # array 2
-   19 03 e8                         #   1000
-   61                               #   text 1
-      61                            #     \"a\"
+   19 03 e8                         # 1000
+   61                               # text 1
+      61                            # \"a\"
 = bf 01 5f42010240ff ff a0
 bf                                  # map *
-   01                               #   1
-   5f                               #   bytes *
-      42                            #     bytes 2
+   01                               # 1
+   5f                               # bytes *
+      42                            # bytes 2
          01 02
-      40                            #     bytes 0
-   ff                               #   break
+      40                            # bytes 0
+   ff                               # break
 ff                                  # break
 a0                                  # map 0
 = c1 81 f4 20 3bffffffffffffffff f93c00 f0
-c1                                  # tag 1
-   81                               #   array 1
-      f4                            #     false
+c1                                  # tag 1 (epoch time)
+   81                               # array 1
+      f4                            # false
 20                                  # -1
 3b ff ff ff ff ff ff ff ff          # -18446744073709551616
-f9 3c 00                            # half 3c00
+f9 3c 00                            # half 1.0
 f0                                  # simple 16
 = 6f 2230313233343536373839f0908591 4100 811c
 6f                                  # text 15
-   22 30 31 32 33 34 35 36 37 38 39 f0 90 85 91 #   \"\\\"0123456789\u{10151}\"
+   22 30 31 32 33 34 35 36          # \"\\\"0123456\"
+   37 38 39 f0 90 85 91             # \"789\u{10151}\"
 41                                  # bytes 1
    00
 81                                  # array 1
@@ -85,9 +86,9 @@ f0                                  # simple 16
 01 02 03 04 05 06 07
 # short 1
 = c1 5f 42 01
-c1                                  # tag 1
-   5f                               #   bytes *
-      42                            #     bytes 2
+c1                                  # tag 1 (epoch time)
+   5f                               # bytes *
+      42                            # bytes 2
          01
 # short 3
 = 5820 000102030405060708090a0b0c0d0e0f 101112131415161718191a1b1c1d1e
@@ -99,10 +100,10 @@ c1                                  # tag 1
 62                                  # text 2
    c3
 # short 1
-= 6e 616161616161616161616161c3
-6e                                  # text 14
-   61 61 61 61 61 61 61 61 61 61 61 61 c3
-# short 14
+= 69 61616161616161c3
+69                                  # text 9
+   61 61 61 61 61 61 61 c3
+# short 9
 ";
 
 // Returns whether the dump is this, in colors or without.
@@ -179,28 +180,31 @@ fn texts_of_dumps(rt: HostRuntime) {
 static ESCAPED: &str = "\
 = 63 0a6666
 63                                  # text 3
-   0a 66 66                         #   \"\\nff\"
+   0a 66 66                         # \"\\nff\"
 = 61 7f
 61                                  # text 1
-   7f                               #   \"\\u007f\"
+   7f                               # \"\\u007f\"
 = 62 c29b
 62                                  # text 2
-   c2 9b                            #   \"\\u009b\"
+   c2 9b                            # \"\\u009b\"
 = 6a 00090d1f207ec29fc2a0
 6a                                  # text 10
-   00 09 0d 1f 20 7e c2 9f c2 a0    #   \"\\u0000\\t\\r\\u001f ~\\u009f\u{a0}\"
+   00 09 0d 1f 20 7e c2 9f          # \"\\u0000\\t\\r\\u001f ~\\u009f\"
+   c2 a0                            # \"\u{a0}\"
 = 69 d89bd89cd89de2808d
 69                                  # text 9
-   d8 9b d8 9c d8 9d e2 80 8d       #   \"\u{61b}\\u061c\u{61d}\u{200d}\"
+   d8 9b d8 9c d8 9d e2 80 8d       # \"\u{61b}\\u061c\u{61d}\u{200d}\"
 = 69 e2808ee2808fe28090
 69                                  # text 9
-   e2 80 8e e2 80 8f e2 80 90       #   \"\\u200e\\u200f\u{2010}\"
+   e2 80 8e e2 80 8f e2 80 90       # \"\\u200e\\u200f\u{2010}\"
 = 6c e280a9e280aae280aee280af
 6c                                  # text 12
-   e2 80 a9 e2 80 aa e2 80 ae e2 80 af #   \"\u{2029}\\u202a\\u202e\u{202f}\"
+   e2 80 a9 e2 80 aa e2 80 ae       # \"\u{2029}\\u202a\\u202e\"
+   e2 80 af                         # \"\u{202f}\"
 = 6c e281a5e281a6e281a9e281aa
 6c                                  # text 12
-   e2 81 a5 e2 81 a6 e2 81 a9 e2 81 aa #   \"\u{2065}\\u2066\\u2069\u{206a}\"
+   e2 81 a5 e2 81 a6 e2 81 a9       # \"\u{2065}\\u2066\\u2069\"
+   e2 81 aa                         # \"\u{206a}\"
 ";
 
 #[test]
@@ -212,7 +216,7 @@ fn escapes_of_dumps(rt: HostRuntime) {
 static OFFSETS: &str = "\
 = 81f6
      0: 81                                  # array 1
-     1:    f6                               #   null
+     1:    f6                               # null
 = 430102
      0: 43                                  # bytes 3
      1:    01 02

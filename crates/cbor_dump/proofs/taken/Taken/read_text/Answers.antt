@@ -4,14 +4,15 @@ use Rattle.ciborium_ll.proofs.DecodingLaws.{exit_is}
 use Rattle.ciborium_ll.specs.Strings.{Text}
 use Rattle.ciborium_ll_text.specs.States.{after, tail_due}
 use Rattle.ciborium_ll_text.specs.declared.state.State.TheVariants.{Between}
-use Rattle.cbor_dump.specs.Parts.{is_inside, is_between}
+use Rattle.cbor_dump.specs.Parts.{is_inside, is_between, EndsSoon}
 use Rattle.cbor_dump.specs.Takings.{taken_bytes}
 use Rattle.cbor_dump.proofs.LeaveLaws.{reads_then, row_read, stops_then}
 use Rattle.cbor_dump.proofs.TakingLaws.{keeps_then}
 use Rattle.cbor_dump.specs.Parts.{IsCutText}
 use Rattle.cbor_dump.specs.Takings.{Leaves}
 use Rattle.cbor_dump.proofs.ItemRows.{nothing}
-use Rattle.cbor_dump.proofs.PartLaws.{cut_text, due_few, first_part, next_part, state_due, inside_some, sound_of}
+use Rattle.cbor_dump.proofs.PartLaws.{cut_text, due_few, first_part, inside_more, next_part, state_due, inside_some}
+use Rattle.cbor_dump.proofs.PartLaws.{sound_of}
 use Rattle.cbor_dump.proofs.PullLaws.{first_passed, less_left, more_passed, part_cut, part_nothing, passes_idle}
 use Rattle.cbor_dump.proofs.PullLaws.{several_leave}
 use Rattle.cbor_dump.proofs.taken.Taken.read_text.Goals.{then-more-test+else-is_cut, else-more-test}
@@ -42,6 +43,7 @@ more-init g c =
       most = omega (arith, counted, empty, long, both, asked);
       some = λ any. omega (arith, counted, empty, long, both, asked, any);
       room = let few = due_few (after Between row) in omega (arith, counted, empty, long, both, asked, few);
+      inside = λ count least less. absurd (omega (arith, counted, empty, long, both, asked, least, less));
       many = omega (arith, counted, empty, long, both, asked);
       passed = λ none. first_passed g.R.Read _ _ _ _ _ c.requires.none none reads;
       moves = row_read g.R.Read _ _ _ _ _ _ reads;
@@ -72,6 +74,7 @@ more-preserved g c =
       most = omega (arith, long, both, one, value, test);
       some = λ any. omega (arith, long, both, one);
       room = omega (arith, long, both, one, moved, less, room);
+      inside = inside_more row next reads.bytes reads.behind one so_far.inside inside;
       many = let many = so_far.many in omega (arith, many, long, both, one);
       passed = λ none.
           let passed = so_far.passed none in
@@ -120,7 +123,9 @@ returns-in_err-read-2-clause-row g c = λ some.
     let many = c.more.invariant.many in
     let value = c.len.ensures.value in
     let test = c.more-test.true in
-    let cut = cut_text c.args.left row inside (omega (arith, many, value, test)) (omega (arith, value, test)) in
+    let room = c.more.invariant.room in
+    let soon : EndsSoon row = record { few = omega (arith, room); inside = c.more.invariant.inside } in
+    let cut = cut_text c.args.left row inside (omega (arith, many, value, test)) soon (omega (arith, value, test)) in
     rw same (part_cut g.R.Read c.args.left _ _ _ _ _ _ c.in_err-read-2.ensures.reads _
     (subst (λ (z : List ℕ). IsCutText c.args.left z) (sym c.in_err-read-2.ensures.none) cut))
 
@@ -157,7 +162,9 @@ pub returns-clause-reads : goal.returns-clause-reads
 returns-clause-reads g c = λ some none. (c.more.invariant.passed none, returns-clause-sound g c)
 
 pub returns-clause-full : goal.returns-clause-full
-returns-clause-full g c = c.more.invariant.many
+returns-clause-full g c =
+    let room = c.more.invariant.room in
+    (c.more.invariant.many, record { few = omega (arith, room); inside = c.more.invariant.inside })
 
 -- ---- how the reads leave the decoder
 
