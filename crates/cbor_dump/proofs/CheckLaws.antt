@@ -134,7 +134,7 @@ module _ {R E : Type 0} (source : Ghosts R E) where
             (record { item = all; is_item = items'; passed = behind });
         bytes = [];
         passed = ReadsPast-none source new;
-        due = due_first strict depth new_walk same whole.keeps.same_depth whole.keeps.room;
+        due = due_first strict depth new_walk same whole.keeps.same_depth whole.keeps.room whole.keeps.wide;
         alike = passes_alike source strict come.between new all behind come.alike;
       }
   comes_by strict depth (suc used) walk new_walk old now new come more passed same due = record {

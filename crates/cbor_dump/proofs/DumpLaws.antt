@@ -11,6 +11,7 @@ use Rattle.cbor_dump.specs.Endings.{bytes_at_fault, fault_part}
 use Rattle.cbor_dump.specs.Parts.{IsCutText, IsFullPart, IsPartRow}
 use Rattle.cbor_dump.specs.declared.rows.Meaning.{Meaning}
 use Rattle.cbor_dump.specs.declared.rows.Meaning.TheVariants as m
+use Rattle.cbor_dump.specs.declared.rows.Within.TheVariants as w
 use Rattle.ciborium_ll.specs.Strings.{Kind, Text}
 use Rattle.ciborium_ll.specs.Decoding.{view}
 use Rattle.ciborium_ll.proofs.DecodingLaws.{IfSome-all}
@@ -225,7 +226,7 @@ module _ {R E : Type 0} (source : Ghosts R E) where
       (before : List ℕ) (level offset : ℕ) (row : List ℕ) (old new : Decoder R) → TakesBytes source old row new
       → Draws drawn then_drawn (fault_lines level offset row) → offset ≡ start + length before
       → (0 < length row → Stands (ending_of strict error) depth before m.Fault
-      (record { level = level; offset = offset; bytes = row; meaning = m.Fault }))
+      (record { level = level; offset = offset; bytes = row; meaning = m.Fault; within = w.Nothing }))
       → length row ≤ most_bytes → HasBytesAtFault error row
       → (IsSteadyNoneWaiting source old → IfSome (view source new) (LeavesBehind error row))
       → Shows source depth start drawn then_drawn before row (ending_of strict error) old new

@@ -25,6 +25,7 @@ use Rattle.ciborium_ll.specs.Strings.{Kind, kind_header, definite, IsWritable}
 use Rattle.ciborium_ll.specs.Elements.{AreWritable}
 use Rattle.ciborium_ll.proofs.ElementLaws.{AreWritable-append}
 use Rattle.cbor_dump.specs.declared.rows.Meaning.TheVariants as m
+use Rattle.cbor_dump.specs.declared.rows.Within.TheVariants as w
 use Rattle.cbor_dump.specs.Takings.{IsInMode, IsSteadyNoneWaiting, LeavesBehind, most_bytes, TakesBytes}
 use Rattle.cbor_dump.specs.Levels.{Ending, IsTitleFault, Meant}
 use Rattle.cbor_dump.specs.Levels.{Line, Nest, StandsWithin, AreOpen, none, more, TitleDue, title_level}
@@ -34,7 +35,7 @@ use Rattle.cbor_dump.specs.StringRows.{EndsString, IsPart, StopsBehindTitle}
 use Rattle.cbor_dump.specs.declared.strings.Part.{Part}
 use Rattle.cbor_dump.specs.declared.strings.Part.TheVariants as p
 use Rattle.cbor_dump.proofs.DumpLaws.{HasBytesAtFault, shows_fault, shows_none, shows_says, shows_then}
-use Rattle.cbor_dump.proofs.TitleLaws.{title_line, break_bytes}
+use Rattle.cbor_dump.proofs.TitleLaws.{open_place, title_line, break_bytes}
 use Rattle.cbor_dump.proofs.StringLaws.{next_offset, add_string, add_open, close_inner, close_last}
 use Rattle.cbor_dump.proofs.StringLaws.{not_open, taken_any, taken_none, taken_then}
 use Rattle.cbor_dump.proofs.PullLaws.{passes_idle, passes_alike}
@@ -168,6 +169,7 @@ module _ {R E : Type 0} (source : Ghosts R E) where
           due = due_within;
           fault = fault any;
           level = so_far.level;
+          within = refl;
         })) few some left)
 
     -- If the dump answers with the error of the read, the lines end as the dump's error says.
@@ -188,13 +190,19 @@ module _ {R E : Type 0} (source : Ghosts R E) where
     pub within_title : (then_drawn : Option (List Line)) (row : List ℕ) (x : Header) (offset level : ℕ)
         (new : Decoder R) → TakesBytes source between row new → offset ≡ between.offset → IsTitle row x
         → level ≡ title_level x nests (suc so_far.opens)
-        → Draws middle then_drawn (record { level = level; offset = offset; bytes = row; meaning = m.Header x } ∷ [])
+        → Draws middle then_drawn (record {
+          level = level;
+          offset = offset;
+          bytes = row;
+          meaning = m.Header x;
+          within = w.Nothing;
+        } ∷ [])
         → Shows source depth start drawn then_drawn (items ++ title) (so_far.bytes ++ row) Meant old new
     within_title then_drawn row x offset level new takes at p same drawn_line =
         shows_then source depth start drawn middle then_drawn (items ++ title) so_far.bytes row old between new
         so_far.shows (record {
-          lines = title_line depth start middle then_drawn ((items ++ title) ++ so_far.bytes) row x level offset nests
-              (suc so_far.opens) due_within p same (at ∙ here) drawn_line;
+          lines = title_line depth start middle then_drawn ((items ++ title) ++ so_far.bytes) row x level offset w.Nothing nests
+              (suc so_far.opens) due_within p same (open_place x nests so_far.opens) (at ∙ here) drawn_line;
           takes = takes;
           left = λ idle. IfSome-all (view source new) _ (λ any. tt);
         })

@@ -20,6 +20,7 @@ use Rattle.ciborium_ll.proofs.TitleLaws.{one_title}
 use Rattle.ciborium_ll.proofs.ElementLaws.{AreStrings-append}
 use Rattle.cbor_dump.specs.declared.rows.Meaning.{Meaning}
 use Rattle.cbor_dump.specs.declared.rows.Meaning.TheVariants as m
+use Rattle.cbor_dump.specs.declared.rows.Within.TheVariants as w
 use Rattle.cbor_dump.specs.declared.strings.Kind.{Kind as CodeKind}
 use Rattle.cbor_dump.specs.declared.strings.Kind.TheVariants as k
 use Rattle.cbor_dump.specs.Parts.{FailsInBody}
@@ -55,7 +56,7 @@ body_here : (depth opens : ℕ) (nests : List Nest) (outer title : List ℕ) (ki
     → AtBody depth opens nests outer title kind len level → (front bytes : List ℕ)
     → length front + length bytes ≤ len → IsFullPart kind (len - length front) bytes → (offset : ℕ) (meaning : Meaning)
     → HasBody depth ((outer ++ title) ++ front) kind
-    (record { level = level; offset = offset; bytes = bytes; meaning = meaning })
+    (record { level = level; offset = offset; bytes = bytes; meaning = meaning; within = w.Nothing })
 body_here depth opens nests outer title kind len level at front bytes fits full offset meaning = record {
   nests = nests;
   opens = opens;
@@ -69,6 +70,7 @@ body_here depth opens nests outer title kind len level at front bytes fits full 
   fits = fits;
   full = full;
   level = let e = at.below in omega (arith, e);
+  within = refl;
 }
 
 no_text : (how : Ending) (kind : Kind) (depth : ℕ) (before : List ℕ) (line : Line) → kind ≡ Text
@@ -145,8 +147,13 @@ module _ {R E : Type 0} (source : Ghosts R E) where
       → TakesBytes source between bytes new → length bytes ≤ left → offset ≡ between.offset
       → IsWritable (kind_of kind) bytes → IsFullPart (kind_of kind) left bytes
       → (between.waiting ≡ None → ReadsPast source between bytes new)
-      → Draws middle then_drawn (record { level = level; offset = offset; bytes = bytes; meaning = meaning_of kind } ∷
-      []) → FitsRow bytes
+      → Draws middle then_drawn (record {
+        level = level;
+        offset = offset;
+        bytes = bytes;
+        meaning = meaning_of kind;
+        within = w.Nothing;
+      } ∷ []) → FitsRow bytes
       → SoFar depth start drawn then_drawn (outer ++ title) (kind_of kind) len (left - length bytes) old new
   part_shown depth start opens nests outer title kind len left level offset drawn middle then_drawn bytes old between
       new at begun so_far takes few here written full went drawn_line filled =

@@ -2,7 +2,7 @@
 use Rattle.std.proofs.lemmas.Bool.Decides.{nat_tests}
 use Rattle.std.proofs.Common.{◌≡◌, ℕ, ◌+◌, ◌-◌, ◌≤◌, List, [], ◌∷◌, ◌++◌, length, Option, refl, sym}
 use Rattle.std.proofs.Common.{ap, subst, ◌∙◌, arith, append-nil, length-append, Bool, Result, Ok, Err, OnOk, IfSome}
-use Rattle.std.proofs.Common.{inl}
+use Rattle.std.proofs.Common.{inl, suc}
 use Rattle.ciborium_ll.specs.Types.Read.{Ghosts}
 use Rattle.ciborium_ll.specs.Types.Decoder.{Decoder}
 use Rattle.ciborium_ll.specs.Types.Header.{Header}
@@ -35,6 +35,9 @@ use Rattle.cbor_dump.specs.Walks.{IsItemAlone, IsDue, IsBehindItem, Breaks}
 use Rattle.cbor_dump.proofs.ItemRows.{nothing}
 use Rattle.cbor_dump.proofs.RowLaws.{title_filled}
 use Rattle.cbor_dump.proofs.WalkLaws.{stands_any}
+use Rattle.cbor_dump.specs.declared.rows.Within.{Within}
+use Rattle.cbor_dump.specs.declared.rows.Within.TheVariants as w
+use Rattle.cbor_dump.specs.Levels.{title_within, within_nests}
 use Rattle.cbor_dump.proofs.TakingLaws.{takes_none}
 use Rattle.cbor_dump.proofs.DumpLaws.{lines_one, shows_fault, shows_nothing, shows_read}
 use Rattle.cbor_dump.proofs.DumpLaws.{shows_says, shows_then, title_fault, title_row}
@@ -53,6 +56,20 @@ pub string_level : (k : Kind) (len : Option ℕ) (nests : List Nest) (opens : �
     → title_level (kind_header k len) nests opens ≡ length nests + opens
 string_level k len nests opens = grind (arith, nat_tests)
 
+pub nest_place : (x : Header) (nests : List Nest) → IsNest x → title_within x nests 0 ≡ within_nests nests
+nest_place x nests p = grind (arith, nat_tests)
+
+pub value_place : (x : Header) (nests : List Nest) → IsItemAlone x → title_within x nests 0 ≡ within_nests nests
+value_place x nests p = grind (arith, nat_tests)
+
+pub string_place : (k : Kind) (len : Option ℕ) (nests : List Nest)
+    → title_within (kind_header k len) nests 0 ≡ within_nests nests
+string_place k len nests = grind (arith, nat_tests)
+
+-- Within an open no title has a place.
+pub open_place : (x : Header) (nests : List Nest) (opens : ℕ) → w.Nothing ≡ title_within x nests (suc opens)
+open_place x nests opens = grind (arith, nat_tests)
+
 -- ---- lines
 
 -- Outside of strings a title is due within no open.
@@ -70,39 +87,53 @@ due_here depth nests before within = record {
 }
 
 pub title_line : (depth start : ℕ) (old new : Option (List Line)) (before title : List ℕ) (x : Header)
-    (level place : ℕ) (nests : List Nest) (opens : ℕ) → TitleDue depth nests opens before → IsTitle title x
-    → level ≡ title_level x nests opens → place ≡ start + length before
-    → Draws old new (record { level = level; offset = place; bytes = title; meaning = m.Header x } ∷ [])
+    (level place : ℕ) (within : Within) (nests : List Nest) (opens : ℕ) → TitleDue depth nests opens before
+    → IsTitle title x → level ≡ title_level x nests opens → within ≡ title_within x nests opens
+    → place ≡ start + length before
+    → Draws old new (record { level = level; offset = place; bytes = title; meaning = m.Header x; within = within }
+    ∷ [])
     → Lines depth start old new before title Meant
-title_line depth start old new before title x level place nests opens due p same at drawn =
+title_line depth start old new before title x level place within nests opens due p same here at drawn =
     lines_one depth start old new before _ drawn at (title_filled title x p)
-    (record { nests = nests; opens = opens; due = due; is_title = p; level = same }) (tt, tt)
+    (record { nests = nests; opens = opens; due = due; is_title = p; level = same; within = here }) (tt, tt)
 
 -- The row of a title outside of strings stands at the level of the walk.
 pub walk_line : (strict : Bool) (depth whole start : ℕ) (old new : Option (List Line)) (before title : List ℕ)
     (x : Header)
-    (level place : ℕ) (walk : Walk) (due : IsDue strict depth whole walk before) → IsTitle title x
-    → title_level x due.nests 0 ≡ length due.nests + 0 → level ≡ walk.used → place ≡ start + length before
-    → Draws old new (record { level = level; offset = place; bytes = title; meaning = m.Header x } ∷ [])
+    (level place : ℕ) (within : Within) (walk : Walk) (due : IsDue strict depth whole walk before) → IsTitle title x
+    → title_level x due.nests 0 ≡ length due.nests + 0 → title_within x due.nests 0 ≡ within_nests due.nests
+    → level ≡ walk.used
+    → ((strict : Bool) (depth whole : ℕ) (before : List ℕ) (due : IsDue strict depth whole walk before)
+    → within ≡ within_nests due.nests)
+    → place ≡ start + length before
+    → Draws old new (record { level = level; offset = place; bytes = title; meaning = m.Header x; within = within }
+    ∷ [])
     → Lines depth start old new before title Meant
-walk_line strict depth whole start old new before title x level place walk due p plain same at drawn =
+walk_line strict depth whole start old new before title x level place within walk due p plain placed same here at
+    drawn =
     let used = due.keeps.used in
     let counted : length due.nests ≡ length due.nests + 0 = omega arith in
-    title_line depth start old new before title x level place due.nests 0
+    title_line depth start old new before title x level place within due.nests 0
     (due_here depth due.nests before (whole, stands_any strict depth whole due.nests before due.within)) p
-    (same ∙ (used ∙ (counted ∙ sym plain))) at drawn
+    (same ∙ (used ∙ (counted ∙ sym plain))) (here strict depth whole before due ∙ sym placed) at drawn
 
 pub break_line : (strict : Bool) (depth whole start : ℕ) (old new : Option (List Line)) (before title : List ℕ)
     (level place : ℕ)
     (closed : Bool) (walk : Walk) → Breaks strict depth whole closed walk before → IsTitle title h.Break
     → level ≡ walk.used
     → place ≡ start + length before
-    → Draws old new (record { level = level; offset = place; bytes = title; meaning = m.Header h.Break } ∷ [])
+    → Draws old new (record {
+      level = level;
+      offset = place;
+      bytes = title;
+      meaning = m.Header h.Break;
+      within = w.Nothing;
+    } ∷ [])
     → Lines depth start old new before title Meant
 break_line strict depth whole start old new before title level place closed walk breaks p same at drawn =
-    title_line depth start old new before title h.Break level place breaks.nests 0
+    title_line depth start old new before title h.Break level place w.Nothing breaks.nests 0
     (due_here depth breaks.nests before (whole, stands_any strict depth whole breaks.nests before breaks.within)) p
-    (same ∙ breaks.level) at drawn
+    (same ∙ breaks.level) refl at drawn
 
 -- ---- items
 
@@ -247,6 +278,7 @@ module _ {R E : Type 0} (source : Ghosts R E) where
         due = due;
         fault = title_row strict due.kind 0 error row fault any;
         level = omega (arith, same, used);
+        within = refl;
       })) few (title_fault strict error row fault) left)
 
   -- The rows show the title that was read, and the rest of the string that it begins.

@@ -16,9 +16,11 @@ use Rattle.cbor_skip.proofs.RemainingLaws.{takes_more}
 use Rattle.cbor_skip.proofs.ItemSteps.{item_of, items_item}
 use Rattle.cbor_skip.proofs.StrictnessLaws.{items_looser}
 use Rattle.cbor_dump.specs.declared.walk.Walk.{Walk}
-use Rattle.cbor_dump.specs.Levels.{Nest, StandsBehind, outside, inside, closes_one, title_level}
+use Rattle.cbor_dump.specs.Levels.{Nest, StandsBehind, outside, inside, closes_one, place_in, title_level, within_nests}
 use Rattle.cbor_dump.specs.Walks.{remaining_at, AreKept, KeepsNests, IsDue, IsDueBehind, IsBehindItem, Breaks}
-use Rattle.cbor_dump.specs.Walks.{IsDeepest}
+use Rattle.cbor_dump.specs.Walks.{AreAt, IsDeepest, place_at}
+use Rattle.cbor_dump.specs.declared.rows.Within.{Within}
+use Rattle.cbor_dump.specs.declared.rows.Within.TheVariants as w
 
 -- ---- all items of a nest
 
@@ -50,6 +52,21 @@ kept_more : (levels : List Remaining) (nests : List Nest) (nest : Nest) (at : �
     → AreKept (set levels at x) (nest ∷ nests)
 kept_more levels nests nest at x end room is some kept =
     grind (arith, nat_tests, levels, get_or-set_same, is, some, kept_below)
+
+-- A write above the nests leaves their places.
+at_below : (places : List Within) (nests : List Nest) (at : ℕ) (x : Within) → length nests ≤ at
+    → AreAt places nests → AreAt (set places at x) nests
+at_below places [] at x few kept = tt
+at_below places (nest ∷ nests) at x few kept =
+    let inner = at_below places nests at x (omega (arith, few)) kept.1 in
+    grind (arith, get_or-set_other, inner)
+
+-- A write at the end of the nests keeps one more place.
+at_more : (places : List Within) (nests : List Nest) (nest : Nest) (at : ℕ) (x : Within) → at ≡ length nests
+    → at < length places → x ≡ place_in nest.header nest.count → AreAt places nests
+    → AreAt (set places at x) (nest ∷ nests)
+at_more places nests nest at x end room is kept =
+    grind (arith, nat_tests, places, get_or-set_same, is, at_below)
 
 -- ---- the innermost nest
 
@@ -144,9 +161,9 @@ due_outside : (strict : Bool) (depth whole : ℕ) (walk : Walk) (bytes : List �
 due_outside strict depth whole walk bytes none due = grind (arith, nat_tests)
 
 pub due_first : (strict : Bool) (depth : ℕ) (walk : Walk) → walk.used ≡ 0 → walk.depth ≡ depth
-    → length walk.levels ≡ 256
+    → length walk.levels ≡ 256 → length walk.places ≡ 256
     → IsDue strict depth 0 walk []
-due_first strict depth walk used same room = grind (arith, outside, no_items)
+due_first strict depth walk used same room wide = grind (arith, outside, no_items)
 
 -- If all levels are used, an item is due at the deepest level.
 pub deepest : (strict : Bool) (depth whole : ℕ) (walk : Walk) (before : List ℕ) → IsDue strict depth whole walk before
@@ -176,17 +193,20 @@ enters_empty strict depth whole walk before title header x due p g within room i
 
 -- The title of a nest with items due opens one more level.
 pub enters_within : (strict : Bool) (depth whole : ℕ) (walk new : Walk) (before title : List ℕ) (header : Header)
-    (x : Remaining)
+    (x : Remaining) (y : Within)
     → IsDue strict depth whole walk before → IsTitle title header → IsTakenTitle strict title header
     → walk.used ≤ walk.depth → walk.depth ≤ 256
-    → (walk.used ≡ walk.depth → ⊥) → IsRemaining header 0 x → is_done x ≡ false
-    → new.levels ≡ set walk.levels walk.used x → new.used ≡ walk.used + 1 → new.depth ≡ walk.depth
+    → (walk.used ≡ walk.depth → ⊥) → IsRemaining header 0 x → is_done x ≡ false → y ≡ place_in header 0
+    → new.levels ≡ set walk.levels walk.used x → new.places ≡ set walk.places walk.used y
+    → new.used ≡ walk.used + 1 → new.depth ≡ walk.depth
     → IsDueBehind strict depth whole new (before ++ title)
-enters_within strict depth whole walk new before title header x due p g within shallow room is some written one deep =
+enters_within strict depth whole walk new before title header x y due p g within shallow room is some first written
+    placed one deep =
     let levels = depth - suc (length due.nests) in
     let used = due.keeps.used in
     let same = due.keeps.same_depth in
     let long = due.keeps.room in
+    let wide = due.keeps.wide in
     let nest : Nest = record { header = header; count = 0 } in
     let all : before ++ (title ++ []) ≡ before ++ title = ap (λ (z : List ℕ). before ++ z) (append-nil title) in
     let more = takes_more header 0 x is some in
@@ -202,6 +222,10 @@ enters_within strict depth whole walk new before title header x due p g within s
         used = omega (arith, one, used);
         same_depth = deep ∙ same;
         room = ap length written ∙ (length-set walk.levels walk.used x ∙ long);
+        placed = subst (λ (z : List Within). AreAt z (nest ∷ due.nests)) (sym placed)
+            (at_more walk.places due.nests nest walk.used y used
+            (omega (arith, used, same, within, room, shallow, wide)) first due.keeps.placed);
+        wide = ap length placed ∙ (length-set walk.places walk.used y ∙ wide);
       };
     })
 
@@ -248,10 +272,10 @@ break_refused strict depth whole walk before due some refused =
 closed_behind : (strict : Bool) (depth whole : ℕ) (walk new : Walk) (before : List ℕ) (nests : List Nest)
     → StandsBehind strict depth whole nests before
     → KeepsNests depth walk nests → (walk.used ≡ 0 → ⊥) → closes (remaining_at walk.levels (walk.used - 1)) ≡ true
-    → new.levels ≡ walk.levels → new.used ≡ walk.used - 1 → new.depth ≡ walk.depth
+    → new.levels ≡ walk.levels → new.places ≡ walk.places → new.used ≡ walk.used - 1 → new.depth ≡ walk.depth
     → IsBehindItem strict depth whole new (before ++ 0xff ∷ [])
-closed_behind strict depth whole walk new before [] within keeps some may same less deep = absurd (some keeps.used)
-closed_behind strict depth whole walk new before (nest ∷ nests) within keeps some may same less deep =
+closed_behind strict depth whole walk new before [] within keeps some may same still less deep = absurd (some keeps.used)
+closed_behind strict depth whole walk new before (nest ∷ nests) within keeps some may same still less deep =
     let used = keeps.used in
     let kept = keeps.kept in
     let at : walk.used - 1 ≡ length nests = omega (arith, used) in
@@ -266,15 +290,17 @@ closed_behind strict depth whole walk new before (nest ∷ nests) within keeps s
       used = less ∙ at;
       same_depth = deep ∙ keeps.same_depth;
       room = ap length same ∙ keeps.room;
+      placed = subst (λ (z : List Within). AreAt z nests) (sym still) keeps.placed.1;
+      wide = ap length still ∙ keeps.wide;
     })
 
 pub break_closes : (strict : Bool) (depth whole : ℕ) (walk new : Walk) (before : List ℕ)
     → IsDue strict depth whole walk before
     → (walk.used ≡ 0 → ⊥)
     → closes (remaining_at walk.levels (walk.used - 1)) ≡ true
-    → new.levels ≡ walk.levels → new.used ≡ walk.used - 1 → new.depth ≡ walk.depth
+    → new.levels ≡ walk.levels → new.places ≡ walk.places → new.used ≡ walk.used - 1 → new.depth ≡ walk.depth
     → Breaks strict depth whole true new before
-break_closes strict depth whole walk new before due some may same less deep =
+break_closes strict depth whole walk new before due some may same still less deep =
     let closing = closes_as_kept depth walk due.nests due.keeps some ∙ may in
     let used = due.keeps.used in
     record {
@@ -282,8 +308,8 @@ break_closes strict depth whole walk new before due some may same less deep =
       within = due.within;
       level = less ∙ (ap (λ (k : ℕ). k - 1) used ∙ sym (level_closed due.nests closing));
       may = closing;
-      behind = λ e. closed_behind strict depth whole walk new before due.nests due.within due.keeps some may same less
-          deep;
+      behind = λ e. closed_behind strict depth whole walk new before due.nests due.within due.keeps some may same still
+          less deep;
     }
 
 -- ---- the end of an item
@@ -314,31 +340,40 @@ end_outside strict depth whole walk bytes behind none =
         used = none;
         same_depth = due.keeps.same_depth;
         room = due.keeps.room;
+        placed = tt;
+        wide = due.keeps.wide;
       };
     })
 
 -- The end of an item changes how many items remain in the innermost nest.
-pub record Steps (walk new : Walk) (after : Remaining) : Type 0 where
+pub record Steps (walk new : Walk) (after : Remaining) (next : Within) : Type 0 where
   pub counts : (x : Header) (count : ℕ) → IsRemaining x count (remaining_at walk.levels (walk.used - 1))
       → IsRemaining x (suc count) after
   pub some : walk.used ≡ 0 → ⊥
   pub within : walk.used ≤ 256
   pub written : new.levels ≡ set walk.levels (walk.used - 1) after
+  pub places : (x : Header) (count : ℕ) → place_at walk.places (walk.used - 1) ≡ place_in x count
+      → next ≡ place_in x (suc count)
+  pub placed : new.places ≡ set walk.places (walk.used - 1) next
   pub deep : new.depth ≡ walk.depth
 
-more_due : (strict : Bool) (depth whole : ℕ) (walk new : Walk) (after : Remaining) → Steps walk new after
+more_due : (strict : Bool) (depth whole : ℕ) (walk new : Walk) (after : Remaining) (step : Within) → Steps walk new after step
     → (nests : List Nest) (before item : List ℕ) (levels : ℕ) → StandsBehind strict depth whole nests before
     → KeepsNests depth walk nests → length nests + levels ≡ depth → IsItem strict levels item
     → is_done after ≡ false → new.used ≡ walk.used → IsDue strict depth whole new (before ++ item)
-more_due strict depth whole walk new after s [] before item levels stands keeps left is_item rest same = absurd (s.some
+more_due strict depth whole walk new after step s [] before item levels stands keeps left is_item rest same = absurd (s.some
     keeps.used)
-more_due strict depth whole walk new after s (nest ∷ nests) before item levels stands keeps left is_item rest same =
+more_due strict depth whole walk new after step s (nest ∷ nests) before item levels stands keeps left is_item rest same =
     let used = keeps.used in
     let few = s.within in
     let at : walk.used - 1 ≡ length nests = omega (arith, used) in
     let kept = keeps.kept in
     let long = keeps.room in
+    let wide = keeps.wide in
     let count = nest.count in
+    let place : step ≡ place_in nest.header (suc count) =
+    s.places nest.header count
+    (subst (λ (k : ℕ). place_at walk.places k ≡ place_in nest.header count) (sym at) keeps.placed.0) in
     let is : IsRemaining nest.header (suc count) after =
     s.counts nest.header count
     (subst (λ (k : ℕ). IsRemaining nest.header count (remaining_at walk.levels k)) (sym at) kept.0) in
@@ -355,29 +390,33 @@ more_due strict depth whole walk new after s (nest ∷ nests) before item levels
         used = same ∙ used;
         same_depth = s.deep ∙ keeps.same_depth;
         room = ap length s.written ∙ (length-set walk.levels (walk.used - 1) after ∙ long);
+        placed = subst (λ (z : List Within). AreAt z (next ∷ nests)) (sym s.placed)
+            (at_more walk.places nests next (walk.used - 1) step at (omega (arith, used, wide, few)) place
+            keeps.placed.1);
+        wide = ap length s.placed ∙ (length-set walk.places (walk.used - 1) step ∙ wide);
       };
     }
 
-pub end_goes_on : (strict : Bool) (depth whole : ℕ) (walk new : Walk) (after : Remaining) → Steps walk new after
+pub end_goes_on : (strict : Bool) (depth whole : ℕ) (walk new : Walk) (after : Remaining) (step : Within) → Steps walk new after step
     → (bytes : List ℕ)
     → IsBehindItem strict depth whole walk bytes → is_done after ≡ false → new.used ≡ walk.used
     → IsDueBehind strict depth whole new bytes
-end_goes_on strict depth whole walk new after s bytes behind rest same =
+end_goes_on strict depth whole walk new after step s bytes behind rest same =
     let due = behind.due in
     let some = s.some in
     within_nest strict depth whole new.used new bytes refl (omega (arith, same, some))
     (subst (λ (z : List ℕ). IsDue strict depth whole new z) (sym behind.is)
-    (more_due strict depth whole walk new after s due.nests behind.before behind.item behind.levels due.within due.keeps
+    (more_due strict depth whole walk new after step s due.nests behind.before behind.item behind.levels due.within due.keeps
     behind.left behind.is_item rest
     same))
 
-level_ends : (strict : Bool) (depth whole : ℕ) (walk new : Walk) (after : Remaining) → Steps walk new after
+level_ends : (strict : Bool) (depth whole : ℕ) (walk new : Walk) (after : Remaining) (step : Within) → Steps walk new after step
     → (nests : List Nest) (before item : List ℕ) (levels : ℕ) → StandsBehind strict depth whole nests before
     → KeepsNests depth walk nests → length nests + levels ≡ depth → IsItem strict levels item
     → is_done after ≡ true → new.used ≡ walk.used - 1 → IsBehindItem strict depth whole new (before ++ item)
-level_ends strict depth whole walk new after s [] before item levels stands keeps left is_item done less =
+level_ends strict depth whole walk new after step s [] before item levels stands keeps left is_item done less =
     absurd (s.some keeps.used)
-level_ends strict depth whole walk new after s (nest ∷ nests) before item levels stands keeps left is_item done less =
+level_ends strict depth whole walk new after step s (nest ∷ nests) before item levels stands keeps left is_item done less =
     let used = keeps.used in
     let few = s.within in
     let at : walk.used - 1 ≡ length nests = omega (arith, used) in
@@ -398,16 +437,41 @@ level_ends strict depth whole walk new after s (nest ∷ nests) before item leve
       used = less ∙ at;
       same_depth = s.deep ∙ keeps.same_depth;
       room = ap length s.written ∙ (length-set walk.levels (walk.used - 1) after ∙ keeps.room);
+      placed = subst (λ (z : List Within). AreAt z nests) (sym s.placed)
+          (at_below walk.places nests (walk.used - 1) step (omega (arith, at)) keeps.placed.1);
+      wide = ap length s.placed ∙ (length-set walk.places (walk.used - 1) step ∙ keeps.wide);
     })
 
-pub end_of_level : (strict : Bool) (depth whole : ℕ) (walk new : Walk) (after : Remaining) → Steps walk new after
+pub end_of_level : (strict : Bool) (depth whole : ℕ) (walk new : Walk) (after : Remaining) (step : Within) → Steps walk new after step
     → (bytes : List ℕ)
     → IsBehindItem strict depth whole walk bytes → is_done after ≡ true
     → new.used ≡ walk.used - 1 → IsBehindItem strict depth whole new bytes
-end_of_level strict depth whole walk new after s bytes behind done less =
+end_of_level strict depth whole walk new after step s bytes behind done less =
     let due = behind.due in
     subst (λ (z : List ℕ). IsBehindItem strict depth whole new z) (sym behind.is)
-    (level_ends strict depth whole walk new after s due.nests behind.before behind.item behind.levels due.within
+    (level_ends strict depth whole walk new after step s due.nests behind.before behind.item behind.levels due.within
     due.keeps
     behind.left behind.is_item
     done less)
+
+-- ---- the place of the item that is due
+
+no_place : (nests : List Nest) → length nests ≡ 0 → within_nests nests ≡ w.Nothing
+no_place nests none = grind arith
+
+kept_place : (places : List Within) (used : ℕ) (nests : List Nest) → AreAt places nests → used ≡ length nests
+    → (used ≡ 0 → ⊥) → place_at places (used - 1) ≡ within_nests nests
+kept_place places used [] placed same some = absurd (some same)
+kept_place places used (nest ∷ nests) placed same some =
+    let at : used - 1 ≡ length nests = omega (arith, same) in
+    rw at placed.0
+
+pub place_outside : (strict : Bool) (depth whole : ℕ) (walk : Walk) (before : List ℕ)
+    (due : IsDue strict depth whole walk before) → walk.used ≡ 0 → within_nests due.nests ≡ w.Nothing
+place_outside strict depth whole walk before due none = no_place due.nests (sym due.keeps.used ∙ none)
+
+pub place_inside : (strict : Bool) (depth whole : ℕ) (walk : Walk) (before : List ℕ)
+    (due : IsDue strict depth whole walk before) → (walk.used ≡ 0 → ⊥)
+    → place_at walk.places (walk.used - 1) ≡ within_nests due.nests
+place_inside strict depth whole walk before due some =
+    kept_place walk.places walk.used due.nests due.keeps.placed due.keeps.used some

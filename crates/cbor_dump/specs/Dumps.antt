@@ -10,6 +10,7 @@ use Rattle.cbor_skip.specs.declared.SkipError.TheVariants as s
 use Rattle.cbor_dump.specs.declared.dump.DumpError.{DumpError}
 use Rattle.cbor_dump.specs.declared.dump.DumpError.TheVariants as d
 use Rattle.cbor_dump.specs.declared.rows.Meaning.TheVariants as m
+use Rattle.cbor_dump.specs.declared.rows.Within.TheVariants as w
 use Rattle.ciborium_ll.specs.Decoding.{offset_limit, view, ReadsPast}
 use Rattle.cbor_dump.specs.Takings.{EndsRow, IsSteadyNoneWaiting, ReadsOn, RefusesRead, StopsBy, TakesBytes, most_bytes}
 use Rattle.cbor_dump.specs.Levels.{Line, Ending, Meant, bytes_of, AllStand}
@@ -90,7 +91,7 @@ pub record DrawsRefused (old new : Option (List Line)) (lines : List Line) : Typ
 abbrev pub fault_lines : ℕ → ℕ → List ℕ → List Line
 fault_lines level offset [] = []
 fault_lines level offset (byte ∷ bytes) =
-    record { level = level; offset = offset; bytes = byte ∷ bytes; meaning = m.Fault } ∷ []
+    record { level = level; offset = offset; bytes = byte ∷ bytes; meaning = m.Fault; within = w.Nothing } ∷ []
 
 -- After the bytes before, which begin at the start, lines of these bytes were drawn. Each line stands at its level, and
 -- the lines end as `ending` says. After `82` the bytes `01 02` have two lines at the level 1.

@@ -1,6 +1,6 @@
 -- The level of each line of a dump: how many tags, arrays, maps and opens are around it.
 use Rattle.std.specs.Prelude.{◌≡◌, ℕ, zero, suc, ◌+◌, ◌-◌, ◌<◌, ◌≤◌, ◌⊎◌, Bool, true, false, List, [], ◌∷◌, ◌++◌}
-use Rattle.std.specs.Prelude.{length, Some, None, if◌then◌else◌}
+use Rattle.std.specs.Prelude.{length, min, ◌^◌, Some, None, if◌then◌else◌}
 use Rattle.ciborium_ll.specs.Types.Header.{Header}
 use Rattle.ciborium_ll.specs.Types.Header.TheVariants as h
 use Rattle.ciborium_ll.specs.Title.{IsTitle}
@@ -12,6 +12,8 @@ use Rattle.ciborium_ll.specs.Items.{AreItems, IsTakenTitle}
 use Rattle.cbor_skip.specs.Due.{TakesMore, may_close}
 use Rattle.cbor_dump.specs.declared.rows.Meaning.{Meaning}
 use Rattle.cbor_dump.specs.declared.rows.Meaning.TheVariants as m
+use Rattle.cbor_dump.specs.declared.rows.Within.{Within}
+use Rattle.cbor_dump.specs.declared.rows.Within.TheVariants as w
 use Rattle.cbor_dump.specs.Takings.{IsFirstByte, AnswersTitle, most_bytes}
 use Rattle.cbor_dump.specs.Parts.{IsFullPart, IsCutText}
 
@@ -73,28 +75,53 @@ title_level h.Break nests opens =
     if closes_one nests opens then (length nests + opens) - 1 else length nests + opens
 title_level header nests opens = length nests + opens
 
+-- The greatest index that a dump shows: an index beyond it is shown as this one.
+abbrev pub most_index : ℕ
+most_index = 2 ^ 64 - 1
+
+-- The place of the item that is due within a nest of this header after `count` of its items. In an array it is the
+-- index, counted from 0: after `83 01` it is 1. A tag and a map have no places.
+abbrev pub place_in : Header → ℕ → Within
+place_in (h.Array len) count = w.Index (min count most_index)
+place_in header count = w.Nothing
+
+-- The place of the item that is due within these nests, the innermost first. Outside of all nests it has none.
+abbrev pub within_nests : List Nest → Within
+within_nests [] = w.Nothing
+within_nests (nest ∷ nests) = place_in nest.header nest.count
+
+-- The place of a title within these nests, and in a string within this many opens. A break and the title of a piece of
+-- a string have none. In `82 01 02` the title `02` has the index 1.
+abbrev pub title_within : Header → List Nest → ℕ → Within
+title_within h.Break nests opens = w.Nothing
+title_within header nests (suc opens) = w.Nothing
+title_within header nests zero = within_nests nests
+
 -- ---- lines
 
--- A line of a dump: its level, its offset, its bytes, and what they mean. In a dump of `81 01` the line of `01` has the
--- level 1 and the offset 1.
+-- A line of a dump: its level, its offset, its bytes, what they mean, and its place within an array. In a dump of
+-- `81 01` the line of `01` has the level 1, the offset 1 and the index 0.
 pub record Line : Type 0 where
   pub level : ℕ
   pub offset : ℕ
   pub bytes : List ℕ
   pub meaning : Meaning
+  pub within : Within
 
 -- The bytes of the lines, joined. The lines of `82`, `01` and `02` give `82 01 02`.
 abbrev pub bytes_of : List Line → List ℕ
 bytes_of [] = []
 bytes_of (line ∷ lines) = line.bytes ++ bytes_of lines
 
--- After these bytes the line has a title of the header, at its level. After `81` the line of `01` has the level 1.
+-- After these bytes the line has a title of the header, at its level and its place. After `81` the line of `01` has the
+-- level 1 and the index 0.
 pub record HasTitle (depth : ℕ) (before : List ℕ) (header : Header) (line : Line) : Type 0 where
   pub nests : List Nest
   pub opens : ℕ
   pub due : TitleDue depth nests opens before
   pub is_title : IsTitle line.bytes header
   pub level : line.level ≡ title_level header nests opens
+  pub within : line.within ≡ title_within header nests opens
 
 -- After these bytes the line has a part of a string's body, one level deeper than the string's title. The part has as
 -- many bytes as a row has, or all that is left. After `81 41` the line of `61` has the level 2.
@@ -111,6 +138,7 @@ pub record HasBody (depth : ℕ) (before : List ℕ) (kind : Kind) (line : Line)
   pub fits : length front + length line.bytes ≤ len
   pub full : IsFullPart kind (len - length front) line.bytes
   pub level : line.level ≡ suc (length nests + opens)
+  pub within : line.within ≡ w.Nothing
 
 -- How lines end. `Meant`: each line has a meaning. `Refused`: the last line is at fault, since a dump, strict or not,
 -- refuses its bytes, as `1c`. `Failed` and `Stopped`: the reader failed, or a read stopped for another reason. Each
@@ -153,6 +181,7 @@ pub record HasNoTitle (how : Ending) (depth : ℕ) (before : List ℕ) (line : L
   pub due : TitleDue depth nests opens before
   pub fault : IsTitleFault how due.kind opens line.bytes
   pub level : line.level ≡ length nests + opens
+  pub within : line.within ≡ w.Nothing
 
 -- After these bytes the line has the bytes that were read of a text's body at fault. After `62` they can be `ff 61`.
 pub record HasNoText (how : Ending) (depth : ℕ) (before : List ℕ) (line : Line) : Type 0 where

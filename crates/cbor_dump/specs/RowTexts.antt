@@ -18,6 +18,8 @@ use Rattle.cbor_dump.specs.Tags.{tag_name}
 use Rattle.cbor_dump.specs.declared.rows.Meaning.{Meaning}
 use Rattle.cbor_dump.specs.declared.rows.Meaning.TheVariants as m
 use Rattle.cbor_dump.specs.declared.rows.Row.{Row}
+use Rattle.cbor_dump.specs.declared.rows.Within.{Within}
+use Rattle.cbor_dump.specs.declared.rows.Within.TheVariants as w
 
 -- ---- bytes
 
@@ -149,18 +151,24 @@ commented_text level bytes =
 abbrev pub level_text : ℕ → List ℕ
 level_text level = if nat_le level most_indent then [] else codes "level " ++ (decimal level ++ codes " ")
 
+-- The place of a title within an array: the index 3 gives `[3] `.
+abbrev pub within_text : Within → List ℕ
+within_text w.Nothing = []
+within_text (w.Index index) = codes "[" ++ (decimal index ++ codes "] ")
+
 -- The text of a row of this meaning, without the value of a float. Bytes of a byte string and bytes at fault have no
 -- comment. At the level 0 the text row of `61` gives `61`, 33 spaces and ` # "a"`.
-abbrev pub text_of : Meaning → ℕ → List ℕ → List ℕ
-text_of (m.Header header) level bytes = commented_text level bytes ++ (level_text level ++ header_text header)
-text_of m.Text level bytes = commented_text level bytes ++ quoted_text bytes
-text_of m.Bytes level bytes = bare_text level bytes
-text_of m.Fault level bytes = bare_text level bytes
+abbrev pub text_of : Meaning → ℕ → Within → List ℕ → List ℕ
+text_of (m.Header header) level within bytes =
+    commented_text level bytes ++ (level_text level ++ (within_text within ++ header_text header))
+text_of m.Text level within bytes = commented_text level bytes ++ quoted_text bytes
+text_of m.Bytes level within bytes = bare_text level bytes
+text_of m.Fault level within bytes = bare_text level bytes
 
 -- The text of a row, without the value of a float. At the level 1 the row of the title `01` is 3 spaces, `01`, 30
 -- spaces and ` # 1`.
 abbrev pub row_text : Row → List ℕ
-row_text row = text_of row.meaning row.level row.bytes.now
+row_text row = text_of row.meaning row.level row.within row.bytes.now
 
 -- ---- values
 

@@ -9,7 +9,9 @@ use Rattle.cbor_skip.specs.Remaining.{IsRemaining, is_done}
 use Rattle.cbor_dump.specs.declared.walk.Walk.{Walk}
 use Rattle.cbor_dump.specs.declared.walk.Entered.{Entered}
 use Rattle.cbor_dump.specs.declared.walk.Entered.TheVariants as w
-use Rattle.cbor_dump.specs.Levels.{Nest, StandsBehind, closes_one, title_level}
+use Rattle.cbor_dump.specs.declared.rows.Within.{Within}
+use Rattle.cbor_dump.specs.declared.rows.Within.TheVariants as p
+use Rattle.cbor_dump.specs.Levels.{Nest, StandsBehind, closes_one, place_in, title_level}
 
 -- A header that is an item by itself (RFC 7049, 2.1 and 2.3), as those of `01`, `20`, `f4` and `f9 3c 00` are.
 abbrev pub IsItemAlone : Header → Type 0
@@ -30,12 +32,24 @@ AreKept levels [] = Unit {0}
 AreKept levels (nest ∷ nests) = IsRemaining nest.header nest.count (remaining_at levels (length nests))
     × (is_done (remaining_at levels (length nests)) ≡ false) × AreKept levels nests
 
+-- The place that the walk keeps at the level of this number. After `83 01` it is the index 1 at the number 0.
+abbrev pub place_at : List Within → ℕ → Within
+place_at places at = slice_index_or places at p.Nothing
+
+-- The walk keeps the place of the next item within each nest. After `82 81` it keeps the index 0 at 0 and at 1.
+abbrev pub AreAt : List Within → List Nest → Type 0
+AreAt places [] = Unit {0}
+AreAt places (nest ∷ nests) =
+    (place_at places (length nests) ≡ place_in nest.header nest.count) × AreAt places nests
+
 -- The walk keeps exactly these nests. After `81 c1` they are the tag and the array, and it uses 2 levels.
 pub record KeepsNests (depth : ℕ) (walk : Walk) (nests : List Nest) : Type 0 where
   pub kept : AreKept walk.levels nests
   pub used : walk.used ≡ length nests
   pub same_depth : walk.depth ≡ depth
   pub room : length walk.levels ≡ 256
+  pub placed : AreAt walk.places nests
+  pub wide : length walk.places ≡ 256
 
 -- After the bytes, which have `whole` whole items, an item is due within the nests that the walk keeps. All stand in
 -- any spelling, or all in the shortest one. After `01 82` one item is whole, and the walk keeps one nest.

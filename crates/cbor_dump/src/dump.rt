@@ -24,7 +24,7 @@ ghost use Rattle.cbor_dump.specs.Walks.{IsDue, IsItemAlone};
 ghost use Rattle.ciborium_ll_grammar.specs.declared.limits.TheConstants.{MOST_LEVELS};
 
 use crate::left::fault_row;
-use crate::rows::{Meaning, Row, Rows};
+use crate::rows::{Meaning, Row, Rows, Within};
 use crate::strings::{Kind, body, pieces};
 use crate::taken::Taken;
 use crate::walk::{Entered, Walk};
@@ -50,7 +50,7 @@ pub enum DumpError<E, W> {
 ///
 /// Unless a row was refused, after a fault too:
 ///
-/// - A row has 1 to 16 bytes, at the level that [`Row`] says.
+/// - A row has 1 to 16 bytes, at the level that [`Row`] says. A title that begins an element of an array has its index.
 /// - A part of a byte string has 16 bytes, or all that is left. A part of a text has 8 bytes and the rest of their last
 ///   character, or all that is left.
 /// - If the reader is steady and no header waits, the rows have exactly the consumed bytes. On `Ok` these are a
@@ -174,21 +174,25 @@ pub(crate) fn fault<E: Drop, S: Rows>(
 pub(crate) fn shown<E, S: Rows>(
     taken: &Taken,
     meaning: Meaning,
+    within: Within,
     offset: usize,
     level: usize,
     rows: &mut S,
 ) -> Result<(), DumpError<E, S::Error>>
     ensures draws { AreRowsTaken result → Draws (S.drawn rows.old) (S.drawn rows.new)
-        (record { level = level; offset = offset; bytes = taken_bytes taken.now; meaning = meaning } ∷ []) }
+        (record { level = level; offset = offset; bytes = taken_bytes taken.now; meaning = meaning; within = within }
+        ∷ []) }
     ensures refusal { IfErr result (λ error. IsRefusal error) }
     ensures refused { IsRefused result → DrawsRefused (S.drawn rows.old) (S.drawn rows.new)
-        (record { level = level; offset = offset; bytes = taken_bytes taken.now; meaning = meaning } ∷ []) }
+        (record { level = level; offset = offset; bytes = taken_bytes taken.now; meaning = meaning; within = within }
+        ∷ []) }
 {
     let row = Row {
         level,
         offset,
         bytes: taken.bytes(),
         meaning,
+        within,
     };
     rows.row(row).map_err(|fault| DumpError::Rows(fault))
 }
@@ -256,7 +260,8 @@ fn value<E, S: Rows>(
     ensures alone { IfErr result IsAlone }
 {
     let level = walk.level();
-    shown(taken, Meaning::Header(header), place, level, rows)?;
+    let within = walk.within();
+    shown(taken, Meaning::Header(header), within, place, level, rows)?;
     walk.item_done();
     Ok(())
 }
@@ -282,7 +287,7 @@ fn break_title<E, S: Rows>(
     let closed = walk.close();
     let level = walk.level();
     let meaning = Meaning::Header(Header::Break);
-    shown(taken, meaning, place, level, rows)?;
+    shown(taken, meaning, Within::Nothing, place, level, rows)?;
     if !closed {
         return Err(DumpError::Item(SkipError::Break(place)));
     }
@@ -311,7 +316,8 @@ fn nest<E, S: Rows>(
     ensures alone { IfErr result IsAlone }
 {
     let level = walk.level();
-    shown(taken, Meaning::Header(header), place, level, rows)?;
+    let within = walk.within();
+    shown(taken, Meaning::Header(header), within, place, level, rows)?;
     match walk.enter(header) {
         Entered::Deep => Err(DumpError::Item(SkipError::Deep(place))),
         Entered::Within => Ok(()),
@@ -353,7 +359,8 @@ where
 {
     let header = kind.header(len);
     let level = walk.level();
-    shown(taken, Meaning::Header(header), place, level, rows)?;
+    let within = walk.within();
+    shown(taken, Meaning::Header(header), within, place, level, rows)?;
     rest(decoder, kind, len, strict, level, rows)?;
     walk.item_done();
     Ok(())

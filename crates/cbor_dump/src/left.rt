@@ -4,7 +4,7 @@ ghost use Rattle.std.specs.Prelude.{◌≡◌, [], Ok, OnErr, OnOk};
 ghost use Rattle.cbor_dump.specs.Dumps.{Draws, DrawsRefused, ShowsLeft, fault_lines};
 ghost use Rattle.cbor_dump.specs.Takings.{taken_bytes};
 
-use crate::rows::{Meaning, Row, Rows};
+use crate::rows::{Meaning, Row, Rows, Within};
 use crate::taken::Taken;
 use ciborium_ll::Decoder;
 use ciborium_ll::io::Read;
@@ -57,5 +57,6 @@ pub(crate) fn fault_row<S: Rows>(
         offset,
         bytes: taken.bytes(),
         meaning: Meaning::Fault,
+        within: Within::Nothing,
     })
 }

@@ -11,6 +11,7 @@ ghost use Rattle.cbor_dump.specs.RowTexts.{ArePlain, blank, character_text, char
 ghost use Rattle.cbor_dump.specs.RowTexts.{IsHeaderValue, IsRowText, IsValue, WritesOneOnOk, bare_text};
 ghost use Rattle.cbor_dump.specs.RowTexts.{commented_text, header_text, indent, known_text, level_text, quoted_text};
 ghost use Rattle.cbor_dump.specs.RowTexts.{row_text, simple_text, tag_text, width_text};
+ghost use Rattle.cbor_dump.specs.RowTexts.{within_text};
 
 use crate::numbers::number;
 use crate::tags::name_of;
@@ -60,6 +61,15 @@ pub enum Meaning {
     Fault,
 }
 
+/// The place of a title within the array that contains its item.
+#[derive(Debug, Clone, Copy)]
+pub enum Within {
+    /// No place: the title begins no element of an array, or the row has no title.
+    Nothing,
+    /// The title begins the element of this index, counted from 0. An index that is no `usize` is `usize::MAX`.
+    Index(usize),
+}
+
 /// One row of a dump.
 #[derive(Debug, Clone, Copy)]
 pub struct Row<'a> {
@@ -72,6 +82,8 @@ pub struct Row<'a> {
     pub bytes: &'a [u8],
     /// The meaning of the bytes.
     pub meaning: Meaning,
+    /// The place of the bytes, if they are a title of an element of an array.
+    pub within: Within,
 }
 
 /// Takes the rows of a dump, one by one.
@@ -93,6 +105,7 @@ pub trait Rows {
           offset = row.entry.offset;
           bytes = row.entry.bytes.now;
           meaning = row.entry.meaning;
+          within = row.entry.within;
         } ∷ [])) }
         ensures refused { OnErr result (drawn self.new ≡ drawn self.old) };
 }
@@ -298,6 +311,16 @@ fn deep<W: fmt::Write>(f: &mut fmt::Formatter<W>, level: usize) -> fmt::Result
     write!(f, "level {level} ")
 }
 
+/// Writes the place of a title, if it has one.
+fn place<W: fmt::Write>(f: &mut fmt::Formatter<W>, within: Within) -> fmt::Result
+    ensures { WritesOnOk W.Write.write_str_gives f.old result (within_text within) f.new }
+{
+    match within {
+        Within::Nothing => Ok(()),
+        Within::Index(index) => write!(f, "[{index}] "),
+    }
+}
+
 /// Writes a row without the value of a float.
 fn front<W: fmt::Write>(f: &mut fmt::Formatter<W>, row: &Row<'_>) -> fmt::Result
     ensures { WritesOnOk W.Write.write_str_gives f.old result (row_text row.now) f.new }
@@ -306,6 +329,7 @@ fn front<W: fmt::Write>(f: &mut fmt::Formatter<W>, row: &Row<'_>) -> fmt::Result
         Meaning::Header(title) => {
             commented(f, row.level, row.bytes)?;
             deep(f, row.level)?;
+            place(f, row.within)?;
             header(f, title)
         }
         Meaning::Text => {

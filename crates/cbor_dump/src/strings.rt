@@ -13,7 +13,7 @@ ghost use Rattle.cbor_dump.specs.StringRows.{IsPart, ShowsBehindTitle, kind_of, 
 ghost use Rattle.ciborium_ll_grammar.specs.declared.limits.TheConstants.{MOST_LEVELS};
 
 use crate::dump::{DumpError, fault, shown};
-use crate::rows::{Meaning, Rows};
+use crate::rows::{Meaning, Rows, Within};
 use crate::taken::{MOST_BYTES, Taken};
 use ciborium_ll::io::Read;
 use ciborium_ll::{Decoder, Error, Header};
@@ -82,7 +82,7 @@ where
         if let Err(error) = read_part(&mut taken, decoder, kind, left, place) {
             return Err(fault(&taken, error, offset, level, rows));
         }
-        shown(&taken, kind.meaning(), offset, level, rows)?;
+        shown(&taken, kind.meaning(), Within::Nothing, offset, level, rows)?;
         left -= taken.len();
     }
     Ok(())
@@ -202,7 +202,14 @@ where
             return Err(fault(&taken, Error::Syntax(place), place, inner, rows));
         }
         let at = title_level(header, inner);
-        shown(&taken, Meaning::Header(header), place, at, rows)?;
+        shown(
+            &taken,
+            Meaning::Header(header),
+            Within::Nothing,
+            place,
+            at,
+            rows,
+        )?;
         match part {
             Part::Piece(len) => body(decoder, kind, len, place, inner + 1, rows)?,
             Part::Open => inner += 1,

@@ -1,8 +1,11 @@
 //! Keeps the tags, arrays and maps that a title stands within.
 
-ghost use Rattle.std.specs.Prelude.{◌≡◌, ◌≤◌, ◌<◌, ◌++◌, [], ℕ, Bool, List, IsTrue};
+ghost use Rattle.std.specs.Prelude.{◌≡◌, ◌≤◌, ◌<◌, ◌++◌, [], ℕ, suc, Bool, List, IsTrue};
+ghost use Rattle.ciborium_ll.specs.Types.Header.{Header as AnyHeader};
+ghost use Rattle.cbor_dump.specs.Levels.{place_in, within_nests};
 ghost use Rattle.ciborium_ll_grammar.specs.declared.limits.TheConstants.{MOST_LEVELS};
 
+use crate::rows::Within;
 use cbor_skip::Remaining;
 use ciborium_ll::Header;
 use ciborium_ll::limits::MOST_LEVELS;
@@ -17,10 +20,33 @@ pub(crate) enum Entered {
     Within,
 }
 
+/// Returns the place of the first item within a tag, an array or a map.
+fn first_within(header: Header) -> Within
+    ensures { result ≡ place_in header 0 }
+{
+    match header {
+        Header::Array(_) => Within::Index(0),
+        _ => Within::Nothing,
+    }
+}
+
+/// Returns the place of the item after the item of this place.
+fn next_within(within: Within) -> Within
+    ensures { (header : AnyHeader) (count : ℕ) → within ≡ place_in header count
+        → result ≡ place_in header (suc count) }
+{
+    match within {
+        Within::Nothing => Within::Nothing,
+        Within::Index(index) => Within::Index(index.saturating_add(1)),
+    }
+}
+
 /// The tags, arrays and maps that are not closed, and the items due within each.
 #[derive(Drop)]
 pub(crate) struct Walk {
     levels: [Remaining; MOST_LEVELS],
+    /// The place of the next item within each level.
+    places: [Within; MOST_LEVELS],
     used: usize,
     depth: usize,
     ghost shallow: { depth ≤ MOST_LEVELS },
@@ -41,6 +67,7 @@ impl Walk {
     {
         Walk {
             levels: [Remaining::Items(0); MOST_LEVELS],
+            places: [Within::Nothing; MOST_LEVELS],
             used: 0,
             depth,
         }
@@ -52,6 +79,17 @@ impl Walk {
         ensures value { result ≡ self.now.used }
     {
         self.used
+    }
+
+    /// Returns the place of the item that is due.
+    pub(crate) fn within(&self) -> Within
+        ensures { (strict : Bool) (depth whole : ℕ) (before : List ℕ) (due : IsDue strict depth whole self.now before)
+            → result ≡ within_nests due.nests }
+    {
+        if self.used == 0 {
+            return Within::Nothing;
+        }
+        self.places[self.used - 1]
     }
 
     /// Takes the title of a tag, an array or a map.
@@ -69,6 +107,7 @@ impl Walk {
             return Entered::Empty;
         }
         self.levels[self.used] = remaining;
+        self.places[self.used] = first_within(header);
         self.used += 1;
         Entered::Within
     }
@@ -112,6 +151,7 @@ impl Walk {
         }
         let after = remaining.after_item();
         self.levels[at] = after;
+        self.places[at] = next_within(self.places[at]);
         if !after.is_done() {
             return false;
         }

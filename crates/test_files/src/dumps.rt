@@ -46,8 +46,8 @@ pub fn are_digits(alloc: Global, digits: &str) -> bool {
 static DUMPS: &str = "\
 = 82 1903e8 6161
 82                                  # array 2
-   19 03 e8                         # 1000
-   61                               # text 1
+   19 03 e8                         # [0] 1000
+   61                               # [1] text 1
       61                            # \"a\"
 = bf 01 5f42010240ff ff a0
 bf                                  # map *
@@ -62,7 +62,7 @@ a0                                  # map 0
 = c1 81 f4 20 3bffffffffffffffff f93c00 f0
 c1                                  # tag 1 (epoch time)
    81                               # array 1
-      f4                            # false
+      f4                            # [0] false
 20                                  # -1
 3b ff ff ff ff ff ff ff ff          # -18446744073709551616
 f9 3c 00                            # half 1.0
@@ -212,11 +212,68 @@ fn escapes_of_dumps(rt: HostRuntime) {
     each_dumped(&rt, rt.alloc(), Options::new(), ESCAPED, 8);
 }
 
+// A level that an indent does not show, and long rows at it: a text of control characters, and a double.
+static DEEP: &str = "\
+= 81818181818181818182 680000000000000000 fb8010000000000000
+81                                  # array 1
+   81                               # [0] array 1
+      81                            # [0] array 1
+         81                         # [0] array 1
+            81                      # [0] array 1
+               81                   # [0] array 1
+                  81                # [0] array 1
+                     81             # [0] array 1
+                        81          # [0] array 1
+                        82          # level 9 [0] array 2
+                        68          # level 10 [0] text 8
+            00 00 00 00 00 00 00 00 # \"\\u0000\\u0000\\u0000\\u0000\\u0000\\u0000\\u0000\\u0000\"
+         fb 80 10 00 00 00 00 00 00 # level 10 [1] double -2.2250738585072014e-308
+";
+
+#[test]
+fn levels_of_dumps(rt: HostRuntime) {
+    each_dumped(&rt, rt.alloc(), Options::new(), DEEP, 1);
+}
+
+// Returns whether each line of a dump of these bytes has at most 100 columns.
+fn is_narrow(alloc: Global, bytes: &[u8], options: Options) -> bool {
+    let mut text = Vec::new(alloc);
+    let _ = dump_input(alloc, bytes, &mut text, options, false);
+    let mut columns = 0usize;
+    for byte in text.as_slice() {
+        columns = if *byte == b'\n' {
+            0
+        } else {
+            columns.saturating_add(1)
+        };
+        if columns > 100 {
+            return false;
+        }
+    }
+    true
+}
+
+// An array of a text of eight control characters, and of a double with the most digits.
+static WIDE: [u8; 19] = [
+    0x82, 0x68, 0, 1, 2, 3, 4, 5, 6, 7, 0xfb, 0x80, 0x10, 0, 0, 0, 0, 0, 0,
+];
+
+// The same array within 255 arrays, which are as many as may stand around it.
+#[test]
+fn widths_of_dumps(rt: HostRuntime) {
+    let mut deep = [0x81u8; 274];
+    deep[255..].copy_from_slice(&WIDE);
+    let offsets = options_of(&rt, rt.alloc(), "dump --offsets");
+    holds(&rt, is_narrow(rt.alloc(), &WIDE, offsets), "narrow", "wide");
+    let offsets = options_of(&rt, rt.alloc(), "dump --offsets");
+    holds(&rt, is_narrow(rt.alloc(), &deep, offsets), "narrow", "deep");
+}
+
 // Dumps with offsets.
 static OFFSETS: &str = "\
 = 81f6
      0: 81                                  # array 1
-     1:    f6                               # null
+     1:    f6                               # [0] null
 = 430102
      0: 43                                  # bytes 3
      1:    01 02

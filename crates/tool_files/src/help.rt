@@ -111,11 +111,11 @@ bodies of strings follow in lines of at most 16 bytes. A last line says where a 
 
     $ printf '\\x82\\x01\\xf6' | ./cbor dump
     82                                  # array 2
-       01                               #   1
-       f6                               #   null
+       01                               # [0] 1
+       f6                               # [1] null
     $ printf '6161' | ./cbor dump --offsets --hex
          0: 61                                  # text 1
-         1:    61                               #   \"a\"
+         1:    61                               # \"a\"
 
 The status is 0 if each file is well-formed, 1 if a file is not, 2 after other arguments, 3 if a file can't be read or
 the output can't be written, and 141 if the reader of the output has gone away.

@@ -1,6 +1,6 @@
 use Rattle.std.proofs.Common.{refl}
 use Rattle.ciborium_ll.proofs.DecodingLaws.{exit_is}
-use Rattle.cbor_dump.proofs.TitleLaws.{walk_line, nest_level}
+use Rattle.cbor_dump.proofs.TitleLaws.{walk_line, nest_level, nest_place}
 use Rattle.cbor_dump.proofs.DumpLaws.{not_taken}
 use Rattle.cbor_dump.proofs.LeaveLaws.{refusal_alone}
 use Rattle.cbor_dump.proofs.dump.nest.Goals as goal
@@ -16,9 +16,10 @@ returns-in_err-shown g c =
           let but = c.in_err-shown.ensures.refused c.in_err-shown.ensures.refusal in
           record {
             row = but.row;
-            lines = walk_line strict depth whole start _ _ before _ c.args.header c.level-level.result c.args.place
+            lines = walk_line strict depth whole start _ _ before _ c.args.header c.level-level.result c.args.place c.within-within.result
                 c.args.walk.now due p (nest_level c.args.header due.nests 0 c.requires.nest)
-                c.level-level.ensures.value at but.draws;
+                (nest_place c.args.header due.nests c.requires.nest)
+                c.level-level.ensures.value c.within-within.ensures at but.draws;
           };
       alone = refusal_alone error c.in_err-shown.ensures.refusal;
     })
@@ -26,10 +27,11 @@ returns-in_err-shown g c =
 pub returns-in-Deep : goal.returns-in-Deep
 returns-in-Deep g c = record {
   draws = λ strict depth whole start before due p taken at all. record {
-    lines = walk_line strict depth whole start _ _ before _ c.args.header c.level-level.result c.args.place
+    lines = walk_line strict depth whole start _ _ before _ c.args.header c.level-level.result c.args.place c.within-within.result
         c.args.walk.now
         due p
-        (nest_level c.args.header due.nests 0 c.requires.nest) c.level-level.ensures.value at
+        (nest_level c.args.header due.nests 0 c.requires.nest)
+        (nest_place c.args.header due.nests c.requires.nest) c.level-level.ensures.value c.within-within.ensures at
         (c.in_ok-shown.ensures.draws tt);
     due = tt;
     stops = (c.in-Deep.ensures strict depth whole before _ due p taken, c.requires.nest, refl);
@@ -41,10 +43,11 @@ returns-in-Deep g c = record {
 pub returns-in-Within : goal.returns-in-Within
 returns-in-Within g c = record {
   draws = λ strict depth whole start before due p taken at all. record {
-    lines = walk_line strict depth whole start _ _ before _ c.args.header c.level-level.result c.args.place
+    lines = walk_line strict depth whole start _ _ before _ c.args.header c.level-level.result c.args.place c.within-within.result
         c.args.walk.now
         due p
-        (nest_level c.args.header due.nests 0 c.requires.nest) c.level-level.ensures.value at
+        (nest_level c.args.header due.nests 0 c.requires.nest)
+        (nest_place c.args.header due.nests c.requires.nest) c.level-level.ensures.value c.within-within.ensures at
         (c.in_ok-shown.ensures.draws tt);
     due = c.in-Within.ensures strict depth whole before _ due p taken;
     stops = tt;
@@ -56,10 +59,11 @@ returns-in-Within g c = record {
 pub returns-in-Empty : goal.returns-in-Empty
 returns-in-Empty g c = record {
   draws = λ strict depth whole start before due p taken at all. record {
-    lines = walk_line strict depth whole start _ _ before _ c.args.header c.level-level.result c.args.place
+    lines = walk_line strict depth whole start _ _ before _ c.args.header c.level-level.result c.args.place c.within-within.result
         c.args.walk.now
         due p
-        (nest_level c.args.header due.nests 0 c.requires.nest) c.level-level.ensures.value at
+        (nest_level c.args.header due.nests 0 c.requires.nest)
+        (nest_place c.args.header due.nests c.requires.nest) c.level-level.ensures.value c.within-within.ensures at
         (c.in_ok-shown.ensures.draws tt);
     due = c.item_done.ensures strict depth whole _ (c.in-Empty.ensures strict depth whole before _ due p taken);
     stops = tt;

@@ -4,7 +4,7 @@ use Rattle.cbor_dump.specs.Takings.{taken_bytes}
 use Rattle.cbor_dump.specs.StringRows.{kind_of}
 use Rattle.ciborium_ll.specs.Strings.{kind_header}
 use Rattle.cbor_dump.proofs.DumpLaws.{title_then}
-use Rattle.cbor_dump.proofs.TitleLaws.{walk_line, string_level, behind_item, string_item}
+use Rattle.cbor_dump.proofs.TitleLaws.{walk_line, string_level, string_place, behind_item, string_item}
 use Rattle.cbor_dump.proofs.DumpLaws.{not_taken}
 use Rattle.cbor_dump.proofs.RefusedLaws.{behind_refused}
 use Rattle.cbor_dump.proofs.LeaveLaws.{reads_on, refused_stops}
@@ -26,8 +26,8 @@ returns-in_err-shown g c =
           behind_refused g.R.Read depth start _ _ before row _ (record {
             row = but.row;
             lines = walk_line c.args.strict depth whole start _ _ before row (kind_header k c.args.len)
-                c.level-level.result c.args.place c.args.walk.now due p (string_level k c.args.len due.nests 0)
-                c.level-level.ensures.value place (rw c.header-header.ensures at but.draws);
+                c.level-level.result c.args.place c.within-within.result c.args.walk.now due p (string_level k c.args.len due.nests 0) (string_place k c.args.len due.nests)
+                c.level-level.ensures.value c.within-within.ensures place (rw c.header-header.ensures at but.draws);
           });
       moves = refused_stops g.R.Read error _ _ c.in_err-shown.ensures.refusal
           (reads_on g.R.Read c.args.decoder.now);
@@ -48,8 +48,8 @@ returns-in_err-rest g c =
           let drawn = rw c.header-header.ensures at (c.in_ok-shown.ensures.draws tt) in
           let used = due.keeps.used in
           let line = walk_line c.args.strict depth whole start _ _ before row
-          (kind_header k c.args.len) c.level-level.result c.args.place
-          c.args.walk.now due p (string_level k c.args.len due.nests 0) c.level-level.ensures.value place drawn in
+          (kind_header k c.args.len) c.level-level.result c.args.place c.within-within.result
+          c.args.walk.now due p (string_level k c.args.len due.nests 0) (string_place k c.args.len due.nests) c.level-level.ensures.value c.within-within.ensures place drawn in
           let rest = c.in_err-rest.ensures.shows depth start due.nests before row
           (whole, stands_any c.args.strict depth whole due.nests before due.within) p
           (c.level-level.ensures.value ∙ used) (omega (arith, place, offset, length-append before row)) all in
@@ -66,8 +66,8 @@ returns-in_err-rest g c =
           let k = kind_of c.args.kind in
           let used = due.keeps.used in
           let line = walk_line c.args.strict depth whole start _ _ before row
-          (kind_header k c.args.len) c.level-level.result c.args.place
-          c.args.walk.now due p (string_level k c.args.len due.nests 0) c.level-level.ensures.value place
+          (kind_header k c.args.len) c.level-level.result c.args.place c.within-within.result
+          c.args.walk.now due p (string_level k c.args.len due.nests 0) (string_place k c.args.len due.nests) c.level-level.ensures.value c.within-within.ensures place
           (rw c.header-header.ensures at (c.in_ok-shown.ensures.draws tt)) in
           let rest = c.in_err-rest.ensures.refused depth start due.nests before row
           (whole, stands_any c.args.strict depth whole due.nests before due.within) p
@@ -89,8 +89,8 @@ returns g c = record {
       let drawn = rw c.header-header.ensures at (c.in_ok-shown.ensures.draws tt) in
       let used = due.keeps.used in
       let line = walk_line c.args.strict depth whole start _ _ before row
-      (kind_header k c.args.len) c.level-level.result c.args.place
-      c.args.walk.now due p (string_level k c.args.len due.nests 0) c.level-level.ensures.value place drawn in
+      (kind_header k c.args.len) c.level-level.result c.args.place c.within-within.result
+      c.args.walk.now due p (string_level k c.args.len due.nests 0) (string_place k c.args.len due.nests) c.level-level.ensures.value c.within-within.ensures place drawn in
       let rest = c.in_ok-rest.ensures.shows depth start due.nests before row
       (whole, stands_any c.args.strict depth whole due.nests before due.within) p
       (c.level-level.ensures.value ∙ used) (omega (arith, place, offset, length-append before row)) tt in

@@ -1,7 +1,7 @@
 use Rattle.std.proofs.Common.{arith}
 use Rattle.ciborium_ll.proofs.DecodingLaws.{exit_is}
 use Rattle.cbor_dump.specs.Takings.{taken_bytes}
-use Rattle.cbor_dump.proofs.TitleLaws.{walk_line, value_level, value_item, behind_item}
+use Rattle.cbor_dump.proofs.TitleLaws.{walk_line, value_level, value_place, value_item, behind_item}
 use Rattle.cbor_dump.proofs.DumpLaws.{not_taken}
 use Rattle.cbor_dump.proofs.LeaveLaws.{refusal_alone}
 use Rattle.cbor_dump.proofs.dump.value.Goals as goal
@@ -17,9 +17,10 @@ returns-in_err-shown g c =
           let but = c.in_err-shown.ensures.refused c.in_err-shown.ensures.refusal in
           record {
             row = but.row;
-            lines = walk_line strict depth whole start _ _ before _ c.args.header c.level-level.result c.args.place
+            lines = walk_line strict depth whole start _ _ before _ c.args.header c.level-level.result c.args.place c.within-within.result
                 c.args.walk.now due p (value_level c.args.header due.nests 0 c.requires.value)
-                c.level-level.ensures.value at but.draws;
+                (value_place c.args.header due.nests c.requires.value)
+                c.level-level.ensures.value c.within-within.ensures at but.draws;
           };
       alone = refusal_alone error c.in_err-shown.ensures.refusal;
     })
@@ -27,10 +28,11 @@ returns-in_err-shown g c =
 pub returns : goal.returns
 returns g c = record {
   draws = λ strict depth whole start before due p taken at all. record {
-    lines = walk_line strict depth whole start _ _ before _ c.args.header c.level-level.result c.args.place
+    lines = walk_line strict depth whole start _ _ before _ c.args.header c.level-level.result c.args.place c.within-within.result
         c.args.walk.now
         due p
-        (value_level c.args.header due.nests 0 c.requires.value) c.level-level.ensures.value at
+        (value_level c.args.header due.nests 0 c.requires.value)
+        (value_place c.args.header due.nests c.requires.value) c.level-level.ensures.value c.within-within.ensures at
         (c.in_ok-shown.ensures.draws tt);
     due = c.item_done.ensures strict depth whole _ (behind_item strict depth whole c.args.walk.now before (taken_bytes
         c.args.taken.now) due

@@ -5,7 +5,7 @@ use Rattle.cbor_dump.proofs.walk.Walk.close.Goals as goal
 pub returns : goal.returns
 returns c = λ strict depth whole before due.
     break_closes strict depth whole c.args.self.now _ before due c.if-self-eq0.false
-    (sym c.closes.ensures ∙ c.if-not-closes.false) refl refl refl
+    (sym c.closes.ensures ∙ c.if-not-closes.false) refl refl refl refl
 
 pub returns-then-self-eq0 : goal.returns-then-self-eq0
 returns-then-self-eq0 c = λ strict depth whole before due. break_outside strict depth whole c.args.self.now before due
