@@ -201,8 +201,8 @@ module _ {R E : Type 0} (source : Ghosts R E) where
     within_title then_drawn row x offset level new takes at p same drawn_line =
         shows_then source depth start drawn middle then_drawn (items ++ title) so_far.bytes row old between new
         so_far.shows (record {
-          lines = title_line depth start middle then_drawn ((items ++ title) ++ so_far.bytes) row x level offset w.Nothing nests
-              (suc so_far.opens) due_within p same (open_place x nests so_far.opens) (at ∙ here) drawn_line;
+          lines = title_line depth start middle then_drawn ((items ++ title) ++ so_far.bytes) row x level offset
+              w.Nothing nests (suc so_far.opens) due_within p same (open_place x nests so_far.opens) (at ∙ here) drawn_line;
           takes = takes;
           left = λ idle. IfSome-all (view source new) _ (λ any. tt);
         })

@@ -13,8 +13,8 @@ use Rattle.std.specs.declared.fmt.Formatter.{Formatter}
 use Rattle.ciborium_ll_text.specs.Digits.{hex_text}
 use Rattle.cbor_dump.specs.RowTexts.{blank, more_text, characters_text, character_text}
 use Rattle.cbor_dump.specs.RowTexts.{shown_text}
-use Rattle.cbor_dump.specs.RowTexts.{IsHeaderValue, IsRowText, IsValue, WritesOneOnOk, known_header, known_of, known_text}
-use Rattle.cbor_dump.specs.RowTexts.{row_text}
+use Rattle.cbor_dump.specs.RowTexts.{IsHeaderValue, IsRowText, IsValue, WritesOneOnOk, known_header, known_of}
+use Rattle.cbor_dump.specs.RowTexts.{known_text, row_text}
 use Rattle.cbor_dump.specs.declared.rows.Meaning.{Meaning}
 use Rattle.cbor_dump.specs.declared.rows.Meaning.TheVariants as m
 use Rattle.cbor_dump.specs.declared.rows.Row.{Row}

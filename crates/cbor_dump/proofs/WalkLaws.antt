@@ -274,7 +274,8 @@ closed_behind : (strict : Bool) (depth whole : ℕ) (walk new : Walk) (before : 
     → KeepsNests depth walk nests → (walk.used ≡ 0 → ⊥) → closes (remaining_at walk.levels (walk.used - 1)) ≡ true
     → new.levels ≡ walk.levels → new.places ≡ walk.places → new.used ≡ walk.used - 1 → new.depth ≡ walk.depth
     → IsBehindItem strict depth whole new (before ++ 0xff ∷ [])
-closed_behind strict depth whole walk new before [] within keeps some may same still less deep = absurd (some keeps.used)
+closed_behind strict depth whole walk new before [] within keeps some may same still less deep =
+    absurd (some keeps.used)
 closed_behind strict depth whole walk new before (nest ∷ nests) within keeps some may same still less deep =
     let used = keeps.used in
     let kept = keeps.kept in
@@ -357,13 +358,15 @@ pub record Steps (walk new : Walk) (after : Remaining) (next : Within) : Type 0 
   pub placed : new.places ≡ set walk.places (walk.used - 1) next
   pub deep : new.depth ≡ walk.depth
 
-more_due : (strict : Bool) (depth whole : ℕ) (walk new : Walk) (after : Remaining) (step : Within) → Steps walk new after step
+more_due : (strict : Bool) (depth whole : ℕ) (walk new : Walk) (after : Remaining) (step : Within)
+    → Steps walk new after step
     → (nests : List Nest) (before item : List ℕ) (levels : ℕ) → StandsBehind strict depth whole nests before
     → KeepsNests depth walk nests → length nests + levels ≡ depth → IsItem strict levels item
     → is_done after ≡ false → new.used ≡ walk.used → IsDue strict depth whole new (before ++ item)
-more_due strict depth whole walk new after step s [] before item levels stands keeps left is_item rest same = absurd (s.some
-    keeps.used)
-more_due strict depth whole walk new after step s (nest ∷ nests) before item levels stands keeps left is_item rest same =
+more_due strict depth whole walk new after step s [] before item levels stands keeps left is_item rest same =
+    absurd (s.some keeps.used)
+more_due strict depth whole walk new after step s (nest ∷ nests) before item levels stands keeps left is_item rest
+    same =
     let used = keeps.used in
     let few = s.within in
     let at : walk.used - 1 ≡ length nests = omega (arith, used) in
@@ -397,7 +400,8 @@ more_due strict depth whole walk new after step s (nest ∷ nests) before item l
       };
     }
 
-pub end_goes_on : (strict : Bool) (depth whole : ℕ) (walk new : Walk) (after : Remaining) (step : Within) → Steps walk new after step
+pub end_goes_on : (strict : Bool) (depth whole : ℕ) (walk new : Walk) (after : Remaining) (step : Within)
+    → Steps walk new after step
     → (bytes : List ℕ)
     → IsBehindItem strict depth whole walk bytes → is_done after ≡ false → new.used ≡ walk.used
     → IsDueBehind strict depth whole new bytes
@@ -406,17 +410,19 @@ end_goes_on strict depth whole walk new after step s bytes behind rest same =
     let some = s.some in
     within_nest strict depth whole new.used new bytes refl (omega (arith, same, some))
     (subst (λ (z : List ℕ). IsDue strict depth whole new z) (sym behind.is)
-    (more_due strict depth whole walk new after step s due.nests behind.before behind.item behind.levels due.within due.keeps
-    behind.left behind.is_item rest
+    (more_due strict depth whole walk new after step s due.nests behind.before behind.item behind.levels due.within
+    due.keeps behind.left behind.is_item rest
     same))
 
-level_ends : (strict : Bool) (depth whole : ℕ) (walk new : Walk) (after : Remaining) (step : Within) → Steps walk new after step
+level_ends : (strict : Bool) (depth whole : ℕ) (walk new : Walk) (after : Remaining) (step : Within)
+    → Steps walk new after step
     → (nests : List Nest) (before item : List ℕ) (levels : ℕ) → StandsBehind strict depth whole nests before
     → KeepsNests depth walk nests → length nests + levels ≡ depth → IsItem strict levels item
     → is_done after ≡ true → new.used ≡ walk.used - 1 → IsBehindItem strict depth whole new (before ++ item)
 level_ends strict depth whole walk new after step s [] before item levels stands keeps left is_item done less =
     absurd (s.some keeps.used)
-level_ends strict depth whole walk new after step s (nest ∷ nests) before item levels stands keeps left is_item done less =
+level_ends strict depth whole walk new after step s (nest ∷ nests) before item levels stands keeps left is_item done
+    less =
     let used = keeps.used in
     let few = s.within in
     let at : walk.used - 1 ≡ length nests = omega (arith, used) in
@@ -442,7 +448,8 @@ level_ends strict depth whole walk new after step s (nest ∷ nests) before item
       wide = ap length s.placed ∙ (length-set walk.places (walk.used - 1) step ∙ keeps.wide);
     })
 
-pub end_of_level : (strict : Bool) (depth whole : ℕ) (walk new : Walk) (after : Remaining) (step : Within) → Steps walk new after step
+pub end_of_level : (strict : Bool) (depth whole : ℕ) (walk new : Walk) (after : Remaining) (step : Within)
+    → Steps walk new after step
     → (bytes : List ℕ)
     → IsBehindItem strict depth whole walk bytes → is_done after ≡ true
     → new.used ≡ walk.used - 1 → IsBehindItem strict depth whole new bytes

@@ -70,8 +70,8 @@ name_text None = []
 abbrev pub tag_text : ℕ → List ℕ
 tag_text number = codes "tag " ++ (decimal number ++ name_text (tag_name number))
 
--- The text of a header, without the value of a float (RFC 7049, 2.1 to 2.4): `20` gives `-1`, `c6` gives `tag 6`, `82` gives `array 2`, and `ff`
--- gives `break`.
+-- The text of a header, without the value of a float (RFC 7049, 2.1 to 2.4): `20` gives `-1`, `c6` gives `tag 6`, `82`
+-- gives `array 2`, and `ff` gives `break`.
 abbrev pub header_text : Header → List ℕ
 header_text (h.Positive number) = decimal number
 header_text (h.Negative number) = signed_decimal (negsuc number)
@@ -123,7 +123,7 @@ quoted_text bytes = 34 ∷ (characters_text (chars (shown_text bytes)) ++ 34 ∷
 abbrev pub comment_column : ℕ
 comment_column = 36
 
--- The most levels that an indent shows.
+-- The most levels that an indent shows. The levels 8 and 9 have the same indent.
 abbrev pub most_indent : ℕ
 most_indent = 8
 
@@ -135,7 +135,7 @@ indent level = 3 * min level most_indent
 abbrev pub bare_text : ℕ → List ℕ → List ℕ
 bare_text level bytes = blank (indent level) ++ digits_text bytes
 
--- The columns that are left of so many bytes, each with a space, before a comment: 33 of one byte, and 9 of nine.
+-- The columns that `count` bytes, each with a space, leave before a comment: one byte leaves 33, and nine leave 9.
 abbrev pub room_before : ℕ → ℕ
 room_before count = comment_column - 3 * count
 
@@ -172,8 +172,8 @@ row_text row = text_of row.meaning row.level row.within row.bytes.now
 
 -- ---- values
 
--- The text of a float's value, in diagnostic notation (RFC 8949, 8), and no text for other headers. For `f9 3c 00` it is
--- `1.0`.
+-- The text of a float's value, in diagnostic notation (RFC 8949, 8), and no text for other headers. For `f9 3c 00` it
+-- is `1.0`.
 abbrev pub IsHeaderValue : Header → List ℕ → Type 0
 IsHeaderValue (h.Float float) text = IsNumberText (float_value float) text
 IsHeaderValue header text = text ≡ []
@@ -195,7 +195,7 @@ abbrev pub known_header : Header → List ℕ → Option (List ℕ)
 known_header (h.Float float) text = None
 known_header header text = Some text
 
--- The text of a row of this meaning, unless several digits are read as its value: a float's.
+-- The text of a row of this meaning, unless several digits are read as its value. A float's is not known.
 abbrev pub known_of : Meaning → List ℕ → Option (List ℕ)
 known_of (m.Header header) text = known_header header text
 known_of meaning text = Some text

@@ -289,7 +289,7 @@ fn bare<W: fmt::Write>(f: &mut fmt::Formatter<W>, level: usize, bytes: &[u8]) ->
 
 /// Writes the bytes of a row, and the `#` before its comment.
 ///
-/// The bytes are indented by the level. If they are so many that no room is left for that, they begin further left.
+/// The bytes are indented by the level. If that leaves no room for them before the comment, they begin further left.
 fn commented<W: fmt::Write>(f: &mut fmt::Formatter<W>, level: usize, bytes: &[u8]) -> fmt::Result
     ensures { WritesOnOk W.Write.write_str_gives f.old result (commented_text level bytes.now) f.new }
 {

@@ -74,8 +74,8 @@ pub fn number_name(value: f64) -> Option<&'static str>
 
 /// Returns the place at which digits lack a point and a zero: before their exponent, if no point precedes it.
 ///
-/// The digits are those that the kit's `ryu` writes of a double. With `.0` at this place they are a number in diagnostic
-/// notation (RFC 8949, section 8), as `1.0e+20`.
+/// The digits are those that the kit's `ryu` writes of a double, as `1e+20`. With `.0` at this place they are a number
+/// in diagnostic notation (RFC 8949, section 8).
 pub fn point_due(digits: &[u8]) -> Option<usize>
     ensures due { MatchOption result (with_point digits.now ≡ digits.now)
         (λ at. with_point digits.now ≡ take at digits.now ++ (codes ".0" ++ drop at digits.now)) }

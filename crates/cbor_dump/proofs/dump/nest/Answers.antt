@@ -16,7 +16,8 @@ returns-in_err-shown g c =
           let but = c.in_err-shown.ensures.refused c.in_err-shown.ensures.refusal in
           record {
             row = but.row;
-            lines = walk_line strict depth whole start _ _ before _ c.args.header c.level-level.result c.args.place c.within-within.result
+            lines = walk_line strict depth whole start _ _ before _ c.args.header c.level-level.result c.args.place
+                c.within-within.result
                 c.args.walk.now due p (nest_level c.args.header due.nests 0 c.requires.nest)
                 (nest_place c.args.header due.nests c.requires.nest)
                 c.level-level.ensures.value c.within-within.ensures at but.draws;
@@ -27,7 +28,8 @@ returns-in_err-shown g c =
 pub returns-in-Deep : goal.returns-in-Deep
 returns-in-Deep g c = record {
   draws = λ strict depth whole start before due p taken at all. record {
-    lines = walk_line strict depth whole start _ _ before _ c.args.header c.level-level.result c.args.place c.within-within.result
+    lines = walk_line strict depth whole start _ _ before _ c.args.header c.level-level.result c.args.place
+        c.within-within.result
         c.args.walk.now
         due p
         (nest_level c.args.header due.nests 0 c.requires.nest)
@@ -43,7 +45,8 @@ returns-in-Deep g c = record {
 pub returns-in-Within : goal.returns-in-Within
 returns-in-Within g c = record {
   draws = λ strict depth whole start before due p taken at all. record {
-    lines = walk_line strict depth whole start _ _ before _ c.args.header c.level-level.result c.args.place c.within-within.result
+    lines = walk_line strict depth whole start _ _ before _ c.args.header c.level-level.result c.args.place
+        c.within-within.result
         c.args.walk.now
         due p
         (nest_level c.args.header due.nests 0 c.requires.nest)
@@ -59,7 +62,8 @@ returns-in-Within g c = record {
 pub returns-in-Empty : goal.returns-in-Empty
 returns-in-Empty g c = record {
   draws = λ strict depth whole start before due p taken at all. record {
-    lines = walk_line strict depth whole start _ _ before _ c.args.header c.level-level.result c.args.place c.within-within.result
+    lines = walk_line strict depth whole start _ _ before _ c.args.header c.level-level.result c.args.place
+        c.within-within.result
         c.args.walk.now
         due p
         (nest_level c.args.header due.nests 0 c.requires.nest)

@@ -26,7 +26,8 @@ returns-in_err-shown g c =
           behind_refused g.R.Read depth start _ _ before row _ (record {
             row = but.row;
             lines = walk_line c.args.strict depth whole start _ _ before row (kind_header k c.args.len)
-                c.level-level.result c.args.place c.within-within.result c.args.walk.now due p (string_level k c.args.len due.nests 0) (string_place k c.args.len due.nests)
+                c.level-level.result c.args.place c.within-within.result c.args.walk.now due p
+                (string_level k c.args.len due.nests 0) (string_place k c.args.len due.nests)
                 c.level-level.ensures.value c.within-within.ensures place (rw c.header-header.ensures at but.draws);
           });
       moves = refused_stops g.R.Read error _ _ c.in_err-shown.ensures.refusal
@@ -49,7 +50,8 @@ returns-in_err-rest g c =
           let used = due.keeps.used in
           let line = walk_line c.args.strict depth whole start _ _ before row
           (kind_header k c.args.len) c.level-level.result c.args.place c.within-within.result
-          c.args.walk.now due p (string_level k c.args.len due.nests 0) (string_place k c.args.len due.nests) c.level-level.ensures.value c.within-within.ensures place drawn in
+          c.args.walk.now due p (string_level k c.args.len due.nests 0) (string_place k c.args.len due.nests)
+          c.level-level.ensures.value c.within-within.ensures place drawn in
           let rest = c.in_err-rest.ensures.shows depth start due.nests before row
           (whole, stands_any c.args.strict depth whole due.nests before due.within) p
           (c.level-level.ensures.value ∙ used) (omega (arith, place, offset, length-append before row)) all in
@@ -67,7 +69,8 @@ returns-in_err-rest g c =
           let used = due.keeps.used in
           let line = walk_line c.args.strict depth whole start _ _ before row
           (kind_header k c.args.len) c.level-level.result c.args.place c.within-within.result
-          c.args.walk.now due p (string_level k c.args.len due.nests 0) (string_place k c.args.len due.nests) c.level-level.ensures.value c.within-within.ensures place
+          c.args.walk.now due p (string_level k c.args.len due.nests 0) (string_place k c.args.len due.nests)
+          c.level-level.ensures.value c.within-within.ensures place
           (rw c.header-header.ensures at (c.in_ok-shown.ensures.draws tt)) in
           let rest = c.in_err-rest.ensures.refused depth start due.nests before row
           (whole, stands_any c.args.strict depth whole due.nests before due.within) p
@@ -90,7 +93,8 @@ returns g c = record {
       let used = due.keeps.used in
       let line = walk_line c.args.strict depth whole start _ _ before row
       (kind_header k c.args.len) c.level-level.result c.args.place c.within-within.result
-      c.args.walk.now due p (string_level k c.args.len due.nests 0) (string_place k c.args.len due.nests) c.level-level.ensures.value c.within-within.ensures place drawn in
+      c.args.walk.now due p (string_level k c.args.len due.nests 0) (string_place k c.args.len due.nests)
+      c.level-level.ensures.value c.within-within.ensures place drawn in
       let rest = c.in_ok-rest.ensures.shows depth start due.nests before row
       (whole, stands_any c.args.strict depth whole due.nests before due.within) p
       (c.level-level.ensures.value ∙ used) (omega (arith, place, offset, length-append before row)) tt in

@@ -17,7 +17,8 @@ returns-in_err-shown g c =
           let but = c.in_err-shown.ensures.refused c.in_err-shown.ensures.refusal in
           record {
             row = but.row;
-            lines = walk_line strict depth whole start _ _ before _ c.args.header c.level-level.result c.args.place c.within-within.result
+            lines = walk_line strict depth whole start _ _ before _ c.args.header c.level-level.result c.args.place
+                c.within-within.result
                 c.args.walk.now due p (value_level c.args.header due.nests 0 c.requires.value)
                 (value_place c.args.header due.nests c.requires.value)
                 c.level-level.ensures.value c.within-within.ensures at but.draws;
@@ -28,7 +29,8 @@ returns-in_err-shown g c =
 pub returns : goal.returns
 returns g c = record {
   draws = λ strict depth whole start before due p taken at all. record {
-    lines = walk_line strict depth whole start _ _ before _ c.args.header c.level-level.result c.args.place c.within-within.result
+    lines = walk_line strict depth whole start _ _ before _ c.args.header c.level-level.result c.args.place
+        c.within-within.result
         c.args.walk.now
         due p
         (value_level c.args.header due.nests 0 c.requires.value)
