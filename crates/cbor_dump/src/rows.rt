@@ -366,8 +366,8 @@ impl fmt::Display for Row<'_> {
     /// Writes the bytes as digits, indented by the level, and after a `#` their meaning. Parts of byte strings and
     /// bytes at fault have no `#`.
     ///
-    /// A row of a [`dump`](crate::dump::dump) has at most 100 columns, if its level is below 1000. An indent shows at
-    /// most 8 levels. A title that is deeper has its level after the `#`.
+    /// The `#` stands in column 36. An indent shows at most 8 levels, and a title that is deeper has its level after the
+    /// `#`. Tests alone say that a row of a dump has at most 100 columns.
     fn fmt<W: fmt::Write>(&self, f: &mut fmt::Formatter<W>) -> fmt::Result
         ensures writes { DisplaysOnOk W.Write.write_str_gives f.old result (known_text self.now) f.new }
         ensures styled { DisplaysStyledOnOk W.Write.write_str_gives f.old result None f.new }
