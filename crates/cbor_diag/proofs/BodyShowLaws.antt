@@ -15,7 +15,7 @@ use Rattle.ciborium_ll.specs.Recoding.{BodyUnwritten, CopiesBody}
 use Rattle.ciborium_ll.specs.Sides.{sides}
 use Rattle.cbor_diag.specs.declared.strings.quotes.Quotes.{Quotes}
 use Rattle.cbor_diag.specs.declared.strings.held.Held.TheVariants as h
-use Rattle.cbor_diag.specs.ItemTexts.{kind_quotes}
+use Rattle.cbor_diag.specs.StringShows.{kind_quotes}
 use Rattle.cbor_diag.specs.Notation.{body_text}
 use Rattle.cbor_diag.specs.Passing.{passed_text}
 use Rattle.ciborium_ll.proofs.DecodingLaws.{ReadsPast-none}

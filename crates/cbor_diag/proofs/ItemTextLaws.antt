@@ -2,7 +2,7 @@
 use Rattle.std.proofs.lemmas.Bool.Decides.{nat_tests}
 use native.Mathlib.Nat.{zero-add, suc-add}
 use Rattle.std.proofs.Common.{◌≡◌, ◌∙◌, ℕ, zero, suc, ◌+◌, ◌-◌, ◌<◌, Bool, true, false, List, [], ◌∷◌, ◌++◌, codes}
-use Rattle.std.proofs.Common.{if◌then◌else◌, Option, Result, Ok, Err, IsErr, OnOk, arith, refl, subst, append-nil}
+use Rattle.std.proofs.Common.{length, None, Some, if◌then◌else◌, Option, Result, Ok, Err, IsErr, OnOk, arith, refl, subst, append-nil}
 use Rattle.std.proofs.Math.Nat.{mul-mod_right, mul-add-mod_self_left}
 use Rattle.ciborium_ll.specs.Types.Read.{Ghosts as Reader}
 use Rattle.ciborium_ll.specs.Types.Decoder.{Decoder}
@@ -20,16 +20,20 @@ use Rattle.cbor_skip.specs.declared.remaining.Remaining.{Remaining}
 use Rattle.cbor_skip.specs.Remaining.{IsRemaining, is_done, closes, is_value}
 use Rattle.cbor_diag.specs.declared.DiagError.{DiagError}
 use Rattle.cbor_diag.specs.declared.DiagError.TheVariants as d
-use Rattle.cbor_diag.specs.declared.layout.Layout.{Layout}
+use Rattle.cbor_diag.specs.declared.layout.Style.{Style}
+use Rattle.cbor_diag.specs.declared.marks.Mark.{Mark}
+use Rattle.cbor_diag.specs.declared.marks.Marked.{Marked}
+use Rattle.cbor_diag.specs.Marks.{PullsMarked, title_mark}
+use Rattle.cbor_diag.specs.OpenShows.{IsBodiesText, ShowsStringBy}
+use Rattle.cbor_diag.specs.StringShows.{StringRead, is_indefinite, kind_quotes, string_text}
 use Rattle.cbor_diag.specs.Showing.{ShowsHeader, said_of}
-use Rattle.cbor_diag.specs.StringShows.{ShowsString}
 use Rattle.ciborium_ll.proofs.PiecesWritten.{writes_nothing}
 use Rattle.ciborium_ll.specs.Types.Write.{Ghosts as Writer}
 use Rattle.ciborium_ll.specs.Encoding.{WritesAll, WritesBytes, WritesFront}
 use Rattle.ciborium_ll.proofs.EncodingLaws.{WritesBytes-stopped, WritesBytes-then}
 use Rattle.cbor_diag.proofs.QuoteLaws.{wrote_both}
 use Rattle.cbor_diag.specs.ItemTexts.{indent, new_line, nest_opening, nest_closing, nest_last, nest_end, level_within}
-use Rattle.cbor_diag.specs.ItemTexts.{item_lead, is_value_at, is_first_at, kind_quotes, IsAll, IsShown, string, nest}
+use Rattle.cbor_diag.specs.ItemTexts.{item_lead, is_value_at, is_first_at, IsAll, IsShown, string, nest}
 use Rattle.cbor_diag.specs.ItemTexts.{none, more, RestShown, WithinShown}
 use Rattle.cbor_diag.specs.ItemStops.{WithinBegun, RestStops, plain, opening, within, closing, WithinStops, title, lead}
 use Rattle.cbor_diag.specs.ItemStops.{item, ComesNoItem, ItemStops, no_item, behind, ShowsRest, ShowsWithin, ShowsItem}
@@ -73,20 +77,47 @@ module _ {E W F : Type 0} (sink : Writer W F) {old new : W} {text : List ℕ}
 
 -- ---- items that contain no others
 
-module _ {R E W F : Type 0} (source : Reader R E) (sink : Writer W F) (layout : Layout) (level : ℕ) where
+-- The bodies that were read give the text of the string.
+bodies_text_is : {R E : Type 0} {source : Reader R E} (kind : Kind) (len : Option ℕ) (mark : Mark)
+    {old new : Decoder R} (reads : StringRead source kind len old new)
+    → IsBodiesText kind len mark reads.behind (string_text (is_indefinite len) (kind_quotes kind) mark reads.bodies)
+bodies_text_is kind len mark reads = record { bodies = reads.bodies; is_string = reads.is_string; text_is = refl }
+
+module _ {R E W F : Type 0} (source : Reader R E) (sink : Writer W F) (style : Style) (level : ℕ) where
   -- If the text of a header was written, the item was shown.
-  pub plain_said : (header : Header) (text : List ℕ) (decoder : Decoder R) (old new : W) (answer : Result (Unit {0}) F)
-      (result : Result (Unit {0}) (DiagError E F)) → IsShown layout level header [] text → result ≡ said_of answer
-      → WritesBytes sink old answer text new
-      → OnOk result (RestShown source sink layout level header (sides decoder old) (sides decoder new))
-  plain_said header text decoder old new answer result shown same wrote = grind (arith, ReadsPast-none)
+  pub plain_said : (header : Header) (mark : Mark) (text : List ℕ) (decoder : Decoder R) (old new : W) (answer : Result (Unit {0}) F)
+      (result : Result (Unit {0}) (DiagError E F)) → IsShown style level header mark [] text
+      → result ≡ said_of answer → WritesBytes sink old answer text new
+      → OnOk result (RestShown source sink style level header mark (sides decoder old) (sides decoder new))
+  plain_said header mark text decoder old new answer result shown same wrote = grind (arith, ReadsPast-none)
 
   -- If the show of a string succeeds, the item was shown.
-  pub string_shown : (kind : Kind) (len : Option ℕ) (room : ℕ) (old new : Sides R W)
-      (result : Result (Unit {0}) (DiagError E F))
-      → ShowsString source sink kind (kind_quotes kind) len room old result new
-      → OnOk result (RestShown source sink layout level (kind_header kind len) old new)
-  string_shown kind len room old new result shows = grind (arith, string)
+  pub string_shown : (exact : Bool) (kind : Kind) (len : Option ℕ) (mark : Mark) (room : ℕ) (old new : Sides R W)
+      (result : Result (Unit {0}) (DiagError E F)) → style.is_exact ≡ exact
+      → ShowsStringBy source sink kind exact len mark room old result new
+      → OnOk result (RestShown source sink style level (kind_header kind len) mark old new)
+  string_shown exact kind len mark room old new (Err error) same shows = tt
+  string_shown true kind None mark room old new (Ok done) same shows = record {
+    rest = shows.rest;
+    text = shows.text;
+    shown = string kind None (rw same shows.is_text);
+    passed = shows.passed;
+    written = shows.written;
+  }
+  string_shown true kind (Some len) mark room old new (Ok done) same shows = record {
+    rest = shows.reads.behind;
+    text = _;
+    shown = string kind (Some len) (rw same (bodies_text_is kind (Some len) mark shows.reads));
+    passed = shows.reads.passed;
+    written = shows.written;
+  }
+  string_shown false kind len mark room old new (Ok done) same shows = record {
+    rest = shows.reads.behind;
+    text = _;
+    shown = string kind len (rw same (bodies_text_is kind len mark shows.reads));
+    passed = shows.reads.passed;
+    written = shows.written;
+  }
 
 -- ---- the items of a tag, an array or a map
 
@@ -105,13 +136,13 @@ all_closed : (header : Header) (count : ℕ) (remaining : Remaining) → IsRemai
     → closes remaining ≡ true → IsAll header count × (nest_end header ≡ 0xff ∷ [])
 all_closed header count remaining is may = grind arith
 
-module _ {R E W F : Type 0} (source : Reader R E) (sink : Writer W F) (layout : Layout) (level : ℕ)
-    (header : Header) where
+module _ {R E W F : Type 0} (source : Reader R E) (sink : Writer W F) (style : Style) (level : ℕ)
+    (header : Header) (mark : Mark) where
   -- The items so far were read and shown, and these items remain.
   pub record ItemsFar (old : Sides R W) (remaining : Remaining) (first : Bool) (now : Sides R W) : Type 0 where
     pub count : ℕ
     pub is_remaining : IsRemaining header count remaining
-    pub begun : WithinBegun source sink layout level header count old now
+    pub begun : WithinBegun source sink style level header mark count old now
     pub counted : first ≡ is_first_at count
 
   pub items_begin : (now : Sides R W) (remaining : Remaining) → IsRemaining header 0 remaining
@@ -129,41 +160,43 @@ module _ {R E W F : Type 0} (source : Reader R E) (sink : Writer W F) (layout : 
     counted = refl;
   }
 
-module _ {R E W F : Type 0} {source : Reader R E} {sink : Writer W F} {layout : Layout} {level : ℕ} {header : Header}
-    {old now : Sides R W} {remaining : Remaining} {first : Bool}
-    (far : ItemsFar source sink layout level header old remaining first now) where
+module _ {R E W F : Type 0} {source : Reader R E} {sink : Writer W F} {style : Style} {level : ℕ} {header : Header}
+    {mark : Mark} {old now : Sides R W} {remaining : Remaining} {first : Bool}
+    (far : ItemsFar source sink style level header mark old remaining first now) where
   -- The text before the next item follows from the number of items before it.
   lead_is : {value : Bool} → value ≡ is_value remaining
-      → item_lead header layout level value first
-      ≡ item_lead header layout level (is_value_at header far.count) (is_first_at far.count)
+      → item_lead header mark style.layout level value first
+      ≡ item_lead header mark style.layout level (is_value_at header far.count) (is_first_at far.count)
   lead_is is_value = rw (is_value ∙ value_next header far.count remaining far.is_remaining, far.counted)
 
   -- If no item came, the show of the items ends there.
   pub title_stops : (error : SkipError E) (new : Decoder R) → ComesNoItem source now.decoder error new
-      → WithinStops source sink layout level header old (d.Read error) (sides new now.writer)
+      → WithinStops source sink style level header mark old (d.Read error) (sides new now.writer)
   title_stops error new came = title far.begun came
 
   module _ {value : Bool} {next : Header} {titled : Decoder R} (is_value : value ≡ is_value remaining)
       (pulled : PullsTitle source now.decoder next titled) where
     -- If the writer fails before the next item, the show of the items ends there.
     pub lead_stops : {error : DiagError E F} (new : W) → ((fault : F) × (error ≡ d.Write fault)
-        × WritesFront sink now.writer (item_lead header layout level value first) new)
-        → WithinStops source sink layout level header old error (sides titled new)
+        × WritesFront sink now.writer (item_lead header mark style.layout level value first) new)
+        → WithinStops source sink style level header mark old error (sides titled new)
     lead_stops new (fault, is, stopped) = rw is (lead far.begun pulled (rw (lead_is is_value) at stopped))
 
-    module _ {led : W} (leads : WritesAll sink now.writer (item_lead header layout level value first) led) where
+    module _ {led : W} (leads : WritesAll sink now.writer (item_lead header mark style.layout level value first) led) where
       -- If the show of the next item ends with an error, the show of the items does.
       pub item_stops : {new : Sides R W} {error : DiagError E F}
-          → RestStops source sink layout level next (sides titled led) error new
-          → WithinStops source sink layout level header old error new
+          → RestStops source sink style level next (title_mark style.is_exact next (length pulled.title))
+          (sides titled led) error new
+          → WithinStops source sink style level header mark old error new
       item_stops stops = item far.begun pulled (rw (lead_is is_value) at leads) stops
 
       -- One more item was shown.
       pub items_more : {after : Remaining} {new : Sides R W}
           → ((count : ℕ) → IsRemaining header count remaining → IsRemaining header (suc count) after)
           → (IsSteady source now.decoder → IsSteady source titled)
-          → RestShown source sink layout level next (sides titled led) new
-          → ItemsFar source sink layout level header old after false new
+          → RestShown source sink style level next (title_mark style.is_exact next (length pulled.title))
+          (sides titled led) new
+          → ItemsFar source sink style level header mark old after false new
       items_more {new} goes_on steady shown =
           let first_part = ReadsPast-pulled source now.decoder now.decoder titled [] next pulled
           (ReadsPast-none source now.decoder) steady in
@@ -185,7 +218,7 @@ module _ {R E W F : Type 0} {source : Reader R E} {sink : Writer W F} {layout : 
   -- If the items are all, the content of the header was shown.
   all_shown : (new : Decoder R) → IsAll header far.count
       → ReadsPast source old.decoder (far.begun.items ++ nest_end header) new
-      → WithinShown source sink layout level header old first (sides new now.writer)
+      → WithinShown source sink style level header mark old first (sides new now.writer)
   all_shown new all passed = record {
     count = far.count;
     items = far.begun.items;
@@ -198,13 +231,13 @@ module _ {R E W F : Type 0} {source : Reader R E} {sink : Writer W F} {layout : 
   }
 
   -- If no item remains, the content of the header was shown.
-  pub items_done : is_done remaining ≡ true → WithinShown source sink layout level header old first now
+  pub items_done : is_done remaining ≡ true → WithinShown source sink style level header mark old first now
   items_done done = grind (arith, all_done, all_shown, append-nil)
 
   -- If a break ended the items, the content of the header was shown.
   pub items_closed : (titled : Decoder R) → closes remaining ≡ true → PullsTitle source now.decoder h.Break titled
       → (IsSteady source now.decoder → IsSteady source titled)
-      → WithinShown source sink layout level header old first (sides titled now.writer)
+      → WithinShown source sink style level header mark old first (sides titled now.writer)
   items_closed titled may pulled steady =
       let all = all_closed header far.count remaining far.is_remaining may in
       all_shown titled all.0 (rw (all.1, ← alone_bytes pulled.title h.Break pulled.is_title refl) (ReadsPast-pulled source
@@ -215,62 +248,64 @@ module _ {R E W F : Type 0} {source : Reader R E} {sink : Writer W F} {layout : 
   pub break_shown : (may : Bool) (new : Decoder R) (result : Result Bool (DiagError E F)) (place : ℕ)
       → PullsTitle source now.decoder h.Break new
       → result ≡ (if may then Ok first else Err (d.Read (s.Break place)))
-      → (may ≡ true → WithinShown source sink layout level header old first (sides new now.writer))
-      → ShowsWithin source sink layout level header old result (sides new now.writer)
+      → (may ≡ true → WithinShown source sink style level header mark old first (sides new now.writer))
+      → ShowsWithin source sink style level header mark old result (sides new now.writer)
   break_shown may new result place pulled same closed = grind (arith, title_stops)
 
 -- ---- a tag, an array or a map
 
-module _ {R E W F : Type 0} {source : Reader R E} {sink : Writer W F} {header : Header} {layout inner : Layout}
-    (level : ℕ) {deeper : ℕ} {decoder : Decoder R} {old opened : W} (same_layout : inner ≡ layout)
-    (is_deeper : deeper ≡ level_within header level) (opens : WritesAll sink old (nest_opening header) opened) where
-  -- The items and the text after them show the nest, or the writer fails at that text.
-  pub nest_shown : {empty : Bool} {between : Sides R W} (new : W) (answer : Result (Unit {0}) F)
-      (result : Result (Unit {0}) (DiagError E F))
-      → WithinShown source sink inner deeper header (sides decoder opened) empty between → result ≡ said_of answer
-      → WritesBytes sink between.writer answer (nest_last header layout level empty ++ nest_closing header) new
-      → ShowsRest source sink layout level header (sides decoder old) result (sides between.decoder new)
-  nest_shown new (Err fault) result inside same ends =
-      rw same (closing opens (rw (same_layout, is_deeper) at inside) ends)
-  nest_shown new (Ok done) result inside same ends =
-      let items = rw (same_layout, is_deeper) at inside in
-      rw same (record {
-        rest = items.items ++ nest_end header;
-        text = _;
-        shown = nest items.all items.shown;
-        passed = items.passed;
-        written = wrote_both opens (wrote_both items.written (rw items.counted at ends));
-      })
+module _ {R E W F : Type 0} {source : Reader R E} {sink : Writer W F} {header : Header} {mark : Mark} {style inner : Style}
+    (level : ℕ) {deeper : ℕ} {decoder : Decoder R} {old opened : W} (same_style : inner ≡ style)
+    (is_deeper : deeper ≡ level_within header level) (opens : WritesAll sink old (nest_opening header mark) opened)
+  where
+    -- The items and the text after them show the nest, or the writer fails at that text.
+    pub nest_shown : {empty : Bool} {between : Sides R W} (new : W) (answer : Result (Unit {0}) F)
+        (result : Result (Unit {0}) (DiagError E F))
+        → WithinShown source sink inner deeper header mark (sides decoder opened) empty between → result ≡ said_of answer
+        → WritesBytes sink between.writer answer (nest_last header mark style.layout level empty ++ nest_closing header) new
+        → ShowsRest source sink style level header mark (sides decoder old) result (sides between.decoder new)
+    nest_shown new (Err fault) result inside same ends =
+        rw same (closing opens (rw (same_style, is_deeper) at inside) ends)
+    nest_shown new (Ok done) result inside same ends =
+        let items = rw (same_style, is_deeper) at inside in
+        rw same (record {
+          rest = items.items ++ nest_end header;
+          text = _;
+          shown = nest items.all items.shown;
+          passed = items.passed;
+          written = wrote_both opens (wrote_both items.written (rw items.counted at ends));
+        })
 
-  -- If the show of the items ends with an error, the show of the nest does.
-  pub within_stops : {new : Sides R W} {error : DiagError E F}
-      → WithinStops source sink inner deeper header (sides decoder opened) error new
-      → RestStops source sink layout level header (sides decoder old) error new
-  within_stops stops = within opens (rw (same_layout, is_deeper) at stops)
+    -- If the show of the items ends with an error, the show of the nest does.
+    pub within_stops : {new : Sides R W} {error : DiagError E F}
+        → WithinStops source sink inner deeper header mark (sides decoder opened) error new
+        → RestStops source sink style level header mark (sides decoder old) error new
+    within_stops stops = within opens (rw (same_style, is_deeper) at stops)
 
 module _ {R E W F : Type 0} (source : Reader R E) (sink : Writer W F) where
   -- If the writer fails before the items, the show of the nest ends with that failure.
-  pub opening_stops : {header : Header} {layout : Layout} {level : ℕ} {decoder : Decoder R} {old new : W}
+  pub opening_stops : {header : Header} {mark : Mark} {style : Style} {level : ℕ} {decoder : Decoder R} {old new : W}
       {error : DiagError E F}
-      → ((fault : F) × (error ≡ d.Write fault) × WritesFront sink old (nest_opening header) new)
-      → RestStops source sink layout level header (sides decoder old) error (sides decoder new)
+      → ((fault : F) × (error ≡ d.Write fault) × WritesFront sink old (nest_opening header mark) new)
+      → RestStops source sink style level header mark (sides decoder old) error (sides decoder new)
   opening_stops (fault, is, stopped) = rw is (opening stopped)
 
   -- The show of an item that contains no others is the show of its rest.
-  pub plain_shown : (layout : Layout) (level : ℕ) (header : Header) (old new : Sides R W)
-      (result : Result (Unit {0}) (DiagError E F)) → ShowsHeader source sink header old result new
-      → OnOk result (RestShown source sink layout level header old new)
-      → ShowsRest source sink layout level header old result new
-  plain_shown layout level header old new result shows shown = grind (arith, plain)
+  pub plain_shown : (style : Style) (level : ℕ) (header : Header) (mark : Mark) (old new : Sides R W)
+      (result : Result (Unit {0}) (DiagError E F)) → ShowsHeader source sink style.is_exact header mark old result new
+      → OnOk result (RestShown source sink style level header mark old new)
+      → ShowsRest source sink style level header mark old result new
+  plain_shown style level header mark old new result shows shown = grind (arith, plain)
 
   -- A title and the rest of its item show the item.
-  pub item_shown : (layout : Layout) {header : Header} {before titled : Decoder R} (writer : W) (new : Sides R W)
-      (result : Result (Unit {0}) (DiagError E F)) → PullsTitle source before header titled
+  pub item_shown : (style : Style) {header : Header} {before titled : Decoder R} (writer : W) (new : Sides R W)
+      (result : Result (Unit {0}) (DiagError E F)) → (pulled : PullsTitle source before header titled)
       → (IsSteady source before → IsSteady source titled)
-      → ShowsRest source sink layout 0 header (sides titled writer) result new
-      → ShowsItem source sink layout (sides before writer) result new
-  item_shown layout writer new (Err error) pulled steady shown = behind pulled shown
-  item_shown layout {header} {before} {titled} writer new (Ok done) pulled steady shown =
+      → ShowsRest source sink style 0 header (title_mark style.is_exact header (length pulled.title))
+      (sides titled writer) result new
+      → ShowsItem source sink style (sides before writer) result new
+  item_shown style writer new (Err error) pulled steady shown = behind pulled shown
+  item_shown style {header} {before} {titled} writer new (Ok done) pulled steady shown =
       let first_part = ReadsPast-pulled source before before titled [] header pulled (ReadsPast-none source before) steady in
       record {
         title = pulled.title;
@@ -284,8 +319,8 @@ module _ {R E W F : Type 0} (source : Reader R E) (sink : Writer W F) where
       }
 
   -- If no title was pulled, nothing was written.
-  pub none_came : {layout : Layout} {before old new : Decoder R} {error : Error E} {writer : W} → before ≡ old
+  pub none_came : {style : Style} {before old new : Decoder R} {error : Error E} {writer : W} → before ≡ old
       → DecoderPullAnswer source before (Err error) new
-      → ItemStops source sink layout (sides old writer) (d.Read (s.Read error)) (sides new writer)
+      → ItemStops source sink style (sides old writer) (d.Read (s.Read error)) (sides new writer)
   none_came {new} {error} same fails = no_item {error = s.Read error}
       (subst (λ (first : Decoder R). DecoderPullAnswer source first (Err error) new) same fails)

@@ -2,7 +2,10 @@ mod BodyShowLaws
 mod FloatLaws
 mod ItemTextLaws
 mod ItemLaws
+mod MarkLaws
 mod MoveLaws
+mod NextLaws
+mod OpenLaws
 mod PassedLaws
 mod QuoteLaws
 mod QuotedLaws

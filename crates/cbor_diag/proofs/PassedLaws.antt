@@ -13,7 +13,7 @@ use Rattle.cbor_diag.specs.declared.strings.held.Held.{Held}
 use Rattle.cbor_diag.specs.declared.strings.held.Held.TheVariants as h
 use Rattle.cbor_diag.specs.declared.strings.quotes.Quotes.{Quotes}
 use Rattle.cbor_diag.specs.declared.strings.quotes.Quotes.TheVariants as q
-use Rattle.cbor_diag.specs.ItemTexts.{kind_quotes}
+use Rattle.cbor_diag.specs.StringShows.{kind_quotes}
 use Rattle.cbor_diag.specs.Notation.{body_text, bytes_notation, character_notation, characters_notation}
 use Rattle.cbor_diag.specs.Passing.{byte_held, byte_notation, is_lead, passed_held, passed_text, shown_character}
 use Rattle.cbor_diag.specs.Passing.{three_code, two_code}
@@ -208,7 +208,7 @@ all_shown (c ∷ cs) =
       none = passed_held-append q.Text h.Nothing (encode c) (encodes cs) ∙ rw (first.none, rest.none) refl;
     }
 
-digits_passed : (held : Held) (bytes : List ℕ) → passed_text q.Hex held bytes ≡ bytes_notation bytes
+pub digits_passed : (held : Held) (bytes : List ℕ) → passed_text q.Hex held bytes ≡ bytes_notation bytes
 digits_passed held [] = refl
 digits_passed held (byte ∷ bytes) = rw (digits_passed held bytes) refl
 

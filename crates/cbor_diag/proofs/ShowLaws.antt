@@ -13,7 +13,8 @@ use Rattle.cbor_skip.specs.declared.SkipError.{SkipError}
 use Rattle.cbor_skip.specs.declared.SkipError.TheVariants as s
 use Rattle.cbor_diag.specs.declared.DiagError.{DiagError}
 use Rattle.cbor_diag.specs.declared.DiagError.TheVariants as d
-use Rattle.cbor_diag.specs.Floats.{IsFloatText}
+use Rattle.cbor_diag.specs.declared.marks.Mark.{Mark}
+use Rattle.cbor_diag.specs.Floats.{IsShownFloat}
 use Rattle.cbor_diag.specs.Showing.{IsWriting, OnReading, OnString, ShowsHeader, ShowsText, said_of}
 use Rattle.cbor_diag.specs.Writing.{ShowsOne}
 
@@ -70,8 +71,16 @@ said_text sink old new answer result text same wrote = grind arith
 
 module _ {R E W F : Type 0} (source : Ghosts R E) (sink : Sink W F) where
   -- The answer of a write of a float's text, as the answer of a show.
-  pub float_said : (header : Header) (float : Raw) (old new : Sides R W) (answer : Result (Unit {0}) F)
-      (result : Result (Unit {0}) (DiagError E F)) → header ≡ h.Float float → new.decoder ≡ old.decoder
-      → result ≡ said_of answer → ShowsOne sink (IsFloatText float) old.writer answer new.writer
-      → ShowsHeader source sink header old result new
-  float_said header float old new answer result is still same shown = grind arith
+  pub float_said : (exact : Bool) (header : Header) (mark : Mark) (float : Raw) (old new : Sides R W)
+      (answer : Result (Unit {0}) F) (result : Result (Unit {0}) (DiagError E F)) → header ≡ h.Float float
+      → new.decoder ≡ old.decoder → result ≡ said_of answer
+      → ShowsOne sink (IsShownFloat exact float) old.writer answer new.writer
+      → ShowsHeader source sink exact header mark old result new
+  float_said exact header mark float old new answer result is still same shown = rw is (
+    shown.text,
+    shown.is_text,
+    record {
+      written = said_text sink old.writer new.writer answer result shown.text same shown.written;
+      unread = still;
+    },
+  )

@@ -24,6 +24,7 @@ use Rattle.cbor_skip.specs.declared.SkipError.TheVariants as s
 use Rattle.cbor_diag.specs.declared.DiagError.{DiagError}
 use Rattle.cbor_diag.specs.declared.DiagError.TheVariants as d
 use Rattle.cbor_diag.specs.declared.strings.quotes.Quotes.{Quotes}
+use Rattle.cbor_diag.specs.declared.marks.Mark.{Mark}
 use Rattle.cbor_diag.specs.Showing.{ShowsText}
 use Rattle.cbor_diag.specs.StringShows.{BeginsBodies, BodyAnnounced, IsTitled, StringRead, ShowsBody, ShowsString}
 use Rattle.cbor_diag.specs.StringShows.{MeetsNoBody, StringStops, bodies_text, end_text, is_indefinite, is_none}
@@ -123,13 +124,13 @@ module _ {R E W F : Type 0} (source : Reader R E) (sink : Writer W F) (k : Kind)
     written = writes_nothing sink w;
   }
 
-  closes : (room : ℕ) (new : Decoder R) (last : W) (result : Result (Unit {0}) (DiagError E F))
+  closes : (mark : Mark) (room : ℕ) (new : Decoder R) (last : W) (result : Result (Unit {0}) (DiagError E F))
       → (reads : StringRead source k len opened new)
-      → ShowsText sink (Some (string_text (is_indefinite len) quotes reads.bodies)) w result last
-      → ShowsString source sink k quotes len room (sides opened w) result (sides new last)
-  closes room new last (Ok done) reads said = record { reads = reads; written = said }
-  closes room new last (Err (d.Read error)) reads said = absurd said
-  closes room new last (Err (d.Write fault)) reads said = at_end reads said
+      → ShowsText sink (Some (string_text (is_indefinite len) quotes mark reads.bodies)) w result last
+      → ShowsString source sink k quotes len mark room (sides opened w) result (sides new last)
+  closes mark room new last (Ok done) reads said = record { reads = reads; written = said }
+  closes mark room new last (Err (d.Read error)) reads said = absurd said
+  closes mark room new last (Err (d.Write fault)) reads said = at_end reads said
 
 module _ {R E W F : Type 0} {source : Reader R E} {sink : Writer W F} {k : Kind} {quotes : Quotes} {len : Option ℕ}
     {opened : Decoder R} {w w' : W} {first : Bool} {progress : Progress} {now : Decoder R} (strict : Bool)
@@ -137,14 +138,14 @@ module _ {R E W F : Type 0} {source : Reader R E} {sink : Writer W F} {k : Kind}
     (steady : IsSteady source now → IsSteady source new) (progress' : Progress) (is_open : Bool)
     (form : is_open ≡ is_indefinite len) where
   -- If the string has ended, the write of its end decides the answer.
-  pub text_closed : (room : ℕ) (result : Result (Unit {0}) (DiagError E F)) (last : W)
+  pub text_closed : (mark : Mark) (room : ℕ) (result : Result (Unit {0}) (DiagError E F)) (last : W)
       → AdvancesTo source k strict progress now (Ok None) progress' new
-      → ShowsText sink (Some (end_text is_open quotes first)) w' result last
-      → ShowsString source sink k quotes len room (sides opened w) result (sides new last)
-  text_closed room result last advances said =
+      → ShowsText sink (Some (end_text is_open quotes mark first)) w' result last
+      → ShowsString source sink k quotes len mark room (sides opened w) result (sides new last)
+  text_closed mark room result last advances said =
       let whole = read_whole source k strict _ opened now new so_far.bodies progress progress' steady len so_far.far
       advances in
-      closes source sink k quotes len opened w room new last result (record {
+      closes source sink k quotes len opened w mark room new last result (record {
         behind = whole.behind;
         bodies = so_far.bodies;
         is_string = whole.is_string;
@@ -152,9 +153,9 @@ module _ {R E W F : Type 0} {source : Reader R E} {sink : Writer W F} {k : Kind}
       }) (said_then so_far.written _ last result (rw (form, so_far.is_first) at said))
 
   -- If no title came, the show of the string stops there.
-  pub text_fails : (room : ℕ) (error : Error E) → AdvancesTo source k strict progress now (Err error) progress' new
-      → StringStops source sink k quotes len room (sides opened w) error (sides new w')
-  text_fails room error advances =
+  pub text_fails : (mark : Mark) (room : ℕ) (error : Error E) → AdvancesTo source k strict progress now (Err error) progress' new
+      → StringStops source sink k quotes len mark room (sides opened w) error (sides new w')
+  text_fails mark room error advances =
       let none = untitled k strict progress' steady len error so_far.far advances in
       at_title none.0 (record {
         behind = none.1;
@@ -166,18 +167,18 @@ module _ {R E W F : Type 0} {source : Reader R E} {sink : Writer W F} {k : Kind}
 
   module _ (body : Body) (advances : AdvancesTo source k strict progress now (Ok (Some body)) progress' new) where
     -- If the writer fails before a body, the show of the string ends there.
-    pub text_unled : (room : ℕ) (error : DiagError E F) (lead : W)
+    pub text_unled : (mark : Mark) (room : ℕ) (error : DiagError E F) (lead : W)
         → ShowsText sink (Some (lead_text is_open first)) w' (Err error) lead
-        → ShowsString source sink k quotes len room (sides opened w) (Err error) (sides new lead)
-    text_unled room (d.Read error) lead said = absurd said
-    text_unled room (d.Write fault) lead said =
+        → ShowsString source sink k quotes len mark room (sides opened w) (Err error) (sides new lead)
+    text_unled mark room (d.Read error) lead said = absurd said
+    text_unled mark room (d.Write fault) lead said =
         let here = titled k strict progress' steady len body so_far.far advances in
         at_lead here.0 so_far.bodies body.length here.1 here.2
         (wrote_first so_far.written fault (rw (form, so_far.is_first) at said))
 
     module _ (lead : W) (led : WritesAll sink w' (lead_text is_open first) lead) where
-      due : BodyAnnounced source sink k quotes len body.length (sides opened w) (sides new lead)
-      due =
+      due : (mark : Mark) → BodyAnnounced source sink k quotes len mark body.length (sides opened w) (sides new lead)
+      due mark =
           let here = titled k strict progress' steady len body so_far.far advances in
           record {
             behind = here.0;
@@ -188,12 +189,13 @@ module _ {R E W F : Type 0} {source : Reader R E} {sink : Writer W F} {k : Kind}
           }
 
       -- If the body was not shown whole, the show of the string ends there.
-      pub text_stops : (room : ℕ) (error : DiagError E F) (ended : Sides R W)
+      pub text_stops : (mark : Mark) (room : ℕ) (error : DiagError E F) (ended : Sides R W)
           → ShowsBody source sink k body.length room body.place quotes (sides new lead) (Err error) ended
-          → ShowsString source sink k quotes len room (sides opened w) (Err error) ended
-      text_stops room (d.Read (s.Read error)) ended shown = in_body body.length body.place (sides new lead) due shown
-      text_stops room (d.Write fault) ended shown = at_body body.length (sides new lead) due shown
-      text_stops room error ended shown = absurd shown
+          → ShowsString source sink k quotes len mark room (sides opened w) (Err error) ended
+      text_stops mark room (d.Read (s.Read error)) ended shown =
+          in_body body.length body.place (sides new lead) (due mark) shown
+      text_stops mark room (d.Write fault) ended shown = at_body body.length (sides new lead) (due mark) shown
+      text_stops mark room error ended shown = absurd shown
 
       -- If the body was shown whole, the loop goes on with one more body.
       pub text_more : (room : ℕ) (ended : Decoder R) (last : W)

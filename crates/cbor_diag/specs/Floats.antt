@@ -1,11 +1,13 @@
 -- The diagnostic notation of floats (RFC 8949, section 8): the texts of their values, and the mark of their width.
-use Rattle.std.specs.Prelude.{◌≡◌, ℕ, ◌+◌, ◌-◌, ◌/◌, ◌%◌, ◌^◌, ◌==◌, nat_lt, Bool, true, ◌&&◌, not}
+use Rattle.std.specs.Prelude.{◌≡◌, ℕ, ◌+◌, ◌-◌, ◌/◌, ◌%◌, ◌^◌, ◌==◌, nat_lt, Bool, true, false, ◌&&◌, not}
 use Rattle.std.specs.Prelude.{List, [], ◌++◌, codes, from_bits, to_bits, if◌then◌else◌}
+use Rattle.std.specs.Int.{to_be_bytes, w16, w32, w64}
 use Rattle.std.specs.Float.{binary32, binary64}
 use Rattle.cbor_floats.specs.Floats.{IsNumberText, float_value}
 use Rattle.ciborium_ll.specs.Types.Float.{Float as Raw}
 use Rattle.ciborium_ll.specs.Types.Float.TheVariants as raw
 use Rattle.cbor_diag.specs.declared.scalars.Width.{Width}
+use Rattle.cbor_diag.specs.Notation.{bytes_notation}
 
 -- ---- the mark of its width
 
@@ -45,3 +47,33 @@ float_mark (raw.Double bits) = if holds single_width bits then codes "_3" else [
 abbrev pub IsFloatText : Raw → List ℕ → Type 0
 IsFloatText float text =
     (number : List ℕ) × IsNumberText (float_value float) number × (text ≡ number ++ float_mark float)
+
+-- ---- exact notation
+
+-- The float is a NaN that its name does not give back: it has a sign, or other bits than the quiet NaN of its width,
+-- whose first bit of the fraction alone is one (IEEE 754, 6.2.1). `f9 7e 01` is one, and `f9 7e 00` is none.
+abbrev pub has_payload : Raw → Bool
+has_payload (raw.Half bits) = nat_lt 0x7c00 (bits % 0x8000) && not (bits == 0x7e00)
+has_payload (raw.Single bits) = nat_lt 0x7f800000 (bits % 0x80000000) && not (bits == 0x7fc00000)
+has_payload (raw.Double bits) =
+    nat_lt 0x7ff0000000000000 (bits % 0x8000000000000000) && not (bits == 0x7ff8000000000000)
+
+-- The bytes of a float's bits in base 16, as CBOR's extended diagnostic notation has them. `7e 01` gives `float'7e01'`.
+abbrev pub digits_text : List ℕ → List ℕ
+digits_text bytes = codes "float'" ++ (bytes_notation bytes ++ codes "'")
+
+-- The bits of a float in base 16, the most significant byte first. `f9 7e 01` gives `float'7e01'`.
+abbrev pub bits_text : Raw → List ℕ
+bits_text (raw.Half bits) = digits_text (to_be_bytes w16 bits)
+bits_text (raw.Single bits) = digits_text (to_be_bytes w32 bits)
+bits_text (raw.Double bits) = digits_text (to_be_bytes w64 bits)
+
+-- The text of a float, by its bits if `by_bits` is true, and otherwise by its value. By its value `f9 3c 00` is `1.0`.
+abbrev pub IsTextBy : Bool → Raw → List ℕ → Type 0
+IsTextBy true float text = text ≡ bits_text float
+IsTextBy false float text = IsFloatText float text
+
+-- The text of a float in plain or in exact notation. `fa 7f c0 00 01` is `NaN_2` in plain notation, and in exact
+-- notation `float'7fc00001'`.
+abbrev pub IsShownFloat : Bool → Raw → List ℕ → Type 0
+IsShownFloat exact float text = IsTextBy (exact && has_payload float) float text

@@ -1,5 +1,5 @@
 -- The text that was written of an item before its show ended with an error.
-use Rattle.std.specs.Prelude.{ℕ, ◌++◌, Bool, List, Result, Ok, Err}
+use Rattle.std.specs.Prelude.{ℕ, ◌++◌, Bool, List, length, Result, Ok, Err}
 use Rattle.ciborium_ll.specs.Types.Read.{Ghosts as Reader}
 use Rattle.ciborium_ll.specs.Types.Write.{Ghosts as Writer}
 use Rattle.ciborium_ll.specs.Types.Decoder.{Decoder}
@@ -12,7 +12,9 @@ use Rattle.cbor_skip.specs.declared.SkipError.{SkipError}
 use Rattle.cbor_skip.specs.declared.SkipError.TheVariants as s
 use Rattle.cbor_diag.specs.declared.DiagError.{DiagError}
 use Rattle.cbor_diag.specs.declared.DiagError.TheVariants as d
-use Rattle.cbor_diag.specs.declared.layout.Layout.{Layout}
+use Rattle.cbor_diag.specs.declared.layout.Style.{Style}
+use Rattle.cbor_diag.specs.declared.marks.Mark.{Mark}
+use Rattle.cbor_diag.specs.Marks.{title_mark}
 use Rattle.cbor_diag.specs.ItemTexts.{nest_opening, nest_closing, nest_last, item_lead, level_within, is_value_at}
 use Rattle.cbor_diag.specs.ItemTexts.{is_first_at, AreShown, RestShown, WithinShown, ItemShown}
 use Rattle.cbor_diag.specs.Showing.{ShowsHeader}
@@ -23,62 +25,67 @@ ComesNoItem source old (s.Read error) new = DecoderPullAnswer source old (Err er
 ComesNoItem source old (s.Break place) new = PullsTitle source old h.Break new
 ComesNoItem source old (s.Deep place) new = ⊥
 
-module _ {R E W F : Type 0} (source : Reader R E) (sink : Writer W F) (layout : Layout) where
+module _ {R E W F : Type 0} (source : Reader R E) (sink : Writer W F) (style : Style) where
   -- After the header `count` items were read, and their text was written. On one line it can be `01` after `82`, with
   -- the text `1`.
-  pub record WithinBegun (level : ℕ) (header : Header) (count : ℕ) (old now : Sides R W) : Type 0 where
+  pub record WithinBegun (level : ℕ) (header : Header) (mark : Mark) (count : ℕ) (old now : Sides R W) : Type 0 where
     pub items : List ℕ
     pub text : List ℕ
-    pub shown : AreShown layout level header count items text
+    pub shown : AreShown style level header mark count items text
     pub passed : ReadsPast source old.decoder items now.decoder
     pub written : WritesAll sink old.writer text now.writer
 
   mutual
-    -- `RestStops level header old error new`: after its header the show of an item of this level ended with the error.
+    -- `RestStops level header mark old error new`: after its header the show of an item of this level ended with the error.
     -- After `81` a break `ff` ends it, and its text is `[`.
-    pub data RestStops : ℕ → Header → Sides R W → DiagError E F → Sides R W → Type 0 where
+    pub data RestStops : ℕ → Header → Mark → Sides R W → DiagError E F → Sides R W → Type 0 where
       -- In an item that contains no others.
-      plain : {level : ℕ} {header : Header} {old new : Sides R W} {error : DiagError E F}
-          → ShowsHeader source sink header old (Err error) new → RestStops level header old error new
+      plain : {level : ℕ} {header : Header} {mark : Mark} {old new : Sides R W} {error : DiagError E F}
+          → ShowsHeader source sink style.is_exact header mark old (Err error) new
+          → RestStops level header mark old error new
       -- No level is left, and nothing was written.
-      deep : {level place : ℕ} {header : Header} {now : Sides R W}
-          → RestStops level header now (d.Read (s.Deep place)) now
+      deep : {level place : ℕ} {header : Header} {mark : Mark} {now : Sides R W}
+          → RestStops level header mark now (d.Read (s.Deep place)) now
       -- The writer failed before the items.
-      opening : {level : ℕ} {header : Header} {old : Sides R W} {fault : F} {new : W}
-          → WritesFront sink old.writer (nest_opening header) new
-          → RestStops level header old (d.Write fault) (sides old.decoder new)
+      opening : {level : ℕ} {header : Header} {mark : Mark} {old : Sides R W} {fault : F} {new : W}
+          → WritesFront sink old.writer (nest_opening header mark) new
+          → RestStops level header mark old (d.Write fault) (sides old.decoder new)
       -- The show of the items ended.
-      within : {level : ℕ} {header : Header} {old new : Sides R W} {error : DiagError E F} {opened : W}
-          → WritesAll sink old.writer (nest_opening header) opened
-          → WithinStops (level_within header level) header (sides old.decoder opened) error new
-          → RestStops level header old error new
+      within : {level : ℕ} {header : Header} {mark : Mark} {old new : Sides R W} {error : DiagError E F} {opened : W}
+          → WritesAll sink old.writer (nest_opening header mark) opened
+          → WithinStops (level_within header level) header mark (sides old.decoder opened) error new
+          → RestStops level header mark old error new
       -- The writer failed after the items.
-      closing : {level : ℕ} {header : Header} {old : Sides R W} {fault : F} {empty : Bool} {between : Sides R W}
-          {opened new : W} → WritesAll sink old.writer (nest_opening header) opened
-          → WithinShown source sink layout (level_within header level) header (sides old.decoder opened) empty between
-          → WritesFront sink between.writer (nest_last header layout level empty ++ nest_closing header) new
-          → RestStops level header old (d.Write fault) (sides between.decoder new)
+      closing : {level : ℕ} {header : Header} {mark : Mark} {old : Sides R W} {fault : F} {empty : Bool}
+          {between : Sides R W} {opened new : W} → WritesAll sink old.writer (nest_opening header mark) opened
+          → WithinShown source sink style (level_within header level) header mark (sides old.decoder opened) empty
+          between
+          → WritesFront sink between.writer (nest_last header mark style.layout level empty ++ nest_closing header) new
+          → RestStops level header mark old (d.Write fault) (sides between.decoder new)
 
-    -- `WithinStops level header old error new`: after the header some items of this level were shown. The show ended
+    -- `WithinStops level header mark old error new`: after the header some items of this level were shown. The show ended
     -- with the error at the next item that was due. In `82 01 1c` it ended at `1c`, after the item `01`.
-    pub data WithinStops : ℕ → Header → Sides R W → DiagError E F → Sides R W → Type 0 where
+    pub data WithinStops : ℕ → Header → Mark → Sides R W → DiagError E F → Sides R W → Type 0 where
       -- No item came, and nothing more was written.
-      title : {level count : ℕ} {header : Header} {old between : Sides R W} {error : SkipError E} {new : Decoder R}
-          → WithinBegun level header count old between → ComesNoItem source between.decoder error new
-          → WithinStops level header old (d.Read error) (sides new between.writer)
+      title : {level count : ℕ} {header : Header} {mark : Mark} {old between : Sides R W} {error : SkipError E}
+          {new : Decoder R} → WithinBegun level header mark count old between
+          → ComesNoItem source between.decoder error new
+          → WithinStops level header mark old (d.Read error) (sides new between.writer)
       -- The writer failed before the item.
-      lead : {level count : ℕ} {header next : Header} {old between : Sides R W} {titled : Decoder R} {fault : F} {new : W}
-          → WithinBegun level header count old between → PullsTitle source between.decoder next titled
-          → WritesFront sink between.writer
-          (item_lead header layout level (is_value_at header count) (is_first_at count)) new
-          → WithinStops level header old (d.Write fault) (sides titled new)
-      -- The show of the item ended.
-      item : {level count : ℕ} {header next : Header} {old between new : Sides R W} {titled : Decoder R} {led : W}
-          {error : DiagError E F} → WithinBegun level header count old between
+      lead : {level count : ℕ} {header next : Header} {mark : Mark} {old between : Sides R W} {titled : Decoder R}
+          {fault : F} {new : W} → WithinBegun level header mark count old between
           → PullsTitle source between.decoder next titled
+          → WritesFront sink between.writer
+          (item_lead header mark style.layout level (is_value_at header count) (is_first_at count)) new
+          → WithinStops level header mark old (d.Write fault) (sides titled new)
+      -- The show of the item ended.
+      item : {level count : ℕ} {header next : Header} {mark : Mark} {old between new : Sides R W} {titled : Decoder R}
+          {led : W} {error : DiagError E F} → WithinBegun level header mark count old between
+          → (pulled : PullsTitle source between.decoder next titled)
           → WritesAll sink between.writer
-          (item_lead header layout level (is_value_at header count) (is_first_at count)) led
-          → RestStops level next (sides titled led) error new → WithinStops level header old error new
+          (item_lead header mark style.layout level (is_value_at header count) (is_first_at count)) led
+          → RestStops level next (title_mark style.is_exact next (length pulled.title)) (sides titled led) error new
+          → WithinStops level header mark old error new
 
   -- The show of an item ended with the error. No title came, or a break, and nothing was written; or it ended after its
   -- title. For `ff` nothing is written, and for `81 ff` the text is `[`.
@@ -86,21 +93,22 @@ module _ {R E W F : Type 0} (source : Reader R E) (sink : Writer W F) (layout : 
     no_item : {error : SkipError E} {new : Decoder R} → ComesNoItem source old.decoder error new
         → ItemStops old (d.Read error) (sides new old.writer)
     behind : {header : Header} {titled : Decoder R} {error : DiagError E F} {new : Sides R W}
-        → PullsTitle source old.decoder header titled → RestStops 0 header (sides titled old.writer) error new
+        → (pulled : PullsTitle source old.decoder header titled)
+        → RestStops 0 header (title_mark style.is_exact header (length pulled.title)) (sides titled old.writer) error new
         → ItemStops old error new
 
   -- The show of the rest of an item, by its answer. After `82` it can be `Ok` for `01 02`, and not for `01 ff`.
-  abbrev pub ShowsRest : ℕ → Header → Sides R W → Result (Unit {0}) (DiagError E F) → Sides R W → Type 0
-  ShowsRest level header old (Ok done) new = RestShown source sink layout level header old new
-  ShowsRest level header old (Err error) new = RestStops level header old error new
+  abbrev pub ShowsRest : ℕ → Header → Mark → Sides R W → Result (Unit {0}) (DiagError E F) → Sides R W → Type 0
+  ShowsRest level header mark old (Ok done) new = RestShown source sink style level header mark old new
+  ShowsRest level header mark old (Err error) new = RestStops level header mark old error new
 
   -- The show of the content of a header, by its answer, which says whether the header contains nothing. After `80` the
   -- answer can be `Ok(true)`, and after `81`, for `01`, it can be `Ok(false)`.
-  abbrev pub ShowsWithin : ℕ → Header → Sides R W → Result Bool (DiagError E F) → Sides R W → Type 0
-  ShowsWithin level header old (Ok empty) new = WithinShown source sink layout level header old empty new
-  ShowsWithin level header old (Err error) new = WithinStops level header old error new
+  abbrev pub ShowsWithin : ℕ → Header → Mark → Sides R W → Result Bool (DiagError E F) → Sides R W → Type 0
+  ShowsWithin level header mark old (Ok empty) new = WithinShown source sink style level header mark old empty new
+  ShowsWithin level header mark old (Err error) new = WithinStops level header mark old error new
 
   -- The show of an item, by its answer. It can be `Ok` for `82 01 02`, and not for `82 01 ff`.
   abbrev pub ShowsItem : Sides R W → Result (Unit {0}) (DiagError E F) → Sides R W → Type 0
-  ShowsItem old (Ok done) new = ItemShown source sink layout old new
+  ShowsItem old (Ok done) new = ItemShown source sink style old new
   ShowsItem old (Err error) new = ItemStops old error new

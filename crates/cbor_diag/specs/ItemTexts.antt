@@ -1,35 +1,38 @@
 -- The diagnostic notation of whole items (RFC 8949, section 8): the text of an item, by its bytes.
 use Rattle.std.specs.Prelude.{◌≡◌, ℕ, zero, suc, ◌*◌, ◌%◌, ◌==◌, Bool, true, false, List, [], ◌∷◌, ◌++◌, codes, decimal}
-use Rattle.std.specs.Prelude.{Option, Some, None}
+use Rattle.std.specs.Prelude.{Option, Some, None, ◌||◌, length}
 use Rattle.ciborium_ll.specs.Types.Read.{Ghosts as Reader}
 use Rattle.ciborium_ll.specs.Types.Write.{Ghosts as Writer}
 use Rattle.ciborium_ll.specs.Types.Float.{Float}
 use Rattle.ciborium_ll.specs.Types.Header.{Header}
 use Rattle.ciborium_ll.specs.Types.Header.TheVariants as h
-use Rattle.ciborium_ll.specs.Title.{IsTitle, shortest_title}
-use Rattle.ciborium_ll.specs.Strings.{Kind, Bytes, Text, kind_header, IsString}
+use Rattle.ciborium_ll.specs.Title.{IsTitle}
+use Rattle.ciborium_ll.specs.Strings.{Kind, kind_header}
 use Rattle.ciborium_ll.specs.Decoding.{ReadsPast}
 use Rattle.ciborium_ll.specs.Encoding.{WritesAll}
 use Rattle.ciborium_ll.specs.Sides.{Sides}
 use Rattle.cbor_diag.specs.declared.layout.Layout.{Layout}
 use Rattle.cbor_diag.specs.declared.layout.Layout.TheVariants as l
-use Rattle.cbor_diag.specs.declared.strings.quotes.Quotes.{Quotes}
-use Rattle.cbor_diag.specs.declared.strings.quotes.Quotes.TheVariants as q
-use Rattle.cbor_diag.specs.Floats.{IsFloatText}
+use Rattle.cbor_diag.specs.declared.layout.Style.{Style}
+use Rattle.cbor_diag.specs.declared.marks.Mark.{Mark}
+use Rattle.cbor_diag.specs.Floats.{IsShownFloat}
+use Rattle.cbor_diag.specs.Marks.{is_marked, mark_text, title_mark}
 use Rattle.cbor_diag.specs.Notation.{header_notation}
-use Rattle.cbor_diag.specs.StringShows.{string_text, is_indefinite}
+use Rattle.cbor_diag.specs.OpenShows.{IsStringText}
+use Rattle.cbor_diag.specs.StringShows.{is_indefinite}
 
 -- ---- the text around the items of a tag, an array or a map
 
--- The text before the items: a tag's number and a parenthesis, or a bracket, with an underscore in the indefinite forms
--- (RFC 8949, 8 and 8.1). `82` gives `[`, `bf` gives `{_`, and `c1` gives `1(`.
-abbrev pub nest_opening : Header → List ℕ
-nest_opening (h.Tag number) = decimal number ++ codes "("
-nest_opening (h.Array (Some count)) = codes "["
-nest_opening (h.Array None) = codes "[_"
-nest_opening (h.Map (Some count)) = codes "{"
-nest_opening (h.Map None) = codes "{_"
-nest_opening header = []
+-- The text before the items: a tag's number and a parenthesis, or a bracket, with the mark of the title, and with an
+-- underscore in the indefinite forms (RFC 8949, 8 and 8.1). `82` gives `[`, `bf` gives `{_`, and `c1` gives `1(`. In
+-- exact notation `98 02` gives `[_0`.
+abbrev pub nest_opening : Header → Mark → List ℕ
+nest_opening (h.Tag number) mark = (decimal number ++ mark_text mark) ++ codes "("
+nest_opening (h.Array (Some count)) mark = codes "[" ++ mark_text mark
+nest_opening (h.Array None) mark = codes "[_"
+nest_opening (h.Map (Some count)) mark = codes "{" ++ mark_text mark
+nest_opening (h.Map None) mark = codes "{_"
+nest_opening header mark = []
 
 -- The text after the items (RFC 8949, 8): `82` gives `]`, and `c1` gives `)`.
 abbrev pub nest_closing : Header → List ℕ
@@ -54,20 +57,25 @@ level_within (h.Array len) level = suc level
 level_within (h.Map len) level = suc level
 level_within header level = level
 
--- The space before an item, by whether its array or map has the indefinite form, and whether the item is its first.
--- With lines it is a new line, and otherwise a space. After the bracket of a definite form on one line there is none.
--- On one line `1` has a space in `[_ 1]`, and none in `[1]`.
+-- Whether an underscore follows the bracket of an array or a map: in the indefinite form, or by a mark. It does in
+-- `[_ 1]` and `[_0 1]`.
+abbrev pub is_apart : Option ℕ → Mark → Bool
+is_apart len mark = is_indefinite len || is_marked mark
+
+-- The space before an item, by whether an underscore follows the bracket, and whether the item is the first. With lines
+-- it is a new line, and otherwise a space. After a bracket alone on one line there is none. On one line `1` has a space
+-- in `[_ 1]`, and none in `[1]`.
 abbrev pub item_space : Layout → ℕ → Bool → Bool → List ℕ
-item_space l.Indented level opens first = new_line level
+item_space l.Indented level apart first = new_line level
 item_space l.OneLine level true first = codes " "
 item_space l.OneLine level false true = []
 item_space l.OneLine level false false = codes " "
 
 -- The space before an item within this header. An item of a tag has none, as `2` in `1(2)`.
-abbrev pub nest_space : Header → Layout → ℕ → Bool → List ℕ
-nest_space (h.Array len) layout level first = item_space layout level (is_indefinite len) first
-nest_space (h.Map len) layout level first = item_space layout level (is_indefinite len) first
-nest_space header layout level first = []
+abbrev pub nest_space : Header → Mark → Layout → ℕ → Bool → List ℕ
+nest_space (h.Array len) mark layout level first = item_space layout level (is_apart len mark) first
+nest_space (h.Map len) mark layout level first = item_space layout level (is_apart len mark) first
+nest_space header mark layout level first = []
 
 -- The comma before an item, by whether it is the first: in `[1, 2]` there is none before `1`, and one before `2`.
 abbrev pub comma : Bool → List ℕ
@@ -76,24 +84,24 @@ comma false = codes ","
 
 -- The text before an item within this header, by whether it is the value of a pair, and whether it is the first item.
 -- On one line it is `, ` before the second item of `82`.
-abbrev pub item_lead : Header → Layout → ℕ → Bool → Bool → List ℕ
-item_lead header layout level true first = codes ": "
-item_lead header layout level false first = comma first ++ nest_space header layout level first
+abbrev pub item_lead : Header → Mark → Layout → ℕ → Bool → Bool → List ℕ
+item_lead header mark layout level true first = codes ": "
+item_lead header mark layout level false first = comma first ++ nest_space header mark layout level first
 
--- The space after the last item, by whether the form is indefinite, and whether there is no item. With lines it is a
--- new line. An indefinite form without items has a space, as `[_ ]` for `9f ff`.
+-- The space after the last item, by whether an underscore follows the bracket, and whether there is no item. With lines
+-- it is a new line. After an underscore and no item there is a space, as in `[_ ]` for `9f ff`.
 abbrev pub last_space : Layout → ℕ → Bool → Bool → List ℕ
 last_space layout level true true = codes " "
 last_space layout level false true = []
-last_space l.Indented level opens false = new_line level
-last_space l.OneLine level opens false = []
+last_space l.Indented level apart false = new_line level
+last_space l.OneLine level apart false = []
 
 -- The space after the last item within this header. An item of a tag has none. With lines it is a new line for `81`,
 -- and nothing for `80`.
-abbrev pub nest_last : Header → Layout → ℕ → Bool → List ℕ
-nest_last (h.Array len) layout level empty = last_space layout level (is_indefinite len) empty
-nest_last (h.Map len) layout level empty = last_space layout level (is_indefinite len) empty
-nest_last header layout level empty = []
+abbrev pub nest_last : Header → Mark → Layout → ℕ → Bool → List ℕ
+nest_last (h.Array len) mark layout level empty = last_space layout level (is_apart len mark) empty
+nest_last (h.Map len) mark layout level empty = last_space layout level (is_apart len mark) empty
+nest_last header mark layout level empty = []
 
 -- ---- an item
 
@@ -125,55 +133,52 @@ nest_end (h.Array None) = 0xff ∷ []
 nest_end (h.Map None) = 0xff ∷ []
 nest_end header = []
 
--- The quotes of a string of the kind (RFC 8949, 8). `41 61` is shown as `h'61'`, and `61 61` as `"a"`.
-abbrev pub kind_quotes : Kind → Quotes
-kind_quotes Bytes = q.Hex
-kind_quotes Text = q.Text
-
 mutual
-  -- `IsShown layout level header rest text`: the text shows an item of this level. A title of the header begins the
-  -- item, and the rest follows it (RFC 8949, 8). `82 01 02` is shown on one line as `[1, 2]`.
-  pub data IsShown (layout : Layout) : ℕ → Header → List ℕ → List ℕ → Type 0 where
-    scalar : {level : ℕ} {header : Header} {text : List ℕ} → header_notation header ≡ Some text
-        → IsShown layout level header [] text
-    float : {level : ℕ} {value : Float} {text : List ℕ} → IsFloatText value text
-        → IsShown layout level (h.Float value) [] text
-    string : {level : ℕ} {rest : List ℕ} {bodies : List (List ℕ)} (kind : Kind) (len : Option ℕ)
-        → IsString kind (shortest_title (kind_header kind len) ++ rest) bodies
-        → IsShown layout level (kind_header kind len) rest (string_text (is_indefinite len) (kind_quotes kind) bodies)
-    nest : {level count : ℕ} {header : Header} {items text : List ℕ} → IsAll header count
-        → AreShown layout (level_within header level) header count items text
-        → IsShown layout level header (items ++ nest_end header)
-        (nest_opening header ++ (text ++ (nest_last header layout level (is_first_at count) ++ nest_closing header)))
+  -- `IsShown style level header mark rest text`: the text shows an item of this level. A title of the header, with this
+  -- mark, begins the item, and the rest follows it (RFC 8949, 8). `82 01 02` is shown on one line as `[1, 2]`.
+  pub data IsShown (style : Style) : ℕ → Header → Mark → List ℕ → List ℕ → Type 0 where
+    scalar : {level : ℕ} {header : Header} {mark : Mark} {text : List ℕ} → header_notation header mark ≡ Some text
+        → IsShown style level header mark [] text
+    float : {level : ℕ} {value : Float} {mark : Mark} {text : List ℕ} → IsShownFloat style.is_exact value text
+        → IsShown style level (h.Float value) mark [] text
+    string : {level : ℕ} {mark : Mark} {rest text : List ℕ} (kind : Kind) (len : Option ℕ)
+        → IsStringText style.is_exact kind len mark rest text
+        → IsShown style level (kind_header kind len) mark rest text
+    nest : {level count : ℕ} {header : Header} {mark : Mark} {items text : List ℕ} → IsAll header count
+        → AreShown style (level_within header level) header mark count items text
+        → IsShown style level header mark (items ++ nest_end header)
+        (nest_opening header mark
+        ++ (text ++ (nest_last header mark style.layout level (is_first_at count) ++ nest_closing header)))
 
-  -- `AreShown layout level header count items text`: the text shows `count` items of this level within the header, each
-  -- with the text before it. After `82` the items `01 02` are shown on one line as `1, 2`.
-  pub data AreShown (layout : Layout) : ℕ → Header → ℕ → List ℕ → List ℕ → Type 0 where
-    none : {level : ℕ} {header : Header} → AreShown layout level header zero [] []
-    more : {level count : ℕ} {header first : Header} {items text title rest item : List ℕ}
-        → AreShown layout level header count items text → IsTitle title first
-        → IsShown layout level first rest item
-        → AreShown layout level header (suc count) (items ++ (title ++ rest))
-        (text ++ (item_lead header layout level (is_value_at header count) (is_first_at count) ++ item))
+  -- `AreShown style level header mark count items text`: the text shows `count` items of this level within the header,
+  -- each with the text before it. After `82` the items `01 02` are shown on one line as `1, 2`.
+  pub data AreShown (style : Style) : ℕ → Header → Mark → ℕ → List ℕ → List ℕ → Type 0 where
+    none : {level : ℕ} {header : Header} {mark : Mark} → AreShown style level header mark zero [] []
+    more : {level count : ℕ} {header first : Header} {mark : Mark} {items text title rest item : List ℕ}
+        → AreShown style level header mark count items text → IsTitle title first
+        → IsShown style level first (title_mark style.is_exact first (length title)) rest item
+        → AreShown style level header mark (suc count) (items ++ (title ++ rest))
+        (text ++ (item_lead header mark style.layout level (is_value_at header count) (is_first_at count) ++ item))
 
-module _ {R E W F : Type 0} (source : Reader R E) (sink : Writer W F) (layout : Layout) where
+module _ {R E W F : Type 0} (source : Reader R E) (sink : Writer W F) (style : Style) where
   -- After its header the rest of an item was read, and its whole text was written. After `82` the rest `01 02` has the
   -- text `[1, 2]` on one line.
-  pub record RestShown (level : ℕ) (header : Header) (old new : Sides R W) : Type 0 where
+  pub record RestShown (level : ℕ) (header : Header) (mark : Mark) (old new : Sides R W) : Type 0 where
     pub rest : List ℕ
     pub text : List ℕ
-    pub shown : IsShown layout level header rest text
+    pub shown : IsShown style level header mark rest text
     pub passed : ReadsPast source old.decoder rest new.decoder
     pub written : WritesAll sink old.writer text new.writer
 
   -- After the header all its content was read, and its text was written. The answer says whether it contains nothing.
   -- After `82` the content `01 02` has the text `1, 2` on one line.
-  pub record WithinShown (level : ℕ) (header : Header) (old : Sides R W) (empty : Bool) (new : Sides R W) : Type 0 where
+  pub record WithinShown (level : ℕ) (header : Header) (mark : Mark) (old : Sides R W) (empty : Bool)
+      (new : Sides R W) : Type 0 where
     pub count : ℕ
     pub items : List ℕ
     pub text : List ℕ
     pub all : IsAll header count
-    pub shown : AreShown layout level header count items text
+    pub shown : AreShown style level header mark count items text
     pub passed : ReadsPast source old.decoder (items ++ nest_end header) new.decoder
     pub written : WritesAll sink old.writer text new.writer
     pub counted : empty ≡ (is_first_at count)
@@ -185,6 +190,6 @@ module _ {R E W F : Type 0} (source : Reader R E) (sink : Writer W F) (layout : 
     pub rest : List ℕ
     pub text : List ℕ
     pub is_title : IsTitle title header
-    pub shown : IsShown layout 0 header rest text
+    pub shown : IsShown style 0 header (title_mark style.is_exact header (length title)) rest text
     pub passed : ReadsPast source old.decoder (title ++ rest) new.decoder
     pub written : WritesAll sink old.writer text new.writer

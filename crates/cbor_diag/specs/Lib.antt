@@ -2,7 +2,10 @@ pub mod DiagTexts
 pub mod Floats
 pub mod ItemStops
 pub mod ItemTexts
+pub mod Marks
+pub mod NextShows
 pub mod Notation
+pub mod OpenShows
 pub mod Passing
 pub mod Quoting
 pub mod Showing

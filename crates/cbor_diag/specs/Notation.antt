@@ -7,26 +7,34 @@ use Rattle.ciborium_ll_text.specs.Digits.{hex_text}
 use Rattle.ciborium_ll.specs.Types.Header.{Header}
 use Rattle.ciborium_ll.specs.Types.Header.TheVariants as h
 use Rattle.cbor_escapes.specs.Escapes.{terminal_text}
+use Rattle.cbor_diag.specs.declared.marks.Mark.{Mark}
+use Rattle.cbor_diag.specs.Marks.{is_marked, mark_text}
 use Rattle.cbor_diag.specs.declared.strings.quotes.Quotes.{Quotes}
 use Rattle.cbor_diag.specs.declared.strings.quotes.Quotes.TheVariants as q
 
--- A simple value: the four values that have names by these, and others as `simple(N)` (RFC 8949, 8). `f4` gives
--- `false`, and `e0` gives `simple(0)`.
-abbrev pub simple_notation : ℕ → List ℕ
-simple_notation number =
+-- A simple value without a mark: the four values that have names by these, and others as `simple(N)` (RFC 8949, 8).
+-- `f4` gives `false`, and `e0` gives `simple(0)`.
+abbrev pub name_text : ℕ → List ℕ
+name_text number =
     if number == 20 then codes "false"
     else (if number == 21 then codes "true"
     else (if number == 22 then codes "null"
     else (if number == 23 then codes "undefined"
     else (codes "simple(" ++ decimal number) ++ codes ")")))
 
+-- A simple value. A mark follows its number, and then its name is not used: in exact notation `f8 14` gives
+-- `simple(20_0)`, and `f4` gives `false`.
+abbrev pub simple_notation : ℕ → Mark → List ℕ
+simple_notation number mark =
+    if is_marked mark then ((codes "simple(" ++ decimal number) ++ mark_text mark) ++ codes ")" else name_text number
+
 -- The text of a header that is an integer or a simple value, which is the whole item. An integer has its digits in base
--- 10, and a negative integer is -1 - n (RFC 7049, 2.1): `20` gives `-1`.
-abbrev pub header_notation : Header → Option (List ℕ)
-header_notation (h.Positive number) = Some (decimal number)
-header_notation (h.Negative number) = Some (signed_decimal (negsuc number))
-header_notation (h.Simple number) = Some (simple_notation number)
-header_notation header = None
+-- 10, and then the mark of its title. A negative integer is -1 - n (RFC 7049, 2.1): `20` gives `-1`.
+abbrev pub header_notation : Header → Mark → Option (List ℕ)
+header_notation (h.Positive number) mark = Some (decimal number ++ mark_text mark)
+header_notation (h.Negative number) mark = Some (signed_decimal (negsuc number) ++ mark_text mark)
+header_notation (h.Simple number) mark = Some (simple_notation number mark)
+header_notation header mark = None
 
 -- A character of a text between its quotes, with the escapes of JSON (RFC 8259, 7). A backslash, which is 92, precedes
 -- a quote, a backslash or the letter of a control character. Each other character that a terminal acts on has `u` and

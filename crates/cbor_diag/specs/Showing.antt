@@ -16,10 +16,10 @@ use Rattle.cbor_skip.specs.Failures.{CountsItemFailure}
 use Rattle.cbor_skip.specs.Skipping.{ReadsItem, SkipsItem, StopsItem}
 use Rattle.cbor_diag.specs.declared.DiagError.{DiagError}
 use Rattle.cbor_diag.specs.declared.DiagError.TheVariants as d
-use Rattle.cbor_diag.specs.Floats.{IsFloatText}
-use Rattle.cbor_diag.specs.declared.strings.quotes.Quotes.TheVariants as q
+use Rattle.cbor_diag.specs.Floats.{IsShownFloat}
+use Rattle.cbor_diag.specs.declared.marks.Mark.{Mark}
 use Rattle.cbor_diag.specs.Notation.{header_notation}
-use Rattle.cbor_diag.specs.StringShows.{ShowsString}
+use Rattle.cbor_diag.specs.OpenShows.{ShowsStringBy}
 use Rattle.cbor_diag.specs.declared.strings.TheConstants.{BUFFER_SIZE}
 
 module _ {E F : Type 0} where
@@ -89,11 +89,13 @@ module _ {R E W F : Type 0} (source : Ghosts R E) (sink : Sink W F) where
     pub unread : new.decoder ≡ old.decoder
 
   -- After the header of an integer, a simple value, a float or a string the rest of the item was read and its text
-  -- written. For a float it is a text that fits, and for a string the text of the bodies that were read. After `41` the
-  -- rest `61` has the text `h'61'`.
-  abbrev pub ShowsHeader : Header → Sides R W → Result (Unit {0}) (DiagError E F) → Sides R W → Type 0
-  ShowsHeader (h.Float float) old result new =
-      (text : List ℕ) × IsFloatText float text × ShowsAlone (Some text) old result new
-  ShowsHeader (h.Bytes len) old result new = ShowsString source sink Bytes q.Hex len BUFFER_SIZE old result new
-  ShowsHeader (h.Text len) old result new = ShowsString source sink Text q.Text len BUFFER_SIZE old result new
-  ShowsHeader header old result new = ShowsAlone (header_notation header) old result new
+  -- written, in plain or in exact notation. For a float it is a text that fits, and for a string the text of what was
+  -- read. After `41` the rest `61` has the text `h'61'`.
+  abbrev pub ShowsHeader : Bool → Header → Mark → Sides R W → Result (Unit {0}) (DiagError E F) → Sides R W → Type 0
+  ShowsHeader exact (h.Float float) mark old result new =
+      (text : List ℕ) × IsShownFloat exact float text × ShowsAlone (Some text) old result new
+  ShowsHeader exact (h.Bytes len) mark old result new =
+      ShowsStringBy source sink Bytes exact len mark BUFFER_SIZE old result new
+  ShowsHeader exact (h.Text len) mark old result new =
+      ShowsStringBy source sink Text exact len mark BUFFER_SIZE old result new
+  ShowsHeader exact header mark old result new = ShowsAlone (header_notation header mark) old result new

@@ -9,7 +9,7 @@ use Rattle.ciborium_ll.specs.Types.Error.{Error}
 use Rattle.ciborium_ll.specs.Types.RecodeError.{RecodeError}
 use Rattle.ciborium_ll.specs.Types.RecodeError.TheVariants as r
 use Rattle.ciborium_ll.specs.Title.{IsTitle, shortest_title}
-use Rattle.ciborium_ll.specs.Strings.{Kind, kind_header, IsString, IsWritable, most_kept}
+use Rattle.ciborium_ll.specs.Strings.{Kind, Bytes, Text, kind_header, IsString, IsWritable, most_kept}
 use Rattle.ciborium_ll.specs.Faults.{IsInside}
 use Rattle.ciborium_ll.specs.Decoding.{ReadsPast, DecoderPullAnswer, PullsTitle}
 use Rattle.ciborium_ll.specs.Encoding.{WritesAll, WritesFront}
@@ -20,9 +20,16 @@ use Rattle.cbor_diag.specs.declared.DiagError.{DiagError}
 use Rattle.cbor_diag.specs.declared.DiagError.TheVariants as d
 use Rattle.cbor_diag.specs.declared.strings.quotes.Quotes.{Quotes}
 use Rattle.cbor_diag.specs.declared.strings.quotes.Quotes.TheVariants as q
+use Rattle.cbor_diag.specs.declared.marks.Mark.{Mark}
+use Rattle.cbor_diag.specs.Marks.{mark_text}
 use Rattle.cbor_diag.specs.Notation.{body_text}
 
 -- ---- the text
+
+-- The quotes of a string of the kind (RFC 8949, 8). `41 61` is shown as `h'61'`, and `61 61` as `"a"`.
+abbrev pub kind_quotes : Kind → Quotes
+kind_quotes Bytes = q.Hex
+kind_quotes Text = q.Text
 
 -- The text before a body: `h'` or a quote, which is 34.
 abbrev pub opening : Quotes → List ℕ
@@ -110,17 +117,22 @@ bodies_text opens quotes [] = []
 bodies_text opens quotes (body ∷ bodies) =
     (lead_text opens true ++ quoted_body quotes body) ++ more_bodies opens quotes bodies
 
--- The text after the bodies. A string of the indefinite form that has no body is shown by its quotes and an underscore
--- (RFC 8949, 8.1). `5f ff` is shown as `''_`, and `5f 40 ff` ends with `)`.
-abbrev pub end_text : Bool → Quotes → Bool → List ℕ
-end_text false quotes none = []
-end_text true q.Hex true = codes "''_"
-end_text true q.Text true = 34 ∷ 34 ∷ 95 ∷ []
-end_text true quotes false = codes ")"
+-- A string of the indefinite form that has no body: its quotes and an underscore (RFC 8949, 8.1). `5f ff` is shown as
+-- `''_`.
+abbrev pub none_text : Quotes → List ℕ
+none_text q.Hex = codes "''_"
+none_text q.Text = 34 ∷ 34 ∷ 95 ∷ []
 
--- A string with these bodies: `(_ h'01', h'02')` in the indefinite form.
-abbrev pub string_text : Bool → Quotes → List (List ℕ) → List ℕ
-string_text opens quotes bodies = bodies_text opens quotes bodies ++ end_text opens quotes (is_none bodies)
+-- The text after the bodies, by whether there is none. In the definite form it is the mark of the string's title.
+-- `5f ff` is shown as `''_`, and `5f 40 ff` ends with `)`.
+abbrev pub end_text : Bool → Quotes → Mark → Bool → List ℕ
+end_text false quotes mark none = mark_text mark
+end_text true quotes mark true = none_text quotes
+end_text true quotes mark false = codes ")"
+
+-- A string with these bodies, whose title has this mark: `(_ h'01', h'02')` in the indefinite form.
+abbrev pub string_text : Bool → Quotes → Mark → List (List ℕ) → List ℕ
+string_text opens quotes mark bodies = bodies_text opens quotes bodies ++ end_text opens quotes mark (is_none bodies)
 
 -- Whether the form is indefinite, by the length or the count. It is for `5f`, which has none, and not for `42`.
 abbrev pub is_indefinite : Option ℕ → Bool
@@ -161,11 +173,11 @@ pub record StringRead {R E : Type 0} (source : Reader R E) (kind : Kind) (len : 
   pub passed : ReadsPast source old behind new
 
 module _ {R E W F : Type 0} (source : Reader R E) (sink : Writer W F) (kind : Kind) (quotes : Quotes)
-    (len : Option ℕ) where
+    (len : Option ℕ) (mark : Mark) where
   -- A whole string was read and shown. After `42` the bytes `01 02` are shown as `h'0102'`.
   pub record StringShown (old new : Sides R W) : Type 0 where
     pub reads : StringRead source kind len old.decoder new.decoder
-    pub written : WritesAll sink old.writer (string_text (is_indefinite len) quotes reads.bodies) new.writer
+    pub written : WritesAll sink old.writer (string_text (is_indefinite len) quotes mark reads.bodies) new.writer
 
   -- A beginning of a string was read, and its bodies were shown. After `5f` the bytes `41 01` are shown as `(_ h'01'`.
   pub record StringBegun (old now : Sides R W) : Type 0 where
@@ -206,7 +218,7 @@ module _ {R E W F : Type 0} (source : Reader R E) (sink : Writer W F) (kind : Ki
     at_body : (count : ℕ) (between : Sides R W) → BodyAnnounced count old between
         → BodyUnshown source sink kind count (quoted_body quotes) between new → StringUnshown old new
     at_end : (reads : StringRead source kind len old.decoder new.decoder)
-        → WritesFront sink old.writer (string_text (is_indefinite len) quotes reads.bodies) new.writer
+        → WritesFront sink old.writer (string_text (is_indefinite len) quotes mark reads.bodies) new.writer
         → StringUnshown old new
 
   -- The show of a string after its header, through a buffer of this room. After `42` it can be `Ok` for `01 02`.

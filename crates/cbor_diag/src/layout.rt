@@ -5,6 +5,7 @@ ghost use Rattle.ciborium_ll.specs.Encoding.{WritesBytes};
 ghost use Rattle.cbor_diag.specs.ItemTexts.{comma, item_space, last_space, level_within, nest_last, nest_space, new_line};
 ghost use Rattle.ciborium_ll_grammar.specs.declared.limits.TheConstants.{MOST_LEVELS};
 
+use crate::marks::Marked;
 use crate::put::put;
 use ciborium_ll::Header;
 use ciborium_ll::io::Write;
@@ -18,10 +19,20 @@ pub enum Layout {
     Indented,
 }
 
-/// A layout, and the level that is shown.
+/// How an item is shown.
+#[derive(Clone, Copy, Debug, PartialEq, Eq)]
+pub struct Style {
+    /// How the items of arrays and maps are laid out.
+    pub layout: Layout,
+    /// Whether the notation is exact: it shows each title that is longer than need be, the strings of indefinite length
+    /// within others, and the bits of each NaN.
+    pub is_exact: bool,
+}
+
+/// A style, and the level that is shown.
 #[derive(Clone, Copy)]
 pub(crate) struct Line {
-    pub(crate) layout: Layout,
+    pub(crate) style: Style,
     pub(crate) level: usize,
 }
 
@@ -29,12 +40,12 @@ impl Line {
     /// Returns the line of the content of a header.
     pub(crate) fn within(self, header: Header) -> Line
         requires { self.level < MOST_LEVELS }
-        ensures layout { result.layout ≡ self.layout }
+        ensures style { result.style ≡ self.style }
         ensures level { result.level ≡ level_within header self.level }
     {
         match header {
             Header::Array(_) | Header::Map(_) => Line {
-                layout: self.layout,
+                style: self.style,
                 level: self.level + 1,
             },
             _ => self,
@@ -45,79 +56,82 @@ impl Line {
     pub(crate) fn before<W: Write>(
         self,
         writer: &mut W,
-        header: Header,
+        nest: Marked,
         is_first: bool,
     ) -> Result<(), W::Error>
         ensures { WritesBytes W.Write writer.old result
-            (comma is_first ++ nest_space header self.layout self.level is_first) writer.new }
+            (comma is_first ++ nest_space nest.header nest.mark self.style.layout self.level is_first) writer.new }
     {
         if is_first {
-            return self.space(writer, header, is_first);
+            return self.space(writer, nest, is_first);
         }
         put(writer, b",")?;
-        self.space(writer, header, is_first)
+        self.space(writer, nest, is_first)
     }
 
-    /// Writes the space before an item within the header.
-    fn space<W: Write>(self, writer: &mut W, header: Header, is_first: bool) -> Result<(), W::Error>
-        ensures { WritesBytes W.Write writer.old result (nest_space header self.layout self.level is_first)
-            writer.new }
+    /// Writes the space before an item within a tag, an array or a map.
+    fn space<W: Write>(self, writer: &mut W, nest: Marked, is_first: bool) -> Result<(), W::Error>
+        ensures { WritesBytes W.Write writer.old result
+            (nest_space nest.header nest.mark self.style.layout self.level is_first) writer.new }
     {
-        match header {
+        match nest.header {
             Header::Array(len) | Header::Map(len) => {
-                self.item_space(writer, len.is_none(), is_first)
+                let is_apart = len.is_none() || nest.mark.is_marked();
+                self.item_space(writer, is_apart, is_first)
             }
             _ => Ok(()),
         }
     }
 
-    /// Writes the space before an item of an array or a map. `is_open` says that the form is indefinite.
+    /// Writes the space before an item of an array or a map. `is_apart` says that an underscore follows the bracket.
     fn item_space<W: Write>(
         self,
         writer: &mut W,
-        is_open: bool,
+        is_apart: bool,
         is_first: bool,
     ) -> Result<(), W::Error>
-        ensures { WritesBytes W.Write writer.old result (item_space self.layout self.level is_open is_first)
+        ensures { WritesBytes W.Write writer.old result (item_space self.style.layout self.level is_apart is_first)
             writer.new }
     {
-        match self.layout {
+        match self.style.layout {
             Layout::Indented => self.begin(writer),
-            Layout::OneLine if is_first && !is_open => Ok(()),
+            Layout::OneLine if is_first && !is_apart => Ok(()),
             Layout::OneLine => put(writer, b" "),
         }
     }
 
-    /// Writes the text after the last item, before the closing bracket of its header.
+    /// Writes the text after the last item, before the closing bracket.
     pub(crate) fn behind<W: Write>(
         self,
         writer: &mut W,
-        header: Header,
+        nest: Marked,
         is_empty: bool,
     ) -> Result<(), W::Error>
-        ensures { WritesBytes W.Write writer.old result (nest_last header self.layout self.level is_empty)
-            writer.new }
+        ensures { WritesBytes W.Write writer.old result
+            (nest_last nest.header nest.mark self.style.layout self.level is_empty) writer.new }
     {
-        match header {
+        match nest.header {
             Header::Array(len) | Header::Map(len) => {
-                self.last_space(writer, len.is_none(), is_empty)
+                let is_apart = len.is_none() || nest.mark.is_marked();
+                self.last_space(writer, is_apart, is_empty)
             }
             _ => Ok(()),
         }
     }
 
-    /// Writes the space before the closing bracket of an array or a map. `is_open` says that the form is indefinite.
+    /// Writes the space before the closing bracket of an array or a map. `is_apart` says that an underscore follows the
+    /// opening bracket.
     fn last_space<W: Write>(
         self,
         writer: &mut W,
-        is_open: bool,
+        is_apart: bool,
         is_empty: bool,
     ) -> Result<(), W::Error>
-        ensures { WritesBytes W.Write writer.old result (last_space self.layout self.level is_open is_empty)
+        ensures { WritesBytes W.Write writer.old result (last_space self.style.layout self.level is_apart is_empty)
             writer.new }
     {
-        match self.layout {
-            _ if is_empty && is_open => put(writer, b" "),
+        match self.style.layout {
+            _ if is_empty && is_apart => put(writer, b" "),
             Layout::Indented if !is_empty => self.begin(writer),
             _ => Ok(()),
         }

@@ -9,6 +9,7 @@ ghost use Rattle.cbor_diag.specs.Showing.{ReadsShown};
 ghost use Rattle.ciborium_ll_grammar.specs.declared.limits.TheConstants.{MOST_LEVELS};
 
 mod layout;
+mod marks;
 mod messages;
 mod nests;
 mod plain;
@@ -16,8 +17,9 @@ mod put;
 mod scalars;
 mod strings;
 
-pub use self::layout::Layout;
 use self::layout::Line;
+pub use self::layout::{Layout, Style};
+use self::marks::pull_marked;
 use self::nests::show_item;
 use cbor_skip::SkipError;
 use ciborium_ll::io::{Read, Write};
@@ -56,12 +58,20 @@ impl<E, F> From<Error<E>> for DiagError<E, F> {
 /// - Integers are decimal. A simple value is its name or `simple(N)`.
 /// - A float is `NaN`, `Infinity`, `-Infinity`, or digits that the kit's `parse_float` reads as its value. They have a
 ///   point, and a sign at an exponent, as the kit's `ryu` lays them out. Tests alone say that they are the shortest.
-/// - `_2` or `_3` follows a float exactly if a shorter width holds the same value. The text shows the length of no
-///   other title.
+/// - `_2` or `_3` follows a float exactly if a shorter width holds the same value. In plain notation the text shows the
+///   length of no other title.
 /// - A byte string is `h'0102'`. A text string has the escapes of JSON in `""`, also for each other character that a
 ///   terminal acts on: U+007F to U+009F, and bidirectional controls as `\u202e`.
 /// - Bodies of the indefinite form stand in `(_ )`, with commas, and no body gives `''_` or `""_`.
 /// - A tag is `1(2)`, an array `[1, 2]`, a map `{1: 2}`, and an indefinite form `[_ 1]`.
+///
+/// Exact notation also shows the rest of what the bytes say, so that `cbor_encode::encode` gives them back. Tests alone
+/// say that it does:
+///
+/// - `_0`, `_1`, `_2` or `_3` follows the number or the length of a title that is longer than need be, and has 1, 2, 4
+///   or 8 bytes of it: `23_0`, `h'01'_1`, `1_2(2)`, `[_3 1]`, and `simple(24_0)` for two bytes below 32.
+/// - A string of the indefinite form shows the strings within it as they are: `(_ h'01'_0, (_ h'02'), ''_)`.
+/// - A NaN is `float'7e01'`, its bits in base 16, unless it is the quiet one without a sign.
 ///
 /// # Errors
 ///
@@ -80,18 +90,18 @@ pub fn diagnose<R: Read, W: Write>(
     decoder: &mut Decoder<R>,
     writer: &mut W,
     depth: usize,
-    layout: Layout,
+    style: Style,
 ) -> Result<(), DiagError<R::Error, W::Error>>
     requires shallow { depth ≤ MOST_LEVELS }
-    ensures shown { ShowsItem R.Read W.Write layout (sides decoder.old writer.old) result
+    ensures shown { ShowsItem R.Read W.Write style (sides decoder.old writer.old) result
         (sides decoder.new writer.new) }
     ensures reads { ReadsShown R.Read depth decoder.old result decoder.new }
 {
     let place = decoder.offset();
-    let header = decoder.pull()?;
-    if let Header::Break = header {
+    let marked = pull_marked(decoder, style.is_exact)?;
+    if let Header::Break = marked.header {
         return Err(DiagError::Read(SkipError::Break(place)));
     }
-    let line = Line { layout, level: 0 };
-    show_item(decoder, writer, header, place, depth, line)
+    let line = Line { style, level: 0 };
+    show_item(decoder, writer, marked, place, depth, line)
 }

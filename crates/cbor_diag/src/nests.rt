@@ -17,8 +17,9 @@ ghost use Rattle.cbor_diag.specs.declared.strings.TheConstants.{BUFFER_SIZE};
 
 use crate::DiagError;
 use crate::layout::Line;
+use crate::marks::{Marked, pull_marked, put_marked};
 use crate::plain::show_plain;
-use crate::put::{put, put_two, said};
+use crate::put::{put, said};
 use cbor_skip::{Remaining, SkipError};
 use ciborium_ll::io::{Read, Write};
 use ciborium_ll::{Decoder, Header};
@@ -29,26 +30,27 @@ use itoa::Buffer;
 pub(crate) fn show_within<R: Read, W: Write>(
     decoder: &mut Decoder<R>,
     writer: &mut W,
-    header: Header,
+    nest: Marked,
     depth: usize,
     line: Line,
 ) -> Result<bool, DiagError<R::Error, W::Error>>
-    requires nest { IsNest header }
+    requires nest { IsNest nest.header }
     requires shallow { line.level + depth ≤ MOST_LEVELS }
-    ensures reads { OnReading (λ answer. SkipsWithin R.Read header depth BUFFER_SIZE decoder.old answer decoder.new) result }
-    ensures shown { ShowsWithin R.Read W.Write line.layout line.level header (sides decoder.old writer.old) result
-        (sides decoder.new writer.new) }
+    ensures reads { OnReading (λ answer. SkipsWithin R.Read nest.header depth BUFFER_SIZE decoder.old answer decoder.new)
+        result }
+    ensures shown { ShowsWithin R.Read W.Write line.style line.level nest.header nest.mark
+        (sides decoder.old writer.old) result (sides decoder.new writer.new) }
     ensures moves_on { MovesOn R.Read decoder.old decoder.new }
 {
-    let mut remaining = Remaining::behind(header);
+    let mut remaining = Remaining::behind(nest.header);
     let mut is_first = true;
     'items: while !remaining.is_done() {
         let place = decoder.offset();
-        let next = decoder.pull()?;
-        if let Header::Break = next {
+        let next = pull_marked(decoder, line.style.is_exact)?;
+        if let Header::Break = next.header {
             return at_break(remaining, place, is_first);
         }
-        said(before(writer, line, header, remaining.is_value(), is_first))?;
+        said(before(writer, line, nest, remaining.is_value(), is_first))?;
         show_item(decoder, writer, next, place, depth, line)?;
         remaining = remaining.after_item();
         is_first = false;
@@ -75,33 +77,33 @@ fn at_break<E, F>(
 pub(crate) fn show_item<R: Read, W: Write>(
     decoder: &mut Decoder<R>,
     writer: &mut W,
-    header: Header,
+    marked: Marked,
     place: usize,
     depth: usize,
     line: Line,
 ) -> Result<(), DiagError<R::Error, W::Error>>
     requires none_waits { waiting_of decoder.old ≡ None }
-    requires covered { title_len header ≤ offset_of decoder.old }
-    requires no_break { header ≡ Header.Break → ⊥ }
+    requires covered { title_len marked.header ≤ offset_of decoder.old }
+    requires no_break { marked.header ≡ Header.Break → ⊥ }
     requires shallow { line.level + depth ≤ MOST_LEVELS }
     ensures reads { (before : AnyDecoder R) (outer : Bool) → place ≡ offset_of before
-        → PullsTitle R.Read before header decoder.old → (IsSteady R.Read before → IsSteady R.Read decoder.old)
+        → PullsTitle R.Read before marked.header decoder.old → (IsSteady R.Read before → IsSteady R.Read decoder.old)
         → OnReading (λ answer. ReadsFrom R.Read outer depth BUFFER_SIZE before answer decoder.new) result }
-    ensures shown { ShowsRest R.Read W.Write line.layout line.level header (sides decoder.old writer.old) result
-        (sides decoder.new writer.new) }
+    ensures shown { ShowsRest R.Read W.Write line.style line.level marked.header marked.mark
+        (sides decoder.old writer.old) result (sides decoder.new writer.new) }
     ensures moves_on { MovesOn R.Read decoder.old decoder.new }
 {
-    match header {
+    match marked.header {
         Header::Tag(_) | Header::Array(_) | Header::Map(_) => {
             if depth == 0 {
                 return Err(DiagError::Read(SkipError::Deep(place)));
             }
-            said(open(writer, header))?;
-            let inner = line.within(header);
-            let is_empty = show_within(decoder, writer, header, depth - 1, inner)?;
-            said(close(writer, line, header, is_empty))
+            said(open(writer, marked))?;
+            let inner = line.within(marked.header);
+            let is_empty = show_within(decoder, writer, marked, depth - 1, inner)?;
+            said(close(writer, line, marked, is_empty))
         }
-        _ => show_plain(decoder, writer, header),
+        _ => show_plain(decoder, writer, marked, line.style.is_exact),
     }
 }
 
@@ -109,46 +111,44 @@ pub(crate) fn show_item<R: Read, W: Write>(
 fn before<W: Write>(
     writer: &mut W,
     line: Line,
-    header: Header,
+    nest: Marked,
     is_value: bool,
     is_first: bool,
 ) -> Result<(), W::Error>
-    ensures { WritesBytes W.Write writer.old result (item_lead header line.layout line.level is_value is_first)
-        writer.new }
+    ensures { WritesBytes W.Write writer.old result
+        (item_lead nest.header nest.mark line.style.layout line.level is_value is_first) writer.new }
 {
     if is_value {
         put(writer, b": ")
     } else {
-        line.before(writer, header, is_first)
+        line.before(writer, nest, is_first)
     }
 }
 
 /// Writes the text before the items of a tag, an array or a map.
-fn open<W: Write>(writer: &mut W, header: Header) -> Result<(), W::Error>
-    ensures { WritesBytes W.Write writer.old result (nest_opening header) writer.new }
+fn open<W: Write>(writer: &mut W, nest: Marked) -> Result<(), W::Error>
+    ensures { WritesBytes W.Write writer.old result (nest_opening nest.header nest.mark) writer.new }
 {
-    match header {
-        Header::Tag(number) => put_two(writer, Buffer::new().format(number).as_bytes(), b"("),
-        Header::Array(Some(_)) => put(writer, b"["),
+    match nest.header {
+        Header::Tag(number) => {
+            put_marked(writer, Buffer::new().format(number).as_bytes(), nest.mark)?;
+            put(writer, b"(")
+        }
+        Header::Array(Some(_)) => put_marked(writer, b"[", nest.mark),
         Header::Array(None) => put(writer, b"[_"),
-        Header::Map(Some(_)) => put(writer, b"{"),
+        Header::Map(Some(_)) => put_marked(writer, b"{", nest.mark),
         Header::Map(None) => put(writer, b"{_"),
         _ => Ok(()),
     }
 }
 
 /// Writes the text after the items of a tag, an array or a map.
-fn close<W: Write>(
-    writer: &mut W,
-    line: Line,
-    header: Header,
-    is_empty: bool,
-) -> Result<(), W::Error>
+fn close<W: Write>(writer: &mut W, line: Line, nest: Marked, is_empty: bool) -> Result<(), W::Error>
     ensures { WritesBytes W.Write writer.old result
-        (nest_last header line.layout line.level is_empty ++ nest_closing header) writer.new }
+        (nest_last nest.header nest.mark line.style.layout line.level is_empty ++ nest_closing nest.header) writer.new }
 {
-    line.behind(writer, header, is_empty)?;
-    match header {
+    line.behind(writer, nest, is_empty)?;
+    match nest.header {
         Header::Tag(_) => put(writer, b")"),
         Header::Array(_) => put(writer, b"]"),
         Header::Map(_) => put(writer, b"}"),

@@ -1,40 +1,68 @@
 //! Shows numbers, floats and simple values.
 
-ghost use Rattle.std.specs.Prelude.{◌≡◌, ◌<◌, ◌≤◌, [], negsuc, decimal, if◌then◌else◌};
+ghost use Rattle.std.specs.Prelude.{◌≡◌, ◌<◌, ◌≤◌, ◌++◌, [], negsuc, decimal, if◌then◌else◌};
 ghost use Rattle.std.specs.Fmt.{signed_decimal};
 ghost use Rattle.ciborium_ll.specs.Encoding.{WritesBytes};
-ghost use Rattle.cbor_diag.specs.Floats.{IsFloatText, holds, is_held};
-ghost use Rattle.cbor_diag.specs.Notation.{simple_notation};
+ghost use Rattle.cbor_diag.specs.Floats.{IsFloatText, IsShownFloat, bits_text, digits_text, has_payload, holds, is_held};
+ghost use Rattle.cbor_diag.specs.Notation.{name_text, simple_notation};
+ghost use Rattle.cbor_diag.specs.Marks.{mark_text};
 ghost use Rattle.cbor_floats.specs.Floats.{IsNumberText, with_point};
 ghost use Rattle.cbor_diag.specs.Writing.{ShowsMarked, ShowsOne};
 
+use crate::marks::{Mark, put_marked};
 use crate::put::{put, put_three, put_two};
+use crate::strings::put_hex;
 use cbor_floats::{float_value, number_name, point_due};
 use ciborium_ll::io::Write;
 use ciborium_ll::{Float, simple};
 use itoa::Buffer;
 use std::num::f64_to_bits_with_nan;
 
-/// Shows an integer that is not negative.
-pub(crate) fn show_positive<W: Write>(writer: &mut W, number: u64) -> Result<(), W::Error>
-    ensures { WritesBytes W.Write writer.old result (decimal number) writer.new }
+/// Shows an integer that is not negative, and the mark of its title.
+pub(crate) fn show_positive<W: Write>(
+    writer: &mut W,
+    number: u64,
+    mark: Mark,
+) -> Result<(), W::Error>
+    ensures { WritesBytes W.Write writer.old result (decimal number ++ mark_text mark) writer.new }
 {
-    put(writer, Buffer::new().format(number).as_bytes())
+    put_marked(writer, Buffer::new().format(number).as_bytes(), mark)
 }
 
-/// Shows the integer -1 - `number`.
-pub(crate) fn show_negative<W: Write>(writer: &mut W, number: u64) -> Result<(), W::Error>
-    ensures { WritesBytes W.Write writer.old result (signed_decimal (negsuc number)) writer.new }
+/// Shows the integer -1 - `number`, and the mark of its title.
+pub(crate) fn show_negative<W: Write>(
+    writer: &mut W,
+    number: u64,
+    mark: Mark,
+) -> Result<(), W::Error>
+    ensures { WritesBytes W.Write writer.old result (signed_decimal (negsuc number) ++ mark_text mark) writer.new }
 {
-    put(
+    put_marked(
         writer,
         Buffer::new().format(-1 - i128::from(number)).as_bytes(),
+        mark,
     )
 }
 
+/// Shows a simple value by its name, if it has one and its title has no mark.
+pub(crate) fn show_simple<W: Write>(writer: &mut W, number: u8, mark: Mark) -> Result<(), W::Error>
+    ensures { WritesBytes W.Write writer.old result (simple_notation number mark) writer.new }
+{
+    if !mark.is_marked() {
+        return show_name(writer, number);
+    }
+    put_three(
+        writer,
+        b"simple(",
+        Buffer::new().format(number).as_bytes(),
+        mark.text(),
+    )?;
+    put(writer, b")")
+}
+
 /// Shows a simple value, by its name if it has one.
-pub(crate) fn show_simple<W: Write>(writer: &mut W, number: u8) -> Result<(), W::Error>
-    ensures { WritesBytes W.Write writer.old result (simple_notation number) writer.new }
+fn show_name<W: Write>(writer: &mut W, number: u8) -> Result<(), W::Error>
+    ensures { WritesBytes W.Write writer.old result (name_text number) writer.new }
 {
     match number {
         simple::FALSE => put(writer, b"false"),
@@ -71,9 +99,57 @@ const SINGLE: Width = Width {
     most: 1150,
 };
 
+/// Shows a float. If `is_exact` is true, a NaN that its name does not give back is shown by its bits.
+pub(crate) fn show_float<W: Write>(
+    writer: &mut W,
+    float: Float,
+    is_exact: bool,
+) -> Result<(), W::Error>
+    ensures { ShowsOne W.Write (IsShownFloat is_exact float) writer.old result writer.new }
+{
+    if is_exact && has_payload(float) {
+        show_bits(writer, float)
+    } else {
+        show_value(writer, float)
+    }
+}
+
+/// Returns whether the float is a NaN with a sign, or with other bits than the quiet one.
+fn has_payload(float: Float) -> bool
+    ensures { result ≡ has_payload float }
+{
+    match float {
+        Float::Half(bits) => bits % 0x8000 > 0x7c00 && bits != 0x7e00,
+        Float::Single(bits) => bits % 0x8000_0000 > 0x7f80_0000 && bits != 0x7fc0_0000,
+        Float::Double(bits) => {
+            bits % 0x8000_0000_0000_0000 > 0x7ff0_0000_0000_0000 && bits != 0x7ff8_0000_0000_0000
+        }
+    }
+}
+
+/// Shows the bits of a float in base 16.
+fn show_bits<W: Write>(writer: &mut W, float: Float) -> Result<(), W::Error>
+    ensures { ShowsOne W.Write (λ text. text ≡ bits_text float) writer.old result writer.new }
+{
+    match float {
+        Float::Half(bits) => put_bits(writer, &bits.to_be_bytes()),
+        Float::Single(bits) => put_bits(writer, &bits.to_be_bytes()),
+        Float::Double(bits) => put_bits(writer, &bits.to_be_bytes()),
+    }
+}
+
+/// Shows these bytes as the bits of a float.
+fn put_bits<W: Write>(writer: &mut W, bytes: &[u8]) -> Result<(), W::Error>
+    ensures { WritesBytes W.Write writer.old result (digits_text bytes.now) writer.new }
+{
+    put(writer, b"float'")?;
+    put_hex(writer, bytes)?;
+    put(writer, b"'")
+}
+
 /// Shows a float, and the mark of its width if a shorter width holds the same value (RFC 8949, 8.1).
 #[tactic(auto, using(crate::proofs::FloatLaws::float_shown))]
-pub(crate) fn show_float<W: Write>(writer: &mut W, float: Float) -> Result<(), W::Error>
+fn show_value<W: Write>(writer: &mut W, float: Float) -> Result<(), W::Error>
     ensures { ShowsOne W.Write (IsFloatText float) writer.old result writer.new }
 {
     let value = float_value(float);

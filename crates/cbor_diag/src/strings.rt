@@ -13,57 +13,108 @@ ghost use Rattle.ciborium_ll.specs.Skipping.{SkipsString};
 ghost use Rattle.ciborium_ll.specs.Sides.{sides};
 ghost use Rattle.cbor_diag.specs.Showing.{IsWriting, OnString, ShowsText};
 ghost use Rattle.cbor_diag.specs.declared.strings.TheConstants.{BUFFER_SIZE};
-ghost use Rattle.cbor_diag.specs.ItemTexts.{kind_quotes};
-ghost use Rattle.cbor_diag.specs.StringShows.{CopiesQuoted, ShowsBody, ShowsString, end_text, is_indefinite, lead_text};
+ghost use Rattle.cbor_diag.specs.Marks.{mark_text};
+ghost use Rattle.cbor_diag.specs.OpenShows.{ShowsStringBy};
+ghost use Rattle.cbor_diag.specs.StringShows.{CopiesQuoted, ShowsBody, ShowsString, end_text, is_indefinite};
+ghost use Rattle.cbor_diag.specs.StringShows.{kind_quotes, lead_text};
 
+mod chunks;
 mod held;
 mod noted;
 mod quoted;
 mod quotes;
 
+use self::chunks::show_open;
 use self::quoted::Quoted;
 use self::quotes::Quotes;
+pub(crate) use self::quotes::put_hex;
 use crate::DiagError;
+use crate::marks::Mark;
 use crate::put::say;
 use cbor_skip::SkipError;
 use ciborium_ll::io::{Read, Write};
-use ciborium_ll::{Body, Chunked, Decoder, RecodeError, Segments};
+use ciborium_ll::{Body, Bytes, Chunked, Decoder, RecodeError, Segments, Text};
 
 /// The length in bytes of the buffer through which a string's body is read.
 pub const BUFFER_SIZE: usize = 64;
 
-/// Shows a byte string after its header, which has this length.
+/// Shows a byte string after its header, which has this length and a title of this mark. If `is_exact` is true, a string
+/// of the indefinite form shows the strings within it.
 pub(crate) fn show_bytes<R: Read, W: Write>(
     decoder: &mut Decoder<R>,
     writer: &mut W,
     len: Option<usize>,
+    mark: Mark,
+    is_exact: bool,
 ) -> Result<(), DiagError<R::Error, W::Error>>
     requires none_waits { waiting_of decoder.old ≡ None }
     requires covered { title_len (Header.Bytes len) ≤ offset_of decoder.old }
     ensures reads { OnString (λ answer. SkipsString R.Read byte_strings len BUFFER_SIZE decoder.old answer decoder.new) result }
-    ensures text { ShowsString R.Read W.Write byte_strings Quotes.Hex len BUFFER_SIZE (sides decoder.old writer.old) result
-        (sides decoder.new writer.new) }
+    ensures text { ShowsStringBy R.Read W.Write byte_strings is_exact len mark BUFFER_SIZE (sides decoder.old writer.old)
+        result (sides decoder.new writer.new) }
+    ensures moves_on { MovesOn R.Read decoder.old decoder.new }
+{
+    if is_exact && len.is_none() {
+        return show_open::<R, W, Bytes>(decoder, writer, Quotes::Hex);
+    }
+    show_bytes_bodies(decoder, writer, len, mark)
+}
+
+/// Shows a byte string by its bodies, after its header, which has this length and a title of this mark.
+fn show_bytes_bodies<R: Read, W: Write>(
+    decoder: &mut Decoder<R>,
+    writer: &mut W,
+    len: Option<usize>,
+    mark: Mark,
+) -> Result<(), DiagError<R::Error, W::Error>>
+    requires none_waits { waiting_of decoder.old ≡ None }
+    requires covered { title_len (Header.Bytes len) ≤ offset_of decoder.old }
+    ensures reads { OnString (λ answer. SkipsString R.Read byte_strings len BUFFER_SIZE decoder.old answer decoder.new) result }
+    ensures text { ShowsString R.Read W.Write byte_strings Quotes.Hex len mark BUFFER_SIZE (sides decoder.old writer.old)
+        result (sides decoder.new writer.new) }
     ensures moves_on { MovesOn R.Read decoder.old decoder.new }
 {
     let mut segments = decoder.bytes(len);
-    show_segments(&mut segments, writer, Quotes::Hex, len.is_none())
+    show_segments(&mut segments, writer, Quotes::Hex, len.is_none(), mark)
 }
 
-/// Shows a text string after its header, which has this length.
+/// Shows a text string after its header, as [`show_bytes`] does.
 pub(crate) fn show_text<R: Read, W: Write>(
     decoder: &mut Decoder<R>,
     writer: &mut W,
     len: Option<usize>,
+    mark: Mark,
+    is_exact: bool,
 ) -> Result<(), DiagError<R::Error, W::Error>>
     requires none_waits { waiting_of decoder.old ≡ None }
     requires covered { title_len (Header.Text len) ≤ offset_of decoder.old }
     ensures reads { OnString (λ answer. SkipsString R.Read text_strings len BUFFER_SIZE decoder.old answer decoder.new) result }
-    ensures text { ShowsString R.Read W.Write text_strings Quotes.Text len BUFFER_SIZE (sides decoder.old writer.old) result
-        (sides decoder.new writer.new) }
+    ensures text { ShowsStringBy R.Read W.Write text_strings is_exact len mark BUFFER_SIZE (sides decoder.old writer.old)
+        result (sides decoder.new writer.new) }
+    ensures moves_on { MovesOn R.Read decoder.old decoder.new }
+{
+    if is_exact && len.is_none() {
+        return show_open::<R, W, Text>(decoder, writer, Quotes::Text);
+    }
+    show_text_bodies(decoder, writer, len, mark)
+}
+
+/// Shows a text string by its bodies, after its header, which has this length and a title of this mark.
+fn show_text_bodies<R: Read, W: Write>(
+    decoder: &mut Decoder<R>,
+    writer: &mut W,
+    len: Option<usize>,
+    mark: Mark,
+) -> Result<(), DiagError<R::Error, W::Error>>
+    requires none_waits { waiting_of decoder.old ≡ None }
+    requires covered { title_len (Header.Text len) ≤ offset_of decoder.old }
+    ensures reads { OnString (λ answer. SkipsString R.Read text_strings len BUFFER_SIZE decoder.old answer decoder.new) result }
+    ensures text { ShowsString R.Read W.Write text_strings Quotes.Text len mark BUFFER_SIZE (sides decoder.old writer.old)
+        result (sides decoder.new writer.new) }
     ensures moves_on { MovesOn R.Read decoder.old decoder.new }
 {
     let mut segments = decoder.text(len);
-    show_segments(&mut segments, writer, Quotes::Text, len.is_none())
+    show_segments(&mut segments, writer, Quotes::Text, len.is_none(), mark)
 }
 
 /// Shows the segments of a string from its beginning. Those of the indefinite form stand in brackets.
@@ -73,6 +124,7 @@ fn show_segments<R: Read, W: Write, P: Chunked>(
     writer: &mut W,
     quotes: Quotes,
     is_open: bool,
+    mark: Mark,
 ) -> Result<(), DiagError<R::Error, W::Error>>
     requires fresh { IsAtBeginning segments.old }
     requires kind { quotes ≡ kind_quotes P.kind }
@@ -83,14 +135,14 @@ fn show_segments<R: Read, W: Write, P: Chunked>(
     ensures moves_on { MovesOn R.Read (string_decoder segments.old) (string_decoder segments.new) }
     ensures text { (opened : AnyDecoder R) (len : Option ℕ) → IsInRange (kind_header P.kind len)
         → waiting_of opened ≡ None → TakesBack R.Read opened (kind_header P.kind len) (string_decoder segments.old)
-        → is_open ≡ is_indefinite len → ShowsString R.Read W.Write P.kind quotes len BUFFER_SIZE
+        → is_open ≡ is_indefinite len → ShowsString R.Read W.Write P.kind quotes len mark BUFFER_SIZE
         (sides opened writer.old) result (sides (string_decoder segments.new) writer.new) }
     ensures same_reference { string_reference segments.new ≡ string_reference segments.old }
 {
     let mut is_first = true;
     'segments: loop {
         let Some(body) = segments.advance()? else {
-            return close(writer, quotes, is_open, is_first);
+            return close(writer, quotes, is_open, is_first, mark);
         };
         open(writer, is_open, is_first)?;
         show_body(segments, writer, body, quotes)?;
@@ -114,21 +166,34 @@ fn open<E, W: Write>(
     }
 }
 
-/// Writes the text after the last segment. If a string of the indefinite form has no segment, its quotes and an
-/// underscore show its kind.
+/// Writes the text after the last segment: in the definite form the mark of the title. If a string of the indefinite
+/// form has no segment, its quotes and an underscore show its kind.
 fn close<E, W: Write>(
     writer: &mut W,
     quotes: Quotes,
     is_open: bool,
     is_empty: bool,
+    mark: Mark,
 ) -> Result<(), DiagError<E, W::Error>>
     ensures writing { IfErr result IsWriting }
-    ensures written { ShowsText W.Write (Some (end_text is_open quotes is_empty)) writer.old result writer.new }
+    ensures written { ShowsText W.Write (Some (end_text is_open quotes mark is_empty)) writer.old result writer.new }
 {
     match (is_open, is_empty) {
-        (false, _) => Ok(()),
+        (false, _) => say_mark(writer, mark),
         (true, true) => say(writer, quotes.none()),
         (true, false) => say(writer, b")"),
+    }
+}
+
+/// Writes a mark, if there is one.
+fn say_mark<E, W: Write>(writer: &mut W, mark: Mark) -> Result<(), DiagError<E, W::Error>>
+    ensures writing { IfErr result IsWriting }
+    ensures written { ShowsText W.Write (Some (mark_text mark)) writer.old result writer.new }
+{
+    if mark.is_marked() {
+        say(writer, mark.text())
+    } else {
+        Ok(())
     }
 }
 

@@ -1,6 +1,6 @@
 -- Titles with marks.
 use Rattle.std.proofs.Common.{◌≡◌, ℕ, Bool, true, false, List, ◌++◌, Some, refl, sym, subst, ap, ◌∙◌, arith}
-use Rattle.std.proofs.Common.{append_assoc}
+use Rattle.std.proofs.Common.{append_assoc, None, ◌<◌}
 use Rattle.ciborium_ll_grammar.specs.declared.hdr.Header.{Header}
 use Rattle.ciborium_ll_grammar.specs.declared.hdr.Minor.{Minor}
 use Rattle.ciborium_ll_grammar.specs.Title.{IsTitle, IsSmallSimple, IsInRange, shortest_title, Major, Size}
@@ -9,7 +9,11 @@ use Rattle.ciborium_ll_grammar.specs.Parts.{IsMinor, minor_number, parts_bytes}
 use Rattle.ciborium_ll_grammar.specs.Items.{IsTakenTitle}
 use Rattle.ciborium_ll_grammar.proofs.TitleLaws.{IsTitle-shortest}
 use Rattle.ciborium_ll_grammar.proofs.PartsLaws.{means, means_title}
+use Rattle.ciborium_ll_grammar.specs.declared.hdr.Header.TheVariants as h
+use Rattle.ciborium_ll_grammar.specs.declared.hdr.Minor.TheVariants as minors
+use Rattle.ciborium_ll_grammar.specs.Title.{Other}
 use Rattle.cbor_encode.specs.Adding.{Adds, IsHead, HasBody, HasNumber}
+use Rattle.cbor_encode.specs.Scalars.{IsMeant}
 
 numbered_means : (major : Major) (minor : Minor) (number : ℕ) (header : Header) → minor_number minor ≡ Some number
     → ((size : Size) → numbered_header major size number ≡ header) → means major minor ≡ Some header
@@ -23,17 +27,25 @@ marked_title header code number minor has is same =
     subst (λ (z : ℕ). IsTitle (parts_bytes z minor) header) has.same
     (means_title has.major minor header is (numbered_means has.major minor number header same has.reads))
 
+-- A simple value has a title of one byte if it is below 24.
+pub simple_small : (number : ℕ) → number < 24 → IsTitle (parts_bytes 7 (minors.Small number)) (h.Simple number)
+simple_small number less = means_title Other (minors.Small number) (h.Simple number) less refl
+
+-- Each simple value has a title of two bytes.
+pub simple_one : (number : ℕ) → number < 256 → IsTitle (parts_bytes 7 (minors.One number)) (h.Simple number)
+simple_one number less = means_title Other (minors.One number) (h.Simple number) less refl
+
 shortest_taken : (strict : Bool) (header : Header) (bytes : List ℕ) → (IsSmallSimple header → ⊥)
     → bytes ≡ shortest_title header → IsTakenTitle strict bytes header
 shortest_taken true header bytes meant same = record { shortest = same; meant = meant }
 shortest_taken false header bytes meant same = tt
 
 -- The shortest title is taken in each mode.
-pub shortest_head : (strict : Bool) (header : Header) (bytes : List ℕ) → (IsSmallSimple header → ⊥) → IsInRange header
+pub shortest_head : (strict : Bool) (header : Header) (bytes : List ℕ) → IsMeant header None → IsInRange header
     → bytes ≡ shortest_title header → IsHead strict header bytes
 shortest_head strict header bytes meant range same = record {
   title = subst (λ (z : List ℕ). IsTitle z header) (sym same) (IsTitle-shortest header range);
-  taken = shortest_taken strict header bytes meant same;
+  taken = shortest_taken strict header bytes (λ small. (let some = meant small in grind (arith, some))) same;
 }
 
 -- A title of any width is taken if the mode is not strict.

@@ -1,15 +1,15 @@
 -- Items from a title and contents, and items one by one.
 use Rattle.std.proofs.Common.{◌≡◌, ℕ, suc, ◌+◌, ◌*◌, Bool, List, [], ◌∷◌, ◌++◌, sym, subst}
-use Rattle.std.proofs.Common.{Some, None, arith, Result, Ok, Err}
+use Rattle.std.proofs.Common.{Option, Some, None, arith, Result, Ok, Err}
 use Rattle.std.specs.Result.{OnOk}
 use Rattle.ciborium_ll_grammar.specs.declared.hdr.Header.{Header}
 use Rattle.ciborium_ll_grammar.specs.declared.hdr.Header.TheVariants as h
-use Rattle.ciborium_ll_grammar.specs.Title.{IsSmallSimple}
 use Rattle.ciborium_ll_grammar.specs.Items.{Completes, positive, negative, float, simple, AreItems}
 use Rattle.ciborium_ll_grammar.specs.Items.{tag, array, pairs, open_array, open_pairs, IsItem}
 use Rattle.ciborium_ll_grammar.proofs.ItemJoins.{item_of, items_item}
 use Rattle.cbor_encode.specs.Adding.{Adds, IsHead, HasBody}
-use Rattle.cbor_encode.specs.Scalars.{IsScalar}
+use Rattle.cbor_encode.specs.declared.heads.Mark.{Mark}
+use Rattle.cbor_encode.specs.Scalars.{IsMeant, IsScalar}
 
 -- A title and the contents that complete it are an item.
 pub one_item : (strict : Bool) (depth : ℕ) (header : Header) (title body : List ℕ) → IsHead strict header title
@@ -54,31 +54,31 @@ item_alone strict depth before after none adds =
     subst (IsItem strict depth) (sym (rw none at adds.parts)) adds.is
 
 -- A scalar is an item by itself.
-pub scalar_completes : (strict : Bool) (depth : ℕ) (header : Header) → IsScalar header
+pub scalar_completes : (strict : Bool) (depth : ℕ) (header : Header) (mark : Option Mark) → IsScalar header mark
     → Completes strict depth header []
-scalar_completes strict depth (h.Positive number) is = positive
-scalar_completes strict depth (h.Negative number) is = negative
-scalar_completes strict depth (h.Float value) is = float
-scalar_completes strict depth (h.Simple number) is = simple
-scalar_completes strict depth (h.Tag number) is = absurd is
-scalar_completes strict depth h.Break is = absurd is
-scalar_completes strict depth (h.Bytes len) is = absurd is
-scalar_completes strict depth (h.Text len) is = absurd is
-scalar_completes strict depth (h.Array len) is = absurd is
-scalar_completes strict depth (h.Map len) is = absurd is
+scalar_completes strict depth (h.Positive number) mark is = positive
+scalar_completes strict depth (h.Negative number) mark is = negative
+scalar_completes strict depth (h.Float value) mark is = float
+scalar_completes strict depth (h.Simple number) mark is = simple
+scalar_completes strict depth (h.Tag number) mark is = absurd is
+scalar_completes strict depth h.Break mark is = absurd is
+scalar_completes strict depth (h.Bytes len) mark is = absurd is
+scalar_completes strict depth (h.Text len) mark is = absurd is
+scalar_completes strict depth (h.Array len) mark is = absurd is
+scalar_completes strict depth (h.Map len) mark is = absurd is
 
--- A scalar is no simple value from 24 to 31.
-pub scalar_meant : (header : Header) → IsScalar header → IsSmallSimple header → ⊥
-scalar_meant (h.Positive number) is small = small
-scalar_meant (h.Negative number) is small = small
-scalar_meant (h.Float value) is small = small
-scalar_meant (h.Simple number) is small = is small
-scalar_meant (h.Tag number) is small = small
-scalar_meant h.Break is small = small
-scalar_meant (h.Bytes len) is small = small
-scalar_meant (h.Text len) is small = small
-scalar_meant (h.Array len) is small = small
-scalar_meant (h.Map len) is small = small
+-- A scalar may be encoded with its mark.
+pub scalar_meant : (header : Header) (mark : Option Mark) → IsScalar header mark → IsMeant header mark
+scalar_meant (h.Positive number) mark is small = absurd small
+scalar_meant (h.Negative number) mark is small = absurd small
+scalar_meant (h.Float value) mark is small = absurd small
+scalar_meant (h.Simple number) mark is small = is small
+scalar_meant (h.Tag number) mark is small = absurd small
+scalar_meant h.Break mark is small = absurd small
+scalar_meant (h.Bytes len) mark is small = absurd small
+scalar_meant (h.Text len) mark is small = absurd small
+scalar_meant (h.Array len) mark is small = absurd small
+scalar_meant (h.Map len) mark is small = absurd small
 
 -- ---- contents of nests
 

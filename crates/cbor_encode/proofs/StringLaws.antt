@@ -1,10 +1,12 @@
 -- Strings, and the strings within a string of indefinite length.
-use Rattle.std.proofs.Common.{◌≡◌, ℕ, Bool, true, false, List, [], ◌∷◌, ◌++◌, refl, sym, subst, ◌∙◌, ap}
+use Rattle.std.proofs.Common.{◌≡◌, ℕ, zero, suc, ◌+◌, ◌-◌, ◌<◌, Bool, true, false, List, [], ◌∷◌, ◌++◌, refl, sym}
+use Rattle.std.proofs.Common.{subst, ◌∙◌, ap, arith, Result, Ok, Err, OnOk}
 use Rattle.std.specs.Bool.{beq}
 use Rattle.std.proofs.Common.{not, append_assoc, append-nil, Option, Some, None, length}
 use Rattle.ciborium_ll_text.specs.Text.{IsCharacters}
-use Rattle.ciborium_ll_grammar.specs.Title.{IsTitle, IsSmallSimple}
-use Rattle.ciborium_ll_grammar.specs.Strings.{Kind, Bytes, Text, kind_header, definite, AreStrings, none}
+use Rattle.ciborium_ll_grammar.specs.Title.{IsTitle}
+use Rattle.ciborium_ll_grammar.specs.Strings.{Kind, Bytes, Text, kind_header, IsString, definite, indefinite, AreStrings}
+use Rattle.ciborium_ll_grammar.specs.Strings.{none}
 use Rattle.ciborium_ll_grammar.specs.Strings.{more as one_more, IsWritable}
 use Rattle.ciborium_ll_grammar.specs.StrictElements.{AreFlat}
 use Rattle.ciborium_ll_grammar.specs.StrictElements as flat
@@ -12,13 +14,14 @@ use Rattle.ciborium_ll_grammar.specs.Items.{Completes, byte_string, text_string,
 use Rattle.ciborium_ll_grammar.specs.Items.{IsTakenTitle}
 use Rattle.ciborium_ll_grammar.proofs.ElementLaws.{AreStrings-append, AreWritable-append}
 use Rattle.cbor_encode.specs.Adding.{Adds, HasBody}
-use Rattle.cbor_encode.specs.Chunks.{HasChunks}
-use Rattle.cbor_encode.specs.Scalars.{kind_of}
+use Rattle.cbor_encode.specs.declared.heads.Mark.{Mark}
+use Rattle.cbor_encode.specs.Chunks.{AreWithin, BeginsChunks, HasChunks, IsAmong, alone, further}
+use Rattle.cbor_encode.specs.Scalars.{IsMeant, kind_of}
 
 -- The header of a string is no simple value from 24 to 31.
-pub string_meant : (kind : Kind) (len : Option ℕ) → IsSmallSimple (kind_header kind len) → ⊥
-string_meant Bytes len small = small
-string_meant Text len small = small
+pub string_meant : (kind : Kind) (len : Option ℕ) (mark : Option Mark) → IsMeant (kind_header kind len) mark
+string_meant Bytes len mark small = absurd small
+string_meant Text len mark small = absurd small
 
 -- The body of a string completes it.
 pub string_completes : (strict : Bool) (depth : ℕ) (is_text : Bool) (body : List ℕ)
@@ -42,6 +45,11 @@ none_taken false kind = tt
 pub no_chunks : (strict : Bool) (kind : Kind) → HasChunks strict kind []
 no_chunks strict kind = record { bodies = []; are = none; taken = none_taken strict kind; writable = tt }
 
+-- After its open a string has no bytes yet.
+pub chunks_begin : (strict : Bool) (kind : Kind) → AreWithin strict kind 1 []
+chunks_begin strict kind =
+    record { bodies = []; among = alone none; shallow = λ on. refl; taken = none_taken strict kind; writable = tt }
+
 flat_then : (kind : Kind) (strings : List ℕ) (bodies : List (List ℕ)) (last : List ℕ) (others : List (List ℕ))
     → AreFlat kind strings bodies → AreFlat kind last others → AreFlat kind (strings ++ last) (bodies ++ others)
 flat_then kind strings bodies last others flat.none one = one
@@ -64,20 +72,135 @@ one_string : (kind : Kind) (title body : List ℕ) → IsTitle title (kind_heade
 one_string kind title body is =
     subst (λ (z : List ℕ). AreStrings kind z (body ∷ [])) (append-nil (title ++ body)) (one_more (definite is) none)
 
--- Strings within an open string and a string that a call adds are such strings.
-pub chunks_more : (strict : Bool) (kind : Kind) (body before after : List ℕ) → HasChunks strict kind before
+-- ---- one string more
+
+strings_then : (k : Kind) (u w : List ℕ) (bs cs : List (List ℕ)) → AreStrings k u bs → AreStrings k w cs
+    → AreStrings k (u ++ w) (bs ++ cs)
+strings_then k u w bs cs are last = AreStrings-append k u bs are w cs last
+
+among_more : (k : Kind) (opens : ℕ) (u w : List ℕ) (bs cs : List (List ℕ)) → IsAmong k opens u bs
+    → AreStrings k w cs → IsAmong k opens (u ++ w) (bs ++ cs)
+among_more k opens u w bs cs (alone are) last = alone (strings_then k u w bs cs are last)
+among_more k opens u w bs cs (further outer title strings ds es among is are) last =
+    simp append_assoc (further outer title (strings ++ w) ds (es ++ cs) among is (strings_then k strings w es cs are
+    last))
+
+among_open : (k : Kind) (opens : ℕ) (u title : List ℕ) (bs : List (List ℕ)) → IsAmong k opens u bs
+    → IsTitle title (kind_header k None) → IsAmong k (suc opens) (u ++ title) bs
+among_open k opens u title bs among is = simp append-nil at (further u title [] bs [] among is none)
+
+string_alone : (k : Kind) (string : List ℕ) (cs : List (List ℕ)) → IsString k string cs → AreStrings k string cs
+string_alone k string cs is = simp append-nil at (one_more is none)
+
+among_break : (k : Kind) (opens : ℕ) (u : List ℕ) (bs : List (List ℕ)) → IsAmong k (suc (suc opens)) u bs
+    → IsAmong k (suc opens) (u ++ 0xff ∷ []) bs
+among_break k opens u bs (further outer title strings ds es among is are) =
+    simp append_assoc (among_more k (suc opens) outer _ ds es among (string_alone k _ es (indefinite is are)))
+
+among_none : (k : Kind) (u : List ℕ) (bs : List (List ℕ)) → IsAmong k zero u bs → ⊥
+among_none k u bs among = elim among [ ]
+
+among_last : (k : Kind) (u : List ℕ) (bs : List (List ℕ)) → IsAmong k (suc zero) u bs → AreStrings k u bs
+among_last k u bs (alone are) = are
+among_last k u bs (further outer title strings ds es among is are) = absurd (among_none k outer ds among)
+
+-- A string that a call adds follows those within an open string.
+chunks_more : (strict : Bool) (kind : Kind) (opens : ℕ) (body before after : List ℕ) → 0 < opens
     → Adds (HasBody strict (kind_header kind (Some (length body))) body) before after → IsWritable kind body
-    → HasChunks strict kind after
-chunks_more strict kind body before after chunks adds writable =
+    → AreWithin strict kind opens before → AreWithin strict kind opens after
+chunks_more strict kind zero body before after some adds writable chunks = absurd (omega (arith, some))
+chunks_more strict kind (suc opens) body before after some adds writable chunks =
     let title = adds.is.title in
     let head = adds.is.head in
-    subst (HasChunks strict kind) (sym (adds.parts ∙ ap (λ (z : List ℕ). before ++ z) adds.is.parts)) (record {
+    subst (BeginsChunks strict kind (suc opens))
+    (sym (adds.parts ∙ ap (λ (z : List ℕ). before ++ z) adds.is.parts)) (record {
       bodies = chunks.bodies ++ body ∷ [];
-      are = AreStrings-append kind before chunks.bodies chunks.are (title ++ body) (body ∷ [])
+      among = among_more kind (suc opens) before (title ++ body) chunks.bodies (body ∷ []) chunks.among
           (one_string kind title body head.title);
+      shallow = chunks.shallow;
       taken = taken_then strict kind before chunks.bodies title body chunks.taken head.title head.taken;
       writable = AreWritable-append kind chunks.bodies (body ∷ []) chunks.writable (writable, tt);
     })
+
+-- An open without strings that a call adds, with its break.
+chunks_empty : (strict : Bool) (kind : Kind) (opens : ℕ) (before after : List ℕ) → strict ≡ false → 0 < opens
+    → Adds (HasBody strict (kind_header kind None) (0xff ∷ [])) before after → AreWithin strict kind opens before
+    → AreWithin strict kind opens after
+chunks_empty true kind opens before after loose some adds chunks = absurd (cc)
+chunks_empty false kind zero before after loose some adds chunks = absurd (omega (arith, some))
+chunks_empty false kind (suc opens) before after loose some adds chunks =
+    let title = adds.is.title in
+    subst (BeginsChunks false kind (suc opens))
+    (sym (adds.parts ∙ ap (λ (z : List ℕ). before ++ z) adds.is.parts)) (record {
+      bodies = chunks.bodies;
+      among = simp append-nil at (among_more kind (suc opens) before (title ++ 0xff ∷ []) chunks.bodies [] chunks.among
+          (string_alone kind (title ++ 0xff ∷ []) [] (indefinite adds.is.head.title none)));
+      shallow = chunks.shallow;
+      taken = tt;
+      writable = chunks.writable;
+    })
+
+-- The same of the answer of a call that adds a string.
+pub string_added : {T E : Type 0} (strict : Bool) (kind : Kind) (body before after : List ℕ) (result : Result T E)
+    → OnOk result (Adds (HasBody strict (kind_header kind (Some (length body))) body) before after)
+    → IsWritable kind body
+    → OnOk result ((opens : ℕ) → 0 < opens → AreWithin strict kind opens before → AreWithin strict kind opens after)
+string_added strict kind body before after (Ok x) adds writable = λ opens some chunks.
+    chunks_more strict kind opens body before after some adds writable chunks
+string_added strict kind body before after (Err e) adds writable = adds
+
+pub empty_added : {T E : Type 0} (strict : Bool) (kind : Kind) (before after : List ℕ) (result : Result T E)
+    → strict ≡ false → OnOk result (Adds (HasBody strict (kind_header kind None) (0xff ∷ [])) before after)
+    → OnOk result ((opens : ℕ) → 0 < opens → AreWithin strict kind opens before → AreWithin strict kind opens after)
+empty_added strict kind before after (Ok x) loose adds = λ opens some chunks.
+    chunks_empty strict kind opens before after loose some adds chunks
+empty_added strict kind before after (Err e) loose adds = adds
+
+-- An open that a call adds.
+pub chunks_open : (strict : Bool) (kind : Kind) (opens : ℕ) (before after : List ℕ) → strict ≡ false → 0 < opens
+    → Adds (HasBody strict (kind_header kind None) []) before after → AreWithin strict kind opens before
+    → AreWithin strict kind (opens + 1) after
+chunks_open true kind opens before after loose some adds chunks = absurd (cc)
+chunks_open false kind zero before after loose some adds chunks = absurd (omega (arith, some))
+chunks_open false kind (suc opens) before after loose some adds chunks =
+    let more : suc opens + 1 ≡ suc (suc opens) = omega arith in
+    let title = adds.is.title in
+    let added : after ≡ before ++ title =
+    adds.parts ∙ ap (λ (z : List ℕ). before ++ z) (adds.is.parts ∙ append-nil title) in
+    rw more (subst (BeginsChunks false kind (suc (suc opens))) (sym added) (record {
+      bodies = chunks.bodies;
+      among = among_open kind (suc opens) before title chunks.bodies chunks.among adds.is.head.title;
+      shallow = λ on. absurd (cc);
+      taken = tt;
+      writable = chunks.writable;
+    }))
+
+-- A break closes one of several opens.
+pub chunks_break : (strict : Bool) (kind : Kind) (opens : ℕ) (before after : List ℕ) → 1 < opens
+    → after ≡ before ++ 0xff ∷ [] → AreWithin strict kind opens before → AreWithin strict kind (opens - 1) after
+chunks_break strict kind zero before after some added chunks = absurd (omega (arith, some))
+chunks_break strict kind (suc zero) before after some added chunks = absurd (omega (arith, some))
+chunks_break true kind (suc (suc opens)) before after some added chunks =
+    absurd (let only = chunks.shallow refl in omega (arith, only))
+chunks_break false kind (suc (suc opens)) before after some added chunks =
+    let fewer : suc (suc opens) - 1 ≡ suc opens = omega arith in
+    rw (fewer, added) (record {
+      bodies = chunks.bodies;
+      among = among_break kind opens before chunks.bodies chunks.among;
+      shallow = λ on. absurd (cc);
+      taken = tt;
+      writable = chunks.writable;
+    })
+
+-- If one open is left, all strings are there.
+pub chunks_end : (strict : Bool) (kind : Kind) (strings : List ℕ) → AreWithin strict kind 1 strings
+    → AreWithin strict kind 0 strings
+chunks_end strict kind strings chunks = record {
+  bodies = chunks.bodies;
+  are = among_last kind strings chunks.bodies chunks.among;
+  taken = chunks.taken;
+  writable = chunks.writable;
+}
 
 -- A body may be written if it is that of a byte string or is UTF-8.
 pub body_writable : (is_text : Bool) (body : List ℕ) → (is_text ≡ true → IsCharacters body)

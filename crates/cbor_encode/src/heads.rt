@@ -1,11 +1,12 @@
 //! Titles, with or without a mark of their width, and what they begin.
 
 ghost use Rattle.std.specs.Prelude.{◌≡◌, ◌≤◌, ◌++◌, ℕ, Some, IfErr, IfOk, IfSome, OnOk};
-ghost use Rattle.ciborium_ll_grammar.specs.Title.{IsSmallSimple, IsTitle};
+ghost use Rattle.ciborium_ll_grammar.specs.Title.{IsTitle};
 ghost use Rattle.ciborium_ll_grammar.specs.Items.{Completes, IsItem};
 ghost use Rattle.ciborium_ll_grammar.specs.Parts.{IsMinor, IsParts, minor_number, title_bytes};
 ghost use Rattle.cbor_encode.specs.Adding.{Adds, HasBody, HasNumber, IsHead};
 ghost use Rattle.cbor_encode.specs.Left.{IsWithin, left_of};
+ghost use Rattle.cbor_encode.specs.Scalars.{IsMeant};
 
 use crate::Expected;
 use crate::cursor::{Cursor, Stop};
@@ -104,11 +105,28 @@ fn number_of(header: Header) -> Option<(u8, u64)>
     }
 }
 
+/// Returns the title of a simple value with this mark, if there is one. It has one or two bytes (RFC 8949, 3.3).
+#[tactic(auto, using(crate::proofs::HeadLaws::simple_small, crate::proofs::HeadLaws::simple_one))]
+fn marked_simple(number: u8, mark: Mark) -> Option<Title>
+    ensures parts { IfSome result IsParts }
+    ensures title { IfSome result (λ title. IsTitle (title_bytes title) (Header.Simple number)) }
+{
+    let minor = match mark {
+        Mark::Within if number < 24 => Minor::Small(u64::from(number)),
+        Mark::One => Minor::One(u64::from(number)),
+        _ => return None,
+    };
+    Some(Title { major: 7, minor })
+}
+
 /// Returns the title of the header with this mark, if there is one.
 fn marked(header: Header, mark: Mark) -> Option<Title>
     ensures parts { IfSome result IsParts }
     ensures title { IfSome result (λ title. IsTitle (title_bytes title) header) }
 {
+    if let Header::Simple(number) = header {
+        return marked_simple(number, mark);
+    }
     let Some((major, number)) = number_of(header) else {
         return None;
     };
@@ -150,7 +168,7 @@ fn put_title(out: &mut Vec<u8>, title: Title, left: usize) -> Result<(), Stop>
 
 /// Returns the title of the header, with the mark if there is one. If `is_strict` is true, no mark is taken.
 fn title_of(header: Header, mark: Option<Mark>, is_strict: bool) -> Result<Title, Expected>
-    requires meant { IsSmallSimple header → ⊥ }
+    requires meant { IsMeant header mark }
     ensures parts { IfOk result IsParts }
     ensures head { IfOk result (λ title. IsHead is_strict header (title_bytes title)) }
 {
@@ -177,7 +195,7 @@ pub(crate) fn put_chunk(
     is_strict: bool,
     left: usize,
 ) -> Result<(), Stop>
-    requires meant { IsSmallSimple header → ⊥ }
+    requires meant { IsMeant header mark }
     ensures wrote { OnOk result (Adds (HasBody is_strict header body.now) out.old.items out.new.items) }
     ensures place { IfErr result (IsWithin left) }
 {
@@ -197,7 +215,7 @@ pub(crate) fn put_whole(
     is_strict: bool,
     left: usize,
 ) -> Result<(), Stop>
-    requires meant { IsSmallSimple header → ⊥ }
+    requires meant { IsMeant header mark }
     ensures wrote { OnOk result ((depth : ℕ) → Completes is_strict depth header body.now
         → Adds (IsItem is_strict depth) out.old.items out.new.items) }
     ensures place { IfErr result (IsWithin left) }

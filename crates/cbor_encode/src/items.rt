@@ -70,7 +70,7 @@ fn put_plain(cursor: &mut Cursor<'_>, out: &mut Vec<u8>, rules: Rules) -> Result
 
 /// Adds an integer, a float or a simple value. From it on, `left` bytes of the text are left.
 fn put_scalar(out: &mut Vec<u8>, number: Number, rules: Rules, left: usize) -> Result<(), Stop>
-    requires scalar { IsScalar number.header }
+    requires scalar { IsScalar number.header number.mark }
     ensures wrote { OnOk result ((depth : ℕ) → Adds (IsItem rules.is_strict depth) out.old.items out.new.items) }
     ensures place { IfErr result (IsWithin left) }
 {

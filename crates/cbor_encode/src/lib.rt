@@ -62,7 +62,9 @@ pub enum Expected {
     Integer,
     /// A float that is finite.
     Float,
-    /// A simple value from 0 to 23 or from 32 to 255.
+    /// 4, 8 or 16 hexadecimal digits, and then a quote.
+    Bits,
+    /// A simple value from 0 to 23 or from 32 to 255, or to 255 with a mark.
     Simple,
     /// A mark whose width holds the number or the length.
     Mark,
@@ -99,13 +101,15 @@ pub struct NotationError {
 /// - An integer has digits in base 10, or in base 16, 8 or 2 after `0x`, `0o` or `0b`.
 /// - A float has a point or an exponent, as `1.5` or `1e10`, or is `NaN`, `Infinity` or `-Infinity`. It has the
 ///   shortest width that holds the nearest double, or 16, 32 or 64 bits with the mark `_1`, `_2` or `_3`.
-/// - `false`, `true`, `null`, `undefined` and `simple(N)` are simple values.
+/// - `float'7e01'` is a float with these bits in base 16, of 2, 4 or 8 bytes.
+/// - `false`, `true`, `null`, `undefined` and `simple(N)` are simple values. `simple(N_0)` has two bytes.
 /// - `"..."` is a text with the escapes of JSON, and `'...'` a byte string of such a text.
 /// - `h'...'` is a byte string in base 16, `b64'...'` in base 64 of either alphabet, `b64u'...'` in base 64 for URLs.
 ///   White space may stand between the digits, and in base 16 comments too.
 /// - `<<1, 2>>` is a byte string that contains these items.
 /// - `[1, 2]` is an array, `{1: 2}` a map, and `N(item)` a tag. A comma may follow the last item.
-/// - `[_ 1]`, `{_ 1: 2}`, `(_ "a", "b")`, `''_` and `""_` have indefinite lengths.
+/// - `[_ 1]`, `{_ 1: 2}`, `(_ "a", "b")`, `''_` and `""_` have indefinite lengths. A string of indefinite length may
+///   stand within another one, as in `(_ (_ "a"), ""_)`.
 /// - `_i`, `_0`, `_1`, `_2` or `_3` asks for a title whose number is in the first byte, or in 1, 2, 4 or 8 bytes. It
 ///   follows an integer, a string, the number of a tag as in `1_1(2)`, or the opening bracket as in `[_1 2]`.
 /// - A comment is between two slashes, or from `#` to the end of its line.
@@ -117,7 +121,8 @@ pub struct NotationError {
 /// Tests alone say which place an error has:
 ///
 /// - [`Expected::Integer`], [`Expected::Float`], [`Expected::Mark`], [`Expected::Level`]: the start of the item.
-/// - [`Expected::Escape`], [`Expected::Comment`], [`Expected::Simple`]: the start of the escape, comment or number.
+/// - [`Expected::Escape`], [`Expected::Comment`], [`Expected::Simple`], [`Expected::Bits`]: the start of the escape,
+///   comment, number or digits.
 /// - [`Expected::Text`]: the first byte that is not UTF-8, wherever it stands in the text.
 /// - [`Expected::Memory`]: the start of the item or the part of a string that found no memory.
 /// - All others: the place at which this is expected.

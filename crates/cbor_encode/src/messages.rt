@@ -26,6 +26,7 @@ impl fmt::Display for Expected {
             Expected::Chunk => write!(f, "a string of the same kind"),
             Expected::Integer => write!(f, "an integer from -2^64 to 2^64 - 1"),
             Expected::Float => write!(f, "a finite float"),
+            Expected::Bits => write!(f, "4, 8 or 16 hexadecimal digits and a quote"),
             Expected::Simple => write!(f, "a simple value from 0 to 23 or from 32 to 255"),
             Expected::Mark => write!(f, "a mark whose width is enough"),
             Expected::NoMark => write!(f, "no mark"),

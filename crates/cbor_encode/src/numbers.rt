@@ -1,6 +1,7 @@
 //! Integers and floats.
 
-ghost use Rattle.std.specs.Prelude.{◌<◌, ◌≤◌, IfErr, IfOk, IfSome, OnOk};
+ghost use Rattle.std.specs.Prelude.{◌<◌, ◌≤◌, IfErr, IfOk, IfSome, OnOk, Option};
+ghost use Rattle.cbor_encode.specs.declared.heads.Mark.{Mark as AnyMark};
 ghost use Rattle.cbor_encode.specs.Left.{IsWithin, left_of};
 ghost use Rattle.cbor_encode.specs.Scalars.{IsScalar};
 
@@ -20,7 +21,7 @@ pub(crate) struct Number {
 
 /// Reads an integer or a float that begins with a digit or a minus.
 pub(crate) fn read_number(cursor: &mut Cursor<'_>) -> Result<Number, Stop>
-    ensures scalar { IfOk result (λ number. IsScalar number.header) }
+    ensures scalar { IfOk result (λ number. IsScalar number.header number.mark) }
     ensures shorter { OnOk result (left_of cursor.new < left_of cursor.old) }
     ensures within { left_of cursor.new ≤ left_of cursor.old }
     ensures place { IfErr result (IsWithin (left_of cursor.old)) }
@@ -117,7 +118,7 @@ fn double_of(digits: &[u8]) -> Option<u64> {
 
 /// Returns the header of an integer of this size, if there is one.
 fn integer_of(is_negative: bool, size: u128) -> Option<Header>
-    ensures { IfSome result IsScalar }
+    ensures { IfSome result (λ header. (mark : Option AnyMark) → IsScalar header mark) }
 {
     if !is_negative || size == 0 {
         return match u64::try_from(size) {
@@ -138,7 +139,7 @@ fn read_integer(
     size: u128,
     left: usize,
 ) -> Result<Number, Stop>
-    ensures scalar { IfOk result (λ number. IsScalar number.header) }
+    ensures scalar { IfOk result (λ number. IsScalar number.header number.mark) }
     ensures within { left_of cursor.new ≤ left_of cursor.old }
     ensures place { IfErr result (IsWithin left) }
 {
@@ -162,7 +163,7 @@ fn read_integer(
 
 /// Reads the mark of a float, which has the value of the double with these bits. From it on, `left` bytes are left.
 pub(crate) fn read_float(cursor: &mut Cursor<'_>, double: u64, left: usize) -> Result<Number, Stop>
-    ensures scalar { IfOk result (λ number. IsScalar number.header) }
+    ensures scalar { IfOk result (λ number. IsScalar number.header number.mark) }
     ensures within { left_of cursor.new ≤ left_of cursor.old }
     ensures place { IfErr result (IsWithin left) }
 {

@@ -1,11 +1,11 @@
 //! Strings.
 
-ghost use Rattle.std.specs.Prelude.{◌≡◌, ◌<◌, ◌≤◌, ℕ, true, IfErr, IfOk, OnOk, length};
+ghost use Rattle.std.specs.Prelude.{◌≡◌, ◌<◌, ◌≤◌, ◌+◌, ◌^◌, ℕ, true, IfErr, IfOk, OnOk, length};
 ghost use Rattle.ciborium_ll_text.specs.Text.{IsCharacters};
 ghost use Rattle.ciborium_ll_grammar.specs.Strings.{kind_header};
 ghost use Rattle.ciborium_ll_grammar.specs.Items.{IsItem};
 ghost use Rattle.cbor_encode.specs.Adding.{Adds};
-ghost use Rattle.cbor_encode.specs.Chunks.{HasChunks};
+ghost use Rattle.cbor_encode.specs.Chunks.{AreWithin, HasChunks};
 ghost use Rattle.cbor_encode.specs.Left.{IsWithin, left_of};
 ghost use Rattle.cbor_encode.specs.Scalars.{kind_of};
 
@@ -145,17 +145,29 @@ pub(crate) fn put_chunks(
         return Err(cursor.fault(Expected::Item));
     }
     cursor.skip_space()?;
-    if !begins_string(cursor) {
-        return Err(cursor.fault(Expected::Chunk));
-    }
-    let is_text = cursor.starts_with(b"\"");
+    let is_text = begins_text(cursor)?;
     let mut strings = read_chunks(cursor, is_text, alloc, is_strict)?;
     put(&mut strings, &[0xff], left)?;
     let header = string_header(is_text, None);
     put_whole(out, header, None, strings.as_slice(), is_strict, left)
 }
 
-/// Encodes strings of one kind, up to a closing parenthesis.
+/// Returns whether the first string that begins here or after further opens is a text.
+fn begins_text(cursor: &Cursor<'_>) -> Result<bool, Stop>
+    ensures { IfErr result (IsWithin (left_of cursor.now)) }
+{
+    let mut ahead = Cursor { rest: cursor.rest };
+    'opens: while ahead.take_word(b"(_") {
+        ahead.skip_space()?;
+    }
+    if begins_string(&ahead) {
+        Ok(ahead.starts_with(b"\""))
+    } else {
+        Err(ahead.fault(Expected::Chunk))
+    }
+}
+
+/// Encodes strings of one kind, up to the parenthesis that closes them.
 fn read_chunks(
     cursor: &mut Cursor<'_>,
     is_text: bool,
@@ -167,20 +179,99 @@ fn read_chunks(
     ensures place { IfErr result (IsWithin (left_of cursor.old)) }
 {
     let mut strings = Vec::new(alloc);
-    'chunks: while !cursor.take(b')') {
-        let left = cursor.left();
-        let body = read_body(cursor, alloc)?;
-        let form = take_form(cursor);
-        if body.is_text != is_text || form.is_open() {
-            return Err(Stop {
-                expected: Expected::Chunk,
-                left,
-            });
-        }
-        let bytes = body.bytes.as_slice();
-        let header = string_header(is_text, Some(bytes.len()));
-        put_chunk(&mut strings, header, form.mark(), bytes, is_strict, left)?;
+    let mut opens = 1;
+    'chunks: while opens > 0 {
+        opens = put_opens(cursor, &mut strings, opens, is_text, is_strict)?;
+        put_string_within(cursor, &mut strings, is_text, alloc, is_strict)?;
         cursor.end_item(b")")?;
+        opens = close_opens(cursor, &mut strings, opens, is_text, is_strict)?;
     }
     Ok(strings)
+}
+
+/// Encodes the opens that stand here, within this many opens that are not closed. Returns how many there are then.
+fn put_opens(
+    cursor: &mut Cursor<'_>,
+    strings: &mut Vec<u8>,
+    opens: usize,
+    is_text: bool,
+    is_strict: bool,
+) -> Result<usize, Stop>
+    requires some { 0 < opens }
+    requires counted { opens + left_of cursor.old < 2 ^ 64 }
+    requires chunks { AreWithin is_strict (kind_of is_text) opens strings.old.items }
+    ensures chunks { IfOk result (λ after. AreWithin is_strict (kind_of is_text) after strings.new.items) }
+    ensures some { IfOk result (λ after. 0 < after) }
+    ensures counted { IfOk result (λ after. after + left_of cursor.new ≤ opens + left_of cursor.old) }
+    ensures within { left_of cursor.new ≤ left_of cursor.old }
+    ensures place { IfErr result (IsWithin (left_of cursor.old)) }
+{
+    let mut opens = opens;
+    'opens: while !is_strict && cursor.take_word(b"(_") {
+        let open = string_header(is_text, None);
+        put_chunk(strings, open, None, &[], is_strict, cursor.left())?;
+        opens += 1;
+        cursor.skip_space()?;
+    }
+    Ok(opens)
+}
+
+/// Encodes a string with its own quotes within a string of indefinite length.
+fn put_string_within(
+    cursor: &mut Cursor<'_>,
+    strings: &mut Vec<u8>,
+    is_text: bool,
+    alloc: Global,
+    is_strict: bool,
+) -> Result<(), Stop>
+    ensures chunks { OnOk result ((opens : ℕ) → 0 < opens
+        → AreWithin is_strict (kind_of is_text) opens strings.old.items
+        → AreWithin is_strict (kind_of is_text) opens strings.new.items) }
+    ensures shorter { OnOk result (left_of cursor.new < left_of cursor.old) }
+    ensures within { left_of cursor.new ≤ left_of cursor.old }
+    ensures place { IfErr result (IsWithin (left_of cursor.old)) }
+{
+    let stop = cursor.fault(Expected::Chunk);
+    let body = read_body(cursor, alloc)?;
+    let form = take_form(cursor);
+    if body.is_text != is_text {
+        return Err(stop);
+    }
+    let bytes = body.bytes.as_slice();
+    if !form.is_open() {
+        let header = string_header(is_text, Some(bytes.len()));
+        return put_chunk(strings, header, form.mark(), bytes, is_strict, stop.left);
+    }
+    if is_strict || !bytes.is_empty() {
+        return Err(stop);
+    }
+    let open = string_header(is_text, None);
+    put_chunk(strings, open, None, &[0xff], is_strict, stop.left)
+}
+
+/// Encodes the breaks of the parentheses that close here, without the last one of the string. Returns how many opens
+/// are not closed then.
+fn close_opens(
+    cursor: &mut Cursor<'_>,
+    strings: &mut Vec<u8>,
+    opens: usize,
+    is_text: bool,
+    is_strict: bool,
+) -> Result<usize, Stop>
+    requires chunks { AreWithin is_strict (kind_of is_text) opens strings.old.items }
+    ensures chunks { IfOk result (λ opens. AreWithin is_strict (kind_of is_text) opens strings.new.items) }
+    ensures fewer { IfOk result (λ after. after ≤ opens) }
+    ensures within { left_of cursor.new ≤ left_of cursor.old }
+    ensures place { IfErr result (IsWithin (left_of cursor.old)) }
+{
+    let mut opens = opens;
+    'ends: while opens > 1 && cursor.take(b')') {
+        put(strings, &[0xff], cursor.left())?;
+        opens -= 1;
+        cursor.end_item(b")")?;
+    }
+    if opens == 1 && cursor.take(b')') {
+        return Ok(0);
+    }
+    Ok(opens)
 }

@@ -6,7 +6,7 @@ use cbor_encode::{Expected, MAX_DEPTH, NotationError, encode, encode_shortest};
 // A text, what is expected, and the offset, the line and the column of the place.
 type Row = (&'static str, Expected, usize, usize, usize);
 
-static ROWS: [Row; 43] = [
+static ROWS: [Row; 50] = [
     ("", Expected::Item, 0, 1, 1),
     ("  # c\n", Expected::Item, 6, 2, 1),
     ("1 2", Expected::End, 2, 1, 3),
@@ -35,12 +35,19 @@ static ROWS: [Row; 43] = [
     ("(_ \"a\", h'00')", Expected::Chunk, 8, 1, 9),
     ("(_ )", Expected::Chunk, 3, 1, 4),
     ("(_ 1)", Expected::Chunk, 3, 1, 4),
+    ("(_ (_ ))", Expected::Chunk, 6, 1, 7),
+    ("(_ h'', (_ ))", Expected::Chunk, 11, 1, 12),
+    ("(_ (_ \"a\") \"b\")", Expected::Comma, 11, 1, 12),
     ("(1)", Expected::Item, 0, 1, 1),
     ("18446744073709551616", Expected::Integer, 0, 1, 1),
     ("-18446744073709551617", Expected::Integer, 0, 1, 1),
     ("[1e999]", Expected::Float, 1, 1, 2),
     ("simple(24)", Expected::Simple, 7, 1, 8),
     ("simple(256)", Expected::Simple, 7, 1, 8),
+    ("simple(24_)", Expected::Simple, 7, 1, 8),
+    ("simple(24_1)", Expected::Mark, 0, 1, 1),
+    ("float'7e0'", Expected::Bits, 6, 1, 7),
+    ("float'7e01", Expected::Bits, 10, 1, 11),
     ("24_i", Expected::Mark, 0, 1, 1),
     ("256_0", Expected::Mark, 0, 1, 1),
     ("1_", Expected::Mark, 0, 1, 1),

@@ -4,7 +4,7 @@ use crate::shared::holds;
 use cbor_encode::{Expected, NotationError};
 use std::alloc::Global;
 
-static TEXTS: [(Expected, &str); 21] = [
+static TEXTS: [(Expected, &str); 22] = [
     (Expected::Item, "line 3, column 14: expected an item"),
     (
         Expected::End,
@@ -58,6 +58,10 @@ static TEXTS: [(Expected, &str); 21] = [
     (
         Expected::Float,
         "line 3, column 14: expected a finite float",
+    ),
+    (
+        Expected::Bits,
+        "line 3, column 14: expected 4, 8 or 16 hexadecimal digits and a quote",
     ),
     (
         Expected::Simple,

@@ -1,7 +1,7 @@
 // The rows of RFC 8949, appendix A: the notation gives the bytes, and the bytes give a notation that gives them again.
 
-use crate::shared::{MOST, are_encoded, decoded, holds, is_encoded};
-use cbor_diag::{Layout, diagnose};
+use crate::shared::{MOST, are_encoded, decoded, holds, is_encoded, notation_len};
+use cbor_diag::{Layout, Style};
 use ciborium_ll::io::{SliceReader, SliceWriter};
 use ciborium_ll::recode::recode;
 use ciborium_ll::{Decoder, Encoder};
@@ -9,7 +9,7 @@ use std::alloc::Global;
 use std::process::Abort;
 
 // Rows of an item's bytes and its notation: RFC 8949, appendix A, except the rows of the next table.
-static VECTORS: &str = "\
+pub static VECTORS: &str = "\
 00 0
 01 1
 0a 10
@@ -85,7 +85,7 @@ bf61610161629f0203ffff {_ \"a\": 1, \"b\": [_ 2, 3]}
 bf6346756ef563416d7421ff {_ \"Fun\": true, \"Amt\": -2}";
 
 // The other rows of that appendix, which writes bignums as numbers, and wide infinities and NaN without a mark.
-static OTHER_VECTORS: &str = "\
+pub static OTHER_VECTORS: &str = "\
 fa7f800000 Infinity_2
 fa7fc00000 NaN_2
 faff800000 -Infinity_2
@@ -106,7 +106,7 @@ f90400 6.103515625e-5
 64f0908591 \"\\ud800\\udd51\"";
 
 // Items in longer spellings, and items whose floats have a longer width (RFC 8949, 3 and 4.1).
-static LONG: [&str; 12] = [
+pub static LONG: [&str; 12] = [
     "1800",
     "1900ff",
     "3b0000000000000000",
@@ -123,19 +123,9 @@ static LONG: [&str; 12] = [
 
 // Texts with characters that a terminal acts on: U+007F, U+0080, U+009F, U+061C, U+200E, U+200F, U+202A, U+202E, U+2066
 // and U+2069.
-static ACTED_ON: &str = "\
+pub static ACTED_ON: &str = "\
 677fc280c29fd89c \"\\u007f\\u0080\\u009f\\u061c\"
 72e2808ee2808fe280aae280aee281a6e281a9 \"\\u200e\\u200f\\u202a\\u202e\\u2066\\u2069\"";
-
-// Writes the notation of an item to the start of the space. Returns how many bytes it has.
-fn notation_len(bytes: &[u8], layout: Layout, space: &mut [u8]) -> Option<usize> {
-    let mut decoder = Decoder::from(SliceReader::new(bytes));
-    let mut writer = SliceWriter::new(space);
-    match diagnose(&mut decoder, &mut writer, 16, layout) {
-        Ok(()) => Some(writer.written().len()),
-        Err(_stop) => None,
-    }
-}
 
 // Copies all elements of the bytes to the space, in their shortest spelling. Returns how many bytes they have.
 fn shortest_len(bytes: &[u8], space: &mut [u8]) -> Option<usize> {
@@ -154,7 +144,11 @@ fn shortest_len(bytes: &[u8], space: &mut [u8]) -> Option<usize> {
 // Returns whether the notation of the bytes, in this layout, is encoded as their copy.
 fn comes_back(alloc: Global, bytes: &[u8], layout: Layout) -> bool {
     let mut shown = [0; 512];
-    let Some(shown_len) = notation_len(bytes, layout, &mut shown) else {
+    let style = Style {
+        layout,
+        is_exact: false,
+    };
+    let Some(shown_len) = notation_len(bytes, style, &mut shown) else {
         return false;
     };
     let mut copied = [0; MOST];

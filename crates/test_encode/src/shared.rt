@@ -1,6 +1,9 @@
 // Helpers of several modules: the bytes of rows, and the answer of a call.
 
+use cbor_diag::{Style, diagnose};
 use cbor_encode::{MAX_DEPTH, NotationError, encode};
+use ciborium_ll::Decoder;
+use ciborium_ll::io::{SliceReader, SliceWriter};
 use std::alloc::Global;
 use std::process::Abort;
 
@@ -45,5 +48,15 @@ pub fn row_is_encoded(rt: &impl Abort, alloc: Global, row: &str) {
 pub fn are_encoded(rt: &impl Abort, alloc: Global, rows: &str) {
     for row in rows.lines() {
         row_is_encoded(rt, alloc, row);
+    }
+}
+
+// Writes the notation of bytes that are one item to the start of the space. Returns how many bytes it has.
+pub fn notation_len(bytes: &[u8], style: Style, space: &mut [u8]) -> Option<usize> {
+    let mut decoder = Decoder::from(SliceReader::new(bytes));
+    let mut writer = SliceWriter::new(space);
+    match diagnose(&mut decoder, &mut writer, 16, style) {
+        Ok(()) if decoder.offset() == bytes.len() => Some(writer.written().len()),
+        _ => None,
     }
 }

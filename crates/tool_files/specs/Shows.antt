@@ -1,5 +1,5 @@
 -- How an input is shown.
-use Rattle.std.specs.Prelude.{◌≡◌, ℕ, Bool, [], Result}
+use Rattle.std.specs.Prelude.{◌≡◌, ℕ, Bool, false, [], Result}
 use Rattle.std.specs.declared.io.Error.{Error}
 use Rattle.ciborium_ll.specs.Types.BufferedReader.{BufferedReader}
 use Rattle.ciborium_ll.specs.Types.Decoder.{Decoder}
@@ -30,7 +30,8 @@ module _ {T E W F : Type 0} (reads : Ghosts (BufferedReader T) E) (sink : Sink W
     pub outcome : Result E (DiagError E F)
     pub begins : BeginsInput strict reader old
     pub items : ShowsItems reads depth old outcome new
-    pub lines : WritesItems reads sink layout (sides old writer) outcome (sides new then_writer)
+    pub lines : WritesItems reads sink (record { layout = layout; is_exact = false }) (sides old writer) outcome
+        (sides new then_writer)
     pub said : result ≡ diag_said outcome (buffered_read_fault new.reader) new.offset
 
 module _ {T E : Type 0} (reads : Ghosts (Patient T) E) where

@@ -5,6 +5,7 @@ ghost use Rattle.tool_files.specs.Shows.{ShowsInput};
 use crate::arguments::Options;
 use crate::check::ROOM;
 use crate::shared::{Prompt, Shared};
+use cbor_diag::Style;
 use ciborium_ll::io::{BufferedReader, BufferedWriter, Read, Write, WriteFault};
 use std::cell::RefCell;
 use std::io;
@@ -103,7 +104,11 @@ fn show_items<R: io::Read + Drop, W: Write>(
     let mut ahead = [0; ROOM];
     let reader = BufferedReader::new(reader, &mut ahead);
     let mut decoder = decoder_of(reader, options.strict);
-    let outcome = items(&mut decoder, writer, options.depth, options.layout);
+    let style = Style {
+        layout: options.layout,
+        is_exact: false,
+    };
+    let outcome = items(&mut decoder, writer, options.depth, style);
     let offset = decoder.offset();
     let (_, _, fault) = decoder.into_inner().into_parts();
     diag_verdict(outcome, fault, offset)

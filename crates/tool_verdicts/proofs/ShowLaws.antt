@@ -9,7 +9,7 @@ use Rattle.cbor_diag.specs.declared.DiagError.{DiagError}
 use Rattle.cbor_diag.specs.declared.DiagError.TheVariants as d
 use Rattle.cbor_diag.specs.Showing.{CountsShown, OnReading}
 use Rattle.cbor_dump.specs.Sequences.{IsEnd, ReadsItems}
-use Rattle.cbor_diag.specs.declared.layout.Layout.{Layout}
+use Rattle.cbor_diag.specs.declared.layout.Style.{Style}
 use Rattle.cbor_diag.specs.ItemStops.{ItemStops}
 use Rattle.tool_verdicts.specs.Showing.{CountsItems}
 use Rattle.tool_verdicts.specs.Showing.{EndsShow, IsEndOfItems, ShowsItems, ShowsLines, WritesItems, at_item}
@@ -55,13 +55,13 @@ show_failures error place stop old between new (Err other) is same counts =
     subst (λ (n : ℕ). CountsShown {T = Unit {0}} (Err other) n new) same
     (subst (λ (x : DiagError _ _). CountsShown {T = Unit {0}} (Err x) between new) (sym is.0) counts)
 
-module _ {R E W F : Type 0} (source : Ghosts R E) (sink : Sink W F) (layout : Layout) where
+module _ {R E W F : Type 0} (source : Ghosts R E) (sink : Sink W F) (style : Style) where
   -- After whole lines the show of one more item ends as its error says.
   pub lines_end : (count place stop : ℕ) (old between new : Sides R W) (error : DiagError E F)
-      (result : Result E (DiagError E F)) → ShowsLines source sink layout count old between
-      → ItemStops source sink layout between error new → EndsShow error place stop result
-      → WritesItems source sink layout old result new
+      (result : Result E (DiagError E F)) → ShowsLines source sink style count old between
+      → ItemStops source sink style between error new → EndsShow error place stop result
+      → WritesItems source sink style old result new
   lines_end count place stop old between new error (Ok fault) lines stops is = at_item count between lines
-      (subst (λ (x : DiagError E F). ItemStops source sink layout between x new) is.0 stops)
+      (subst (λ (x : DiagError E F). ItemStops source sink style between x new) is.0 stops)
   lines_end count place stop old between new error (Err other) lines stops is = at_item count between lines
-      (subst (λ (x : DiagError E F). ItemStops source sink layout between x new) (sym is.0) stops)
+      (subst (λ (x : DiagError E F). ItemStops source sink style between x new) (sym is.0) stops)

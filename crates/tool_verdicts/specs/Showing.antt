@@ -11,7 +11,7 @@ use Rattle.cbor_skip.specs.declared.SkipError.TheVariants as s
 use Rattle.cbor_skip.specs.Skipping.{SkipsItem}
 use Rattle.cbor_diag.specs.declared.DiagError.{DiagError}
 use Rattle.cbor_diag.specs.declared.DiagError.TheVariants as d
-use Rattle.cbor_diag.specs.declared.layout.Layout.{Layout}
+use Rattle.cbor_diag.specs.declared.layout.Style.{Style}
 use Rattle.cbor_diag.specs.ItemTexts.{ItemShown}
 use Rattle.cbor_diag.specs.ItemStops.{ItemStops}
 use Rattle.cbor_diag.specs.Showing.{CountsShown}
@@ -87,22 +87,22 @@ module _ {R E : Type 0} (source : Ghosts R E) where
   ShowsItems depth old (Err (d.Read error)) new = StopsItems depth old error new
   ShowsItems depth old (Err (d.Write fault)) new = Unit {0}
 
-module _ {R E W F : Type 0} (source : Ghosts R E) (sink : Sink W F) (layout : Layout) where
+module _ {R E W F : Type 0} (source : Ghosts R E) (sink : Sink W F) (style : Style) where
   -- `count` items were shown, each on a line of its own: its text, and an end of the line. The items of `01 02` make
   -- the lines `1` and `2`.
   pub data ShowsLines : ℕ → Sides R W → Sides R W → Type 0 where
     none : {now : Sides R W} → ShowsLines zero now now
     more : {count : ℕ} {old now : Sides R W} {between : Decoder R} {shown new : W} → ShowsLines count old now
-        → ItemShown source sink layout now (sides between shown) → EndsLine sink shown new
+        → ItemShown source sink style now (sides between shown) → EndsLine sink shown new
         → ShowsLines (suc count) old (sides between new)
 
   -- After whole lines the show of one more item ended with this error, or its line could not be ended. Over `01 1c`
   -- this is after the line `1`.
   pub data StopsLines (old : Sides R W) (error : DiagError E F) (new : Sides R W) : Type 0 where
     at_item : (count : ℕ) (between : Sides R W) → ShowsLines count old between
-        → ItemStops source sink layout between error new → StopsLines old error new
+        → ItemStops source sink style between error new → StopsLines old error new
     at_end : (count : ℕ) (between : Sides R W) (shown : W) (fault : F) → ShowsLines count old between
-        → ItemShown source sink layout between (sides new.decoder shown)
+        → ItemShown source sink style between (sides new.decoder shown)
         → EndsOrFails sink {T = Unit {0}} shown (Err fault) new.writer → error ≡ d.Write fault
         → StopsLines old error new
 

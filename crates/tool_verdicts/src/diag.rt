@@ -9,7 +9,7 @@ ghost use Rattle.ciborium_ll.specs.Limits.{MOST_LEVELS};
 
 use crate::check::{end_verdict, failed_or, fault_of};
 use crate::verdict::Verdict;
-use cbor_diag::{DiagError, Layout, diagnose};
+use cbor_diag::{DiagError, Style, diagnose};
 use cbor_skip::SkipError;
 use ciborium_ll::io::{Read, ReadFault, Write};
 use ciborium_ll::{Decoder, Error};
@@ -52,18 +52,18 @@ pub fn items<R: Read, W: Write>(
     decoder: &mut Decoder<R>,
     writer: &mut W,
     depth: usize,
-    layout: Layout,
+    style: Style,
 ) -> Result<R::Error, DiagError<R::Error, W::Error>>
     requires { depth ≤ MOST_LEVELS }
     ensures reads { ShowsItems R.Read depth decoder.old result decoder.new }
-    ensures writes { WritesItems R.Read W.Write layout (sides decoder.old writer.old) result
+    ensures writes { WritesItems R.Read W.Write style (sides decoder.old writer.old) result
         (sides decoder.new writer.new) }
     ensures failures { CountsItems result (failures_of R.Read decoder.old) (failures_of R.Read decoder.new) }
     ensures moves_on { MovesOn R.Read decoder.old decoder.new }
 {
     'items: loop {
         let place = decoder.offset();
-        if let Err(error) = diagnose(decoder, writer, depth, layout) {
+        if let Err(error) = diagnose(decoder, writer, depth, style) {
             return ended(error, place, decoder.offset());
         }
         if let Err(fault) = line_ended(writer) {

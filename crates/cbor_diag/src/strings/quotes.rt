@@ -1,8 +1,9 @@
 //! The text of bytes between quotes.
 
-ghost use Rattle.std.specs.Prelude.{◌≡◌, IfOk, true};
+ghost use Rattle.std.specs.Prelude.{◌≡◌, IfOk};
 ghost use Rattle.ciborium_ll.specs.Encoding.{WritesBytes};
 ghost use Rattle.ciborium_ll_text.specs.Digits.{hex_text};
+ghost use Rattle.cbor_diag.specs.Notation.{bytes_notation};
 ghost use Rattle.cbor_diag.specs.Passing.{byte_held, byte_text, passed_held, passed_text};
 
 use super::held::{Held, digit, show_next};
@@ -19,7 +20,7 @@ pub(crate) enum Quotes {
 }
 
 impl Quotes {
-    ghost use Rattle.cbor_diag.specs.StringShows.{closing, end_text, opening};
+    ghost use Rattle.cbor_diag.specs.StringShows.{closing, none_text, opening};
 
     /// Returns the text before a body.
     pub(crate) fn opening(self) -> &'static [u8]
@@ -53,7 +54,7 @@ impl Quotes {
 
     /// Returns the text of a string of the indefinite form that has no body (RFC 8949, 8.1).
     pub(crate) fn none(self) -> &'static [u8]
-        ensures { result.now ≡ end_text true self true }
+        ensures { result.now ≡ none_text self }
     {
         match self {
             Quotes::Hex => b"''_",
@@ -77,6 +78,14 @@ pub(super) fn show_quoted<W: Write>(
         *held = quotes.hold(*held, *byte);
     }
     Ok(())
+}
+
+/// Shows bytes by two hexadecimal digits each.
+#[tactic(auto, using(crate::proofs::PassedLaws::digits_passed))]
+pub(crate) fn put_hex<W: Write>(writer: &mut W, bytes: &[u8]) -> Result<(), W::Error>
+    ensures { WritesBytes W.Write writer.old result (bytes_notation bytes.now) writer.new }
+{
+    show_quoted(writer, Quotes::Hex, &mut Held::Nothing, bytes)
 }
 
 /// Shows a byte as it stands between quotes, after the bytes that are held.

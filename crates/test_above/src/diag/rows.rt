@@ -2,7 +2,7 @@
 
 use crate::shared::{MOST, decoded, holds, holds_at};
 use crate::skip::answers::{Answer, answer_of};
-use cbor_diag::{DiagError, Layout, diagnose};
+use cbor_diag::{DiagError, Layout, Style, diagnose};
 use ciborium_ll::Decoder;
 use ciborium_ll::io::{EndOfFile, OutOfSpace, SliceReader, SliceWriter};
 use std::process::Abort;
@@ -120,6 +120,23 @@ bfff {_ }
 781a7e7fc280c29fc2a0d89bd89cd89de2808de2808ee2808fe28090 \"~\\u007f\\u0080\\u009f\u{a0}\u{61b}\\u061c\u{61d}\u{200d}\\u200e\\u200f\u{2010}\"
 781ce280a9e280aae280aee280afe281a5e281a6e281a9e281aaf0908880 \"\u{2029}\\u202a\\u202e\u{202f}\u{2065}\\u2066\\u2069\u{206a}\u{10200}\"";
 
+// Plain notation on one line, and in lines.
+const PLAIN: Style = Style {
+    layout: Layout::OneLine,
+    is_exact: false,
+};
+
+const IN_LINES: Style = Style {
+    layout: Layout::Indented,
+    is_exact: false,
+};
+
+// Exact notation on one line.
+const EXACT: Style = Style {
+    layout: Layout::OneLine,
+    is_exact: true,
+};
+
 // A show of an item. It has how the show ends, as a skip of the item does, or `None` if there is no room for its text.
 // It also has the offset after the show, and how many bytes of text are written.
 #[derive(Drop)]
@@ -142,10 +159,10 @@ fn answer_to(
 }
 
 // The text goes to the start of the space.
-fn show(bytes: &[u8], depth: usize, layout: Layout, space: &mut [u8]) -> Shown {
+fn show(bytes: &[u8], depth: usize, style: Style, space: &mut [u8]) -> Shown {
     let mut decoder = Decoder::from(SliceReader::new(bytes));
     let mut writer = SliceWriter::new(space);
-    let outcome = diagnose(&mut decoder, &mut writer, depth.min(256), layout);
+    let outcome = diagnose(&mut decoder, &mut writer, depth.min(256), style);
     let offset = decoder.offset();
     Shown {
         answer: answer_to(outcome, offset),
@@ -163,18 +180,18 @@ fn ends_so(shown: &Shown, want: Answer, offset: usize) -> bool {
 }
 
 // Returns whether the bytes are one item with this notation.
-fn is_shown(bytes: &[u8], layout: Layout, notation: &str) -> bool {
+fn is_shown(bytes: &[u8], style: Style, notation: &str) -> bool {
     let mut space = [0; 256];
-    let shown = show(bytes, 8, layout, &mut space);
+    let shown = show(bytes, 8, style, &mut space);
     ends_so(&shown, Answer::Item(bytes.len()), bytes.len())
         && space.get(..shown.written) == Some(notation.as_bytes())
 }
 
 // Returns whether each beginning of the bytes is cut, and none is an item.
-fn is_cut(bytes: &[u8]) -> bool {
+fn is_cut(bytes: &[u8], style: Style) -> bool {
     let mut space = [0; 256];
     for len in 0..bytes.len() {
-        match show(&bytes[..len], 8, Layout::OneLine, &mut space).answer {
+        match show(&bytes[..len], 8, style, &mut space).answer {
             Some(Answer::Short(_)) => {}
             _ => return false,
         }
@@ -187,7 +204,7 @@ fn row_is_shown(rt: &impl Abort, row: &str) {
     let (digits, notation) = row.split_once(' ').unwrap_or((row, ""));
     let mut space = [0; MOST];
     let bytes = decoded(rt, digits, &mut space);
-    let is_right = is_shown(bytes, Layout::OneLine, notation) && is_cut(bytes);
+    let is_right = is_shown(bytes, PLAIN, notation) && is_cut(bytes, PLAIN) && is_cut(bytes, EXACT);
     holds(rt, is_right, row);
 }
 
@@ -214,14 +231,15 @@ fn strings_and_escapes(rt: HostRuntime) {
     are_shown(&rt, STRINGS);
 }
 
-// Returns whether a show of bytes, within this many levels, ends with this answer at this offset.
+// Returns whether a show of bytes, within this many levels, ends with this answer at this offset in both notations.
 fn is_refused(bytes: &[u8], depth: usize, want: Answer, offset: usize) -> bool {
-    let shown = show(bytes, depth, Layout::OneLine, &mut [0; 256]);
-    ends_so(&shown, want, offset)
+    let plain = show(bytes, depth, PLAIN, &mut [0; 256]);
+    let exact = show(bytes, depth, EXACT, &mut [0; 256]);
+    ends_so(&plain, want, offset) && ends_so(&exact, want, offset)
 }
 
 // Bytes, how many levels are allowed, how a show of them ends, and the offset after it.
-static REFUSED: [(&[u8], usize, Answer, usize); 9] = [
+static REFUSED: [(&[u8], usize, Answer, usize); 12] = [
     (b"\xff", 8, Answer::Break(0), 1),
     (b"\x82\x01\xff", 8, Answer::Break(2), 3),
     (b"\xbf\x01\xff", 8, Answer::Break(2), 3),
@@ -230,6 +248,9 @@ static REFUSED: [(&[u8], usize, Answer, usize); 9] = [
     (b"\x81\x1c", 8, Answer::Syntax(1), 2),
     (b"\x5f\x01\xff", 8, Answer::Syntax(1), 2),
     (b"\x7f\x61\xff\xff", 8, Answer::Syntax(1), 3),
+    (b"\x5f\x5f\xff\x61\x61", 8, Answer::Syntax(3), 4),
+    (b"\x5f\x5f\x1c", 8, Answer::Syntax(2), 3),
+    (b"\x7f\x7f\x78\x01\xff", 8, Answer::Syntax(2), 5),
     (b"\x81\x00\xff", 1, Answer::Item(2), 2),
 ];
 
@@ -244,16 +265,15 @@ fn what_is_refused(rt: HostRuntime) {
 fn lines(rt: HostRuntime) {
     let bytes = b"\xa2\x61a\x82\x01\xa0\x61b\xc1\x9f\xf5\xff";
     let notation = "{\n  \"a\": [\n    1,\n    {}\n  ],\n  \"b\": 1([_\n    true\n  ])\n}";
-    holds(&rt, is_shown(bytes, Layout::Indented, notation), "a map");
-    let is_right = is_shown(b"\x9f\xff", Layout::Indented, "[_ ]")
-        && is_shown(b"\x01", Layout::Indented, "1");
+    holds(&rt, is_shown(bytes, IN_LINES, notation), "a map");
+    let is_right = is_shown(b"\x9f\xff", IN_LINES, "[_ ]") && is_shown(b"\x01", IN_LINES, "1");
     holds(&rt, is_right, "an item of one line");
 }
 
 #[test]
 fn no_room(rt: HostRuntime) {
     let mut space = [0; 5];
-    let shown = show(b"\x83\x01\x02\x03", 8, Layout::OneLine, &mut space);
+    let shown = show(b"\x83\x01\x02\x03", 8, PLAIN, &mut space);
     let is_written = space.get(..shown.written) == Some(b"[1, 2".as_slice());
     let is_right = shown.answer.is_none() && is_written;
     holds(&rt, is_right, "an array of three numbers in five bytes");

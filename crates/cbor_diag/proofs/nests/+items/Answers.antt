@@ -19,20 +19,20 @@ use Rattle.cbor_diag.proofs.nests.+items.Goals as goal
 
 pub show_item-returns-then-depth-eq0-clause-reads : goal.show_item-returns-then-depth-eq0-clause-reads
 show_item-returns-then-depth-eq0-clause-reads g t c = λ before outer at pulled steady.
-    nest_deep g.R.Read outer c.args.depth before c.args.decoder.now c.args.header c.args.place
-    c.if-depth-eq0.true at (nest_of c.args.header c.in-Tag.is) pulled
+    nest_deep g.R.Read outer c.args.depth before c.args.decoder.now c.args.marked.header c.args.place
+    c.if-depth-eq0.true at (nest_of c.args.marked.header c.in-Tag.is) pulled
 
 pub show_item-returns-in_err-is_empty-in-Tag-clause-reads : goal.show_item-returns-in_err-is_empty-in-Tag-clause-reads
 show_item-returns-in_err-is_empty-in-Tag-clause-reads g t c = λ before outer at pulled steady.
     let level : suc (c.args.depth - 1) ≡ c.args.depth = omega (arith, c.if-depth-eq0.false) in
     rw (exit_is _ _ c.from_residual-in_err-is_empty-in-Tag.ensures.1) (nest_stops g.R.Read outer c.args.depth before
-    c.args.decoder.now steady (c.args.depth - 1) c.args.header c.show_within.new.decoder _ level pulled
+    c.args.decoder.now steady (c.args.depth - 1) c.args.marked.header c.show_within.new.decoder _ level pulled
     c.in_err-is_empty-in-Tag.ensures.reads)
 
 pub show_item-returns-in_ok-is_empty-in-Tag-clause-reads : goal.show_item-returns-in_ok-is_empty-in-Tag-clause-reads
 show_item-returns-in_ok-is_empty-in-Tag-clause-reads g t c = λ before outer at pulled steady.
     let level : suc (c.args.depth - 1) ≡ c.args.depth = omega (arith, c.if-depth-eq0.false) in
-    nest_read g.R.Read outer c.args.depth before c.args.decoder.now steady (c.args.depth - 1) c.args.header
+    nest_read g.R.Read outer c.args.depth before c.args.decoder.now steady (c.args.depth - 1) c.args.marked.header
     c.show_within.new.decoder c.said-in-Tag.result level pulled c.in_ok-is_empty-in-Tag.ensures.reads
     c.said-in-Tag.ensures.writing
 
@@ -53,7 +53,7 @@ show_item-returns-in_err-said-in-Tag-clause-reads g t c = λ before outer at pul
 pub show_within-items-init : goal.show_within-items-init
 show_within-items-init g t c = record {
   so_far = none_read g.R.Read c.behind-remaining.ensures;
-  items = items_begin g.R.Read g.W.Write _ _ c.args.header _ _ c.behind-remaining.ensures;
+  items = items_begin g.R.Read g.W.Write _ _ c.args.nest.header c.args.nest.mark _ _ c.behind-remaining.ensures;
   moves_on = MovesOn-none g.R.Read c.args.decoder.now;
 }
 
@@ -63,14 +63,14 @@ show_within-returns-clause-reads g t c = ended g.R.Read c.items.invariant.so_far
 pub show_within-returns-in_err-next-clause-reads : goal.show_within-returns-in_err-next-clause-reads
 show_within-returns-in_err-next-clause-reads g t c =
     rw (exit_is _ _ c.from_residual.ensures.1) (stops_within g.R.Read c.items.invariant.so_far
-    (sym c.items-test.ensures) refl (pull_stops g.R.Read c.offset-place.ensures.same c.in_err-next.ensures.header))
+    (sym c.items-test.ensures) refl (pull_stops g.R.Read c.offset-place.ensures.same c.in_err-next.ensures.pulls))
 
 pub show_within-returns-in-Break-clause-reads : goal.show_within-returns-in-Break-clause-reads
 show_within-returns-in-Break-clause-reads g t c =
-    let pulled = rw (c.offset-place.ensures.same, c.in-Break.is) at c.in_ok-next.ensures.header in
+    let pulled = rw (c.offset-place.ensures.same, c.in-Break.is) at c.in_ok-next.ensures.pulls.pulled in
     let so_far = c.items.invariant.so_far in
     break_said (closes c.items.remaining)
-    (λ answer. SkipsWithin g.R.Read c.args.header c.args.depth 64 c.args.decoder.now answer c.pull.new.self)
+    (λ answer. SkipsWithin g.R.Read c.args.nest.header c.args.depth 64 c.args.decoder.now answer c.pull_marked.new.decoder)
     c.at_break.result c.items.is_first c.offset-place.result c.at_break.ensures
     (λ may. closed g.R.Read so_far may pulled (rw c.offset-place.ensures.same at c.in_ok-next.ensures.moves_on.steady))
     (λ may. stops_within g.R.Read so_far (sym c.items-test.ensures) refl
@@ -87,23 +87,24 @@ show_within-returns-in_err-show_item-clause-reads g t c =
     let outer = closes c.items.remaining in
     rw (exit_is _ _ c.from_residual-in_err-show_item.ensures.1) (reading_stops (Unit {0}) Bool
     (λ answer. ReadsFrom g.R.Read outer c.args.depth 64 c.items.decoder answer new)
-    (λ answer. SkipsWithin g.R.Read c.args.header c.args.depth 64 c.args.decoder.now answer new) _
+    (λ answer. SkipsWithin g.R.Read c.args.nest.header c.args.depth 64 c.args.decoder.now answer new) _
     (λ stop stops. stops_within g.R.Read c.items.invariant.so_far (sym c.items-test.ensures) refl stops)
     (c.in_err-show_item.ensures.reads c.items.decoder outer c.offset-place.ensures.value
-    (rw c.offset-place.ensures.same at c.in_ok-next.ensures.header)
+    (rw c.offset-place.ensures.same at c.in_ok-next.ensures.pulls.pulled)
     (rw c.offset-place.ensures.same at c.in_ok-next.ensures.moves_on.steady)))
 
 pub show_within-items-preserved : goal.show_within-items-preserved
 show_within-items-preserved g t c =
-    let pulled = rw c.offset-place.ensures.same at c.in_ok-next.ensures.header in
+    let marked = rw c.offset-place.ensures.same at c.in_ok-next.ensures.pulls in
+    let pulled = marked.pulled in
     let first = rw c.offset-place.ensures.same at c.in_ok-next.ensures.moves_on in
     let item = c.in_ok-show_item.ensures.reads c.items.decoder false c.offset-place.ensures.value pulled first.steady in
     let led = said_wrote g.W.Write c.before-in-items.result c.said.ensures.same c.in_ok-said.was
     c.before-in-items.ensures in
     record {
-      so_far = one_more g.R.Read c.items.invariant.so_far (c.after_item-remaining.ensures c.args.header) item;
+      so_far = one_more g.R.Read c.items.invariant.so_far (c.after_item-remaining.ensures c.args.nest.header) item;
       items = items_more c.items.invariant.items c.is_value.ensures pulled led
-          (c.after_item-remaining.ensures c.args.header) first.steady c.in_ok-show_item.ensures.shown;
+          (c.after_item-remaining.ensures c.args.nest.header) first.steady (rw marked.mark at c.in_ok-show_item.ensures.shown);
       moves_on = MovesOn-then g.R.Read _ _ _ c.items.invariant.moves_on
           (MovesOn-then g.R.Read _ _ _ first c.show_item.ensures.moves_on);
     }
@@ -127,7 +128,7 @@ show_within-returns-in_err-show_item-clause-moves_on g t c =
 pub show_within-returns-in_err-said-clause-reads : goal.show_within-returns-in_err-said-clause-reads
 show_within-returns-in_err-said-clause-reads g t c =
     rw (exit_is _ _ c.from_residual-in_err-said.ensures.1) (reading_unread Bool (λ answer. SkipsWithin g.R.Read
-    c.args.header c.args.depth 64 c.args.decoder.now answer c.pull.new.self) _ c.in_err-said.ensures.writing)
+    c.args.nest.header c.args.depth 64 c.args.decoder.now answer c.pull_marked.new.decoder) _ c.in_err-said.ensures.writing)
 
 pub show_within-returns-clause-moves_on : goal.show_within-returns-clause-moves_on
 show_within-returns-clause-moves_on g t c = c.items.invariant.moves_on
@@ -151,31 +152,31 @@ show_item-returns-in_err-said-in-Tag-clause-shown g t c =
 
 pub show_item-returns-in_err-is_empty-in-Tag-clause-shown : goal.show_item-returns-in_err-is_empty-in-Tag-clause-shown
 show_item-returns-in_err-is_empty-in-Tag-clause-shown g t c =
-    rw (exit_is _ _ c.from_residual-in_err-is_empty-in-Tag.ensures.1) (within_stops _ c.within-inner.ensures.layout
+    rw (exit_is _ _ c.from_residual-in_err-is_empty-in-Tag.ensures.1) (within_stops _ c.within-inner.ensures.style
     c.within-inner.ensures.level (said_wrote g.W.Write c.open.result c.said.ensures.same c.in_ok-said-in-Tag.was
     c.open.ensures) c.in_err-is_empty-in-Tag.ensures.shown)
 
 pub show_item-returns-in_ok-is_empty-in-Tag-clause-shown : goal.show_item-returns-in_ok-is_empty-in-Tag-clause-shown
 show_item-returns-in_ok-is_empty-in-Tag-clause-shown g t c =
-    nest_shown _ c.within-inner.ensures.layout c.within-inner.ensures.level
+    nest_shown _ c.within-inner.ensures.style c.within-inner.ensures.level
     (said_wrote g.W.Write c.open.result c.said.ensures.same c.in_ok-said-in-Tag.was c.open.ensures) _ c.close.result
     c.said-in-Tag.result c.in_ok-is_empty-in-Tag.ensures.shown c.said-in-Tag.ensures.same c.close.ensures
 
 pub show_item-returns-in_default-clause-shown : goal.show_item-returns-in_default-clause-shown
 show_item-returns-in_default-clause-shown g t c =
-    plain_shown g.R.Read g.W.Write _ _ c.args.header _ _ c.show_plain.result c.show_plain.ensures.text
-    (c.show_plain.ensures.shown c.args.line.layout c.args.line.level)
+    plain_shown g.R.Read g.W.Write c.args.line.style _ c.args.marked.header c.args.marked.mark _ _ c.show_plain.result
+    c.show_plain.ensures.text (c.show_plain.ensures.shown c.args.line.style c.args.line.level refl)
 
 pub show_within-returns-in_err-next-clause-shown : goal.show_within-returns-in_err-next-clause-shown
 show_within-returns-in_err-next-clause-shown g t c =
     let error = c.in_err-next.field-0.0 in
     rw (exit_is _ _ c.from_residual.ensures.1) (title_stops c.items.invariant.items (s.Read error) _
-    (subst (λ x. DecoderPullAnswer g.R.Read x (Err error) c.pull.new.self) c.offset-place.ensures.same
-    c.in_err-next.ensures.header))
+    (subst (λ x. DecoderPullAnswer g.R.Read x (Err error) c.pull_marked.new.decoder) c.offset-place.ensures.same
+    c.in_err-next.ensures.pulls))
 
 pub show_within-returns-in-Break-clause-shown : goal.show_within-returns-in-Break-clause-shown
 show_within-returns-in-Break-clause-shown g t c =
-    let pulled = rw (c.offset-place.ensures.same, c.in-Break.is) at c.in_ok-next.ensures.header in
+    let pulled = rw (c.offset-place.ensures.same, c.in-Break.is) at c.in_ok-next.ensures.pulls.pulled in
     break_shown c.items.invariant.items (closes c.items.remaining) _ c.at_break.result c.offset-place.result pulled
     c.at_break.ensures (λ may. items_closed c.items.invariant.items _ may pulled
     (rw c.offset-place.ensures.same at c.in_ok-next.ensures.moves_on.steady))
@@ -183,23 +184,24 @@ show_within-returns-in-Break-clause-shown g t c =
 pub show_within-returns-in_err-said-clause-shown : goal.show_within-returns-in_err-said-clause-shown
 show_within-returns-in_err-said-clause-shown g t c =
     rw (exit_is _ _ c.from_residual-in_err-said.ensures.1) (lead_stops c.items.invariant.items c.is_value.ensures
-    (rw c.offset-place.ensures.same at c.in_ok-next.ensures.header) _ (said_failed g.W.Write c.before-in-items.result
+    (rw c.offset-place.ensures.same at c.in_ok-next.ensures.pulls.pulled) _ (said_failed g.W.Write c.before-in-items.result
     c.said.ensures.same c.in_err-said.was c.before-in-items.ensures))
 
 pub show_within-returns-in_err-show_item-clause-shown : goal.show_within-returns-in_err-show_item-clause-shown
 show_within-returns-in_err-show_item-clause-shown g t c =
+    let marked = rw c.offset-place.ensures.same at c.in_ok-next.ensures.pulls in
     rw (exit_is _ _ c.from_residual-in_err-show_item.ensures.1) (item_stops c.items.invariant.items c.is_value.ensures
-    (rw c.offset-place.ensures.same at c.in_ok-next.ensures.header) (said_wrote g.W.Write c.before-in-items.result
-    c.said.ensures.same c.in_ok-said.was c.before-in-items.ensures) c.in_err-show_item.ensures.shown)
+    marked.pulled (said_wrote g.W.Write c.before-in-items.result c.said.ensures.same c.in_ok-said.was
+    c.before-in-items.ensures) (rw marked.mark at c.in_err-show_item.ensures.shown))
 
 pub show_within-returns-clause-shown : goal.show_within-returns-clause-shown
 show_within-returns-clause-shown g t c = items_done c.items.invariant.items (sym c.items-test.ensures)
 
 pub show_within-items-smaller : goal.show_within-items-smaller
 show_within-items-smaller g t c =
-    let pulled = rw c.offset-place.ensures.same at c.in_ok-next.ensures.header in
-    let some = title_some pulled.title c.in_ok-next.next pulled.is_title in
-    nearer c.items.decoder c.pull.new.self c.show_item.new.decoder (omega (arith, pulled.offset, some))
+    let pulled = rw c.offset-place.ensures.same at c.in_ok-next.ensures.pulls.pulled in
+    let some = title_some pulled.title c.in_ok-next.next.header pulled.is_title in
+    nearer c.items.decoder c.pull_marked.new.decoder c.show_item.new.decoder (omega (arith, pulled.offset, some))
     c.show_item.ensures.moves_on.rises
 
 -- ---- the requirements of the calls

@@ -13,9 +13,9 @@ decreases-show_within g l = 2 * l.depth + 1
 
 abbrev pub invariant-show_within-items : goal.invariant-show_within-items
 invariant-show_within-items g l = record {
-  so_far : SoFar g.R.Read l.fn.header l.depth l.fn.decoder l.decoder l.remaining;
-  items : ItemsFar g.R.Read g.W.Write l.fn.line.layout l.fn.line.level l.fn.header (sides l.fn.decoder l.fn.writer)
-      l.remaining l.is_first (sides l.decoder l.writer);
+  so_far : SoFar g.R.Read l.fn.nest.header l.depth l.fn.decoder l.decoder l.remaining;
+  items : ItemsFar g.R.Read g.W.Write l.fn.line.style l.fn.line.level l.fn.nest.header l.fn.nest.mark
+      (sides l.fn.decoder l.fn.writer) l.remaining l.is_first (sides l.decoder l.writer);
   moves_on : MovesOn g.R.Read l.fn.decoder l.decoder;
 }
 

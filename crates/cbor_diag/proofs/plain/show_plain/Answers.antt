@@ -1,4 +1,5 @@
 use Rattle.std.proofs.Common.{ap, refl}
+use Rattle.ciborium_ll.specs.Types.Header.{Header}
 use Rattle.ciborium_ll.specs.Items.{positive, negative, float, simple}
 use Rattle.ciborium_ll.specs.Strings.{Bytes, Text}
 use Rattle.ciborium_ll.proofs.DecodingLaws.{MovesOn-none}
@@ -11,7 +12,7 @@ use Rattle.cbor_diag.proofs.plain.show_plain.Goals as goal
 
 pub returns-in-Positive-clause-reads : goal.returns-in-Positive-clause-reads
 returns-in-Positive-clause-reads g c = λ before outer depth pulled steady.
-    scalar_read g.R.Read outer depth before c.args.decoder.now steady c.args.header c.said.result
+    scalar_read g.R.Read outer depth before c.args.decoder.now steady c.args.marked.header c.said.result
     (rw c.in-Positive.is positive) pulled c.said.ensures.writing
 
 pub returns-in-Positive-clause-text : goal.returns-in-Positive-clause-text
@@ -25,13 +26,13 @@ pub returns-in-Positive-clause-moves_on : goal.returns-in-Positive-clause-moves_
 returns-in-Positive-clause-moves_on g c = MovesOn-none g.R.Read c.args.decoder.now
 
 pub returns-in-Positive-clause-shown : goal.returns-in-Positive-clause-shown
-returns-in-Positive-clause-shown g c = λ layout level.
-    plain_said g.R.Read g.W.Write layout level c.args.header _ _ _ _ c.show_positive.result c.said.result
-    (scalar (ap header_notation c.in-Positive.is)) c.said.ensures.same c.show_positive.ensures
+returns-in-Positive-clause-shown g c = λ style level same.
+    plain_said g.R.Read g.W.Write style level c.args.marked.header c.args.marked.mark _ _ _ _ c.show_positive.result c.said.result
+    (scalar (ap (λ (z : Header). header_notation z c.args.marked.mark) c.in-Positive.is)) c.said.ensures.same c.show_positive.ensures
 
 pub returns-in-Negative-clause-reads : goal.returns-in-Negative-clause-reads
 returns-in-Negative-clause-reads g c = λ before outer depth pulled steady.
-    scalar_read g.R.Read outer depth before c.args.decoder.now steady c.args.header c.said-in-Negative.result
+    scalar_read g.R.Read outer depth before c.args.decoder.now steady c.args.marked.header c.said-in-Negative.result
     (rw c.in-Negative.is negative) pulled c.said-in-Negative.ensures.writing
 
 pub returns-in-Negative-clause-text : goal.returns-in-Negative-clause-text
@@ -45,13 +46,13 @@ pub returns-in-Negative-clause-moves_on : goal.returns-in-Negative-clause-moves_
 returns-in-Negative-clause-moves_on g c = MovesOn-none g.R.Read c.args.decoder.now
 
 pub returns-in-Negative-clause-shown : goal.returns-in-Negative-clause-shown
-returns-in-Negative-clause-shown g c = λ layout level.
-    plain_said g.R.Read g.W.Write layout level c.args.header _ _ _ _ c.show_negative.result c.said-in-Negative.result
-    (scalar (ap header_notation c.in-Negative.is)) c.said-in-Negative.ensures.same c.show_negative.ensures
+returns-in-Negative-clause-shown g c = λ style level same.
+    plain_said g.R.Read g.W.Write style level c.args.marked.header c.args.marked.mark _ _ _ _ c.show_negative.result c.said-in-Negative.result
+    (scalar (ap (λ (z : Header). header_notation z c.args.marked.mark) c.in-Negative.is)) c.said-in-Negative.ensures.same c.show_negative.ensures
 
 pub returns-in-Simple-clause-reads : goal.returns-in-Simple-clause-reads
 returns-in-Simple-clause-reads g c = λ before outer depth pulled steady.
-    scalar_read g.R.Read outer depth before c.args.decoder.now steady c.args.header c.said-in-Simple.result
+    scalar_read g.R.Read outer depth before c.args.decoder.now steady c.args.marked.header c.said-in-Simple.result
     (rw c.in-Simple.is simple) pulled c.said-in-Simple.ensures.writing
 
 pub returns-in-Simple-clause-text : goal.returns-in-Simple-clause-text
@@ -65,27 +66,27 @@ pub returns-in-Simple-clause-moves_on : goal.returns-in-Simple-clause-moves_on
 returns-in-Simple-clause-moves_on g c = MovesOn-none g.R.Read c.args.decoder.now
 
 pub returns-in-Simple-clause-shown : goal.returns-in-Simple-clause-shown
-returns-in-Simple-clause-shown g c = λ layout level.
-    plain_said g.R.Read g.W.Write layout level c.args.header _ _ _ _ c.show_simple.result c.said-in-Simple.result
-    (scalar (ap header_notation c.in-Simple.is)) c.said-in-Simple.ensures.same c.show_simple.ensures
+returns-in-Simple-clause-shown g c = λ style level same.
+    plain_said g.R.Read g.W.Write style level c.args.marked.header c.args.marked.mark _ _ _ _ c.show_simple.result c.said-in-Simple.result
+    (scalar (ap (λ (z : Header). header_notation z c.args.marked.mark) c.in-Simple.is)) c.said-in-Simple.ensures.same c.show_simple.ensures
 
 pub returns-in-Float-clause-reads : goal.returns-in-Float-clause-reads
 returns-in-Float-clause-reads g c = λ before outer depth pulled steady.
-    scalar_read g.R.Read outer depth before c.args.decoder.now steady c.args.header c.said-in-Float.result
+    scalar_read g.R.Read outer depth before c.args.decoder.now steady c.args.marked.header c.said-in-Float.result
     (rw c.in-Float.is float) pulled c.said-in-Float.ensures.writing
 
 pub returns-in-Float-clause-text : goal.returns-in-Float-clause-text
 returns-in-Float-clause-text g c =
-    float_said g.R.Read g.W.Write c.args.header c.in-Float.float _ _ c.show_float.result c.said-in-Float.result
+    float_said g.R.Read g.W.Write c.args.is_exact c.args.marked.header c.args.marked.mark c.in-Float.float _ _ c.show_float.result c.said-in-Float.result
     c.in-Float.is refl c.said-in-Float.ensures.same c.show_float.ensures
 
 pub returns-in-Float-clause-moves_on : goal.returns-in-Float-clause-moves_on
 returns-in-Float-clause-moves_on g c = MovesOn-none g.R.Read c.args.decoder.now
 
 pub returns-in-Float-clause-shown : goal.returns-in-Float-clause-shown
-returns-in-Float-clause-shown g c = λ layout level.
-    rw c.in-Float.is (plain_said g.R.Read g.W.Write layout level _ _ _ _ _ c.show_float.result c.said-in-Float.result
-    (float_text c.show_float.ensures.is_text) c.said-in-Float.ensures.same c.show_float.ensures.written)
+returns-in-Float-clause-shown g c = λ style level same.
+    rw c.in-Float.is (plain_said g.R.Read g.W.Write style level _ c.args.marked.mark _ _ _ _ c.show_float.result
+    c.said-in-Float.result (float_text (rw same c.show_float.ensures.is_text)) c.said-in-Float.ensures.same c.show_float.ensures.written)
 
 pub returns-in-Bytes-clause-reads : goal.returns-in-Bytes-clause-reads
 returns-in-Bytes-clause-reads g c = λ before outer depth pulled steady.
@@ -99,9 +100,9 @@ pub returns-in-Bytes-clause-moves_on : goal.returns-in-Bytes-clause-moves_on
 returns-in-Bytes-clause-moves_on g c = c.show_bytes.ensures.moves_on
 
 pub returns-in-Bytes-clause-shown : goal.returns-in-Bytes-clause-shown
-returns-in-Bytes-clause-shown g c = λ layout level.
-    rw c.in-Bytes.is (string_shown g.R.Read g.W.Write layout level Bytes c.in-Bytes.len 64 _ _ c.show_bytes.result
-    c.show_bytes.ensures.text)
+returns-in-Bytes-clause-shown g c = λ style level same.
+    rw c.in-Bytes.is (string_shown g.R.Read g.W.Write style level c.args.is_exact Bytes c.in-Bytes.len c.args.marked.mark 64 _ _
+    c.show_bytes.result same c.show_bytes.ensures.text)
 
 pub returns-in-Text-clause-reads : goal.returns-in-Text-clause-reads
 returns-in-Text-clause-reads g c = λ before outer depth pulled steady.
@@ -115,6 +116,6 @@ pub returns-in-Text-clause-moves_on : goal.returns-in-Text-clause-moves_on
 returns-in-Text-clause-moves_on g c = c.show_text.ensures.moves_on
 
 pub returns-in-Text-clause-shown : goal.returns-in-Text-clause-shown
-returns-in-Text-clause-shown g c = λ layout level.
-    rw c.in-Text.is (string_shown g.R.Read g.W.Write layout level Text c.in-Text.len 64 _ _ c.show_text.result
-    c.show_text.ensures.text)
+returns-in-Text-clause-shown g c = λ style level same.
+    rw c.in-Text.is (string_shown g.R.Read g.W.Write style level c.args.is_exact Text c.in-Text.len c.args.marked.mark 64 _ _
+    c.show_text.result same c.show_text.ensures.text)

@@ -99,14 +99,14 @@ pub returns-in_default-clause-text : goal.returns-in_default-clause-text
 returns-in_default-clause-text g c = λ opened len range settled back form.
     let none : c.in_ok-body.field-0 ≡ None = search rules in
     text_closed c.segments.segments.strict (c.segments.invariant.text opened len range settled back form)
-    c.advance.new.self.decoder.now c.advance.ensures.moves_on.steady c.advance.new.self.progress c.args.is_open form 64
-    c.close.result c.close.new.writer (rw none at c.in_ok-body.ensures.advances) c.close.ensures.written
+    c.advance.new.self.decoder.now c.advance.ensures.moves_on.steady c.advance.new.self.progress c.args.is_open form
+    c.args.mark 64 c.close.result c.close.new.writer (rw none at c.in_ok-body.ensures.advances) c.close.ensures.written
 
 pub returns-in_err-body-clause-text : goal.returns-in_err-body-clause-text
 returns-in_err-body-clause-text g c = λ opened len range settled back form.
     rw (exit_is _ _ c.from_residual.ensures.1) (text_fails c.segments.segments.strict
     (c.segments.invariant.text opened len range settled back form) c.advance.new.self.decoder.now
-    c.advance.ensures.moves_on.steady c.advance.new.self.progress c.args.is_open form 64 _
+    c.advance.ensures.moves_on.steady c.advance.new.self.progress c.args.is_open form c.args.mark 64 _
     c.in_err-body.ensures.advances)
 
 pub returns-in_err-open-clause-text : goal.returns-in_err-open-clause-text
@@ -114,12 +114,12 @@ returns-in_err-open-clause-text g c = λ opened len range settled back form.
     rw (exit_is _ _ c.from_residual-in_err-open.ensures.1) (text_unled c.segments.segments.strict
     (c.segments.invariant.text opened len range settled back form) c.advance.new.self.decoder.now
     c.advance.ensures.moves_on.steady c.advance.new.self.progress c.args.is_open form c.in-Some.body
-    (rw c.in-Some.is at c.in_ok-body.ensures.advances) 64 _ c.open.new.writer c.in_err-open.ensures.written)
+    (rw c.in-Some.is at c.in_ok-body.ensures.advances) c.args.mark 64 _ c.open.new.writer c.in_err-open.ensures.written)
 
 pub returns-in_err-show_body-clause-text : goal.returns-in_err-show_body-clause-text
 returns-in_err-show_body-clause-text g c = λ opened len range settled back form.
     rw (exit_is _ _ c.from_residual-in_err-show_body.ensures.1) (text_stops c.segments.segments.strict
     (c.segments.invariant.text opened len range settled back form) c.advance.new.self.decoder.now
     c.advance.ensures.moves_on.steady c.advance.new.self.progress c.args.is_open form c.in-Some.body
-    (rw c.in-Some.is at c.in_ok-body.ensures.advances) c.open.new.writer c.in_ok-open.ensures.written 64 _ _
+    (rw c.in-Some.is at c.in_ok-body.ensures.advances) c.open.new.writer c.in_ok-open.ensures.written c.args.mark 64 _ _
     c.in_err-show_body.ensures.text)

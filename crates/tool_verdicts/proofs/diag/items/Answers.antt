@@ -56,11 +56,11 @@ pub returns-in-Err-clause-writes : goal.returns-in-Err-clause-writes
 returns-in-Err-clause-writes g c =
     let new = c.offset.new.self in
     let writer = c.diagnose.new.writer in
-    let stops : ItemStops g.R.Read g.W.Write c.args.layout (sides c.items.decoder c.items.writer) c.in-Err.error
+    let stops : ItemStops g.R.Read g.W.Write c.args.style (sides c.items.decoder c.items.writer) c.in-Err.error
     (sides new writer) =
-    subst (λ x. ItemStops g.R.Read g.W.Write c.args.layout (sides c.items.decoder c.items.writer) c.in-Err.error
+    subst (λ x. ItemStops g.R.Read g.W.Write c.args.style (sides c.items.decoder c.items.writer) c.in-Err.error
     (sides x writer)) (sym c.offset.ensures.same) (rw c.offset-place.ensures.same at c.in-Err.ensures.shown) in
-    lines_end g.R.Read g.W.Write c.args.layout c.items.invariant.count c.offset-place.result c.offset.result _ _ _
+    lines_end g.R.Read g.W.Write c.args.style c.items.invariant.count c.offset-place.result c.offset.result _ _ _
     c.in-Err.error c.ended.result c.items.invariant.lines stops c.ended.ensures
 
 pub returns-in-Err-line_ended-clause-writes : goal.returns-in-Err-line_ended-clause-writes

@@ -9,7 +9,7 @@ abbrev pub invariant-items : goal.invariant-items
 invariant-items g l = record {
   count : ℕ;
   reads : ReadsItems g.R.Read l.depth count l.fn.decoder l.decoder;
-  lines : ShowsLines g.R.Read g.W.Write l.fn.layout count (sides l.fn.decoder l.fn.writer) (sides l.decoder l.writer);
+  lines : ShowsLines g.R.Read g.W.Write l.fn.style count (sides l.fn.decoder l.fn.writer) (sides l.decoder l.writer);
   moves_on : MovesOn g.R.Read l.fn.decoder l.decoder;
 }
 
