@@ -1,6 +1,6 @@
 -- Laws of the rewriting, and of its refusals.
-use Rattle.std.proofs.Common.{◌≤◌}
-use Rattle.std.proofs.Common.{◌≡◌, ℕ, ◌+◌, ◌-◌, ◌<◌, List, [], ◌++◌, length, length-append, refl, sym, ◌∙◌, ap, subst, arith, false, Bool}
+use Rattle.std.proofs.Common.{◌≡◌, ℕ, ◌+◌, ◌-◌, ◌<◌, ◌≤◌, List, [], ◌∷◌, ◌++◌, length, length-append, refl, sym, ◌∙◌}
+use Rattle.std.proofs.Common.{ap, ap₂, subst, arith, append-nil, append_assoc, take, drop, take-append-drop, false, Bool}
 use Rattle.std.proofs.Common.{IsTrue, Some, Result, Ok, Err, MatchResult}
 use Rattle.cbor_skip.specs.Due.{ItemDue}
 use Rattle.cbor_deterministic.specs.declared.TheConstants.{MAX_DEPTH}
@@ -27,6 +27,11 @@ use Rattle.cbor_deterministic.proofs.Law.{one_deterministic, some_value}
 use Rattle.cbor_canonical.specs.Canonical.{IsRewritten, IsCanonical, IsFittingSpelling}
 use Rattle.cbor_canonical.specs.Meeting.{MeetsAt, IsNoValue}
 use Rattle.cbor_canonical.specs.Refusals.{HasRefusal, HasNoSimple, HasWhy, IsRefusalOf, IsUnwritten}
+use Rattle.std.proofs.Math.Seq.{take-append_seam}
+use Rattle.ciborium_ll_grammar.proofs.ItemLaws.{one_item}
+use Rattle.cbor_deterministic.specs.Laws.{IsSpelling}
+use Rattle.cbor_canonical.proofs.SpelledLaws.{none_more}
+use Rattle.cbor_canonical.specs.Room.{IsTooSmall, LacksMemory}
 use Rattle.cbor_canonical.specs.Runs.{Turns, FailsItem}
 use Rattle.cbor_canonical.specs.declared.Stop.{Stop}
 use Rattle.cbor_canonical.specs.declared.Stop.TheVariants as st
@@ -86,44 +91,142 @@ module _ {R E : Type 0} (source : Ghosts R E) where
     fits-chunk = omega (arith, fresh.offset, chunk);
   }
 
-  refusal_go : (d : ℕ) (bytes : List ℕ) (old new : Decoder R) (skipped : Result (Unit {0}) (SkipError E))
+  refusal_go : (d offset : ℕ) (bytes : List ℕ) (old new : Decoder R) (skipped : Result (Unit {0}) (SkipError E))
       (result : Result ℕ Refusal) → SkipsTold source false d bytes old skipped new → old.offset ≡ 0
-      → IsRefusalOf (length bytes) skipped result
-      → MatchResult result (λ done. BeginsWithItem false d bytes) (λ r. HasRefusal d bytes r.why r.place)
-  refusal_go d bytes old new (Ok done) (Ok other) told start is = told.front
-  refusal_go d bytes old new (Ok done) (Err r) told start is = absurd is
-  refusal_go d bytes old new (Err (s.Break place)) (Ok other) told start is = absurd is
-  refusal_go d bytes old new (Err (s.Break place)) (Err r) told start is =
+      → offset ≡ new.offset → IsRefusalOf (length bytes) offset skipped result
+      → MatchResult result (λ len. (front : BeginsWithItem false d bytes) × (len ≡ length front.item))
+      (λ r. HasRefusal d bytes r.why r.place)
+  refusal_go d offset bytes old new (Ok done) (Ok other) told start end is =
+      (told.front, omega (arith, is, end, told.offset, start))
+  refusal_go d offset bytes old new (Ok done) (Err r) told start end is = absurd is
+  refusal_go d offset bytes old new (Err (s.Break place)) (Ok other) told start end is = absurd is
+  refusal_go d offset bytes old new (Err (s.Break place)) (Err r) told start end is =
       rw is.0 (told.fault, omega (arith, is.1, told.place, start))
-  refusal_go d bytes old new (Err (s.Deep place)) (Ok other) told start is = absurd is
-  refusal_go d bytes old new (Err (s.Deep place)) (Err r) told start is =
+  refusal_go d offset bytes old new (Err (s.Deep place)) (Ok other) told start end is = absurd is
+  refusal_go d offset bytes old new (Err (s.Deep place)) (Err r) told start end is =
       rw is.0 (told.fault, omega (arith, is.1, told.place, start))
-  refusal_go d bytes old new (Err (s.Read (e.Syntax place))) (Ok other) told start is = absurd is
-  refusal_go d bytes old new (Err (s.Read (e.Syntax place))) (Err r) told start is =
+  refusal_go d offset bytes old new (Err (s.Read (e.Syntax place))) (Ok other) told start end is = absurd is
+  refusal_go d offset bytes old new (Err (s.Read (e.Syntax place))) (Err r) told start end is =
       let named : told.0 ≡ r.place = omega (arith, told.1, start, is.1) in
       rw is.0 (told.2.fault, told.2.answered ∙ ap Syntax named)
-  refusal_go d bytes old new (Err (s.Read (e.Io fault))) (Ok other) told start is = absurd is
-  refusal_go d bytes old new (Err (s.Read (e.Io fault))) (Err r) told start is =
+  refusal_go d offset bytes old new (Err (s.Read (e.Io fault))) (Ok other) told start end is = absurd is
+  refusal_go d offset bytes old new (Err (s.Read (e.Io fault))) (Err r) told start end is =
       rw is.0 (told.fault, told.answered, is.1)
-  refusal_go d bytes old new (Err (s.Read e.TooLong)) result told start is = absurd told
-  refusal_go d bytes old new (Err (s.Read e.Waiting)) result told start is = absurd told
+  refusal_go d offset bytes old new (Err (s.Read e.TooLong)) result told start end is = absurd told
+  refusal_go d offset bytes old new (Err (s.Read e.Waiting)) result told start end is = absurd told
 
-  pub refusal_said : (d : ℕ) (bytes : List ℕ) (old new : Decoder R) (skipped : Result (Unit {0}) (SkipError E))
+  pub refusal_said : (d offset : ℕ) (bytes : List ℕ) (old new : Decoder R) (skipped : Result (Unit {0}) (SkipError E))
       (result : Result ℕ Refusal) → SkipsTold source old.strict d bytes old skipped new
-      → old.strict ≡ false → old.offset ≡ 0 → IsRefusalOf (length bytes) skipped result
-      → MatchResult result (λ done. BeginsWithItem false d bytes) (λ r. HasRefusal d bytes r.why r.place)
-  refusal_said d bytes old new skipped result told mode start is =
-      refusal_go d bytes old new skipped result
-      (subst (λ (b : Bool). SkipsTold source b d bytes old skipped new) mode told) start is
+      → old.strict ≡ false → old.offset ≡ 0 → offset ≡ new.offset → IsRefusalOf (length bytes) offset skipped result
+      → MatchResult result (λ len. (front : BeginsWithItem false d bytes) × (len ≡ length front.item))
+      (λ r. HasRefusal d bytes r.why r.place)
+  refusal_said d offset bytes old new skipped result told mode start end is =
+      refusal_go d offset bytes old new skipped result
+      (subst (λ (b : Bool). SkipsTold source b d bytes old skipped new) mode told) start end is
 
 -- ---- the answer
 
-pub is_canonical : (ord : Order) (d : ℕ) (bytes rest start written : List ℕ) → start ≡ []
-    → Turns (IsRewritten ord d) bytes rest start written → IsCanonical ord d bytes rest written
-is_canonical ord d bytes rest start written e t = record {
-  item = t.front;
-  whole = t.whole;
-  is = subst (λ (z : List ℕ). IsRewritten ord d t.front z) (sym (t.wrote ∙ ap (λ (z : List ℕ). z ++ t.written) e)) t.is;
+-- The bytes before the length of the item that begins them are the item.
+pub item_split : (d len : ℕ) (bytes : List ℕ) (front : BeginsWithItem false d bytes) → len ≡ length front.item
+    → (len ≤ length bytes) × IsItem false d (take len bytes) × (bytes ≡ take len bytes ++ drop len bytes)
+item_split d len bytes front e =
+    let same : take len bytes ≡ front.item =
+    ap₂ (λ (n : ℕ) (w : List ℕ). take n w) e front.is ∙ take-append_seam front.item front.rest in (
+      omega (arith, e, ap (length {A = ℕ}) front.is, length-append front.item front.rest),
+      subst (IsItem false d) (sym same) front.is_item,
+      sym (take-append-drop len bytes),
+    )
+
+-- An item begins its own bytes.
+pub alone : (d : ℕ) (item : List ℕ) → IsItem false d item → BeginsWithItem false d item
+alone d item i = record { item = item; rest = []; is_item = i; is = sym (append-nil item) }
+
+-- What a call writes for an item alone.
+pub item_written : (ord : Order) (d : ℕ) (item rest start written : List ℕ) → start ≡ [] → IsItem false d item
+    → Turns (IsRewritten ord d) item rest start written → IsRewritten ord d item written
+item_written ord d item rest start written e i t =
+    let one = one_item false false d d t.front item rest [] t.is.is_item i (sym t.whole ∙ sym (append-nil item)) in
+    subst (λ (z : List ℕ). IsRewritten ord d z written) one.0
+    (subst (λ (z : List ℕ). IsRewritten ord d t.front z)
+    (sym (t.wrote ∙ ap (λ (z : List ℕ). z ++ t.written) e)) t.is)
+
+-- What is refused of an item is refused of the bytes that it begins.
+pub unwritten_more : (d : ℕ) (bytes item rest : List ℕ) (error : CanonicalError) → IsItem false d item
+    → bytes ≡ item ++ rest → IsUnwritten d item error → IsUnwritten d bytes error
+unwritten_more d bytes item rest Memory i z q =
+    record { item = item; rest = rest; is_item = i; is = z }
+unwritten_more d bytes item rest (Refused r) i z q = go r.why r.place q
+  where
+    all : BeginsWithItem false d bytes
+    all = record { item = item; rest = rest; is_item = i; is = z }
+
+    go : (why : Why) (place : ℕ) → HasRefusal d item why place → HasRefusal d bytes why place
+    go w.Cut place h = absurd (no_item_fault false d item (alone d item i) h.0)
+    go w.Malformed place h = absurd (no_item_fault false d item (alone d item i) h.0)
+    go w.Break place h = absurd (no_early_break false d item (alone d item i) h.0)
+    go w.Deep place h = absurd (no_deep_nest false d item (alone d item i) h.0)
+    go w.NoSimple place h = (
+      all,
+      none_more IsSpelling d bytes item rest (λ f s. s) i z h.1,
+      record {
+        before = h.2.before;
+        number = h.2.number;
+        rest = h.2.rest ++ rest;
+        levels = h.2.levels;
+        closable = h.2.closable;
+        item_due = h.2.item_due;
+        least = h.2.least;
+        most = h.2.most;
+        is = z ∙ ap (λ (v : List ℕ). v ++ rest) h.2.is
+            ∙ append_assoc h.2.before (0xf8 ∷ h.2.number ∷ h.2.rest) rest;
+        place_is = h.2.place_is;
+      },
+    )
+    go w.DuplicateKey place h =
+        let k = h.2 in (
+          all,
+          none_more IsFittingSpelling d bytes item rest
+              (λ f s. record { value = s.value; encodes = s.encodes }) i z h.1,
+          record {
+            before = k.before;
+            title = k.title;
+            count = k.count;
+            levels = k.levels;
+            closable = k.closable;
+            item_due = k.item_due;
+            is_title = k.is_title;
+            pairs = k.pairs;
+            front = k.front;
+            front_items = k.front_items;
+            key = k.key;
+            is_key = k.is_key;
+            more = k.more;
+            between = k.between;
+            between_items = k.between_items;
+            again = k.again;
+            is_again = k.is_again;
+            value = k.value;
+            other = k.other;
+            key_encodes = k.key_encodes;
+            again_encodes = k.again_encodes;
+            same = k.same;
+            rest = k.rest ++ rest;
+            is = z ∙ ap (λ (v : List ℕ). v ++ rest) k.is ∙ simp append_assoc;
+            place_is = k.place_is;
+          },
+        )
+
+-- An item that is written is canonical at the beginning of the bytes.
+pub is_canonical : (ord : Order) (d : ℕ) (bytes item rest written : List ℕ) → bytes ≡ item ++ rest
+    → IsRewritten ord d item written → IsCanonical ord d bytes rest written
+is_canonical ord d bytes item rest written z r = record { item = item; whole = z; is = r }
+
+-- Memory that is too small for an item is too small for the bytes that it begins.
+pub lacks_memory : (d room places : ℕ) (bytes item rest : List ℕ) → IsItem false d item → bytes ≡ item ++ rest
+    → IsTooSmall (length item) room places → LacksMemory d bytes room places
+lacks_memory d room places bytes item rest i z small = record {
+  front = record { item = item; rest = rest; is_item = i; is = z };
+  small = small;
 }
 
 -- A simple value that a call meets is one in the item, at the place that many bytes before the end.
@@ -151,7 +254,7 @@ pub no_simple : (d left : ℕ) (bytes : List ℕ) (stop : Stop) (error : Canonic
 no_simple d left bytes stop (Refused r) e i s q =
     let f = subst (λ (z : Stop). FailsItem d bytes z) s q in
     rw e.0 (i, f.0, no_simple_there d left r.place bytes f.1 e.1)
-no_simple d left bytes stop Memory e i s q = tt
+no_simple d left bytes stop Memory e i s q = i
 
 -- A key that a call meets is in the item, at the place that many bytes before the end.
 same_key_there : (d left place : ℕ) (bytes : List ℕ) → MeetsAt (IsSameKey left) d bytes
@@ -209,7 +312,7 @@ pub duplicate_key : (d left : ℕ) (bytes : List ℕ) (stop : Stop) (error : Can
 duplicate_key d left bytes stop (Refused r) e i s shallow q =
     let f = subst (λ (z : Stop). FailsItem d bytes z) s q in
     rw e.0 (i, f.0, same_key_there d left r.place bytes (f.1 shallow) e.1)
-duplicate_key d left bytes stop Memory e i s shallow q = tt
+duplicate_key d left bytes stop Memory e i s shallow q = i
 
 pub item_there : (d : ℕ) (bytes : List ℕ) (stop : Stop) → BeginsWithItem false d bytes → stop ≡ st.Malformed
     → FailsItem d bytes stop → ⊥

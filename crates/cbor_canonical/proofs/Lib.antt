@@ -15,3 +15,7 @@ pub mod FailRuns
 pub mod SameLaws
 pub mod MapRuns
 pub mod CanonicalLaws
+pub mod SpelledLaws
+pub mod RoomRuns
+pub mod RoomStrings
+pub mod RoomPairs

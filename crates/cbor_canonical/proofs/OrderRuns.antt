@@ -33,7 +33,8 @@ module _ (at end : ℕ) (out : List ℕ) (ss : List Span) (es : List Entry) (l :
       ap (entries_at out) p.places
       ∙ entries_there (take at out) (drop end out) out at es whole (sym (length-take-le at out (omega (arith, l, m))))
 
-  moved_there : (ts : List Span) → IsPermutation ss ts → IsPermutation es (entries_at out ts)
+  -- Places in another order have the pairs in another order.
+  pub moved_there : (ts : List Span) → IsPermutation ss ts → IsPermutation es (entries_at out ts)
   moved_there ts perm =
       subst (λ (z : List Entry). IsPermutation z (entries_at out ts)) placed_there
       (IsPermutation-map (entry_at out) ss ts perm)

@@ -177,18 +177,21 @@ piece_is out at end s w =
     part_of_part out at end s.start s.end w.0 (omega (arith, w.1, w.2)) w.3
     ∙ sym (parts_meet s.start s.key_end s.end out w.1 w.2)
 
-all_at : (P : Span → Type 0) (ss : List Span) (i : ℕ) (d : Span) → i < length ss → AllByRecursion P ss
+-- What holds of each place holds of the one of an index.
+pub all_at : (P : Span → Type 0) (ss : List Span) (i : ℕ) (d : Span) → i < length ss → AllByRecursion P ss
     → P (slice_index_or ss i d)
 all_at P [] i d l a = absurd (omega arith)
 all_at P (s ∷ ss) zero d l a = a.0
 all_at P (s ∷ ss) (suc i) d l a = all_at P ss i d (omega arith) a.1
 
-entries_last : (out : List ℕ) (ss : List Span) (s : Span)
+-- The pair of the last place is the last pair.
+pub entries_last : (out : List ℕ) (ss : List Span) (s : Span)
     → entries_at out (ss ++ s ∷ []) ≡ entries_at out ss ++ entry_at out s ∷ []
 entries_last out [] s = refl
 entries_last out (t ∷ ss) s = ap (λ (z : List Entry). entry_at out t ∷ z) (entries_last out ss s)
 
-same_bounds : (ss sp : List Span) (i : ℕ) → i < length ss → map bounds sp ≡ map bounds ss
+-- Places with the same bounds have the same bounds at each index.
+pub same_bounds : (ss sp : List Span) (i : ℕ) → i < length ss → map bounds sp ≡ map bounds ss
     → bounds (slice_index_or sp i nowhere) ≡ bounds (slice_index_or ss i nowhere)
 same_bounds ss sp i l e =
     let long : length sp ≡ length ss = sym (length-map sp bounds) ∙ ap (length {A = ℕ × ℕ}) e ∙ length-map ss bounds in

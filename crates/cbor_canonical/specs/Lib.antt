@@ -4,6 +4,7 @@ pub mod Narrowing
 pub mod Places
 pub mod Reading
 pub mod Refusals
+pub mod Room
 pub mod Runs
 pub mod Strings
 pub mod Writing

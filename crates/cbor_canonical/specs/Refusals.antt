@@ -81,22 +81,24 @@ HasRefusal depth bytes w.NoSimple place =
 HasRefusal depth bytes w.DuplicateKey place =
     BeginsWithItem false depth bytes × NoneInFront IsFittingSpelling bytes × HasSameKey depth bytes place
 
--- Why nothing is written: the bytes are refused, or no memory is left. For `1c` it is `Malformed` at 0, or `Memory`.
+-- Why nothing is written: the bytes are refused. Or an item begins them, and no memory is left. For `1c` it is
+-- `Malformed` at 0, and for `01` it can be `Memory` alone.
 abbrev pub IsUnwritten : ℕ → List ℕ → CanonicalError → Type 0
 IsUnwritten depth bytes (Refused refusal) = HasRefusal depth bytes refusal.why refusal.place
-IsUnwritten depth bytes Memory = Unit {0}
+IsUnwritten depth bytes Memory = BeginsWithItem false depth bytes
 
 -- The error refuses for this reason at this place. `Cut` at 2 does so for `Cut` and 2, and `Memory` for no reason.
 abbrev pub HasWhy : Why → ℕ → CanonicalError → Type 0
 HasWhy why place (Refused refusal) = (refusal.why ≡ why) × (refusal.place ≡ place)
 HasWhy why place Memory = ⊥
 
--- The refusal for the error of a skip over this many bytes, or none without an error. Over 3 bytes `Break` at 1 gives
--- `Break` at 1, and an error of the reader gives `Cut` at 3.
-abbrev pub IsRefusalOf : {E : Type 0} → ℕ → Result (Unit {0}) (SkipError E) → Result ℕ Refusal → Type 0
-IsRefusalOf len (Ok done) (Ok other) = Unit {0}
-IsRefusalOf len (Err (s.Break place)) (Err refusal) = (refusal.why ≡ w.Break) × (refusal.place ≡ place)
-IsRefusalOf len (Err (s.Deep place)) (Err refusal) = (refusal.why ≡ w.Deep) × (refusal.place ≡ place)
-IsRefusalOf len (Err (s.Read (e.Syntax place))) (Err refusal) = (refusal.why ≡ w.Malformed) × (refusal.place ≡ place)
-IsRefusalOf len (Err (s.Read error)) (Err refusal) = (refusal.why ≡ w.Cut) × (refusal.place ≡ len)
-IsRefusalOf len skipped result = ⊥
+-- The refusal for the error of a skip over this many bytes, or the offset after it without an error. Over 3 bytes
+-- `Break` at 1 gives `Break` at 1, and an error of the reader gives `Cut` at 3.
+abbrev pub IsRefusalOf : {E : Type 0} → ℕ → ℕ → Result (Unit {0}) (SkipError E) → Result ℕ Refusal → Type 0
+IsRefusalOf len offset (Ok done) (Ok skipped) = skipped ≡ offset
+IsRefusalOf len offset (Err (s.Break place)) (Err refusal) = (refusal.why ≡ w.Break) × (refusal.place ≡ place)
+IsRefusalOf len offset (Err (s.Deep place)) (Err refusal) = (refusal.why ≡ w.Deep) × (refusal.place ≡ place)
+IsRefusalOf len offset (Err (s.Read (e.Syntax place))) (Err refusal) =
+    (refusal.why ≡ w.Malformed) × (refusal.place ≡ place)
+IsRefusalOf len offset (Err (s.Read error)) (Err refusal) = (refusal.why ≡ w.Cut) × (refusal.place ≡ len)
+IsRefusalOf len offset skipped result = ⊥

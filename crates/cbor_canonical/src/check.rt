@@ -1,6 +1,7 @@
 //! The check that an item begins some bytes, before it is rewritten.
 
-ghost use Rattle.std.specs.Prelude.{◌≤◌, MatchResult, false, length};
+ghost use Rattle.std.specs.Prelude.{◌≡◌, ◌++◌, ◌≤◌, MatchResult, false, length};
+ghost use Rattle.ciborium_ll_grammar.specs.Items.{IsItem};
 ghost use Rattle.cbor_skip.specs.ItemFaults.{BeginsWithItem};
 ghost use Rattle.cbor_canonical.specs.Refusals.{HasRefusal, IsRefusalOf};
 
@@ -13,10 +14,21 @@ use ciborium_ll_io::io::{EndOfFile, SliceReader};
 /// The most bytes of a string that the check reads at a time.
 const BUFFER_SIZE: usize = 256;
 
-/// Checks that an item to the depth begins the bytes, and returns its length.
-pub(crate) fn check_item(bytes: &[u8], depth: usize) -> Result<usize, Refusal>
+/// Returns the item to the depth that begins the bytes, and the rest of them.
+pub(crate) fn split_item(bytes: &[u8], depth: usize) -> Result<(&[u8], &[u8]), Refusal>
     requires shallow { depth ≤ MAX_DEPTH }
-    ensures { MatchResult result (λ len. BeginsWithItem false depth bytes.now)
+    ensures { MatchResult result
+        (λ found. IsItem false depth found.0.now × (bytes.now ≡ found.0.now ++ found.1.now))
+        (λ refusal. HasRefusal depth bytes.now refusal.why refusal.place) }
+{
+    let len = check_item(bytes, depth)?;
+    Ok(bytes.split_at(len))
+}
+
+/// Checks that an item to the depth begins the bytes, and returns its length.
+fn check_item(bytes: &[u8], depth: usize) -> Result<usize, Refusal>
+    requires shallow { depth ≤ MAX_DEPTH }
+    ensures { MatchResult result (λ len. (front : BeginsWithItem false depth bytes.now) × (len ≡ length front.item))
         (λ refusal. HasRefusal depth bytes.now refusal.why refusal.place) }
 {
     let mut buffer = [0; BUFFER_SIZE];
@@ -31,7 +43,7 @@ fn refusal_of(
     len: usize,
     offset: usize,
 ) -> Result<usize, Refusal>
-    ensures { IsRefusalOf len skipped result }
+    ensures { IsRefusalOf len offset skipped result }
 {
     match skipped {
         Ok(()) => Ok(offset),

@@ -6,9 +6,11 @@
 #![tactic(auto)]
 
 ghost use Rattle.std.specs.Prelude.{◌≡◌, ◌≤◌, ◌-◌, IfOk, MatchResult, false, length, take};
-ghost use Rattle.cbor_skip.specs.ItemFaults.{BeginsWithItem};
-ghost use Rattle.cbor_canonical.specs.Canonical.{IsCanonical};
+ghost use Rattle.ciborium_ll_grammar.specs.Items.{IsItem};
+ghost use Rattle.cbor_canonical.specs.declared.CanonicalError.TheVariants.{Memory as NoMemory};
+ghost use Rattle.cbor_canonical.specs.Canonical.{IsCanonical, IsRewritten};
 ghost use Rattle.cbor_canonical.specs.Refusals.{HasWhy, IsUnwritten};
+ghost use Rattle.cbor_canonical.specs.Room.{IsTooSmall, LacksMemory};
 
 mod check;
 pub mod laws;
@@ -19,14 +21,14 @@ mod strings;
 mod title;
 mod walk;
 
-use crate::check::check_item;
+use crate::check::split_item;
 pub use crate::pairs::Span;
 use crate::rewrite::rewrite_item;
 use cbor_deterministic::{MAX_DEPTH, Order};
 use std::alloc::{AllocError, Global};
 
-/// The room that an encoding may take beyond the length of the bytes and a 256th of it.
-const SPARE_ROOM: usize = 16;
+/// An encoding has at most one byte more for this many bytes of its item.
+const BYTES_PER_SPARE: usize = 256;
 
 /// The place of no pair.
 const NO_SPAN: Span = Span {
@@ -125,10 +127,10 @@ impl From<Refusal> for CanonicalError {
 ///
 /// # Time and memory
 ///
-/// Of `n` bytes the encoding takes at most `n + n / 256 + 16`, and `n` spans are enough: tests say so. The contents of
-/// `spans` are unknown after the call. The call reads the bytes twice. It sorts the pairs of a map whose keys do not
-/// ascend, in `n * log n` comparisons of keys. It moves a byte once for each such map, and each map or array of
-/// indefinite length, that contains the byte. On the stack each level takes the frames of six calls.
+/// For an item of `n` bytes, `n + n / 256` bytes of `out` and half as many spans are enough. The contents of `spans` are
+/// unknown after the call. The call reads the bytes twice. It sorts the pairs of a map whose keys do not ascend, in
+/// `n * log n` comparisons of keys. It moves a byte once for each such map, and each map or array of indefinite length,
+/// that contains the byte. On the stack each level takes the frames of six calls.
 pub fn canonical_into<'a>(
     bytes: &'a [u8],
     depth: usize,
@@ -140,29 +142,32 @@ pub fn canonical_into<'a>(
     ensures written { MatchResult result
         (λ found. IsCanonical order depth bytes.now found.1.now (take found.0 out.new)) (IsUnwritten depth bytes.now) }
     ensures within { IfOk result (λ found. found.0 ≤ length out.new) }
+    ensures room { result ≡ Err NoMemory → LacksMemory depth bytes.now (length out.old) (length spans.old) }
 {
-    check_item(bytes, depth)?;
-    rewrite_checked(bytes, depth, order, out, spans)
+    let (item, rest) = split_item(bytes, depth)?;
+    let end = rewrite_checked(item, depth, order, out, spans)?;
+    Ok((end, rest))
 }
 
-/// Writes as [`canonical_into`] does, for bytes that begin with an item.
-fn rewrite_checked<'a>(
-    bytes: &'a [u8],
+/// Writes the deterministic encoding of an item to the start of `out`, and returns the encoding's length.
+fn rewrite_checked(
+    item: &[u8],
     depth: usize,
     order: Order,
     out: &mut [u8],
     spans: &mut [Span],
-) -> Result<(usize, &'a [u8]), CanonicalError>
+) -> Result<usize, CanonicalError>
     requires shallow { depth ≤ MAX_DEPTH }
-    requires begins { BeginsWithItem false depth bytes.now }
-    ensures written { MatchResult result
-        (λ found. IsCanonical order depth bytes.now found.1.now (take found.0 out.new)) (IsUnwritten depth bytes.now) }
-    ensures within { IfOk result (λ found. found.0 ≤ length out.new) }
+    requires is_item { IsItem false depth item.now }
+    ensures written { MatchResult result (λ end. IsRewritten order depth item.now (take end out.new))
+        (IsUnwritten depth item.now) }
+    ensures within { IfOk result (λ end. end ≤ length out.new) }
+    ensures room { result ≡ Err NoMemory → IsTooSmall (length item.now) (length out.old) (length spans.old) }
 {
-    match rewrite_item(bytes, depth, order, out, 0, spans) {
-        Ok((rest, end)) => Ok((end, rest)),
-        Err(Stop::NoSimple(left)) => Err(refused(Why::NoSimple, bytes.len(), left)),
-        Err(Stop::Duplicate(left)) => Err(refused(Why::DuplicateKey, bytes.len(), left)),
+    match rewrite_item(item, depth, order, out, 0, spans) {
+        Ok((_, end)) => Ok(end),
+        Err(Stop::NoSimple(left)) => Err(refused(Why::NoSimple, item.len(), left)),
+        Err(Stop::Duplicate(left)) => Err(refused(Why::DuplicateKey, item.len(), left)),
         Err(Stop::Room) => Err(CanonicalError::Memory),
         Err(Stop::Malformed) => unreachable!(),
     }
@@ -177,7 +182,7 @@ fn rewrite_checked<'a>(
 ///
 /// # Time and memory
 ///
-/// The call takes `n + n / 256 + 16` bytes and half as many spans for an item of `n` bytes, and gives the spans back.
+/// The call takes `n + n / 256` bytes and half as many spans for an item of `n` bytes, and gives the spans back.
 pub fn canonical(
     alloc: Global,
     bytes: &[u8],
@@ -188,16 +193,21 @@ pub fn canonical(
     ensures { MatchResult result (λ found. IsCanonical order depth bytes.now found.1.now found.0.items)
         (IsUnwritten depth bytes.now) }
 {
-    let len = check_item(bytes, depth)?;
-    let room = len.saturating_add(len / 256).saturating_add(SPARE_ROOM);
+    let (item, rest) = split_item(bytes, depth)?;
+    let room = item.len() + item.len() / BYTES_PER_SPARE;
     let mut out = Vec::new(alloc);
     out.resize(room, 0)?;
     let mut spans = Vec::new(alloc);
     spans.resize(room / 2, NO_SPAN)?;
-    let (out_bytes, places) = (out.as_mut_slice(), spans.as_mut_slice());
-    let (end, rest) = rewrite_checked(bytes, depth, order, out_bytes, places)?;
-    out.truncate(end);
-    Ok((out, rest))
+    match rewrite_checked(item, depth, order, out.as_mut_slice(), spans.as_mut_slice()) {
+        Ok(end) => {
+            out.truncate(end);
+            Ok((out, rest))
+        }
+        // The memory is enough.
+        Err(CanonicalError::Memory) => unreachable!(),
+        Err(error) => Err(error),
+    }
 }
 
 /// Returns the error for a place that is `left` bytes before the end of the `len` bytes.

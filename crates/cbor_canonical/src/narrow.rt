@@ -1,6 +1,7 @@
 //! Floats in the smallest width that has them (RFC 8949, 4.1).
 
-ghost use Rattle.std.specs.Prelude.{MatchOption};
+ghost use Rattle.std.specs.Prelude.{◌≤◌, MatchOption, length};
+ghost use Rattle.ciborium_ll_grammar.specs.Title.{float_title};
 ghost use Rattle.ciborium_ll_grammar.specs.declared.hdr.Float.TheVariants.{Single};
 ghost use Rattle.cbor_deterministic.specs.Floats.{half, single, double, parts, IsWidened, HasNarrower};
 ghost use Rattle.cbor_canonical.specs.Narrowing.{IsNarrowestOf};
@@ -10,7 +11,8 @@ use ciborium_ll_grammar::hdr::Float;
 
 /// Returns the float in the smallest width that holds it: by its value, or a NaN by its sign and payload.
 pub fn narrowest(float: Float) -> Float
-    ensures { IsNarrowestOf float result }
+    ensures narrow { IsNarrowestOf float result }
+    ensures no_longer { length (float_title result) ≤ length (float_title float) }
 {
     match float {
         Float::Half(_) => float,
@@ -24,7 +26,8 @@ pub fn narrowest(float: Float) -> Float
 
 /// Returns the float of 32 bits with these bits in the smallest width that holds it.
 fn narrow_single(bits: u32) -> Float
-    ensures { IsNarrowestOf (Single bits) result }
+    ensures narrow { IsNarrowestOf (Single bits) result }
+    ensures no_longer { length (float_title result) ≤ length (float_title (Single bits)) }
 {
     match as_half(bits) {
         Some(narrow) => Float::Half(narrow),

@@ -1,13 +1,14 @@
 //! The pairs of a map, put in the order of their keys within the output.
 
 ghost use Rattle.std.specs.Prelude.{◌≡◌, ◌+◌, ◌-◌, ◌*◌, ◌<◌, ◌≤◌, ◌++◌, List, ℕ, false, length, take, drop};
-ghost use Rattle.std.specs.Prelude.{IfOk, MatchOption, MatchResult, map, slice_index, slice_index_or};
+ghost use Rattle.std.specs.Prelude.{IfErr, IfOk, MatchOption, MatchResult, map, slice_index, slice_index_or};
+ghost use Rattle.std.specs.List.{AllByRecursion};
 ghost use Rattle.std.specs.List.{sum_by};
 ghost use Rattle.std.specs.List.Sorted.{IsPermutation};
 ghost use Rattle.cbor_canonical.specs.declared.Stop.TheVariants.{Room as NoRoom};
-ghost use Rattle.cbor_canonical.specs.Runs.{AreSorted, DoAscend};
+ghost use Rattle.cbor_canonical.specs.Runs.{AreSorted, DoAscend, Entry, joined_pairs};
 ghost use Rattle.cbor_canonical.specs.Places.{entries_at, key_at, bounds, IsSaved, HasDisorder, OrdersPairs};
-ghost use Rattle.cbor_canonical.specs.Places.{MovesPairs, PutsSpan};
+ghost use Rattle.cbor_canonical.specs.Places.{ArePlaced, IsWithin, MovesPairs, PutsSpan};
 ghost use Rattle.cbor_canonical.specs.Places.{later_start, nowhere, starts_before};
 ghost use Rattle.cbor_canonical.specs.Writing.{Adds};
 ghost use Rattle.cbor_deterministic.specs.declared.TheConstants.{MAX_DEPTH};
@@ -32,7 +33,8 @@ pub struct Span {
 
 /// Writes down the place of a pair after those of `done` pairs.
 pub(crate) fn put_span(spans: &mut [Span], done: usize, span: Span) -> Result<(), Stop>
-    ensures { MatchResult result (λ put. PutsSpan done span spans.old spans.new) (λ stop. stop ≡ NoRoom) }
+    ensures put { MatchResult result (λ put. PutsSpan done span spans.old spans.new) (λ stop. stop ≡ NoRoom) }
+    ensures room { IfErr result (λ stop. length spans.old ≤ done) }
 {
     if done >= spans.len() {
         return Err(Stop::Room);
@@ -97,9 +99,10 @@ fn byte_or_zero(bytes: &[u8], at: usize) -> u8
 
 /// Saves the bytes in the ends of keys, two in each.
 fn save_bytes(bytes: &[u8], spans: &mut [Span]) -> Result<(), Stop>
-    ensures { MatchResult result
+    ensures saved { MatchResult result
         (λ done. IsSaved bytes.now spans.new × (map bounds spans.new ≡ map bounds spans.old))
         (λ stop. stop ≡ NoRoom) }
+    ensures room { IfErr result (λ stop. 2 * length spans.old < length bytes.now) }
 {
     let cells = bytes.len() / 2 + bytes.len() % 2;
     if spans.len() < cells {
@@ -140,6 +143,7 @@ fn put_saved(
         → Adds (take (to - from) (drop from bytes)) at end out.old out.new)
         (λ stop. stop ≡ NoRoom) }
     ensures within { IfOk result (λ end. (at ≤ end) × (end ≤ length out.new)) }
+    ensures room { IfErr result (λ stop. length out.old < at + (to - from)) }
 {
     let mut next = from;
     let mut end = at;
@@ -166,8 +170,11 @@ fn move_pairs(
     requires start { at ≤ end }
     requires end { end ≤ length out.old }
     requires held { done ≤ length spans.old }
-    ensures { MatchResult result (λ after. MovesPairs at end after (take done spans.old) out.old out.new)
+    ensures moved { MatchResult result (λ after. MovesPairs at end after (take done spans.old) out.old out.new)
         (λ stop. stop ≡ NoRoom) }
+    ensures room { IfErr result (λ stop. AllByRecursion (IsWithin at end) (take done spans.old)
+        → at + length (joined_pairs (entries_at out.old (take done spans.old))) ≤ end
+        → 2 * length spans.old < end - at) }
 {
     save_bytes(&out[at..end], spans)?;
     let mut place = at;
@@ -230,7 +237,9 @@ pub(crate) fn order_pairs(
     requires start { at ≤ end }
     requires end { end ≤ length out.old }
     requires held { done ≤ length spans.old }
-    ensures { OrdersPairs order depth bytes.now at end (take done spans.old) out.old result out.new }
+    ensures ordered { OrdersPairs order depth bytes.now at end (take done spans.old) out.old result out.new }
+    ensures room { IfErr result (λ stop. stop ≡ NoRoom → (entries : List Entry)
+        → ArePlaced at end (take done spans.old) out.old entries → 2 * length spans.old < end - at) }
 {
     let Some(_) = disorder(&spans[..done], out, order) else {
         return Ok(end);

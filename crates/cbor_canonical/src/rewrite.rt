@@ -1,11 +1,13 @@
 //! Items of any spelling, rewritten to the deterministic encoding of their values in memory that a caller lends.
 
-ghost use Rattle.std.specs.Prelude.{◌≡◌, ◌∷◌, ◌≤◌, List, ℕ, suc, length, None, MatchOption, MatchResult};
+ghost use Rattle.std.specs.Prelude.{◌≡◌, ◌∷◌, ◌+◌, ◌*◌, ◌≤◌, List, ℕ, suc, length, None, MatchOption, MatchResult};
 ghost use Rattle.cbor_canonical.specs.Canonical.{IsRewritten};
 ghost use Rattle.cbor_canonical.specs.Runs.{Turns, IsCompleted, TurnsItems, FailsItem, FailsAfter};
 ghost use Rattle.cbor_canonical.specs.Runs.{FailsRest, FailsItems, FailsPairs, FailsPair};
 ghost use Rattle.cbor_canonical.specs.Places.{WritesPair, WritesPairs, WritesMap};
+ghost use Rattle.cbor_canonical.specs.Room.{Grows, LacksRoom, end_len};
 ghost use Rattle.cbor_canonical.specs.Writing.{Extends};
+ghost use Rattle.ciborium_ll_grammar.specs.Title.{IsTitle};
 ghost use Rattle.ciborium_ll_grammar.specs.declared.hdr.Header.TheVariants.{Array as ArrayOf, Map as MapOf};
 
 use crate::Stop;
@@ -53,9 +55,11 @@ pub(crate) fn rewrite_item<'a>(
     spans: &mut [Span],
 ) -> Result<(&'a [u8], usize), Stop>
     requires { at ≤ length out.old }
-    ensures { MatchResult result
+    ensures written { MatchResult result
         (λ found. Extends (Turns (IsRewritten order depth) bytes.now found.0.now) at found.1 out.old out.new)
         (FailsItem depth bytes.now) }
+    ensures room { MatchResult result (λ found. Grows 1 (length bytes.now) (length found.0.now) at found.1)
+        (LacksRoom (length bytes.now) at (length out.old) (length bytes.now) (length spans.old)) }
 {
     match next_title(bytes) {
         Some((header, rest)) => {
@@ -79,9 +83,13 @@ fn rewrite_rest<'a>(
     spans: &mut [Span],
 ) -> Result<(&'a [u8], usize), Stop>
     requires { at ≤ length out.old }
-    ensures { MatchResult result
+    ensures written { MatchResult result
         (λ found. Extends (Turns (IsCompleted order depth header) bytes.now found.0.now) at found.1 out.old out.new)
         (FailsAfter depth header bytes.now left) }
+    ensures room { (title : List ℕ) → IsTitle title header → MatchResult result
+        (λ found. Grows 1 (length title + length bytes.now) (length found.0.now) at found.1)
+        (LacksRoom (length title + length bytes.now) at (length out.old) (length title + length bytes.now)
+        (length spans.old)) }
 {
     match header {
         Header::Positive(_) | Header::Negative(_) => {
@@ -128,9 +136,13 @@ fn rewrite_array<'a>(
     spans: &mut [Span],
 ) -> Result<(&'a [u8], usize), Stop>
     requires { at ≤ length out.old }
-    ensures { MatchResult result (λ found. Extends
+    ensures written { MatchResult result (λ found. Extends
         (Turns (IsCompleted order (suc depth) (ArrayOf count)) bytes.now found.0.now) at found.1 out.old out.new)
         (FailsRest (suc depth) (ArrayOf count) bytes.now) }
+    ensures room { (title : List ℕ) → IsTitle title (ArrayOf count) → MatchResult result
+        (λ found. Grows 1 (length title + length bytes.now) (length found.0.now) at found.1)
+        (LacksRoom (length title + length bytes.now) at (length out.old) (length title + length bytes.now)
+        (length spans.old)) }
 {
     match count {
         Some(told) => {
@@ -158,9 +170,12 @@ fn rewrite_items<'a>(
     spans: &mut [Span],
 ) -> Result<(usize, &'a [u8], usize), Stop>
     requires { at ≤ length out.old }
-    ensures { MatchResult result (λ found. Extends
+    ensures written { MatchResult result (λ found. Extends
         (TurnsItems order depth count found.0 bytes.now found.1.now) at found.2 out.old out.new)
         (FailsItems depth count bytes.now) }
+    ensures room { MatchResult result
+        (λ found. Grows found.0 (length bytes.now) (length found.1.now + end_len count) at found.2)
+        (LacksRoom (length bytes.now) at (length out.old) (length bytes.now) (length spans.old)) }
 {
     let limit = limit_of(count, bytes);
     let mut rest = bytes;
@@ -191,9 +206,13 @@ fn rewrite_map<'a>(
     spans: &mut [Span],
 ) -> Result<(&'a [u8], usize), Stop>
     requires { at ≤ length out.old }
-    ensures { MatchResult result (λ found. Extends
+    ensures written { MatchResult result (λ found. Extends
         (Turns (IsCompleted order (suc depth) (MapOf count)) bytes.now found.0.now) at found.1 out.old out.new)
         (FailsRest (suc depth) (MapOf count) bytes.now) }
+    ensures room { (title : List ℕ) → IsTitle title (MapOf count) → MatchResult result
+        (λ found. Grows 1 (length title + length bytes.now) (length found.0.now) at found.1)
+        (LacksRoom (length title + length bytes.now) at (length out.old) (length title + length bytes.now)
+        (length spans.old)) }
 {
     match count {
         Some(told) => {
@@ -222,9 +241,12 @@ fn rewrite_sorted<'a>(
     spans: &mut [Span],
 ) -> Result<(usize, &'a [u8], usize), Stop>
     requires { at ≤ length out.old }
-    ensures { MatchResult result (λ found. Extends
+    ensures written { MatchResult result (λ found. Extends
         (WritesMap order depth count found.0 bytes.now found.1.now) at found.2 out.old out.new)
         (FailsRest (suc depth) (MapOf count) bytes.now) }
+    ensures room { MatchResult result
+        (λ found. Grows (2 * found.0) (length bytes.now) (length found.1.now + end_len count) at found.2)
+        (LacksRoom (length bytes.now) at (length out.old) (1 + length bytes.now) (length spans.old)) }
 {
     let (done, rest, end) = rewrite_pairs(count, bytes, depth, order, out, at, spans)?;
     let after = order_pairs(bytes, depth, order, out, at, end, spans, done)?;
@@ -244,9 +266,12 @@ fn rewrite_pairs<'a>(
     spans: &mut [Span],
 ) -> Result<(usize, &'a [u8], usize), Stop>
     requires { at ≤ length out.old }
-    ensures { MatchResult result
+    ensures written { MatchResult result
         (λ found. WritesPairs order depth count found.0 bytes.now found.1.now at found.2 out.old out.new spans.new)
         (FailsPairs depth count bytes.now) }
+    ensures room { MatchResult result
+        (λ found. Grows (2 * found.0) (length bytes.now) (length found.1.now + end_len count) at found.2)
+        (LacksRoom (length bytes.now) at (length out.old) (1 + length bytes.now) (length spans.old)) }
 {
     let limit = limit_of(count, bytes);
     let mut rest = bytes;
@@ -279,9 +304,11 @@ fn rewrite_pair<'a>(
 ) -> Result<(&'a [u8], usize), Stop>
     requires start { at ≤ length out.old }
     requires held { done ≤ length spans.old }
-    ensures { MatchResult result
+    ensures written { MatchResult result
         (λ found. WritesPair order depth bytes.now found.0.now at found.1 out.old out.new done spans.old spans.new)
         (FailsPair depth bytes.now) }
+    ensures room { MatchResult result (λ found. Grows 2 (length bytes.now) (length found.0.now) at found.1)
+        (LacksRoom (length bytes.now) at (length out.old) (1 + 2 * done + length bytes.now) (length spans.old)) }
 {
     let (after, key_end) = rewrite_item(bytes, depth, order, out, at, &mut spans[done..])?;
     let (rest, end) = rewrite_item(after, depth, order, out, key_end, &mut spans[done..])?;

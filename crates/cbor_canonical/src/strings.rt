@@ -1,10 +1,13 @@
 //! Strings of any form, written after a title that has their length.
 
-ghost use Rattle.std.specs.Prelude.{◌≡◌, ◌↔◌, ◌<◌, ◌≤◌, ◌^◌, ℕ, Option, IsTrue, MatchOption, MatchResult, length};
+ghost use Rattle.std.specs.Prelude.{◌≡◌, ◌↔◌, ◌+◌, ◌<◌, ◌≤◌, ◌^◌, List, ℕ, Option, IfErr, IsTrue, MatchOption, length};
+ghost use Rattle.std.specs.Prelude.{MatchResult};
 ghost use Rattle.ciborium_ll_grammar.specs.Strings.{kind_header, IsWritable};
+ghost use Rattle.ciborium_ll_grammar.specs.Title.{IsTitle};
 ghost use Rattle.ciborium_ll_grammar.specs.Elements.{body_spelling};
 ghost use Rattle.ciborium_ll_text.specs.Text.{IsCharacters};
 ghost use Rattle.cbor_canonical.specs.declared.Stop.TheVariants.{Room as NoRoom};
+ghost use Rattle.cbor_canonical.specs.Room.{Grows, LacksRoom};
 ghost use Rattle.cbor_canonical.specs.Runs.{Turns};
 ghost use Rattle.cbor_canonical.specs.Strings.{kind_of, IsStep, HasNoStep, Gathers, IsBody, HasNoBody, IsStringTurned};
 ghost use Rattle.cbor_canonical.specs.Strings.{FailsGather, FailsString};
@@ -122,9 +125,11 @@ fn gather<'a>(
     at: usize,
 ) -> Result<(&'a [u8], usize), Stop>
     requires { at ≤ length out.old }
-    ensures { MatchResult result
+    ensures written { MatchResult result
         (λ found. Extends (Gathers (kind_of kind) bytes.now found.0.now) at found.1 out.old out.new)
         (FailsGather (kind_of kind) bytes.now) }
+    ensures room { MatchResult result (λ found. found.1 + length found.0.now < at + length bytes.now)
+        (λ stop. stop ≡ NoRoom → length out.old < at + length bytes.now) }
 {
     let mut rest = bytes;
     let mut end = at;
@@ -159,6 +164,7 @@ fn put_string(kind: StringKind, body: &[u8], out: &mut [u8], at: usize) -> Resul
     requires { at ≤ length out.old }
     ensures written { MatchResult result
         (λ end. Adds (body_spelling (kind_of kind) body.now) at end out.old out.new) (λ stop. stop ≡ NoRoom) }
+    ensures room { IfErr result (λ stop. length out.old < at + length (body_spelling (kind_of kind) body.now)) }
     ensures range { length body.now < 2 ^ 64 }
 {
     let end = put_title(kind.header(Some(body.len())), out, at)?;
@@ -175,9 +181,12 @@ pub(crate) fn rewrite_string<'a>(
     at: usize,
 ) -> Result<(&'a [u8], usize), Stop>
     requires { at ≤ length out.old }
-    ensures { MatchResult result (λ found.
+    ensures written { MatchResult result (λ found.
         Extends (Turns (IsStringTurned (kind_of kind) len) bytes.now found.0.now) at found.1 out.old out.new)
         (FailsString (kind_of kind) len bytes.now) }
+    ensures room { (title : List ℕ) (places : ℕ) → IsTitle title (kind_header (kind_of kind) len) → MatchResult result
+        (λ found. Grows 1 (length title + length bytes.now) (length found.0.now) at found.1)
+        (LacksRoom (length title + length bytes.now) at (length out.old) (length title + length bytes.now) places) }
 {
     match len {
         Some(len) => {

@@ -1,7 +1,9 @@
 //! Reads titles of any width, and writes the shortest titles into memory that a caller lends.
 
-ghost use Rattle.std.specs.Prelude.{◌≡◌, ◌+◌, ◌≤◌, ◌%◌, ◌++◌, List, ℕ, MatchOption, MatchResult, length, slice_index};
+ghost use Rattle.std.specs.Prelude.{◌≡◌, ◌+◌, ◌<◌, ◌≤◌, ◌%◌, ◌++◌, List, ℕ, IfErr, IfOk, MatchOption, MatchResult};
+ghost use Rattle.std.specs.Prelude.{length, slice_index};
 ghost use Rattle.ciborium_ll_grammar.specs.Title.{BeginsRefused, IsInRange, IsTitle, affix_len, shortest_title};
+ghost use Rattle.ciborium_ll_grammar.specs.Title.{title_len};
 ghost use Rattle.cbor_deterministic.specs.Fronts.{InFront};
 ghost use Rattle.cbor_canonical.specs.declared.Stop.TheVariants.{Room as NoRoom};
 ghost use Rattle.cbor_canonical.specs.Reading.{HasNoTitle};
@@ -49,7 +51,8 @@ fn header_of(bytes: &[u8]) -> Option<Header>
 /// Writes the bytes at this offset of the output, and returns the offset after them.
 pub(crate) fn put_bytes(bytes: &[u8], out: &mut [u8], at: usize) -> Result<usize, Stop>
     requires { at ≤ length out.old }
-    ensures { MatchResult result (λ end. Adds bytes.now at end out.old out.new) (λ stop. stop ≡ NoRoom) }
+    ensures written { MatchResult result (λ end. Adds bytes.now at end out.old out.new) (λ stop. stop ≡ NoRoom) }
+    ensures room { IfErr result (λ stop. length out.old < at + length bytes.now) }
 {
     let room = out.len() - at;
     if room < bytes.len() {
@@ -65,6 +68,7 @@ pub(crate) fn put_title(header: Header, out: &mut [u8], at: usize) -> Result<usi
     requires { at ≤ length out.old }
     ensures written { MatchResult result (λ end. Adds (shortest_title header) at end out.old out.new)
         (λ stop. stop ≡ NoRoom) }
+    ensures room { IfErr result (λ stop. length out.old < at + title_len header) }
     ensures range { IsInRange header }
 {
     let title = shortest(header);
@@ -90,6 +94,8 @@ pub(crate) fn insert_title(
     requires end { end ≤ length out.old }
     ensures written { MatchResult result (λ after. Inserts (shortest_title header) at end after out.old out.new)
         (λ stop. stop ≡ NoRoom) }
+    ensures reach { IfOk result (λ after. after ≡ end + title_len header) }
+    ensures room { IfErr result (λ stop. length out.old < end + title_len header) }
     ensures range { IsInRange header }
 {
     let after = put_title(header, out, end)?;

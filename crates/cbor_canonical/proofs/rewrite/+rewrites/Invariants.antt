@@ -1,4 +1,5 @@
-use Rattle.std.proofs.Common.{◌+◌, ◌*◌, ◌-◌, ◌≤◌}
+use Rattle.std.proofs.Common.{◌+◌, ◌*◌, ◌-◌, ◌≤◌, length}
+use Rattle.cbor_canonical.specs.Room.{Grows}
 use Rattle.cbor_canonical.specs.Writing.{Extends}
 use Rattle.cbor_canonical.proofs.ItemRuns.{ItemsSoFar}
 use Rattle.cbor_canonical.proofs.PairRuns.{PairsSoFar}
@@ -32,6 +33,7 @@ decreases-rewrite_map l = 7 * l.depth + 5
 abbrev pub invariant-rewrite_items-items : goal.invariant-rewrite_items-items
 invariant-rewrite_items-items l = record {
   is : Extends (ItemsSoFar l.order l.depth l.done l.fn.bytes l.rest) l.at l.end l.fn.out l.out;
+  grown : Grows l.done (length l.fn.bytes) (length l.rest) l.at l.end;
   within : l.done ≤ l.limit;
 }
 
@@ -41,6 +43,7 @@ decreases-rewrite_items-items l = l.limit - l.done
 abbrev pub invariant-rewrite_pairs-pairs : goal.invariant-rewrite_pairs-pairs
 invariant-rewrite_pairs-pairs l = record {
   is : PairsSoFar l.order l.depth l.done l.fn.bytes l.rest l.at l.end l.fn.out l.out l.spans;
+  grown : Grows (2 * l.done) (length l.fn.bytes) (length l.rest) l.at l.end;
   within : l.done ≤ l.limit;
 }
 
