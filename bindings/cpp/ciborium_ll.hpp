@@ -371,8 +371,8 @@ inline result<std::size_t> deterministic(input bytes, std::uint32_t depth = 64, 
  * Writes the deterministic encoding of the item that comes first, whatever its spelling is, and returns both lengths.
  * The keys of its maps ascend in this order. The item contains at most `depth` levels, which is at most 256.
  *
- * `spans` is an array, a vector or another object with elements of the type `cll_span` one after the other. For `n`
- * bytes an output of `n + n / 256 + 16` bytes and `n` spans are always enough. Fewer do as cll_canonical says. `out`
+ * `spans` is an array, a vector or another object with elements of the type `cll_span` one after the other. For an item
+ * of `n` bytes an output of `n + n / 256` bytes and half as many spans are enough. Fewer do as cll_canonical says. `out`
  * must not overlap `bytes`, and after a fault its contents are unknown.
  */
 template <typename Spans>

@@ -370,9 +370,10 @@ CLL_NODISCARD cll_answer cll_deterministic(const uint8_t *data, size_t len, uint
  * float keeps its value, a zero its sign, and a NaN its sign and payload. The item may contain at most `depth` levels,
  * which is at most 256. `order` is a number of cll_order.
  *
- * `len + len / 256 + 16` bytes of `out` and `len` spans are always enough: tests say so. Fewer do if the encoding takes
- * fewer bytes. A map whose keys ascend needs a span for each pair, and any other map also one for two bytes of its
- * pairs. The contents of `spans` need not be set before the call, and mean nothing after it.
+ * For an item of `n` bytes, `n + n / 256` bytes of `out` and half as many spans are enough, and an item has at most
+ * `len` bytes. Fewer do if the encoding takes fewer bytes. A map whose keys ascend needs a span for each pair, and any
+ * other map also one for two bytes of its pairs. The contents of `spans` need not be set before the call, and mean
+ * nothing after it.
  *
  * Returns:
  *

@@ -485,12 +485,12 @@ def canonical(data: _Bytes, depth: int = 64, order: Order = Order.BYTEWISE, offs
     depth, order, report = _held(depth, 32, "the depth"), _held(order, 32, "the order"), _Report()
     with _Memory(data, offset) as (at, length):
         # No encoding is longer than that.
-        room = length + length // 256 + 16
+        room = length + length // 256
         out, there = _memory_of(ctypes.c_uint8, room)
-        # As many spans as there are bytes are always enough, and most items need few.
-        count, answer = 0, 3
-        while answer == 3 and count < length + 16:
-            count = min(4 * count or length // 16 + 16, length + 16)
+        # Half as many spans are enough, and most items need few.
+        count, most, answer = 0, room // 2 + 1, 3
+        while answer == 3 and count < most:
+            count = min(4 * count or length // 16 + 16, most)
             spans, places = _memory_of(_Span, count)
             answer = _CALLS.cll_canonical(at, length, depth, order, there, room, places, count, report)
         _check(answer, report, offset)

@@ -277,8 +277,8 @@ pub struct Span(cll_span);
 ///
 /// Returns the lengths of the item and of its encoding. The call counts no elements.
 ///
-/// An output of `n + n / 256 + 16` bytes and `n` spans are always enough for `n` bytes. A map whose keys ascend needs a
-/// span for each pair, and any other map also one for two bytes of its pairs.
+/// For an item of `n` bytes an output of `n + n / 256` bytes and half as many spans are enough. A map whose keys ascend
+/// needs a span for each pair, and any other map also one for two bytes of its pairs.
 ///
 /// # Errors
 ///
@@ -349,9 +349,10 @@ pub fn canonical_into(
 pub fn canonical(bytes: &[u8], depth: u32, order: Order) -> Result<Vec<u8>, Error> {
     let len = bytes.len();
     // No encoding is longer than that.
-    let mut out = vec![0; len + len / 256 + 16];
-    // As many spans as there are bytes are always enough, and most items need few.
-    let mut count = len / 16 + 16;
+    let mut out = vec![0; len + len / 256];
+    // Half as many spans are enough, and most items need few.
+    let most = out.len() / 2;
+    let mut count = most.min(len / 16 + 16);
     loop {
         let mut spans = vec![Span::default(); count];
         match canonical_into(bytes, depth, order, &mut out, &mut spans) {
@@ -359,7 +360,7 @@ pub fn canonical(bytes: &[u8], depth: u32, order: Order) -> Result<Vec<u8>, Erro
                 out.truncate(copied.written);
                 return Ok(out);
             }
-            Err(Error::Room) if count < len => count = len.min(4 * count),
+            Err(Error::Room) if count < most => count = most.min(4 * count),
             Err(error) => return Err(error),
         }
     }

@@ -1,6 +1,6 @@
 //! The answer and the report of the rewriting to the deterministic encoding.
 
-ghost use Rattle.std.specs.Prelude.{◌≡◌, ◌≤◌};
+ghost use Rattle.std.specs.Prelude.{◌≡◌, ◌≤◌, length};
 ghost use Rattle.capi.specs.Rewriting.{Rewrites, refusal_answer, refusal_place};
 ghost use Rattle.ciborium_ll_grammar.specs.declared.limits.TheConstants.{MOST_LEVELS};
 
@@ -32,7 +32,7 @@ pub(crate) fn rewrite_item(
     report: &mut CllReport,
 ) -> CllAnswer
     requires shallow { depth ≤ MOST_LEVELS }
-    ensures { Rewrites order depth bytes.now result out.new report.new }
+    ensures { Rewrites order depth bytes.now (length spans.old) result out.new report.new }
 {
     match canonical_into(bytes, depth, order, out, spans) {
         Ok((len, rest)) => {
