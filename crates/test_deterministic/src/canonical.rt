@@ -215,7 +215,8 @@ fn add_zeros(rt: &impl Abort, out: &mut Vec<u8>, key: u8, open: &[u8], close: &[
     holds(rt, is_added, "memory");
 }
 
-// {2: [0, ..], 1: [0, ..]} with open arrays is two bytes longer in the encoding, and 16 bytes of room are spare.
+// {2: [0, ..], 1: [0, ..]} with open arrays is two bytes longer in the encoding. That is a byte for each 256 bytes, and
+// half as many spans are enough.
 #[test]
 fn growing_items(rt: HostRuntime) {
     let mut bytes = Vec::new(rt.alloc());
@@ -226,8 +227,8 @@ fn growing_items(rt: HostRuntime) {
     holds(&rt, want.extend_from_slice(&[0xa2]).is_ok(), "memory");
     add_zeros(&rt, &mut want, 0x01, &[0x99, 0x01, 0x00], &[]);
     add_zeros(&rt, &mut want, 0x02, &[0x99, 0x01, 0x00], &[]);
-    let mut out = [0; 2 * ZEROS + 7 + 2 + 16];
-    let mut spans = [NO_SPAN; 2 * ZEROS + 7];
+    let mut out = [0; 2 * ZEROS + 7 + 2];
+    let mut spans = [NO_SPAN; ZEROS + 4];
     let (bytes, want) = (bytes.as_slice(), want.as_slice());
     holds(
         &rt,
