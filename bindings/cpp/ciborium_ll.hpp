@@ -116,7 +116,8 @@ enum class answer : std::uint32_t {
     not_shortest = CLL_NOT_SHORTEST,
     indefinite = CLL_INDEFINITE,
     key_order = CLL_KEY_ORDER,
-    duplicate_key = CLL_DUPLICATE_KEY
+    duplicate_key = CLL_DUPLICATE_KEY,
+    absent = CLL_ABSENT
 };
 
 /* The order of the keys of a map: by their bytes, or the shorter one first (RFC 8949, 4.2.1 and 4.2.3). */
@@ -141,6 +142,7 @@ constexpr const char *name_of(answer code) noexcept
     case answer::indefinite: return "indefinite";
     case answer::key_order: return "key_order";
     case answer::duplicate_key: return "duplicate_key";
+    case answer::absent: return "absent";
     }
     return "unknown";
 }
@@ -266,6 +268,14 @@ inline cll_header parts_of(const header &header) noexcept
         static_cast<std::uint8_t>(header.value ? 0 : 1)};
 }
 
+inline header header_of(const cll_header &parts) noexcept
+{
+    std::optional<std::uint64_t> value;
+    if (parts.indefinite == 0)
+        value = parts.value;
+    return {static_cast<kind>(parts.kind), value};
+}
+
 inline fault fault_of(std::uint32_t code, const cll_report &report) noexcept
 {
     const bool cut = code == CLL_SHORT;
@@ -292,10 +302,7 @@ inline result<title> pull(input bytes) noexcept
     const std::uint32_t code = cll_pull(bytes.data(), bytes.size(), &got, &consumed);
     if (code != CLL_OK)
         return detail::fault_of(code, cll_report{consumed, 0, 0, 0, 0, 0});
-    std::optional<std::uint64_t> value;
-    if (got.indefinite == 0)
-        value = got.value;
-    return title{{static_cast<kind>(got.kind), value}, consumed};
+    return title{detail::header_of(got), consumed};
 }
 
 /* Writes the shortest title of a header, whole or not at all, and returns its length, at most 9. */

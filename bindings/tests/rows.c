@@ -117,11 +117,56 @@ static const char *with_due(char *text, const char *made, int alone, uint32_t an
     return text;
 }
 
+/* Shows an item with all that it contains, by views of its parts, and returns where the text ends. */
+static char *viewed(char *end, const cll_item *item)
+{
+    cll_header header;
+    cll_body body;
+    cll_items items;
+    cll_item part;
+    if (cll_item_header(item, &header) != CLL_OK)
+        return end + sprintf(end, "no header");
+    end += sprintf(end, "%s/", kind_names[header.kind]);
+    end += header.indefinite ? sprintf(end, "*") : sprintf(end, "%" PRIu64, header.value);
+    if (cll_item_bytes(item, &body) == CLL_OK || cll_item_text(item, &body) == CLL_OK) {
+        end += sprintf(end, "=");
+        for (size_t i = 0; i < body.len; i++)
+            end += sprintf(end, "%02x", body.data[i]);
+    } else if (cll_item_items(item, &items) == CLL_OK) {
+        const char *between = "[";
+        while (cll_item_next(&items, &part) == CLL_OK) {
+            end = viewed(end + sprintf(end, "%s", between), &part);
+            between = ",";
+        }
+        end += sprintf(end, "%s]", *between == '[' ? between : "");
+    }
+    return end;
+}
+
+/* Looks up the key of a row in an item, and shows its value. */
+static uint32_t found(char *text, const cll_item *item, const struct row *row)
+{
+    const size_t len = strcmp(row->word, "-") == 0 ? 0 : strlen(row->word);
+    const uint8_t *key = (const uint8_t *)row->word;
+    cll_item value;
+    uint32_t answer;
+    if (strcmp(row->call, "get") == 0)
+        answer = cll_item_get(item, row->key, row->key_len, &value);
+    else if (strcmp(row->call, "get_text") == 0)
+        answer = cll_item_get_text(item, key, len, &value);
+    else
+        answer = cll_item_get_int(item, (int64_t)strtoll(row->word, NULL, 10), &value);
+    strcpy(text, "-");
+    if (answer == CLL_OK)
+        viewed(text, &value);
+    return answer;
+}
+
 static int holds(const struct row *row)
 {
     /* The memory has one byte more than the row, so a sanitizer sees each access beyond that byte. */
     uint8_t *data = (uint8_t *)malloc(row->len + 1), *out = (uint8_t *)malloc(ROOM);
-    char text[3 * ROOM];
+    char text[3 * ROOM] = "";
     const char *made = "-";
     cll_header header = row->header;
     cll_report report = {9, 9, 9, 9, 9, 9};
@@ -165,6 +210,20 @@ static int holds(const struct row *row)
         cll_span spans[ROOM];
         answer = cll_canonical(data, row->len, (uint32_t)row->number, order, out, ROOM, spans, row->len, &report);
         made = with_due(text, shown(text, out, report.written), 1, answer, &report);
+    } else if (strcmp(row->call, "item") == 0) {
+        cll_item item;
+        answer = cll_item_parse(data, row->len, (uint32_t)row->number, &item, &report);
+        made = with_due(text, made, 1, answer, &report);
+        if (answer == CLL_OK) {
+            viewed(text, &item);
+            made = text;
+        }
+    } else if (strncmp(row->call, "get", 3) == 0) {
+        cll_item item;
+        if (cll_item_parse(data, row->len, 16, &item, &report) == CLL_OK && item.len == row->len)
+            answer = found(text, &item, row);
+        report.consumed = 0;
+        made = text;
     } else if (strcmp(row->call, "utf8") == 0) {
         answer = cll_utf8(data, row->len, &report);
     } else if (strcmp(row->call, "feed") == 0 || strcmp(row->call, "feed_strict") == 0) {

@@ -4,6 +4,7 @@
  * usage: rows TABLE
  */
 #include <ciborium_ll.hpp>
+#include <ciborium_ll_item.hpp>
 
 #include <array>
 #include <cstring>
@@ -133,6 +134,45 @@ bool copies(const row &row, const std::vector<std::uint8_t> &data)
         && (!end || (end->name() == name && end->place == row.place));
 }
 
+/* Shows the bytes of a body in hexadecimal. */
+std::string digits(cll::input bytes) { return bytes.empty() ? "" : shown(bytes); }
+
+/* Shows an item with all that it contains, by views of its parts. */
+std::string viewed(const cll::item &item)
+{
+    const cll::header header = item.header();
+    std::string text = named(header);
+    if (const auto body = item.byte_string())
+        return text + '=' + digits(*body);
+    if (const auto body = item.text())
+        return text + '=' + digits(*body);
+    const bool may_have = header.kind == cll::kind::array || header.kind == cll::kind::map
+        || header.kind == cll::kind::tag || !header.value;
+    if (!may_have)
+        return item.begin() == item.end() ? text : "items in a scalar";
+    text += '[';
+    for (const auto &part : item)
+        text += (text.back() == '[' ? "" : ",") + viewed(part);
+    return text + ']';
+}
+
+/* Views an item, and looks up a key of it. */
+bool views(const row &row, const std::vector<std::uint8_t> &data)
+{
+    const std::string_view call = row.call;
+    if (call == "item") {
+        const auto got = cll::item::parse(data, static_cast<std::uint32_t>(row.number));
+        const auto lacks = due(got);
+        return fits(row, got, got ? got->bytes().size() : 0, got ? viewed(*got) : lacks.empty() ? "-" : lacks);
+    }
+    const auto item = cll::item::parse(data).value();
+    const std::string_view text = std::string_view(row.word) == "-" ? "" : row.word;
+    const auto found = call == "get" ? item.get({row.key, row.key_len})
+        : call == "get_text" ? item[text]
+        : item[static_cast<std::int64_t>(std::strtoll(row.word, nullptr, 10))];
+    return (found ? "ok"sv : "absent"sv) == answer_names[row.answer] && (found ? viewed(*found) : "-") == row.made;
+}
+
 int holds(const row *row)
 {
     const std::string_view call = row->call;
@@ -166,6 +206,8 @@ int holds(const row *row)
         return feeds(*row, data);
     if (call == "copy")
         return copies(*row, data);
+    if (call == "item" || call == "get" || call == "get_text" || call == "get_int")
+        return views(*row, data);
     const auto depth = static_cast<std::uint32_t>(row->number);
     const auto got = call == "strict" ? cll::strict(data, row->number)
         : call == "skip" ? cll::skip(data, depth)
@@ -445,6 +487,29 @@ bool copies_item()
         && cll::item_copier(257).feed({}, out).fault().code == cll::answer::argument && !cll::item_copier().end();
 }
 
+/* Goes over the items in an item and over the pairs of a map, and looks up keys. */
+bool views_parts()
+{
+    const auto bytes = "\xbf\x01\x61\x61\x20\x82\x02\x03\x61\x6b\x42\x01\x02\xff\x05"sv;
+    const auto map = cll::item::parse(bytes).value();
+    std::string pairs;
+    for (const auto &[key, value] : map.entries())
+        pairs += viewed(key) + ':' + viewed(value) + ' ';
+    const auto list = map[-1].value();
+    std::size_t count = 0;
+    for (auto at = list.begin(); at != list.end(); at++)
+        count += at->kind() == cll::kind::positive;
+    const std::optional<std::string_view> text = map[1]->text();
+    return pairs == "positive/1:text/1=61 negative/0:array/2[positive/2,positive/3] text/1=6b:bytes/2=0102 "
+        && count == 2 && text == "a"sv && text->data() == bytes.data() + 3 && map.bytes().size() == bytes.size() - 1
+        && map["k"]->byte_string()->size() == 2 && !map["k"]->text() && !map[1]->byte_string() && !map[2] && !map["a"]
+        && map.get("\x20"sv)->kind() == cll::kind::array && !list[0] && !list["a"]
+        && list.entries().begin() == list.entries().end()
+        && list.begin()->header() == cll::header{cll::kind::positive, 2}
+        && cll::item::parse("\x81"sv, 0).fault().code == cll::answer::too_deep
+        && cll::item::parse({}).fault().code == cll::answer::too_short;
+}
+
 /* Takes spans of objects that have no bytes, and of bytes of another type than numbers. */
 bool spans()
 {
@@ -462,7 +527,7 @@ bool spans()
 int main(int argc, char **argv)
 {
     if (argc != 2 || !has_values() || !goes_over() || !throws() || !goes_on() || !reads() || !joins() || !checks()
-        || !copies_on() || !copies_item() || !spans() || !goes_over_many() || !rewrites_items())
+        || !copies_on() || !copies_item() || !spans() || !goes_over_many() || !rewrites_items() || !views_parts())
         return 2;
     return go_through(argv[1], holds);
 }

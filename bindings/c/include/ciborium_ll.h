@@ -10,11 +10,11 @@
  * Calls. No call takes memory except its stack. No call calls anything outside of this library except memcpy, memmove
  * and memset. Each call except cll_version returns an answer, which is one of the numbers of cll_answer. Most calls
  * also fill in a report, as the next section says. cll_pull gives one number of bytes in place of a report, since a
- * program calls it for each title. The calls that set something up have no report.
+ * program calls it for each title. The calls that set something up or look into a cll_item have no report.
  *
- * Arguments. `data`, `out` and `titles` may be null if their length is 0. No other pointer may be null. What a call
- * writes must not overlap anything else that the caller gives it, so no call works in place. cll_overlap tells whether
- * two pieces of memory overlap.
+ * Arguments. `data`, `out`, `titles` and `key` may be null if their length is 0. No other pointer may be null. What a
+ * call writes must not overlap anything else that the caller gives it, so no call works in place. cll_overlap tells
+ * whether two pieces of memory overlap.
  *
  * Threads. Only a cll_checker, a cll_copier and a cll_item_copier keep anything between calls, in the caller's own
  * memory. So calls may run in several threads at once, if no call writes what another call uses.
@@ -75,19 +75,30 @@
  * cll_item_copier, which are a checker and a copier of elements. Whatever the memory holds, no call reads or writes
  * outside of what the caller gives it.
  *
- * STACK. These numbers were measured on x86-64, and are not proved. cll_pull, cll_push, cll_push_wide, cll_utf8,
- * cll_checker_init, cll_checker_init_strict, cll_checker_end and cll_copier_init take less than 128 bytes.
- * cll_checker_feed, cll_copier_feed, cll_copier_end and cll_item_copier_end take less than 1 KiB. cll_recode and
- * cll_strict take less than 2 KiB, and less than 4.5 KiB if the bytes end too early. cll_item_copier_init and
- * cll_item_copier_init_strict take less than 3 KiB. cll_item_copier_feed takes less than 4 KiB. cll_headers takes less
- * than 256 bytes if it answers CLL_OK, and otherwise less than 4.5 KiB.
+ * VIEWS. A cll_item views one item: it has a pointer to the bytes of the item, their number, and how many levels its
+ * tags, arrays and maps may take. A cll_items has the items that are left of those in an item, and a cll_body has the
+ * body of a string. cll_item_parse checks an item and makes the first view. The other calls make views of its parts.
+ * All of them point into the `data` of cll_item_parse, so these bytes must stay where they are, and as they are, while
+ * a program uses a view. A copy of a view is another view, and nothing has to be released. A program may also write to
+ * a view: other bytes that it may read, and any depth. A call then answers as it says for these bytes, and reads no
+ * others. cll_item_header, cll_item_bytes, cll_item_text and cll_item_items look at one title and at the break of an
+ * indefinite form, and take the same time for any item. The others read each byte of the items that they pass.
  *
- * cll_skip takes less than 4 KiB if the bytes begin with an item. Otherwise it takes less than 4 KiB, or less than 2
- * KiB and 328 bytes for each level that it goes down, whichever is more: 8 KiB at 16 levels, 23 KiB at 64, and 84 KiB
- * at 256. cll_deterministic takes less than 512 bytes and 144 bytes for each level that it goes down: 3 KiB at 16
- * levels, 10 KiB at 64, and 37 KiB at 256. cll_canonical takes less than 8 KiB and 1,104 bytes for each level that it
- * goes down: 26 KiB at 16 levels, 77 KiB at 64, and 284 KiB at 256. If it has to sort a map of more than 65,536 pairs,
- * it may take up to 16 KiB more.
+ * STACK. These numbers were measured on x86-64, and are not proved. cll_pull, cll_push, cll_push_wide, cll_utf8,
+ * cll_checker_init, cll_checker_init_strict, cll_checker_end, cll_copier_init, cll_item_header, cll_item_bytes,
+ * cll_item_text and cll_item_items take less than 128 bytes. cll_checker_feed, cll_copier_feed, cll_copier_end and
+ * cll_item_copier_end take less than 1 KiB. cll_recode and cll_strict take less than 2 KiB, and less than 4.5 KiB if
+ * the bytes end too early. cll_item_copier_init and cll_item_copier_init_strict take less than 3 KiB.
+ * cll_item_copier_feed takes less than 4 KiB. cll_headers takes less than 256 bytes if it answers CLL_OK, and otherwise
+ * less than 4.5 KiB.
+ *
+ * cll_skip and cll_item_parse take less than 4 KiB if the bytes begin with an item. Otherwise they take less than 4
+ * KiB, or less than 2 KiB and 328 bytes for each level that they go down, whichever is more: 8 KiB at 16 levels, 23 KiB
+ * at 64, and 84 KiB at 256. cll_item_next and the three that look up a key take less than 1 KiB and 256 bytes for each
+ * level that they go down: 5 KiB at 16 levels, 17 KiB at 64, and 65 KiB at 256. cll_deterministic takes less than 512
+ * bytes and 144 bytes for each level that it goes down: 3 KiB at 16 levels, 10 KiB at 64, and 37 KiB at 256.
+ * cll_canonical takes less than 8 KiB and 1,104 bytes for each level that it goes down: 26 KiB at 16 levels, 77 KiB at
+ * 64, and 284 KiB at 256. If it has to sort a map of more than 65,536 pairs, it may take up to 16 KiB more.
  */
 #ifndef CIBORIUM_LL_H
 #define CIBORIUM_LL_H
@@ -143,6 +154,21 @@ typedef struct { uint64_t value, start, end; uint8_t kind, indefinite; } cll_tit
 typedef struct { uint64_t start, key_end, end; } cll_span;
 
 /*
+ * A view of one item: its `len` bytes at `data`, in which tags, arrays and maps may take `depth` levels. The section
+ * VIEWS at the top of this header says what holds for it.
+ */
+typedef struct { const uint8_t *data; size_t len; uint32_t depth; } cll_item;
+
+/*
+ * The items in an item that are left: their `len` bytes at `data`. The tags, arrays and maps in each of them may take
+ * `depth` levels. The section VIEWS at the top of this header says what holds for it.
+ */
+typedef struct { const uint8_t *data; size_t len; uint32_t depth; } cll_items;
+
+/* The body of a string: its `len` bytes at `data`. */
+typedef struct { const uint8_t *data; size_t len; } cll_body;
+
+/*
  * How far a call came. The section REPORTS at the top of this header says what each number means.
  */
 typedef struct { uint64_t consumed, written, place, elements, whole, spelled; } cll_report;
@@ -193,7 +219,9 @@ typedef enum cll_answer {
     CLL_NOT_SHORTEST, /* at `place` stands a longer title than need be, or a float that fits a smaller width */
     CLL_INDEFINITE,   /* at `place` stands the title of an indefinite form, or a break */
     CLL_KEY_ORDER,    /* at `place` stands a key that comes before the key of the pair before it */
-    CLL_DUPLICATE_KEY /* at `place` stands a key that its map has before it */
+    CLL_DUPLICATE_KEY, /* at `place` stands a key that its map has before it */
+    /* This comes from the calls that look into a cll_item alone. */
+    CLL_ABSENT /* there is none: no item is left, no pair has this key, or the item is of another kind */
 } cll_answer;
 
 /* The order of the keys of a map, by their encodings. */
@@ -392,6 +420,124 @@ CLL_NODISCARD cll_answer cll_deterministic(const uint8_t *data, size_t len, uint
  */
 CLL_NODISCARD cll_answer cll_canonical(const uint8_t *data, size_t len, uint32_t depth, uint32_t order, uint8_t *out,
     size_t room, cll_span *spans, size_t spans_len, cll_report *report);
+
+/*
+ * Checks the item with which `data` begins as cll_skip does, with the same answers and reports, and makes `item` a view
+ * of it. The item may contain at most `depth` levels, which is at most 256.
+ *
+ * Returns:
+ *
+ * CLL_OK: `item` views the item, and `consumed` is its length.
+ * CLL_SHORT: `data` ends before the item does. `place` is how many bytes are due.
+ * CLL_SYNTAX: as of cll_skip.
+ * CLL_BREAK_DUE: as of cll_skip.
+ * CLL_TOO_DEEP: as of cll_skip.
+ * CLL_ARGUMENT: `depth` is above 256.
+ *
+ * Unless the answer is CLL_OK, `item` is as it was.
+ */
+CLL_NODISCARD cll_answer cll_item_parse(const uint8_t *data, size_t len, uint32_t depth, cll_item *item,
+    cll_report *report);
+
+/*
+ * Says in `header` what the title of an item means, as of cll_pull. It is never a break, unless a program wrote to the
+ * view.
+ *
+ * Returns:
+ *
+ * CLL_OK: `header` is that of the item.
+ * CLL_ARGUMENT: no title begins the bytes of the view, and `header` is as it was.
+ */
+CLL_NODISCARD cll_answer cll_item_header(const cll_item *item, cll_header *header);
+
+/*
+ * Gives the body of a byte string of a definite length. cll_item_items gives the strings in one of indefinite length.
+ *
+ * Returns:
+ *
+ * CLL_OK: `body` is the body of the item.
+ * CLL_ABSENT: the item is no byte string of a definite length, and `body` is as it was.
+ */
+CLL_NODISCARD cll_answer cll_item_bytes(const cll_item *item, cll_body *body);
+
+/*
+ * Gives the body of a text of a definite length. It is UTF-8, unless a program wrote to the view, and no zero byte
+ * follows it.
+ *
+ * Returns:
+ *
+ * CLL_OK: `body` is the body of the item.
+ * CLL_ABSENT: the item is no text of a definite length, and `body` is as it was.
+ */
+CLL_NODISCARD cll_answer cll_item_text(const cll_item *item, cll_body *body);
+
+/*
+ * Lists the items in an item, so that cll_item_next takes one after the other: the items of an array, each key of a map
+ * and then its value, the item under a tag, or the strings in a string of indefinite length.
+ *
+ * Returns:
+ *
+ * CLL_OK: `items` has all items in the item, which may be none.
+ * CLL_ABSENT: the item is a number, a float, a simple value or a string of a definite length. `items` is as it was.
+ *
+ * If a program wrote to the view, CLL_ABSENT also says that `depth` is 0 or that a break is missing.
+ */
+CLL_NODISCARD cll_answer cll_item_items(const cll_item *item, cll_items *items);
+
+/*
+ * Takes the first of the items that are left: `item` views it, and `items` has the others.
+ *
+ * Returns:
+ *
+ * CLL_OK: `item` views the item that was taken.
+ * CLL_ABSENT: no item is left.
+ * CLL_ARGUMENT: no item begins the bytes, or `depth` is above 256. A program wrote to `items`.
+ *
+ * Unless the answer is CLL_OK, `items` and `item` are as they were.
+ */
+CLL_NODISCARD cll_answer cll_item_next(cll_items *items, cll_item *item);
+
+/*
+ * Gives the value of a key of a map. The key is the bytes of an item: the first pair counts whose key has exactly these
+ * bytes. So 1 is `01`, and does not find `18 01`.
+ *
+ * Returns:
+ *
+ * CLL_OK: `value` views the value of the first pair with this key.
+ * CLL_ABSENT: no key of the map has these bytes, or the item is no map.
+ * CLL_ARGUMENT: the bytes of the view are not one item, or `depth` is above 256. A program wrote to the view.
+ *
+ * Unless the answer is CLL_OK, `value` is as it was.
+ */
+CLL_NODISCARD cll_answer cll_item_get(const cll_item *item, const uint8_t *key, size_t key_len, cll_item *value);
+
+/*
+ * Gives the value of a key of a map. The key is a text of `key_len` bytes: the first pair counts whose key is this text
+ * in any spelling. The bodies of a text of indefinite length are joined.
+ *
+ * Returns:
+ *
+ * CLL_OK: `value` views the value of the first pair with this key.
+ * CLL_ABSENT: no key of the map is this text, or the item is no map.
+ * CLL_ARGUMENT: as of cll_item_get, or `key` is not UTF-8.
+ *
+ * Unless the answer is CLL_OK, `value` is as it was.
+ */
+CLL_NODISCARD cll_answer cll_item_get_text(const cll_item *item, const uint8_t *key, size_t key_len, cll_item *value);
+
+/*
+ * Gives the value of a key of a map. The key is an integer: the first pair counts whose key is this integer in any
+ * spelling. An integer that an int64_t does not hold is found by cll_item_get.
+ *
+ * Returns:
+ *
+ * CLL_OK: `value` views the value of the first pair with this key.
+ * CLL_ABSENT: no key of the map is this integer, or the item is no map.
+ * CLL_ARGUMENT: as of cll_item_get.
+ *
+ * Unless the answer is CLL_OK, `value` is as it was.
+ */
+CLL_NODISCARD cll_answer cll_item_get_int(const cll_item *item, int64_t key, cll_item *value);
 
 /*
  * Finds the longest front of `data` that is UTF-8 (RFC 3629). `consumed` is the front's length.
@@ -631,6 +777,8 @@ static inline const char *cll_strerror(uint32_t answer)
         return "a key comes before the key of the pair before it";
     case CLL_DUPLICATE_KEY:
         return "the same key twice";
+    case CLL_ABSENT:
+        return "there is none";
     default:
         return "no answer of this library";
     }

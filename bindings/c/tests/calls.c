@@ -402,7 +402,7 @@ static int joins_pieces(void)
 /* Each answer has a text of its own, and so has a number that is no answer. */
 static int tells_answers(void)
 {
-    for (uint32_t one = CLL_OK; one <= CLL_DUPLICATE_KEY + 1u; one++) {
+    for (uint32_t one = CLL_OK; one <= CLL_ABSENT + 1u; one++) {
         if (cll_strerror(one)[0] == '\0')
             return 0;
         for (uint32_t other = CLL_OK; other < one; other++) {
@@ -410,7 +410,7 @@ static int tells_answers(void)
                 return 0;
         }
     }
-    return strcmp(cll_strerror(99), cll_strerror(CLL_DUPLICATE_KEY + 1u)) == 0;
+    return strcmp(cll_strerror(99), cll_strerror(CLL_ABSENT + 1u)) == 0;
 }
 
 /* Tells whether one memory overlaps another, as of two calls or of a call's input and output. */

@@ -2,7 +2,8 @@
  * Prints how many bytes of the stack each call uses, with one line NAME BYTES for each. It calls cll_skip for some
  * depths, each filled with nests of two kinds, down to a text and to a byte string of indefinite length. It calls
  * cll_deterministic for the same depths, filled with tags, arrays or maps down to texts, a byte string and a float. It
- * calls cll_canonical for all of these, and for maps with a few or many keys that have to be sorted. A line NAME/short
+ * calls cll_canonical for all of these, and for maps with a few or many keys that have to be sorted. It views the nests
+ * of cll_skip, and looks up keys of a map whose last value they are. A line NAME/short
  * is for bytes that end too early, in one of the ways in which they can, and NAME/room for an output that is too short.
  *
  * A call runs on a stack of its own, filled with one value before. The bytes that the call changed are the bytes that
@@ -30,6 +31,9 @@ static size_t consumed;
 static cll_checker checker;
 static cll_copier copier;
 static cll_item_copier item_copier;
+static cll_item item, value;
+static cll_items items;
+static cll_body body;
 
 static void nothing(void) { answer = CLL_OK; }
 static void pull(void) { answer = cll_pull(data, len, &header, &consumed); }
@@ -66,6 +70,22 @@ static void item_copier_feed(void)
 }
 static void item_copier_end(void) { answer = cll_item_copier_end(&item_copier, &report); }
 
+static void item_parse(void) { answer = cll_item_parse(data, len, depth, &item, &report); }
+static void item_header(void) { answer = cll_item_header(&item, &header); }
+static void item_text(void) { answer = cll_item_text(&item, &body); }
+static void item_bytes(void) { answer = cll_item_bytes(&item, &body) == CLL_ABSENT ? CLL_OK : CLL_ARGUMENT; }
+static void item_items(void) { answer = cll_item_items(&item, &items); }
+static void item_next(void)
+{
+    items.data = item.data;
+    items.len = item.len;
+    items.depth = item.depth;
+    answer = cll_item_next(&items, &value);
+}
+static void item_get(void) { answer = cll_item_get(&item, data + 3, 2, &value); }
+static void item_get_text(void) { answer = cll_item_get_text(&item, data + 4, 1, &value); }
+static void item_get_int(void) { answer = cll_item_get_int(&item, 0, &value); }
+
 /* Calls it for a text that is not UTF-8, with its title before it. */
 static void no_utf8(void) { answer = cll_utf8(data, len, &report) == CLL_SYNTAX ? CLL_OK : CLL_ARGUMENT; }
 
@@ -83,6 +103,8 @@ static void canonical_room(void)
 {
     answer = rewrite(len, report.written - 1, CLL_BYTEWISE) == CLL_ROOM ? CLL_OK : CLL_ARGUMENT;
 }
+
+static void item_parse_cut(void) { answer = cut(cll_item_parse(data, len - 1, depth, &item, &report)); }
 
 /* Calls it for titles that are whole, and with a fault after them: bytes that are cut off, or of no title. */
 static void list_cut(void) { answer = cut(cll_headers(data, len - 1, titles, 8, &report)); }
@@ -208,6 +230,33 @@ static void make_pairs(unsigned levels)
     depth = levels;
 }
 
+/* Makes a map with the keys 0 and "a". The value of "a" is as many nests as take the levels that the map leaves. */
+static void make_values(int is_open, unsigned levels)
+{
+    static const uint8_t keys[] = {0xa2, 0x00, 0x00, 0x61, 'a'};
+    len = 1;
+    data[0] = 0x00;
+    if (levels > 1)
+        make_nests(is_open, levels - 1);
+    memmove(data + sizeof keys, data, len);
+    memcpy(data, keys, sizeof keys);
+    len += sizeof keys;
+    depth = levels;
+}
+
+/* Prints the use of the calls that view an item and look up its keys, which take levels of the item. */
+static void use_views(unsigned levels, size_t plain)
+{
+    static const struct { const char *name; void (*call)(void); } calls[] = {
+        {"cll_item_parse", item_parse}, {"cll_item_next", item_next}, {"cll_item_get", item_get},
+        {"cll_item_get_text", item_get_text}, {"cll_item_get_int", item_get_int},
+    };
+    for (size_t i = 0; i < sizeof calls / sizeof *calls; i++)
+        printf("%s/%u %zu\n", calls[i].name, levels, used(calls[i].call) - plain);
+    printf("cll_item_header %zu\n", used(item_header) - plain);
+    printf("cll_item_items %zu\n", used(item_items) - plain);
+}
+
 /*
  * Prints the use of each call for bytes that end too early: before a title, or inside a title, a body, a character or a
  * nest.
@@ -268,7 +317,8 @@ int main(void)
         {"cll_copier_init", copier_init}, {"cll_copier_feed", copier_feed}, {"cll_copier_end", copier_end},
         {"cll_item_copier_init", item_copier_init}, {"cll_item_copier_feed", item_copier_feed},
         {"cll_item_copier_end", item_copier_end}, {"cll_item_copier_init_strict", item_copier_init_strict},
-        {"cll_item_copier_feed/strict", item_copier_feed},
+        {"cll_item_copier_feed/strict", item_copier_feed}, {"cll_item_parse/0", item_parse},
+        {"cll_item_header", item_header}, {"cll_item_text", item_text}, {"cll_item_bytes", item_bytes},
     };
     static const unsigned depths[] = {1, 16, 64, 128, DEEPEST};
     const size_t plain = used(nothing);
@@ -282,7 +332,10 @@ int main(void)
             make_nests(is_open, depths[i]);
             printf("cll_skip/%u %zu\n", depths[i], used(skip) - plain);
             printf("cll_skip/short/%u %zu\n", depths[i], used(skip_cut) - plain);
+            printf("cll_item_parse/short/%u %zu\n", depths[i], used(item_parse_cut) - plain);
             use_canonical(depths[i], plain);
+            make_values(is_open, depths[i]);
+            use_views(depths[i], plain);
         }
         make_pairs(depths[i]);
         use_canonical(depths[i], plain);

@@ -20,8 +20,8 @@ from typing import Any, ClassVar, Dict, Iterator, NamedTuple, Optional, Tuple, T
 __all__ = ["Kind", "Header", "Title", "Recoded", "Error", "ShortError", "CborSyntaxError", "RoomError", "BreakDueError",
            "TooDeepError", "ArgumentError", "NotShortestError", "IndefiniteError", "KeyOrderError", "DuplicateKeyError",
            "Short", "Syntax", "Room", "BreakDue", "TooDeep", "Argument", "Order", "Progress", "Checker", "Copied",
-           "Copier", "ItemCopier", "pull", "push", "recode", "strict", "skip", "deterministic", "canonical", "utf8",
-           "headers"]
+           "Copier", "ItemCopier", "Item", "pull", "push", "recode", "strict", "skip", "deterministic", "canonical",
+           "utf8", "headers"]
 
 # An object with the buffer protocol. Python has a name for it from 3.12 on.
 _Bytes = getattr(collections.abc, "Buffer", Union[bytes, bytearray, memoryview, mmap.mmap, array.array])
@@ -743,3 +743,7 @@ class ItemCopier(Copier):
         self.consumed, self._kept = 0, _ItemCopier()
         init = _CALLS.cll_item_copier_init_strict if shortest else _CALLS.cll_item_copier_init
         _check(init(self._kept, _held(depth, 32, "the depth")), _Report())
+
+
+# The module takes what stands above.
+from ._item import Item  # noqa: E402

@@ -118,7 +118,8 @@ class Readme(unittest.TestCase):
             with contextlib.redirect_stdout(said):
                 exec(block, {})
         self.assertEqual(said.getvalue().splitlines(), [
-            "0 MAP 1", "1 TEXT 1", "3 ARRAY 2", "4 POSITIVE 1", "5 POSITIVE 2", "syntax at 5", "an item of 5 bytes"])
+            "0 MAP 1", "1 TEXT 1", "3 ARRAY 2", "4 POSITIVE 1", "5 POSITIVE 2", "syntax at 5",
+            "me -1 [1, 19] False", "1 TEXT 626d65", "2 NEGATIVE 20", "4 ARRAY 820113", "an item of 5 bytes"])
 
     @unittest.skipIf(sys.version_info < (3, 11), "Python reads no TOML before 3.11")
     def test_what_the_build_reads_of_the_project(self):

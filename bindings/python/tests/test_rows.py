@@ -36,6 +36,10 @@ def made(call, number, given):
         return consumed, out.hex() or "-"
     if call == "utf8":
         return ciborium_ll.utf8(data), "-"
+    if call == "item":
+        item = ciborium_ll.Item(data, number)
+        assert item.data == data[:len(item.data)]
+        return len(item.data), viewed(item)
     if call in ("canonical", "canonical_length_first"):
         order = Order.BYTEWISE if call == "canonical" else Order.LENGTH_FIRST
         out = ciborium_ll.canonical(data, number, order)
@@ -44,6 +48,34 @@ def made(call, number, given):
         order = Order.BYTEWISE if call == "deterministic" else Order.LENGTH_FIRST
         return ciborium_ll.deterministic(data, number, order), "-"
     return {"strict": ciborium_ll.strict, "skip": ciborium_ll.skip}[call](data, number), "-"
+
+
+def viewed(item):
+    """Returns an item with all that it contains as the table shows it, by views of its parts."""
+    header, body, parts = told(item.header), item.body, [viewed(part) for part in item.within()]
+    if body is not None:
+        assert not parts
+        return f"{header}={body.hex()}"
+    if Kind.BYTES <= item.header.kind <= Kind.TAG:
+        return f"{header}[{','.join(parts)}]"
+    assert not parts
+    return header
+
+
+def found(call, key, data):
+    """Looks a key up in an item, and returns its value as the table shows it."""
+    item = ciborium_ll.Item(data, 16)
+    if item.header.kind != Kind.MAP:
+        with unittest.TestCase().assertRaises(TypeError):
+            item.get(1)
+        return "absent", 0, 0, "-"
+    if call == "get":
+        value = item.get_encoded(b"" if key == "-" else bytes.fromhex(key))
+    else:
+        name = int(key) if call == "get_int" else key.strip("-")
+        value = item.get(name)
+        assert (name in item) == (value is not None)
+    return ("absent", 0, 0, "-") if value is None else ("ok", 0, 0, viewed(value))
 
 
 def listed(data):
@@ -102,6 +134,10 @@ class Rows(unittest.TestCase):
                 if call in ("feed", "feed_strict"):
                     data = b"" if given == "-" else bytes.fromhex(given)
                     got = fed(int(number), data, call == "feed_strict")
+                    self.assertEqual(got, (answer, int(consumed), int(place), want))
+                    continue
+                if call in ("get", "get_text", "get_int"):
+                    got = found(call, number, bytes.fromhex(given))
                     self.assertEqual(got, (answer, int(consumed), int(place), want))
                     continue
                 if call == "headers":

@@ -3,11 +3,12 @@
 //! slice or of a value. No pointer that is written overlaps another one.
 
 use crate::sys::{
-    self, cll_checker, cll_copier, cll_header, cll_item_copier, cll_report, cll_span, cll_title,
+    self, cll_body, cll_checker, cll_copier, cll_header, cll_item, cll_item_copier, cll_items,
+    cll_report, cll_span, cll_title,
 };
 use crate::{Error, Header};
 use core::mem::MaybeUninit;
-use core::str;
+use core::{slice, str};
 
 /// How many bytes a call consumed and wrote, and how many elements it did.
 #[derive(Clone, Copy, Debug, PartialEq, Eq, Hash)]
@@ -506,4 +507,122 @@ pub(crate) fn feed_item_copier(
 /// Says that no more bytes come to a copier of an item. Returns the answer and the report.
 pub(crate) fn end_item_copier(copier: &cll_item_copier) -> (u32, cll_report) {
     end_by(sys::cll_item_copier_end, copier)
+}
+
+/// Bytes with the number of levels that each item in them may go down.
+pub(crate) type Deep<'a> = (&'a [u8], u32);
+
+/// Returns the length of the item with which the bytes begin.
+pub(crate) fn item_len(bytes: &[u8], depth: u32) -> Result<usize, Error> {
+    let (mut view, mut report) = (view_of((&[], 0)), cll_report::default());
+    let (data, len) = (bytes.as_ptr(), bytes.len());
+    // SAFETY: as this file says.
+    match unsafe { sys::cll_item_parse(data, len, depth, &mut view, &mut report) } {
+        0 => Ok(report.consumed as usize),
+        answer => Err(Error::of(answer, &report, 0)),
+    }
+}
+
+/// Returns the view of an item, as the calls have it.
+#[inline]
+fn view_of(item: Deep<'_>) -> cll_item {
+    cll_item {
+        data: item.0.as_ptr(),
+        len: item.0.len(),
+        depth: item.1,
+    }
+}
+
+/// Returns the header of an item.
+pub(crate) fn item_header(item: Deep<'_>) -> Header {
+    let mut parts = cll_header::default();
+    // SAFETY: as this file says. An item begins with a title, so the call writes the parts.
+    let _answer = unsafe { sys::cll_item_header(&view_of(item), &mut parts) };
+    Header::of(&parts)
+}
+
+/// A call that gives the body of a string.
+type BodyCall = unsafe extern "C" fn(*const cll_item, *mut cll_body) -> u32;
+
+/// Returns the body of a string that this call gives.
+fn body_by<'a>(call: BodyCall, item: Deep<'a>) -> Option<&'a [u8]> {
+    let mut body = cll_body {
+        data: item.0.as_ptr(),
+        len: 0,
+    };
+    // SAFETY: as this file says. The body that the call gives is a part of the item.
+    unsafe {
+        (call(&view_of(item), &mut body) == 0).then(|| slice::from_raw_parts(body.data, body.len))
+    }
+}
+
+/// Returns the body of a byte string of a definite length.
+pub(crate) fn item_bytes<'a>(item: Deep<'a>) -> Option<&'a [u8]> {
+    body_by(sys::cll_item_bytes, item)
+}
+
+/// Returns the body of a text of a definite length.
+pub(crate) fn item_text<'a>(item: Deep<'a>) -> Option<&'a str> {
+    // SAFETY: the item was checked, so the body of a text is UTF-8.
+    body_by(sys::cll_item_text, item).map(|body| unsafe { str::from_utf8_unchecked(body) })
+}
+
+/// Returns the items in an item.
+pub(crate) fn items<'a>(item: Deep<'a>) -> Option<Deep<'a>> {
+    let mut items = cll_items {
+        data: item.0.as_ptr(),
+        len: 0,
+        depth: 0,
+    };
+    // SAFETY: as this file says. The items that the call gives are a part of the item.
+    unsafe {
+        (sys::cll_item_items(&view_of(item), &mut items) == 0)
+            .then(|| (slice::from_raw_parts(items.data, items.len), items.depth))
+    }
+}
+
+/// Returns the first of the items that are left, and the others.
+pub(crate) fn next_item<'a>(items: Deep<'a>) -> Option<(Deep<'a>, Deep<'a>)> {
+    let mut left = cll_items {
+        data: items.0.as_ptr(),
+        len: items.0.len(),
+        depth: items.1,
+    };
+    let mut view = view_of((&[], 0));
+    // SAFETY: as this file says. The call takes the item off the front of the bytes.
+    unsafe { sys::cll_item_next(&mut left, &mut view) == 0 }.then(|| {
+        let (item, others) = items.0.split_at(view.len);
+        ((item, view.depth), (others, left.depth))
+    })
+}
+
+/// Returns the item of the view that a call writes, if it gives the answer 0.
+fn found_by<'a>(call: impl FnOnce(*mut cll_item) -> u32) -> Option<Deep<'a>> {
+    let mut view = view_of((&[], 0));
+    if call(&mut view) != 0 {
+        return None;
+    }
+    // SAFETY: the view that each call below writes is a part of the item that the call got.
+    let bytes = unsafe { slice::from_raw_parts(view.data, view.len) };
+    Some((bytes, view.depth))
+}
+
+/// Returns the value of the first key with these bytes.
+pub(crate) fn get<'a>(item: Deep<'a>, key: &[u8]) -> Option<Deep<'a>> {
+    // SAFETY: as this file says.
+    found_by(|value| unsafe { sys::cll_item_get(&view_of(item), key.as_ptr(), key.len(), value) })
+}
+
+/// Returns the value of the first key that is this text.
+pub(crate) fn get_text<'a>(item: Deep<'a>, key: &str) -> Option<Deep<'a>> {
+    // SAFETY: as this file says.
+    found_by(|value| unsafe {
+        sys::cll_item_get_text(&view_of(item), key.as_ptr(), key.len(), value)
+    })
+}
+
+/// Returns the value of the first key that is this integer.
+pub(crate) fn get_int<'a>(item: Deep<'a>, key: i64) -> Option<Deep<'a>> {
+    // SAFETY: as this file says.
+    found_by(|value| unsafe { sys::cll_item_get_int(&view_of(item), key, value) })
 }

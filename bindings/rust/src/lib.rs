@@ -37,6 +37,7 @@ mod encoder;
 mod error;
 mod header;
 mod headers;
+mod item;
 #[cfg(feature = "std")]
 pub mod stream;
 pub mod sys;
@@ -54,6 +55,7 @@ pub use encoder::Encoder;
 pub use error::Error;
 pub use header::{Float, Header};
 pub use headers::{headers, Headers, Title};
+pub use item::{Entries, Item, Items};
 
 /// The programs of the page on this crate.
 #[cfg(all(doctest, feature = "std"))]

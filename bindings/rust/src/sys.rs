@@ -43,6 +43,40 @@ pub struct cll_span {
     pub end: u64,
 }
 
+/// A view of one item: its bytes, and how many levels its tags, arrays and maps may take.
+#[repr(C)]
+#[derive(Clone, Copy, Debug)]
+pub struct cll_item {
+    /// The first byte of the item.
+    pub data: *const u8,
+    /// How many bytes the item has.
+    pub len: usize,
+    /// How many levels it may go down.
+    pub depth: u32,
+}
+
+/// The items in an item that are left, one after the other.
+#[repr(C)]
+#[derive(Clone, Copy, Debug)]
+pub struct cll_items {
+    /// The first byte of them.
+    pub data: *const u8,
+    /// How many bytes they have.
+    pub len: usize,
+    /// How many levels each of them may go down.
+    pub depth: u32,
+}
+
+/// The body of a string.
+#[repr(C)]
+#[derive(Clone, Copy, Debug)]
+pub struct cll_body {
+    /// The first byte of the body.
+    pub data: *const u8,
+    /// How many bytes the body has.
+    pub len: usize,
+}
+
 /// How far a call came.
 #[repr(C)]
 #[derive(Clone, Copy, Debug, Default)]
@@ -142,6 +176,31 @@ extern "C" {
         spans_len: usize,
         report: *mut cll_report,
     ) -> u32;
+    pub fn cll_item_parse(
+        data: *const u8,
+        len: usize,
+        depth: u32,
+        item: *mut cll_item,
+        report: *mut cll_report,
+    ) -> u32;
+    pub fn cll_item_header(item: *const cll_item, header: *mut cll_header) -> u32;
+    pub fn cll_item_bytes(item: *const cll_item, body: *mut cll_body) -> u32;
+    pub fn cll_item_text(item: *const cll_item, body: *mut cll_body) -> u32;
+    pub fn cll_item_items(item: *const cll_item, items: *mut cll_items) -> u32;
+    pub fn cll_item_next(items: *mut cll_items, item: *mut cll_item) -> u32;
+    pub fn cll_item_get(
+        item: *const cll_item,
+        key: *const u8,
+        key_len: usize,
+        value: *mut cll_item,
+    ) -> u32;
+    pub fn cll_item_get_text(
+        item: *const cll_item,
+        key: *const u8,
+        key_len: usize,
+        value: *mut cll_item,
+    ) -> u32;
+    pub fn cll_item_get_int(item: *const cll_item, key: i64, value: *mut cll_item) -> u32;
     pub fn cll_utf8(data: *const u8, len: usize, report: *mut cll_report) -> u32;
     pub fn cll_checker_init(checker: *mut cll_checker, depth: u32) -> u32;
     pub fn cll_checker_init_strict(checker: *mut cll_checker, depth: u32) -> u32;

@@ -3,7 +3,7 @@
 
 use ciborium_ll_proved::{
     canonical_into, deterministic, headers, recode, skip_item, strict_len, utf8, Checker, Copier,
-    Copying, Decoder, Encoder, Error, Float, Header, Order, Progress, Span,
+    Copying, Decoder, Encoder, Error, Float, Header, Item, Order, Progress, Span,
 };
 
 const TABLE: &str = include_str!("../../tests/rows");
@@ -121,7 +121,45 @@ fn made(call: &str, number: u64, given: &str) -> Result<(usize, String), Error> 
         "canonical" => rewritten(&data, number as u32, Order::Bytewise),
         "canonical_length_first" => rewritten(&data, number as u32, Order::LengthFirst),
         "utf8" => Ok((utf8(&data)?.len(), "-".to_string())),
+        "item" => {
+            let (item, rest) = Item::parse_prefix(&data, number as u32)?;
+            assert_eq!(item.bytes(), &data[..data.len() - rest.len()]);
+            Ok((item.bytes().len(), viewed(&item)))
+        }
         _ => panic!("a row of no call: {call}"),
+    }
+}
+
+/// Returns an item with all that it contains as the table shows it, by views of its parts.
+fn viewed(item: &Item<'_>) -> String {
+    let header = told(item.header());
+    let body = item.byte_string().or(item.text().map(str::as_bytes));
+    if let Some(body) = body {
+        return format!("{header}={}", hex_of(body).trim_matches('-'));
+    }
+    let parts: Vec<String> = item.items().map(|part| viewed(&part)).collect();
+    match item.header() {
+        Header::Array(_) | Header::Map(_) | Header::Tag(_) | Header::Bytes(_) | Header::Text(_) => {
+            format!("{header}[{}]", parts.join(","))
+        }
+        _ => {
+            assert!(parts.is_empty());
+            header
+        }
+    }
+}
+
+/// Looks a key up in an item. Returns its value as the table shows it.
+fn found(call: &str, key: &str, data: &[u8]) -> String {
+    let item = Item::parse(data, 16).unwrap();
+    let value = match call {
+        "get" => item.get(&bytes_of(key)),
+        "get_text" => item.get_text(if key == "-" { "" } else { key }),
+        _ => item.get_int(key.parse().unwrap()),
+    };
+    match value {
+        Some(value) => format!("ok 0 0 {}", viewed(&value)),
+        None => "absent 0 0 -".to_string(),
     }
 }
 
@@ -263,6 +301,12 @@ fn rows_hold() {
         );
         if call == "feed" || call == "feed_strict" {
             let got = fed(number as u32, &bytes_of(given), call == "feed_strict");
+            assert_eq!(got, words[3..].join(" "), "{row}");
+            count += 1;
+            continue;
+        }
+        if call.starts_with("get") {
+            let got = found(call, words[1], &bytes_of(given));
             assert_eq!(got, words[3..].join(" "), "{row}");
             count += 1;
             continue;

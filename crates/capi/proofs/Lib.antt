@@ -14,4 +14,5 @@ pub mod TextFronts
 pub mod TitleParts
 pub mod TitleReads
 pub mod TitleRuns
+pub mod ViewLaws
 pub mod WideLaws

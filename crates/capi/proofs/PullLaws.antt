@@ -40,6 +40,7 @@ code_ok a.NotShortest result is = (λ same. absurd (omega (arith, is, same)), λ
 code_ok a.Indefinite result is = (λ same. absurd (omega (arith, is, same)), λ same. absurd cc)
 code_ok a.KeyOrder result is = (λ same. absurd (omega (arith, is, same)), λ same. absurd cc)
 code_ok a.DuplicateKey result is = (λ same. absurd (omega (arith, is, same)), λ same. absurd cc)
+code_ok a.Absent result is = (λ same. absurd (omega (arith, is, same)), λ same. absurd cc)
 
 -- If the answer is `Ok` exactly under a condition, the number is that of `Ok` exactly under it.
 pub code_exactly : {Holds : Type 0} (answer : CllAnswer) (result : ℕ) → result ≡ code answer → (answer ≡ a.Ok) ↔ Holds
@@ -61,6 +62,7 @@ is_short a.NotShortest result is same = absurd (omega (arith, is, same))
 is_short a.Indefinite result is same = absurd (omega (arith, is, same))
 is_short a.KeyOrder result is same = absurd (omega (arith, is, same))
 is_short a.DuplicateKey result is same = absurd (omega (arith, is, same))
+is_short a.Absent result is same = absurd (omega (arith, is, same))
 
 -- A consequence of the answer `Short` is a consequence of its number.
 pub code_short : {Holds : Type 0} (answer : CllAnswer) (result : ℕ) → result ≡ code answer
@@ -84,6 +86,7 @@ pulled_exactly bytes a.NotShortest old new consumed result is pulled = absurd pu
 pulled_exactly bytes a.Indefinite old new consumed result is pulled = absurd pulled
 pulled_exactly bytes a.KeyOrder old new consumed result is pulled = absurd pulled
 pulled_exactly bytes a.DuplicateKey old new consumed result is pulled = absurd pulled
+pulled_exactly bytes a.Absent old new consumed result is pulled = absurd pulled
 
 module _ {R E : Type 0} (source : Ghosts R E) (strict : Bool) (reader : R) (decoder : Decoder R)
     (fresh : IsFreshAs strict reader 0 decoder) where

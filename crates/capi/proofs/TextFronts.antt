@@ -128,6 +128,7 @@ found_pieces bytes a.NotShortest report found = absurd found
 found_pieces bytes a.Indefinite report found = absurd found
 found_pieces bytes a.KeyOrder report found = absurd found
 found_pieces bytes a.DuplicateKey report found = absurd found
+found_pieces bytes a.Absent report found = absurd found
 
 -- The answer is `Ok` exactly if the bytes are UTF-8.
 pub found_exactly : (bytes : List ℕ) (answer : CllAnswer) (report : CllReport) → FindsText bytes answer report
@@ -152,3 +153,4 @@ found_exactly bytes a.NotShortest report found = absurd found
 found_exactly bytes a.Indefinite report found = absurd found
 found_exactly bytes a.KeyOrder report found = absurd found
 found_exactly bytes a.DuplicateKey report found = absurd found
+found_exactly bytes a.Absent report found = absurd found

@@ -174,6 +174,7 @@ module _ (rest : List ℕ) (none : BeginsWithBody rest → ⊥) where
   only_syntax a.Indefinite told skips other = absurd skips
   only_syntax a.KeyOrder told skips other = absurd skips
   only_syntax a.DuplicateKey told skips other = absurd skips
+  only_syntax a.Absent told skips other = absurd skips
 
   -- The skip met a fault of the grammar.
   syntax_told : (answer : CllAnswer) (told : CllReport) → Skips 0 rest answer told → answer ≢ a.Short
@@ -241,6 +242,7 @@ none_pulled bytes a.NotShortest old new consumed pulled other front = pulled
 none_pulled bytes a.Indefinite old new consumed pulled other front = pulled
 none_pulled bytes a.KeyOrder old new consumed pulled other front = pulled
 none_pulled bytes a.DuplicateKey old new consumed pulled other front = pulled
+none_pulled bytes a.Absent old new consumed pulled other front = pulled
 
 module _ (bytes : List ℕ) (consumed : ℕ) (front : BeginsWithTitle bytes)
     (whole : consumed ≡ length front.title) where

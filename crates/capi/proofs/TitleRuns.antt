@@ -356,6 +356,7 @@ module _ (bytes : List ℕ) (old new entries : List CllTitle) (taken filled : �
   titles_stop a.Indefinite report run within is_filled counted in_room none stops = absurd stops
   titles_stop a.KeyOrder report run within is_filled counted in_room none stops = absurd stops
   titles_stop a.DuplicateKey report run within is_filled counted in_room none stops = absurd stops
+  titles_stop a.Absent report run within is_filled counted in_room none stops = absurd stops
 
 -- Only one run stops before a fault.
 one_stop : (room : ℕ) (bytes : List ℕ) (taken other : ℕ) (entries ones : List CllTitle)
@@ -425,6 +426,7 @@ module _ (bytes : List ℕ) (old new : List CllTitle) (report : CllReport) where
   ends_with a.Indefinite (ones, stops, filled, none) = absurd none
   ends_with a.KeyOrder (ones, stops, filled, none) = absurd none
   ends_with a.DuplicateKey (ones, stops, filled, none) = absurd none
+  ends_with a.Absent (ones, stops, filled, none) = absurd none
 
   module _ (answer : CllAnswer) (fills : FillsTitles bytes old answer new report) (taken : ℕ)
       (entries : List CllTitle) where

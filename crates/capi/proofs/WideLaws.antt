@@ -342,3 +342,4 @@ puts_wide parts width title old new a.NotShortest report of put = absurd put
 puts_wide parts width title old new a.Indefinite report of put = absurd put
 puts_wide parts width title old new a.KeyOrder report of put = absurd put
 puts_wide parts width title old new a.DuplicateKey report of put = absurd put
+puts_wide parts width title old new a.Absent report of put = absurd put

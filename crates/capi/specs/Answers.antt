@@ -18,8 +18,9 @@ code a.NotShortest = 8
 code a.Indefinite = 9
 code a.KeyOrder = 10
 code a.DuplicateKey = 11
+code a.Absent = 12
 
--- The number is that of an answer: one from 0 to 11.
+-- The number is that of an answer: one from 0 to 12.
 abbrev pub IsCode : ℕ → Type 0
 IsCode number = (answer : CllAnswer) × (number ≡ code answer)
 

@@ -14,4 +14,5 @@ pub mod Rewriting
 pub mod Skipping
 pub mod Texts
 pub mod Titles
+pub mod Viewing
 pub mod Widths

@@ -1,5 +1,5 @@
 -- The result of `cll_canonical`.
-use Rattle.std.specs.Prelude.{◌≡◌, ℕ, ◌≤◌, List, length, take}
+use Rattle.std.specs.Prelude.{ℕ, ◌≤◌, List, length, take}
 use Rattle.cbor_canonical.specs.declared.Why.{Why}
 use Rattle.cbor_canonical.specs.declared.Why.TheVariants as w
 use Rattle.cbor_canonical.specs.Canonical.{IsCanonical}

@@ -32,6 +32,8 @@ pub enum CllAnswer {
     KeyOrder,
     /// At `place` stands a key that its map has before it.
     DuplicateKey,
+    /// There is none: no more items, no pair with this key, or an item of another kind.
+    Absent,
 }
 
 impl CllAnswer {
@@ -53,6 +55,7 @@ impl CllAnswer {
             CllAnswer::Indefinite => 9,
             CllAnswer::KeyOrder => 10,
             CllAnswer::DuplicateKey => 11,
+            CllAnswer::Absent => 12,
         }
     }
 }

@@ -18,6 +18,8 @@ ghost use Rattle.ciborium_ll.specs.Slices.{slice_target};
 ghost use Rattle.ciborium_ll_grammar.specs.Parts.{IsParts, title_bytes};
 ghost use Rattle.ciborium_ll_text.specs.Text.{IsCharacters};
 ghost use Rattle.cbor_skip.specs.ItemFaults.{BeginsWithItem};
+ghost use Rattle.cbor_view.specs.Segments.{SpellsText};
+ghost use Rattle.cbor_view.specs.Views.{IsBytesOf, IsTextOf};
 ghost use Rattle.capi.specs.declared.answer.CllAnswer.{CllAnswer};
 ghost use Rattle.capi.specs.declared.answer.CllAnswer.TheVariants as a;
 ghost use Rattle.capi.specs.declared.titles.CllTitle.{CllTitle as AnyTitle};
@@ -37,6 +39,7 @@ ghost use Rattle.capi.specs.Rewriting.{Rewrites};
 ghost use Rattle.capi.specs.Skipping.{Skips, skip_answer, skip_place};
 ghost use Rattle.capi.specs.Texts.{FindsText};
 ghost use Rattle.capi.specs.Titles.{FillsTitles, Gives, HasTitles, StopsTitles};
+ghost use Rattle.capi.specs.Viewing.{Finds, GivesBody, IsInteger, ListsItems, StepsOn, TellsHeader, Views};
 ghost use Rattle.capi.specs.Widths.{PushesWide};
 ghost use Rattle.ciborium_ll_grammar.specs.declared.limits.TheConstants.{LEAST_BUFFER, MOST_LEVELS};
 
@@ -47,7 +50,10 @@ mod copier;
 mod deterministic;
 mod due;
 mod header;
+mod item;
 mod item_copier;
+mod items;
+mod keys;
 mod tally;
 mod titles;
 mod wide;
@@ -59,9 +65,12 @@ pub use self::copier::CllCopier;
 use self::deterministic::{check_item, order_of};
 use self::due::{due_behind, item_len};
 pub use self::header::CllHeader;
+pub use self::item::{CllBody, CllItem};
 pub use self::item_copier::CllItemCopier;
+pub use self::items::CllItems;
 use self::tally::{Tally, copy_counted};
 pub use self::titles::CllTitle;
+use self::titles::is_text;
 use self::wide::title_in;
 pub use cbor_canonical::Span;
 use cbor_skip::{SkipError, skip_item};
@@ -72,7 +81,7 @@ use ciborium_ll_decoder::title::pull_title;
 use ciborium_ll_encoder::enc::push_title;
 use ciborium_ll_grammar::hdr::{Title, shortest};
 use ciborium_ll_grammar::limits::{LONGEST_TITLE, MOST_LEVELS};
-use ciborium_ll_text::state::{State, text_front};
+use ciborium_ll_text::state::{State, text_front, text_of};
 
 /// The length of the buffer through which bodies go, in bytes.
 const BUFFER_SIZE: usize = 1024;
@@ -449,6 +458,98 @@ pub fn cll_canonical(
         return CllAnswer::Argument.code();
     }
     rewrite_item(bytes, depth as usize, order_of(order), out, spans, report).code()
+}
+
+/// Parses the item with which the bytes begin, nested at most `depth` levels deep (RFC 7049, 2.1 to 2.4).
+pub fn cll_item_parse<'a>(
+    bytes: &'a [u8],
+    depth: u32,
+    item: &mut CllItem<'a>,
+    report: &mut CllReport,
+) -> u32
+    ensures exactly { depth ≤ MOST_LEVELS → (result ≡ code a.Ok ↔ BeginsWithItem false depth bytes.now) }
+    ensures parsed { result ≡ code a.Ok
+        → Views depth bytes.now item.new × (report.new.consumed ≡ length item.new.bytes.now) }
+    ensures kept { result ≢ code a.Ok → item.new ≡ item.old }
+    ensures due { depth ≤ MOST_LEVELS → result ≡ code a.Short → ItemLacks false depth bytes.now report.new.place }
+    ensures argument { MOST_LEVELS < depth → (result ≡ code a.Argument) × Reports report.new 0 0 0 }
+    ensures skipped { depth ≤ MOST_LEVELS
+        → (answer : CllAnswer) × (result ≡ code answer) × Skips depth bytes.now answer report.new }
+{
+    if depth as usize > MOST_LEVELS {
+        report.say(0, 0, 0);
+        return CllAnswer::Argument.code();
+    }
+    item::parse(bytes, depth, item, report).code()
+}
+
+/// Tells the header of an item.
+pub fn cll_item_header(item: &CllItem, header: &mut CllHeader) -> u32
+    ensures exactly { result ≡ code a.Ok ↔ BeginsWithTitle item.now.bytes.now }
+    ensures told { (answer : CllAnswer) × (result ≡ code answer)
+        × TellsHeader item.now.bytes.now answer header.old header.new }
+{
+    item::tell_header(item.bytes, header).code()
+}
+
+/// Gives the body of a byte string of definite length (RFC 7049, 2.1).
+pub fn cll_item_bytes<'a>(item: &CllItem<'a>, body: &mut CllBody<'a>) -> u32
+    ensures { (answer : CllAnswer) × (result ≡ code answer)
+        × GivesBody (IsBytesOf item.now.bytes.now) answer body.old body.new }
+{
+    item::give_bytes(item.bytes, body).code()
+}
+
+/// Gives the body of a text string of definite length (RFC 7049, 2.1).
+pub fn cll_item_text<'a>(item: &CllItem<'a>, body: &mut CllBody<'a>) -> u32
+    ensures { (answer : CllAnswer) × (result ≡ code answer)
+        × GivesBody (IsTextOf item.now.bytes.now) answer body.old body.new }
+{
+    item::give_text(item.bytes, body).code()
+}
+
+/// Lists the items in an item (RFC 7049, 2.1 and 2.2).
+pub fn cll_item_items<'a>(item: &CllItem<'a>, items: &mut CllItems<'a>) -> u32
+    ensures { (answer : CllAnswer) × (result ≡ code answer) × ListsItems item.now answer items.old items.new }
+{
+    items::list(item, items).code()
+}
+
+/// Takes the first of the items that are left.
+pub fn cll_item_next<'a>(items: &mut CllItems<'a>, item: &mut CllItem<'a>) -> u32
+    ensures { (answer : CllAnswer) × (result ≡ code answer)
+        × StepsOn answer items.old item.old items.new item.new }
+{
+    items::next(items, item).code()
+}
+
+/// Gives the value of the first pair of a map whose key has these bytes.
+pub fn cll_item_get<'a>(item: &CllItem<'a>, key: &[u8], value: &mut CllItem<'a>) -> u32
+    ensures { (answer : CllAnswer) × (result ≡ code answer)
+        × Finds (λ other. other ≡ key.now) item.now answer value.old value.new }
+{
+    keys::by_bytes(item, key, value).code()
+}
+
+/// Gives the value of the first pair of a map whose key is this text, in any spelling.
+pub fn cll_item_get_text<'a>(item: &CllItem<'a>, key: &[u8], value: &mut CllItem<'a>) -> u32
+    ensures found { IsCharacters key.now → (answer : CllAnswer) × (result ≡ code answer)
+        × Finds (λ other. ∥ SpellsText other key.now ∥₁) item.now answer value.old value.new }
+    ensures argument { (IsCharacters key.now → ⊥) → (result ≡ code a.Argument) × (value.new ≡ value.old) }
+{
+    if !is_text(key) {
+        return CllAnswer::Argument.code();
+    }
+    keys::by_text(item, text_of(key), value).code()
+}
+
+/// Gives the value of the first pair of a map whose key is this integer, in any spelling.
+pub fn cll_item_get_int<'a>(item: &CllItem<'a>, key: i64, value: &mut CllItem<'a>) -> u32
+    ensures { (answer : CllAnswer) × (result ≡ code answer)
+        × Finds (IsInteger key) item.now answer value.old value.new }
+{
+    let (is_negative, number) = keys::parts_of(key);
+    keys::by_integer(item, is_negative, number, value).code()
 }
 
 /// Finds the longest front of the bytes that is text.

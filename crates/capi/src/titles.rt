@@ -48,7 +48,7 @@ impl CllTitle {
 
 /// Returns whether the bytes are UTF-8.
 #[inline(always)]
-fn is_text(bytes: &[u8]) -> bool
+pub(crate) fn is_text(bytes: &[u8]) -> bool
     ensures { IsTrue result ↔ IsCharacters bytes.now }
 {
     text_front(bytes, 0, State::Between).0.len() == bytes.len()

@@ -30,6 +30,8 @@ ghost use Rattle.cbor_checker.specs.Steps.{IsFed};
 ghost use Rattle.ciborium_ll.specs.Faults.{BeginsWithElements};
 ghost use Rattle.ciborium_ll_text.specs.Text.{IsCharacters};
 ghost use Rattle.cbor_skip.specs.ItemFaults.{BeginsWithItem};
+ghost use Rattle.cbor_view.specs.Segments.{SpellsText};
+ghost use Rattle.cbor_view.specs.Views.{IsBytesOf, IsTextOf};
 ghost use Rattle.capi.specs.declared.answer.CllAnswer.{CllAnswer};
 ghost use Rattle.capi.specs.declared.answer.CllAnswer.TheVariants as a;
 ghost use Rattle.capi.specs.declared.titles.CllTitle.{CllTitle as AnyTitle};
@@ -49,11 +51,13 @@ ghost use Rattle.capi.specs.Rewriting.{Rewrites};
 ghost use Rattle.capi.specs.Skipping.{Skips};
 ghost use Rattle.capi.specs.Texts.{FindsText};
 ghost use Rattle.capi.specs.Titles.{FillsTitles, Gives, HasTitles, StopsTitles};
+ghost use Rattle.capi.specs.Viewing.{Finds, GivesBody, IsInteger, ListsItems, StepsOn, TellsHeader, Views};
 ghost use Rattle.capi.specs.Widths.{PushesWide};
 ghost use Rattle.ciborium_ll.specs.Limits.{MOST_LEVELS};
 
 pub use capi::{
-    CllAnswer, CllChecker, CllCopier, CllHeader, CllItemCopier, CllReport, CllTitle, Span,
+    CllAnswer, CllBody, CllChecker, CllCopier, CllHeader, CllItem, CllItemCopier, CllItems,
+    CllReport, CllTitle, Span,
 };
 
 /// Returns the version, which is 0.1.0: 65536 times its major number, 256 times its minor one, and its patch number.
@@ -277,6 +281,151 @@ pub extern "C" fn cll_canonical(
         → (result ≡ code a.Argument) × Reports report.new 0 0 0 × (out.new ≡ out.old) }
 {
     capi::cll_canonical(bytes, depth, order, out, spans, report)
+}
+
+/// Parses the item with which the bytes begin, as [`cll_skip`] skips it, and makes `item` a view of it. The calls below
+/// look into the view. They do not look at other bytes than those of the view, and the caller may have written any
+/// bytes and any depth into it.
+///
+/// # Errors
+///
+/// Those of [`cll_skip`]. `item` is as it was.
+#[unsafe(no_mangle)]
+pub extern "C" fn cll_item_parse<'a>(
+    bytes: &'a [u8],
+    depth: u32,
+    item: &mut CllItem<'a>,
+    report: &mut CllReport,
+) -> u32
+    ensures exactly { depth ≤ MOST_LEVELS → (result ≡ code a.Ok ↔ BeginsWithItem false depth bytes.now) }
+    ensures parsed { result ≡ code a.Ok
+        → Views depth bytes.now item.new × (report.new.consumed ≡ length item.new.bytes.now) }
+    ensures kept { result ≢ code a.Ok → item.new ≡ item.old }
+    ensures due { depth ≤ MOST_LEVELS → result ≡ code a.Short → ItemLacks false depth bytes.now report.new.place }
+    ensures argument { MOST_LEVELS < depth → (result ≡ code a.Argument) × Reports report.new 0 0 0 }
+    ensures skipped { depth ≤ MOST_LEVELS
+        → (answer : CllAnswer) × (result ≡ code answer) × Skips depth bytes.now answer report.new }
+{
+    capi::cll_item_parse(bytes, depth, item, report)
+}
+
+/// Tells the header of an item. It is never that of a break, if a call filled the view in.
+///
+/// # Errors
+///
+/// - `Argument`: the bytes of the view begin with no title. `header` is as it was.
+#[unsafe(no_mangle)]
+pub extern "C" fn cll_item_header(item: &CllItem, header: &mut CllHeader) -> u32
+    ensures exactly { result ≡ code a.Ok ↔ BeginsWithTitle item.now.bytes.now }
+    ensures told { (answer : CllAnswer) × (result ≡ code answer)
+        × TellsHeader item.now.bytes.now answer header.old header.new }
+{
+    capi::cll_item_header(item, header)
+}
+
+/// Gives the body of a byte string of definite length (RFC 7049, 2.1).
+///
+/// # Errors
+///
+/// - `Absent`: the bytes of the view are no such string. `body` is as it was.
+#[unsafe(no_mangle)]
+pub extern "C" fn cll_item_bytes<'a>(item: &CllItem<'a>, body: &mut CllBody<'a>) -> u32
+    ensures { (answer : CllAnswer) × (result ≡ code answer)
+        × GivesBody (IsBytesOf item.now.bytes.now) answer body.old body.new }
+{
+    capi::cll_item_bytes(item, body)
+}
+
+/// Gives the body of a text string of definite length (RFC 7049, 2.1). It is UTF-8, if a call filled the view in.
+///
+/// # Errors
+///
+/// - `Absent`: the bytes of the view are no such string. `body` is as it was.
+#[unsafe(no_mangle)]
+pub extern "C" fn cll_item_text<'a>(item: &CllItem<'a>, body: &mut CllBody<'a>) -> u32
+    ensures { (answer : CllAnswer) × (result ≡ code answer)
+        × GivesBody (IsTextOf item.now.bytes.now) answer body.old body.new }
+{
+    capi::cll_item_text(item, body)
+}
+
+/// Lists the items in an item (RFC 7049, 2.1 and 2.2): those of an array, the keys and values of a map one after the
+/// other, the item under a tag, or the strings in a string of indefinite length.
+///
+/// # Errors
+///
+/// - `Absent`: the item is of another kind, or no level is left for a tag, an array or a map. `items` is as it was.
+#[unsafe(no_mangle)]
+pub extern "C" fn cll_item_items<'a>(item: &CllItem<'a>, items: &mut CllItems<'a>) -> u32
+    ensures { (answer : CllAnswer) × (result ≡ code answer) × ListsItems item.now answer items.old items.new }
+{
+    capi::cll_item_items(item, items)
+}
+
+/// Takes the first of the items that are left.
+///
+/// # Errors
+///
+/// An error leaves `items` and `item` as they were.
+///
+/// - `Absent`: no item is left.
+/// - `Argument`: no item begins the bytes that are left, or the depth is above 256. No call makes such `items`.
+#[unsafe(no_mangle)]
+pub extern "C" fn cll_item_next<'a>(items: &mut CllItems<'a>, item: &mut CllItem<'a>) -> u32
+    ensures { (answer : CllAnswer) × (result ≡ code answer)
+        × StepsOn answer items.old item.old items.new item.new }
+{
+    capi::cll_item_next(items, item)
+}
+
+/// Gives the value of the first pair of a map whose key has these bytes.
+///
+/// # Errors
+///
+/// An error leaves `value` as it was.
+///
+/// - `Absent`: the item is no map, or no key of it has these bytes.
+/// - `Argument`: the bytes of the view are not one item to its depth, or the depth is above 256.
+#[unsafe(no_mangle)]
+pub extern "C" fn cll_item_get<'a>(item: &CllItem<'a>, key: &[u8], value: &mut CllItem<'a>) -> u32
+    ensures { (answer : CllAnswer) × (result ≡ code answer)
+        × Finds (λ other. other ≡ key.now) item.now answer value.old value.new }
+{
+    capi::cll_item_get(item, key, value)
+}
+
+/// Gives the value of the first pair of a map whose key is this text, in any spelling. The bodies of a text of
+/// indefinite length are joined.
+///
+/// # Errors
+///
+/// Those of [`cll_item_get`], and:
+///
+/// - `Argument`: `key` is not UTF-8.
+#[unsafe(no_mangle)]
+pub extern "C" fn cll_item_get_text<'a>(
+    item: &CllItem<'a>,
+    key: &[u8],
+    value: &mut CllItem<'a>,
+) -> u32
+    ensures found { IsCharacters key.now → (answer : CllAnswer) × (result ≡ code answer)
+        × Finds (λ other. ∥ SpellsText other key.now ∥₁) item.now answer value.old value.new }
+    ensures argument { (IsCharacters key.now → ⊥) → (result ≡ code a.Argument) × (value.new ≡ value.old) }
+{
+    capi::cll_item_get_text(item, key, value)
+}
+
+/// Gives the value of the first pair of a map whose key is this integer, in any spelling.
+///
+/// # Errors
+///
+/// Those of [`cll_item_get`].
+#[unsafe(no_mangle)]
+pub extern "C" fn cll_item_get_int<'a>(item: &CllItem<'a>, key: i64, value: &mut CllItem<'a>) -> u32
+    ensures { (answer : CllAnswer) × (result ≡ code answer)
+        × Finds (IsInteger key) item.now answer value.old value.new }
+{
+    capi::cll_item_get_int(item, key, value)
 }
 
 /// Finds the longest front of the bytes that is UTF-8 (RFC 3629). `consumed` is its length.

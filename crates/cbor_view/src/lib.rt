@@ -17,6 +17,7 @@ pub use self::item::Item;
 pub use self::nests::{Elements, Entries};
 pub use self::parse::Fault;
 pub use self::segments::{Segments, TextSegments};
+pub use self::title::next_title;
 use ciborium_ll_grammar::limits::MOST_LEVELS;
 
 /// The greatest depth, in levels.

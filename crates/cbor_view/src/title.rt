@@ -10,7 +10,7 @@ use ciborium_ll_grammar::titles::title_of;
 
 /// Returns the header of the title that begins the bytes, and the rest, or `None` if no whole title begins them.
 #[inline(always)]
-pub(crate) fn next_title(bytes: &[u8]) -> Option<(Header, &[u8])>
+pub fn next_title(bytes: &[u8]) -> Option<(Header, &[u8])>
     ensures { MatchOption result ((header : Header) → IsOpenedBy bytes.now header → ⊥)
         (λ found. IsSplit bytes.now found.0 found.1.now) }
 {

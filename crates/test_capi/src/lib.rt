@@ -18,3 +18,5 @@ mod item_copiers;
 mod titles;
 #[cfg(test)]
 mod told;
+#[cfg(test)]
+mod views;
