@@ -122,17 +122,17 @@ module _ {R E W F : Type 0} (source : Reader R E) (sink : Writer W F) (style : S
 -- ---- the items of a tag, an array or a map
 
 -- The items that remain say whether the next item is a value. After whole pairs it is a key, and otherwise a value.
-value_next : (header : Header) (count : ℕ) (remaining : Remaining) → IsRemaining header count remaining
+pub value_next : (header : Header) (count : ℕ) (remaining : Remaining) → IsRemaining header count remaining
     → is_value remaining ≡ is_value_at header count
 value_next header count remaining is = grind (arith, nat_tests, mul-mod_right, mul-add-mod_self_left)
 
 -- If no item remains, the items are all, and no break follows them.
-all_done : (header : Header) (count : ℕ) (remaining : Remaining) → IsRemaining header count remaining
+pub all_done : (header : Header) (count : ℕ) (remaining : Remaining) → IsRemaining header count remaining
     → is_done remaining ≡ true → IsAll header count × (nest_end header ≡ [])
 all_done header count remaining is done = grind arith
 
 -- If a break may stand, the items are all, and the break ends them.
-all_closed : (header : Header) (count : ℕ) (remaining : Remaining) → IsRemaining header count remaining
+pub all_closed : (header : Header) (count : ℕ) (remaining : Remaining) → IsRemaining header count remaining
     → closes remaining ≡ true → IsAll header count × (nest_end header ≡ 0xff ∷ [])
 all_closed header count remaining is may = grind arith
 

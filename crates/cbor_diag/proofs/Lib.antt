@@ -1,13 +1,14 @@
-mod BodyShowLaws
-mod FloatLaws
-mod ItemTextLaws
-mod ItemLaws
+pub mod BaseLaws
+pub mod BodyShowLaws
+pub mod FloatLaws
+pub mod ItemTextLaws
+pub mod ItemLaws
 mod MarkLaws
-mod MoveLaws
+pub mod MoveLaws
 mod NextLaws
 mod OpenLaws
-mod PassedLaws
-mod QuoteLaws
-mod QuotedLaws
-mod ShowLaws
-mod StringShowLaws
+pub mod PassedLaws
+pub mod QuoteLaws
+pub mod QuotedLaws
+pub mod ShowLaws
+pub mod StringShowLaws

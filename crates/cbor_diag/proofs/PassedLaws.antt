@@ -6,6 +6,7 @@ use Rattle.std.proofs.lemmas.Bool.Decides.{nat_tests}
 use Rattle.std.proofs.lemmas.Str.{chars-encodes, encode_ascii}
 use Rattle.std.proofs.Math.Utf8.{encode, encodes}
 use Rattle.std.specs.Str.{chars}
+use Rattle.base64.specs.Rfc4648.{encode_symbols}
 use Rattle.ciborium_ll.specs.Strings.{Bytes, IsWritable, Kind, Text}
 use Rattle.ciborium_ll_text.proofs.Utf8Laws.{to_std}
 use Rattle.cbor_escapes.specs.Escapes.{escape_text, is_acted_on}
@@ -223,5 +224,9 @@ passed_body Text quotes bytes is sound =
 
 -- No bytes have no text.
 pub body_text-nil : (quotes : Quotes) → body_text quotes [] ≡ []
+unfolding encode_symbols
 body_text-nil q.Hex = refl
 body_text-nil q.Text = ap characters_notation (chars-encodes [] refl)
+body_text-nil q.Base16 = refl
+body_text-nil q.Base64 = refl
+body_text-nil q.Base64Url = refl

@@ -24,7 +24,7 @@ pub same_quotes : (quotes quotes' : Quotes) → quotes_code quotes ≡ quotes_co
 same_quotes quotes quotes' p = grind arith
 
 -- If the count of failures is zero, no write failed.
-none_failed : (failed : Bool) → failure_count failed ≡ 0 → failed ≡ false
+pub none_failed : (failed : Bool) → failure_count failed ≡ 0 → failed ≡ false
 none_failed failed none = grind arith
 
 one_failed : (failed : Bool) → failure_count failed ≡ 1 → failed ≡ true

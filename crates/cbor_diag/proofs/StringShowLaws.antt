@@ -69,7 +69,7 @@ module _ {R E : Type 0} {source : Reader R E} (k : Kind) (strict : Bool) where
   module _ {opened now new : Decoder R} {bodies : List (List ℕ)} {progress : Progress} (progress' : Progress)
       (steady : IsSteady source now → IsSteady source new) where
     -- If the title of a body came, the bytes so far end with it.
-    titled : (len : Option ℕ) (body : Body)
+    pub titled : (len : Option ℕ) (body : Body)
         → ReadSoFar source k len (shortest_title (kind_header k len)) opened bodies progress now
         → AdvancesTo source k strict progress now (Ok (Some body)) progress' new
         → (behind : List ℕ) × IsTitled k len behind bodies body.length × ReadsPast source opened behind new
@@ -86,7 +86,7 @@ module _ {R E : Type 0} {source : Reader R E} (k : Kind) (strict : Bool) where
         ([], (refl, lone.0, lone.1), lone.3)
 
     -- If no title came, the bytes so far begin the string, and the decoder meets no body.
-    untitled : (len : Option ℕ) (error : Error E)
+    pub untitled : (len : Option ℕ) (error : Error E)
         → ReadSoFar source k len (shortest_title (kind_header k len)) opened bodies progress now
         → AdvancesTo source k strict progress now (Err error) progress' new
         → (between : Decoder R) × (behind : List ℕ) × BeginsBodies k len behind bodies

@@ -1,8 +1,10 @@
 -- The diagnostic notation of a header that is a whole item, and of bytes in quotes (RFC 8949, section 8).
-use Rattle.std.specs.Prelude.{ℕ, ◌==◌, List, [], ◌∷◌, ◌++◌, codes, decimal, if◌then◌else◌}
+use Rattle.std.specs.Prelude.{ℕ, ◌+◌, ◌/◌, ◌%◌, ◌==◌, nat_lt, List, [], ◌∷◌, ◌++◌, codes, decimal, if◌then◌else◌}
 use Rattle.std.specs.Prelude.{Option, Some, None, negsuc}
 use Rattle.std.specs.Fmt.{signed_decimal}
 use Rattle.std.specs.Str.{chars}
+use Rattle.base64.specs.Engines.{standard, url_safe_no_pad}
+use Rattle.base64.specs.GeneralPurpose.{encode_of}
 use Rattle.ciborium_ll_text.specs.Digits.{hex_text}
 use Rattle.ciborium_ll.specs.Types.Header.{Header}
 use Rattle.ciborium_ll.specs.Types.Header.TheVariants as h
@@ -60,8 +62,24 @@ abbrev pub bytes_notation : List ℕ → List ℕ
 bytes_notation [] = []
 bytes_notation (byte ∷ bytes) = hex_text byte ++ bytes_notation bytes
 
+-- The digit in upper case of a number below 16: `0` is 48, and `A` is 65.
+abbrev pub upper_digit : ℕ → ℕ
+upper_digit number = if nat_lt number 10 then 48 + number else 55 + number
+
+-- A byte as two digits in upper case, the upper half first (RFC 4648, 8): the byte 2b is `2B`.
+abbrev pub upper_text : ℕ → List ℕ
+upper_text byte = upper_digit (byte / 16) ∷ upper_digit (byte % 16) ∷ []
+
+-- Bytes in upper case, with two digits for each (RFC 4648, 8). `61 0a` gives `610A`.
+abbrev pub upper_notation : List ℕ → List ℕ
+upper_notation [] = []
+upper_notation (byte ∷ bytes) = upper_text byte ++ upper_notation bytes
+
 -- A body between quotes of the kind: by its digits, or, if it is a text in UTF-8, by its characters (RFC 8949, 8).
 -- `61 0a` gives `610a` in a byte string, and `a\n` in a text.
 abbrev pub body_text : Quotes → List ℕ → List ℕ
 body_text q.Hex bytes = bytes_notation bytes
 body_text q.Text bytes = characters_notation (chars bytes)
+body_text q.Base16 bytes = upper_notation bytes
+body_text q.Base64 bytes = encode_of standard bytes
+body_text q.Base64Url bytes = encode_of url_safe_no_pad bytes

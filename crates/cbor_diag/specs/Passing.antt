@@ -1,13 +1,16 @@
 -- The text of a body as its bytes pass, byte by byte. The last byte of a character decides whether the character is
 -- escaped.
 use Rattle.std.specs.Prelude.{ℕ, ◌+◌, ◌*◌, ◌%◌, Bool, ◌&&◌, nat_le, nat_lt, if◌then◌else◌, List, [], ◌∷◌, ◌++◌}
+use Rattle.base64.specs.Engines.{standard, url_safe_no_pad}
+use Rattle.base64.specs.GeneralPurpose.{encode_of}
+use Rattle.base64.specs.declared.engine.general_purpose.GeneralPurpose.{GeneralPurpose}
 use Rattle.ciborium_ll_text.specs.Digits.{hex_text}
 use Rattle.cbor_escapes.specs.Escapes.{escape_text, is_acted_on}
 use Rattle.cbor_diag.specs.declared.strings.held.Held.{Held}
 use Rattle.cbor_diag.specs.declared.strings.held.Held.TheVariants as h
 use Rattle.cbor_diag.specs.declared.strings.quotes.Quotes.{Quotes}
 use Rattle.cbor_diag.specs.declared.strings.quotes.Quotes.TheVariants as q
-use Rattle.cbor_diag.specs.Notation.{character_notation}
+use Rattle.cbor_diag.specs.Notation.{character_notation, upper_text}
 
 -- ---- one byte of a text
 
@@ -46,6 +49,27 @@ held_after h.Nothing byte = if is_lead byte then h.One byte else h.Nothing
 held_after (h.One first) byte = if nat_lt first 0xe0 then h.Nothing else h.Two first byte
 held_after (h.Two first second) byte = h.Nothing
 
+-- ---- groups of three bytes
+
+-- The bytes that are held after the next byte, if each group of three bytes is shown as one: up to two bytes. After `61`
+-- the byte `62` is held too.
+abbrev pub held_grouped : Held → ℕ → Held
+held_grouped h.Nothing byte = h.One byte
+held_grouped (h.One first) byte = h.Two first byte
+held_grouped (h.Two first second) byte = h.Nothing
+
+-- The text of the group that the next byte ends, by an engine of the kit's `base64` (RFC 4648, 4). After `61 62` the
+-- byte `63` gives `YWJj`, and after `61` the byte `62` gives nothing.
+abbrev pub next_group : GeneralPurpose → Held → ℕ → List ℕ
+next_group engine (h.Two first second) byte = encode_of engine (first ∷ second ∷ byte ∷ [])
+next_group engine held byte = []
+
+-- The text of the last group, of one or two bytes that are held (RFC 4648, 4). With padding the byte `61` gives `YQ==`.
+abbrev pub end_group : GeneralPurpose → Held → List ℕ
+end_group engine h.Nothing = []
+end_group engine (h.One first) = encode_of engine (first ∷ [])
+end_group engine (h.Two first second) = encode_of engine (first ∷ second ∷ [])
+
 -- ---- the bytes of a body
 
 -- The text of the next byte between quotes of the kind. A byte string holds no bytes. `c2` gives `c2` in a byte string,
@@ -53,11 +77,17 @@ held_after (h.Two first second) byte = h.Nothing
 abbrev pub byte_text : Quotes → Held → ℕ → List ℕ
 byte_text q.Hex held byte = hex_text byte
 byte_text q.Text held byte = next_text held byte
+byte_text q.Base16 held byte = upper_text byte
+byte_text q.Base64 held byte = next_group standard held byte
+byte_text q.Base64Url held byte = next_group url_safe_no_pad held byte
 
 -- The bytes that are held after the next byte between quotes of the kind. `c2` is held in a text alone.
 abbrev pub byte_held : Quotes → Held → ℕ → Held
 byte_held q.Hex held byte = held
 byte_held q.Text held byte = held_after held byte
+byte_held q.Base16 held byte = held
+byte_held q.Base64 held byte = held_grouped held byte
+byte_held q.Base64Url held byte = held_grouped held byte
 
 -- The text of bytes that pass, after the bytes that are held. In a text `61 c2` gives `a`.
 abbrev pub passed_text : Quotes → Held → List ℕ → List ℕ
@@ -69,3 +99,12 @@ passed_text quotes held (byte ∷ bytes) =
 abbrev pub passed_held : Quotes → Held → List ℕ → Held
 passed_held quotes held [] = held
 passed_held quotes held (byte ∷ bytes) = passed_held quotes (byte_held quotes held byte) bytes
+
+-- The text after the last byte of a body, by the bytes that are held. A text and base16 have none. By base64 with
+-- padding, if `61` is held, it is `YQ==`.
+abbrev pub held_end : Quotes → Held → List ℕ
+held_end q.Hex held = []
+held_end q.Text held = []
+held_end q.Base16 held = []
+held_end q.Base64 held = end_group standard held
+held_end q.Base64Url held = end_group url_safe_no_pad held

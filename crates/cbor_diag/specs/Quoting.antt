@@ -25,10 +25,13 @@ written_code (Some bytes) = 0 ∷ bytes
 abbrev pub told_code : Option (List ℕ) → Option ℕ → ℕ → List ℕ
 told_code written room failures = failures ∷ room_code room ∷ written_code written
 
--- A number for a kind of quotes: 0 for digits, and 1 for a text.
+-- A number for a kind of quotes: 0 for digits, 1 for a text, and so on.
 abbrev pub quotes_code : Quotes → ℕ
 quotes_code q.Hex = 0
 quotes_code q.Text = 1
+quotes_code q.Base16 = 2
+quotes_code q.Base64 = 3
+quotes_code q.Base64Url = 4
 
 -- ---- the written bytes
 

@@ -35,11 +35,17 @@ kind_quotes Text = q.Text
 abbrev pub opening : Quotes → List ℕ
 opening q.Hex = codes "h'"
 opening q.Text = 34 ∷ []
+opening q.Base16 = codes "h'"
+opening q.Base64 = codes "b64'"
+opening q.Base64Url = codes "b64'"
 
 -- The text after a body: `'` after `h'01`, and a quote after a text.
 abbrev pub closing : Quotes → List ℕ
 closing q.Hex = codes "'"
 closing q.Text = 34 ∷ []
+closing q.Base16 = codes "'"
+closing q.Base64 = codes "'"
+closing q.Base64Url = codes "'"
 
 -- A body in quotes: `h'0102'` for the bytes `01 02`.
 abbrev pub quoted_body : Quotes → List ℕ → List ℕ
@@ -122,6 +128,9 @@ bodies_text opens quotes (body ∷ bodies) =
 abbrev pub none_text : Quotes → List ℕ
 none_text q.Hex = codes "''_"
 none_text q.Text = 34 ∷ 34 ∷ 95 ∷ []
+none_text q.Base16 = codes "''_"
+none_text q.Base64 = codes "''_"
+none_text q.Base64Url = codes "''_"
 
 -- The text after the bodies, by whether there is none. In the definite form it is the mark of the string's title.
 -- `5f ff` is shown as `''_`, and `5f 40 ff` ends with `)`.

@@ -13,9 +13,9 @@ mod marks;
 mod messages;
 mod nests;
 mod plain;
-mod put;
-mod scalars;
-mod strings;
+pub mod put;
+pub mod scalars;
+pub mod strings;
 
 use self::layout::Line;
 pub use self::layout::{Layout, Style};

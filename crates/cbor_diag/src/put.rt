@@ -8,14 +8,14 @@ use crate::DiagError;
 use ciborium_ll::io::Write;
 
 /// Writes a text.
-pub(crate) fn put<W: Write>(writer: &mut W, text: &[u8]) -> Result<(), W::Error>
+pub fn put<W: Write>(writer: &mut W, text: &[u8]) -> Result<(), W::Error>
     ensures { WritesBytes W.Write writer.old result text.now writer.new }
 {
     writer.write_all(text)
 }
 
 /// Writes two texts, one after the other.
-pub(crate) fn put_two<W: Write>(writer: &mut W, first: &[u8], second: &[u8]) -> Result<(), W::Error>
+pub fn put_two<W: Write>(writer: &mut W, first: &[u8], second: &[u8]) -> Result<(), W::Error>
     ensures { WritesBytes W.Write writer.old result (first.now ++ second.now) writer.new }
 {
     put(writer, first)?;

@@ -207,7 +207,7 @@ fn is_held(width: Width, exponent: u64, fraction: u64) -> bool
 }
 
 /// Shows a value by its shortest digits, and then a mark.
-fn show_number<W: Write>(writer: &mut W, value: f64, mark: &[u8]) -> Result<(), W::Error>
+pub fn show_number<W: Write>(writer: &mut W, value: f64, mark: &[u8]) -> Result<(), W::Error>
     ensures { ShowsMarked W.Write (IsNumberText value) mark.now writer.old result writer.new }
 {
     if let Some(name) = number_name(value) {

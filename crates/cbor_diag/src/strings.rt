@@ -18,11 +18,12 @@ ghost use Rattle.cbor_diag.specs.OpenShows.{ShowsStringBy};
 ghost use Rattle.cbor_diag.specs.StringShows.{CopiesQuoted, ShowsBody, ShowsString, end_text, is_indefinite};
 ghost use Rattle.cbor_diag.specs.StringShows.{kind_quotes, lead_text};
 
+mod bases;
 mod chunks;
-mod held;
+pub mod held;
 mod noted;
-mod quoted;
-mod quotes;
+pub mod quoted;
+pub mod quotes;
 
 use self::chunks::show_open;
 use self::quoted::Quoted;

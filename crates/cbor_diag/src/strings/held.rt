@@ -4,16 +4,16 @@ ghost use Rattle.std.specs.Prelude.{◌≡◌, ◌<◌};
 ghost use Rattle.ciborium_ll.specs.Encoding.{WritesBytes};
 ghost use Rattle.ciborium_ll_text.specs.Digits.{hex_digit};
 ghost use Rattle.cbor_escapes.specs.Escapes.{escape_text};
-ghost use Rattle.cbor_diag.specs.Passing.{byte_notation, held_after, is_lead, next_text, shown_character, three_code};
-ghost use Rattle.cbor_diag.specs.Passing.{two_code};
+ghost use Rattle.cbor_diag.specs.Passing.{byte_notation, held_after, held_grouped, is_lead, next_text};
+ghost use Rattle.cbor_diag.specs.Passing.{shown_character, three_code, two_code};
 
 use crate::put::put;
 use cbor_escapes::is_acted_on;
 use ciborium_ll::io::Write;
 
-/// The bytes of a character of two or three bytes that came before its last byte.
+/// The bytes that came before the last byte of a character of two or three bytes, or of a group of three bytes.
 #[derive(Clone, Copy)]
-pub(crate) enum Held {
+pub enum Held {
     /// No byte.
     Nothing,
     /// The first byte.
@@ -31,6 +31,17 @@ impl Held {
             Held::Nothing if is_lead(byte) => Held::One(byte),
             Held::One(first) if first >= 0xe0 => Held::Two(first, byte),
             _ => Held::Nothing,
+        }
+    }
+
+    /// Returns the bytes that are held after the next byte, if each group of three bytes is shown as one.
+    pub(super) fn grouped(self, byte: u8) -> Held
+        ensures { result ≡ held_grouped self byte }
+    {
+        match self {
+            Held::Nothing => Held::One(byte),
+            Held::One(first) => Held::Two(first, byte),
+            Held::Two(_, _) => Held::Nothing,
         }
     }
 }

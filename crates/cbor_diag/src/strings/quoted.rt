@@ -23,7 +23,7 @@ impl<W: Write> Tells<W> for Told {
 /// It tells the bytes that it got. It notes in `began` the facts that the other writer told at the start of the loan.
 /// Its ghost field relates these to the bytes that were written to the other writer since.
 #[derive(Drop)]
-pub(super) struct Quoted<'w, W: Write> {
+pub struct Quoted<'w, W: Write> {
     writer: &'w mut W,
     quotes: Quotes,
     held: Held,
@@ -38,7 +38,7 @@ pub(super) struct Quoted<'w, W: Write> {
 
 impl<'w, W: Write> Quoted<'w, W> {
     /// Makes a writer that has no bytes yet.
-    pub(super) fn new(writer: &'w mut W, quotes: Quotes) -> Quoted<'w, W>
+    pub fn new(writer: &'w mut W, quotes: Quotes) -> Quoted<'w, W>
         ensures began { result.began.bytes ≡ writer_code W.Write writer.old }
         ensures given { result.given.bytes ≡ [] }
         ensures quotes { result.quotes ≡ quotes }
@@ -55,6 +55,13 @@ impl<'w, W: Write> Quoted<'w, W> {
             began,
             given: Noted::of::<(), Nothing>(&()),
         }
+    }
+
+    /// Returns the bytes of a character that are held.
+    pub fn held(&self) -> Held
+        ensures { result ≡ self.now.held }
+    {
+        self.held
     }
 }
 

@@ -1,0 +1,9 @@
+mod ContentLaws
+mod ContentQuotes
+mod ItemReadLaws
+mod ItemWriteLaws
+mod LineLaws
+mod MoveLaws
+mod ReadingLaws
+mod ScalarLaws
+mod StringLaws

@@ -1,0 +1,9 @@
+pub mod ItemStops
+pub mod ItemTexts
+pub mod JsonTexts
+pub mod Lines
+pub mod Reading
+pub mod Roles
+pub mod Scalars
+pub mod StringTexts
+pub mod StringWrites
