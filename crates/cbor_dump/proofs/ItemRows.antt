@@ -28,7 +28,7 @@ items_counted s d n u (more_items {count = m} {title = t} {rest = r} {others = a
 -- ---- two rows
 
 -- The bytes of a row split after its first item.
-item_apart : (t r a s : List ℕ) → (t ++ (r ++ a)) ++ s ≡ (t ++ r) ++ (a ++ s)
+pub item_apart : (t r a s : List ℕ) → (t ++ (r ++ a)) ++ s ≡ (t ++ r) ++ (a ++ s)
 item_apart t r a s =
     append_assoc t (r ++ a) s ∙ (ap (λ (z : List ℕ). t ++ z) (append_assoc r a s) ∙ sym (append_assoc t r (a ++ s)))
 

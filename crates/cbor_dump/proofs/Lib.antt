@@ -1,5 +1,6 @@
 pub mod ItemRows
 pub mod SequenceLaws
+pub mod CountedLaws
 pub mod SingleLaws
 pub mod TableLaws
 pub mod TakingLaws

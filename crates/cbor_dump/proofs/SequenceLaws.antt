@@ -93,12 +93,12 @@ module _ {R E : Type 0} (source : Ghosts R E) where
 
   module _ (depth room : ℕ) (old : Decoder R) (due : List ℕ) (ready : IsReadyToSkip source room old due) where
     -- After some items the reader is ready for the bytes that follow them.
-    record Behind (count : ℕ) (between : Decoder R) (reads : ReadsItems source depth count old between) : Type 0 where
-      ahead : List ℕ
-      parts : due ≡ reads.bytes ++ ahead
-      still_ready : IsReadyToSkip source room between ahead
+    pub record Behind (count : ℕ) (between : Decoder R) (reads : ReadsItems source depth count old between) : Type 0 where
+      pub ahead : List ℕ
+      pub parts : due ≡ reads.bytes ++ ahead
+      pub still_ready : IsReadyToSkip source room between ahead
 
-    behind : (count : ℕ) (between : Decoder R) (reads : ReadsItems source depth count old between)
+    pub behind : (count : ℕ) (between : Decoder R) (reads : ReadsItems source depth count old between)
         → Behind count between reads
     behind count between reads =
         let gone = consumes_told _ _ due reads.bytes ready.told reads.passed.consumed in
@@ -118,7 +118,7 @@ module _ {R E : Type 0} (source : Ghosts R E) where
         }
 
     -- If a fault consumes nothing, no byte was left.
-    no_byte : (ahead : List ℕ) (between new : Decoder R) → MeetsItemFault source old.strict depth ahead Short between new
+    pub no_byte : (ahead : List ℕ) (between new : Decoder R) → MeetsItemFault source old.strict depth ahead Short between new
         → new.offset ≡ between.offset → (ahead ≡ []) × (view source new ≡ Some [])
     no_byte ahead between new meets still = grind (arith, nat_tests, nothing, due_first, fault_first, ahead, drop-nil)
 
@@ -163,12 +163,12 @@ module _ {R E : Type 0} (source : Ghosts R E) where
     ends_there ahead between new (s.Read e.Waiting) met none = absurd met
 
     -- The items that were read are in the spelling of the decoder's mode.
-    items_ready : (count : ℕ) (between : Decoder R) (reads : ReadsItems source depth count old between)
+    pub items_ready : (count : ℕ) (between : Decoder R) (reads : ReadsItems source depth count old between)
         → AreItems old.strict depth count reads.bytes
     items_ready count between reads = grind (arith, nat_tests, ready_mode)
 
     -- The read of an item after some items meets the bytes that follow them.
-    met_behind : (count : ℕ) (between : Decoder R) (reads : ReadsItems source depth count old between)
+    pub met_behind : (count : ℕ) (between : Decoder R) (reads : ReadsItems source depth count old between)
         (result : Result (Unit {0}) (SkipError E)) (new : Decoder R) → SkipsItem source depth room between result new
         → SkipsTold source old.strict depth (behind count between reads).ahead between result new
     met_behind count between reads result new skips =

@@ -1,4 +1,5 @@
 pub mod Sequences
+pub mod Counted
 pub mod Singles
 pub mod Levels
 pub mod RowTexts

@@ -4,6 +4,7 @@
 //! No call takes memory, and each returns over any reader.
 #![tactic(auto)]
 
+pub mod counted;
 pub mod dump;
 mod fronts;
 pub mod left;
