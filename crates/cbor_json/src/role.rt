@@ -5,8 +5,8 @@ ghost use Rattle.cbor_json.specs.Roles.{first_role, has_json, has_value, item_ro
 ghost use Rattle.cbor_json.specs.StringTexts.{IsQuotesOf, string_opening, string_quotes};
 ghost use Rattle.ciborium_ll.specs.Strings.{Bytes as byte_strings};
 
-use cbor_floats::float_value;
 use cbor_diag::strings::quotes::Quotes;
+use cbor_floats::float_value;
 use ciborium_ll::{Header, simple};
 
 /// What is written for items that JSON has no form for.
