@@ -22,8 +22,7 @@ use Rattle.cbor_diag.specs.declared.DiagError.{DiagError}
 use Rattle.cbor_diag.specs.declared.DiagError.TheVariants as d
 use Rattle.cbor_diag.specs.declared.layout.Style.{Style}
 use Rattle.cbor_diag.specs.declared.marks.Mark.{Mark}
-use Rattle.cbor_diag.specs.declared.marks.Marked.{Marked}
-use Rattle.cbor_diag.specs.Marks.{PullsMarked, title_mark}
+use Rattle.cbor_diag.specs.Marks.{title_mark}
 use Rattle.cbor_diag.specs.OpenShows.{IsBodiesText, ShowsStringBy}
 use Rattle.cbor_diag.specs.StringShows.{StringRead, is_indefinite, kind_quotes, string_text}
 use Rattle.cbor_diag.specs.Showing.{ShowsHeader, said_of}

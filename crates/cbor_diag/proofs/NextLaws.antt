@@ -1,6 +1,6 @@
 -- One title of a string of the indefinite form, and the show of what it begins or ends.
-use Rattle.std.proofs.Common.{◌≡◌, ◌+◌, ◌-◌, ℕ, Bool, true, false, List, [], ◌++◌, Some, None, Result, Ok, Err, arith}
-use Rattle.std.proofs.Common.{append-nil, length, refl, subst}
+use Rattle.std.proofs.Common.{◌≡◌, ◌+◌, ◌-◌, ℕ, Bool, true, false, List, [], Some, None, Result, Ok, Err, arith}
+use Rattle.std.proofs.Common.{append-nil, length, subst}
 use Rattle.ciborium_ll.specs.Types.Read.{Ghosts as Reader}
 use Rattle.ciborium_ll.specs.Types.Write.{Ghosts as Writer}
 use Rattle.ciborium_ll.specs.Types.Decoder.{Decoder}
@@ -25,7 +25,7 @@ use Rattle.cbor_diag.specs.declared.strings.quotes.Quotes.{Quotes}
 use Rattle.cbor_diag.specs.Marks.{PullsMarked, mark_text}
 use Rattle.cbor_diag.specs.NextShows.{ShowsNext, string, string_stops, deepens, deepens_stops, closes, closes_stops}
 use Rattle.cbor_diag.specs.NextShows.{other}
-use Rattle.cbor_diag.specs.OpenShows.{ShowsChunk, body_mark, open_end}
+use Rattle.cbor_diag.specs.OpenShows.{ShowsChunk, body_mark}
 use Rattle.cbor_diag.specs.Showing.{ShowsText}
 use Rattle.cbor_diag.specs.StringShows.{ShowsBody, end_text, kind_quotes, lead_text}
 use Rattle.cbor_diag.proofs.QuoteLaws.{wrote_both, wrote_first}

@@ -1,6 +1,6 @@
 -- A string of the indefinite form that is shown title by title: the strings within it, and its text.
-use Rattle.std.proofs.Common.{◌≡◌, ◌∙◌, ◌⊎◌, ℕ, zero, suc, ◌<◌, ◌≤◌, ◌^◌, Bool, true, false, List, [], ◌∷◌, ◌++◌, length}
-use Rattle.std.proofs.Common.{Option, Some, None, Result, Ok, Err, refl, sym, subst, inl, inr, arith, append_assoc}
+use Rattle.std.proofs.Common.{◌≡◌, ℕ, zero, suc, ◌<◌, ◌^◌, Bool, true, false, List, [], ◌∷◌, ◌++◌, length}
+use Rattle.std.proofs.Common.{Option, Some, None, Result, Ok, Err, refl, subst, inl, inr, arith, append_assoc}
 use Rattle.std.proofs.Common.{append-nil}
 use Rattle.ciborium_ll.specs.Types.Read.{Ghosts as Reader}
 use Rattle.ciborium_ll.specs.Types.Write.{Ghosts as Writer}
@@ -16,7 +16,7 @@ use Rattle.ciborium_ll.specs.Title.{IsTitle}
 use Rattle.ciborium_ll.specs.Strings.{Kind, kind_header}
 use Rattle.ciborium_ll.specs.Faults.{IsRefusedIn}
 use Rattle.ciborium_ll.specs.Decoding.{DecoderPullAnswer, IsSteady, PullsTitle, ReadsPast, strict_of}
-use Rattle.ciborium_ll.specs.Encoding.{WritesAll, WritesFront}
+use Rattle.ciborium_ll.specs.Encoding.{WritesAll}
 use Rattle.ciborium_ll.specs.Finishing.{EndsBody}
 use Rattle.ciborium_ll.specs.Segments.{AdvancesFrom, EndsAdvance, PullsOther, in_place}
 use Rattle.ciborium_ll.specs.Skipping.{SkipsString}
@@ -34,11 +34,11 @@ use Rattle.cbor_diag.specs.declared.DiagError.TheVariants as d
 use Rattle.cbor_diag.specs.declared.strings.chunks.Far.{Far}
 use Rattle.cbor_diag.specs.NextShows.{ShowsNext, string, string_stops, deepens, deepens_stops, closes, closes_stops}
 use Rattle.cbor_diag.specs.NextShows.{none as no_title, other}
-use Rattle.cbor_diag.specs.OpenShows.{AreAllShown, IsInsideShown, IsOneShown, OpenBegun, OpenShown, OpenStops}
-use Rattle.cbor_diag.specs.OpenShows.{OpenUnshown, ShowsOpen, at_break, at_open, at_string, at_title, body_mark}
+use Rattle.cbor_diag.specs.OpenShows.{AreAllShown, IsInsideShown, IsOneShown, OpenBegun, OpenShown}
+use Rattle.cbor_diag.specs.OpenShows.{ShowsOpen, at_break, at_open, at_string, at_title, body_mark}
 use Rattle.cbor_diag.specs.OpenShows.{chunk_text, deeper, definite, in_body, indefinite, more, none, open_end, opened}
 use Rattle.cbor_diag.specs.Showing.{OnString}
-use Rattle.cbor_diag.specs.StringShows.{BodyShown, MeetsNoBody, kind_quotes, lead_text, quoted_body}
+use Rattle.cbor_diag.specs.StringShows.{BodyShown, kind_quotes, lead_text, quoted_body}
 use Rattle.cbor_diag.proofs.QuoteLaws.{wrote_both}
 
 -- ---- the strings within an open

@@ -1,4 +1,4 @@
-use Rattle.std.proofs.Common.{rules, ◌<◌, ◌^◌, arith}
+use Rattle.std.proofs.Common.{rules, ◌<◌, ◌^◌}
 use Rattle.ciborium_ll.proofs.DecodingLaws.{exit_is, MovesOn-none, MovesOn-then}
 use Rattle.cbor_diag.proofs.OpenLaws.{open_begins, open_next, open_read_stops, open_text_stops}
 use Rattle.cbor_diag.proofs.strings.chunks.show_open.Goals as goal

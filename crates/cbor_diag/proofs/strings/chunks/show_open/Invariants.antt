@@ -1,4 +1,4 @@
-use Rattle.std.proofs.Common.{◌≡◌, ◌≤◌, ◌-◌, ◌^◌}
+use Rattle.std.proofs.Common.{◌≤◌, ◌-◌, ◌^◌}
 use Rattle.ciborium_ll.specs.Decoding.{MovesOn}
 use Rattle.ciborium_ll.specs.Sides.{sides}
 use Rattle.cbor_diag.proofs.OpenLaws.{OpenFar}
