@@ -9,7 +9,7 @@ use tool_verdicts::verdict::Verdict;
 
 // Options, digits, and the text that is written. If there is a fault, the text before it ends its line. In the last row
 // the 64th byte of the body begins a character that is escaped.
-static TEXTS: [(&str, &str, &str); 15] = [
+static TEXTS: [(&str, &str, &str); 21] = [
     ("diag", "", ""),
     ("diag", "82 1903e8 6161", "[1000, \"a\"]\n"),
     ("diag", "01 f6 8102", "1\nnull\n[2]\n"),
@@ -23,6 +23,12 @@ static TEXTS: [(&str, &str, &str); 15] = [
         "820102 80 a10203",
         "[\n  1,\n  2\n]\n[]\n{\n  2: 3\n}\n",
     ),
+    ("diag --skip 1", "820102 01 f6", "1\nnull\n"),
+    ("diag --items 1", "820102 1c", "[1, 2]\n"),
+    ("diag --skip 1 --items 1", "00 01 1c", "1\n"),
+    ("diag --skip 2", "00 1c", ""),
+    ("diag --items 0", "1c", ""),
+    ("diag --exact", "9802 1801 5800", "[_0 1_0, h''_0]\n"),
     ("diag", "8201", "[1\n"),
     ("diag", "00 1c", "0\n"),
     ("diag", "00 19", "0\n"),

@@ -286,6 +286,71 @@ fn offsets_of_dumps(rt: HostRuntime) {
     each_dumped(&rt, rt.alloc(), offsets, OFFSETS, 2);
 }
 
+// Dumps with at most one line of each body. In the first one 20 bytes of 36 follow a line of 16, and then a body of one
+// line. In the last one a body ends too early.
+static SHORTENED: &str = "\
+= 82 5824 000102030405060708090a0b0c0d0e0f101112131415161718191a1b1c1d1e1f20212223 4101
+82                                  # array 2
+   58 24                            #   bytes 36
+      00 01 02 03 04 05 06 07 08 09 0a 0b 0c 0d 0e 0f
+      # ... 20 more bytes
+   41                               #   bytes 1
+      01
+= 6e 6161616161616161616161616161
+6e                                  # text 14
+   61 61 61 61 61 61 61 61 61 61 61 61 61 #   \"aaaaaaaaaaaaa\"
+   # ... 1 more byte
+= 5f 5812 000102030405060708090a0b0c0d0e0f1011 ff 1c
+5f                                  # bytes *
+   58 12                            #   bytes 18
+      00 01 02 03 04 05 06 07 08 09 0a 0b 0c 0d 0e 0f
+      # ... 2 more bytes
+ff                                  # break
+1c
+# syntax 22
+";
+
+// Dumps without the bodies, and with offsets.
+static BODILESS: &str = "\
+= 81 420102
+     0: 81                                  # array 1
+     1:    42                               #   bytes 2
+              # ... 2 more bytes
+";
+
+#[test]
+fn shortened_dumps(rt: HostRuntime) {
+    let one = options_of(&rt, rt.alloc(), "dump --max 1");
+    each_dumped(&rt, rt.alloc(), one, SHORTENED, 3);
+    let none = options_of(&rt, rt.alloc(), "dump --max=0 --offsets");
+    each_dumped(&rt, rt.alloc(), none, BODILESS, 1);
+}
+
+// Dumps of one item after the first one, with offsets.
+static PARTS: &str = "\
+= 820102 4103 1c
+     3: 41                                  # bytes 1
+     4:    03
+= 01 1c
+     1: 1c
+# syntax 1
+= 01
+";
+
+#[test]
+fn dumps_of_parts(rt: HostRuntime) {
+    let second = options_of(&rt, rt.alloc(), "dump --skip 1 --items 1 --offsets");
+    each_dumped(&rt, rt.alloc(), second, PARTS, 3);
+    let third = options_of(&rt, rt.alloc(), "dump --skip 2");
+    each_dumped(
+        &rt,
+        rt.alloc(),
+        third,
+        "= 01\n# short 1\n= 01 82\n# short 2\n",
+        2,
+    );
+}
+
 // Returns whether a dump has no colors.
 pub fn has_no_colors(alloc: Global, digits: &str) -> bool {
     let mut text = Vec::new(alloc);

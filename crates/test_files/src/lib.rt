@@ -18,6 +18,8 @@ mod encodes;
 #[cfg(test)]
 mod ends;
 #[cfg(test)]
+mod indexes;
+#[cfg(test)]
 mod pictures;
 #[cfg(test)]
 mod recodes;

@@ -7,12 +7,12 @@ use std::io;
 use std::process::Abort;
 use test_support::streams::{PartReader, PartWriter};
 use tool_files::arguments::Options;
-use tool_files::recode::copy_items;
+use tool_files::recode::{copy_items, copy_part};
 use tool_verdicts::verdict::Verdict;
 
 // Words, digits of any spelling, those that are written, and the text of the verdict, if the copy is not whole. All are
 // worked by hand.
-static ROWS: [(&str, &str, &str, &str); 30] = [
+static ROWS: [(&str, &str, &str, &str); 40] = [
     ("recode", "", "", ""),
     ("recode", "00", "00", ""),
     // Titles.
@@ -46,6 +46,17 @@ static ROWS: [(&str, &str, &str, &str); 30] = [
     ("recode", "01 78 02 61 ff", "01 62 61", "syntax 2"),
     ("recode", "01 5f 01 ff", "01 5f", "syntax 2"),
     ("recode", "7f 61 61 5f ff", "7f 61 61", "syntax 3"),
+    // A part of the items.
+    ("recode --skip 1", "18 01 18 02 18 03", "02 03", ""),
+    ("recode --skip 2", "81 18 01 5f ff 18 03", "03", ""),
+    ("recode --skip 1", "18 01", "", ""),
+    ("recode --skip 2", "18 01", "", "short 2"),
+    ("recode --skip 2", "01 ff 01", "", "break 1"),
+    ("recode --items 1", "18 01 ff", "01", ""),
+    ("recode --items 2", "98 01 01 18 02 18 03", "81 01 02", ""),
+    ("recode --skip 1 --items 1", "01 18 02 ff", "02", ""),
+    ("recode --skip 1 --items 2", "01 18 02 ff", "02", "break 3"),
+    ("recode --skip 1", "01 98 02 18 01", "82 01", "short 5"),
     // Cut items.
     ("recode", "01 98 02 18 01", "01 82 01", "short 5"),
     ("recode", "18 01 19", "01", "short 3"),
@@ -63,7 +74,7 @@ fn is_copied(
     options: Options,
     want: (&[u8], &str),
 ) -> bool {
-    let (_, writer, copied) = copy_items(reader, PartWriter::new(alloc, 2), options);
+    let (writer, copied) = copy_part(reader, PartWriter::new(alloc, 2), options);
     let is_found = match copied {
         Ok(()) => want.1.is_empty(),
         Err(verdict) => written(rt, alloc, verdict).as_str() == want.1,

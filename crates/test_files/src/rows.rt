@@ -223,7 +223,7 @@ bf01 = short 2
 ";
 
 // Options, digits, and the verdict.
-pub static SPELLED: [(&str, &str, &str); 64] = [
+pub static SPELLED: [(&str, &str, &str); 81] = [
     // Sequences of items (RFC 8742).
     ("check", "", "ok 0 0"),
     ("check", "00", "ok 1 1"),
@@ -253,6 +253,24 @@ pub static SPELLED: [(&str, &str, &str); 64] = [
     ("check --strict", "5f4100ff", "ok 1 4"),
     ("check --strict --one", "00 00", "more 1"),
     ("check --strict --one", "00 1800", "more 1"),
+    // A part of the items: those after the first ones, and at most a number of them.
+    ("check --skip 0", "00 6161", "ok 2 3"),
+    ("check --skip 1", "00 6161 f6", "ok 2 3"),
+    ("check --skip=3", "00 6161 f6", "ok 0 0"),
+    ("check --skip 4", "00 6161 f6", "short 4"),
+    ("check --skip 2", "00 8201", "short 3"),
+    ("check --skip 1", "00 1c", "syntax 1"),
+    ("check --skip 2", "00 ff 00", "break 1"),
+    ("check --skip 18446744073709551615", "", "short 0"),
+    ("check --items 2", "00 6161 1c", "ok 2 3"),
+    ("check --items 3", "00 6161 1c", "syntax 3"),
+    ("check --items 5", "00 6161", "ok 2 3"),
+    ("check --items=0", "1c", "ok 0 0"),
+    ("check --skip 1 --items 1", "00 6161 1c", "ok 1 2"),
+    ("check --items 1 --skip 1 --strict", "1800 00", "syntax 0"),
+    ("check --depth 0 --skip 1", "80 00", "deep 0"),
+    ("check --skip 1 --one", "00 6161", "ok 1 2"),
+    ("check --skip 1 --one", "00 6161 00", "more 3"),
     // Levels.
     ("check --depth 0", "00 6161 5f4100ff", "ok 3 7"),
     ("check --depth 0", "80", "deep 0"),
@@ -326,7 +344,7 @@ pub static SPELLED: [(&str, &str, &str); 64] = [
 ];
 
 // Words, and the files that they name, if they ask for a look at files.
-pub static WORDS: [(&str, Option<&str>); 81] = [
+pub static WORDS: [(&str, Option<&str>); 113] = [
     ("check", Some("")),
     ("check -", Some("-")),
     ("check a b", Some("a b")),
@@ -414,6 +432,39 @@ pub static WORDS: [(&str, Option<&str>); 81] = [
     ("recode", Some("")),
     ("recode a --depth 3 ./5", Some("a ./5")),
     ("recode --strict", None),
+    // Parts of the items, their places, and the lines of a body.
+    ("check --skip 0 --items 18446744073709551615 a", Some("a")),
+    ("check a --index --skip=2 --items 3", Some("a")),
+    ("check --index --index", Some("")),
+    ("check --skip 1 --one", Some("")),
+    ("check --deterministic --skip 0", Some("")),
+    ("dump --max 0 --skip 1 --items=2 a", Some("a")),
+    ("diag --items 1 --pretty --skip 1", Some("")),
+    ("recode --skip 1 a --items 2", Some("a")),
+    ("check --skip", None),
+    ("check --skip=", None),
+    ("check --skip -1", None),
+    ("check --skip 01", None),
+    ("check --skip +1", None),
+    ("check --skip 1a", None),
+    ("check --items 18446744073709551616", None),
+    ("check --index=1", None),
+    ("check --max 1", None),
+    ("diag --max 1", None),
+    ("dump --index", None),
+    ("recode --index", None),
+    ("encode --skip 1", None),
+    ("canon --items 1", None),
+    ("check --one --items 1", None),
+    ("check --index --one", None),
+    ("check --deterministic --skip 1", None),
+    ("check --items 1 --deterministic", None),
+    ("check --deterministic --index a", None),
+    ("check --one --items 1 --help", None),
+    ("dump --max", None),
+    ("diag --exact --pretty a", Some("a")),
+    ("diag --exact=1", None),
+    ("dump --exact", None),
 ];
 
 // Words, and the start of the text that they ask for.
@@ -438,7 +489,7 @@ pub static HELPS: [(&str, &str); 17] = [
 ];
 
 // Words that ask for nothing, and what is said of them.
-pub static REFUSALS: [(&str, &str); 23] = [
+pub static REFUSALS: [(&str, &str); 30] = [
     (
         "chek",
         "no word \"chek\"; did you mean \"check\"?\ncbor: the words are check, dump, diag, encode, canon, recode, help",
@@ -459,11 +510,11 @@ pub static REFUSALS: [(&str, &str); 23] = [
     ("--version 1", "\"1\" is one word too many"),
     (
         "check --strikt",
-        "check has no option \"--strikt\"; did you mean \"--strict\"?\ncbor: the options of check are --strict, --deterministic, --order, --depth, --one, --names, --hex, --help",
+        "check has no option \"--strikt\"; did you mean \"--strict\"?\ncbor: the options of check are --strict, --deterministic, --order, --depth, --one, --skip, --items, --index, --names, --hex, --help",
     ),
     (
         "check --pretty=1",
-        "check has no option \"--pretty\"\ncbor: the options of check are --strict, --deterministic, --order, --depth, --one, --names, --hex, --help",
+        "check has no option \"--pretty\"\ncbor: the options of check are --strict, --deterministic, --order, --depth, --one, --skip, --items, --index, --names, --hex, --help",
     ),
     (
         "encode --strict",
@@ -501,6 +552,28 @@ pub static REFUSALS: [(&str, &str); 23] = [
     ),
     ("check --one=1", "--one takes no value"),
     ("dump --color red", "--color red: always, never or auto"),
+    ("check --skip 01", "--skip 01: a number below 2^64"),
+    (
+        "recode --items=18446744073709551616",
+        "--items 18446744073709551616: a number below 2^64",
+    ),
+    ("dump --max", "--max wants a value: a number below 2^64"),
+    (
+        "check --one --items 2",
+        "--one and --items exclude each other",
+    ),
+    (
+        "check --index --one",
+        "--one and --index exclude each other",
+    ),
+    (
+        "check --skip 1 --deterministic",
+        "--deterministic and --skip exclude each other",
+    ),
+    (
+        "recode --skp",
+        "recode has no option \"--skp\"; did you mean \"--skip\"?\ncbor: the options of recode are --depth, --skip, --items, --help",
+    ),
 ];
 
 // Names, and how they are shown.

@@ -9,7 +9,7 @@ use Rattle.tool_files.specs.Arguments.{AsksWith, Choices, IsHelp, IsKnown, IsOpt
 use Rattle.tool_files.specs.Arguments.{SpellsSetting, SpellsValue, TakesValue, Wish, alone, apart, ended, file}
 use Rattle.tool_files.specs.Arguments.{has_value, help, helps, hyphens}
 use Rattle.tool_files.specs.Arguments.{joined, look, option, setting_name, with_file, with_setting}
-use Rattle.tool_files.specs.Arguments.{AsksAbout, AsksFor, AsksOf, HasNeedlessOrder, IsTaken, NamesTopic, Wanted}
+use Rattle.tool_files.specs.Arguments.{AsksAbout, AsksFor, AsksOf, HasClash, HasNeedlessOrder, IsTaken, NamesTopic, Wanted}
 use Rattle.tool_files.specs.Arguments.{about, default_choices, of, texts}
 use Rattle.tool_files.specs.Arguments.{topic, version, word_name}
 use Rattle.tool_files.specs.declared.arguments.Setting.{Setting}
@@ -84,6 +84,10 @@ pub shallow_valued : (a : Setting) (value : List ℕ) → SpellsValue a value �
 shallow_valued (s.Depth depth) value spelled = spelled.1
 shallow_valued (s.Colors colors) value spelled = tt
 shallow_valued (s.Order order) value spelled = tt
+shallow_valued (s.Skip count) value spelled = tt
+shallow_valued (s.Items count) value spelled = tt
+shallow_valued (s.Max rows) value spelled = tt
+shallow_valued s.Index value spelled = absurd spelled
 shallow_valued s.Deterministic value spelled = absurd spelled
 shallow_valued s.Strict value spelled = absurd spelled
 shallow_valued s.One value spelled = absurd spelled
@@ -91,11 +95,16 @@ shallow_valued s.Names value spelled = absurd spelled
 shallow_valued s.Hex value spelled = absurd spelled
 shallow_valued s.Offsets value spelled = absurd spelled
 shallow_valued s.Pretty value spelled = absurd spelled
+shallow_valued s.Exact value spelled = absurd spelled
 
 takes : (a : Setting) (name value : List ℕ) → name ≡ setting_name a → SpellsValue a value → TakesValue name
 takes (s.Depth depth) name value is spelled = inl is
 takes (s.Colors colors) name value is spelled = inr (inl is)
-takes (s.Order order) name value is spelled = inr (inr is)
+takes (s.Order order) name value is spelled = inr (inr (inl is))
+takes (s.Skip count) name value is spelled = inr (inr (inr (inl is)))
+takes (s.Items count) name value is spelled = inr (inr (inr (inr (inl is))))
+takes (s.Max rows) name value is spelled = inr (inr (inr (inr (inr is))))
+takes s.Index name value is spelled = absurd spelled
 takes s.Deterministic name value is spelled = absurd spelled
 takes s.Strict name value is spelled = absurd spelled
 takes s.One name value is spelled = absurd spelled
@@ -103,6 +112,7 @@ takes s.Names name value is spelled = absurd spelled
 takes s.Hex name value is spelled = absurd spelled
 takes s.Offsets name value is spelled = absurd spelled
 takes s.Pretty name value is spelled = absurd spelled
+takes s.Exact name value is spelled = absurd spelled
 
 -- If a name is that of no option, it spells no option.
 pub spells_none : (name : List ℕ) (words : List (String Global)) → (TakesValue name → ⊥)
@@ -284,7 +294,15 @@ pub needless_asks_nothing : (word : Word) (words : List (String Global)) (choice
     → AsksOf word words wanted → ⊥
 needless_asks_nothing word words choices files asks needless wanted (wish, other, taken, is) =
     let same = asks_once word default_choices words wish (look choices files) other asks in
-    subst (λ (z : Wish). IsTaken word z) same taken needless
+    (subst (λ (z : Wish). IsTaken word z) same taken).0 needless
+
+-- Words with options that exclude each other ask for nothing.
+pub clash_asks_nothing : (word : Word) (words : List (String Global)) (choices : Choices) (files : List (List ℕ))
+    → AsksWith word default_choices words (look choices files) → HasClash choices → (wanted : Wanted)
+    → AsksOf word words wanted → ⊥
+clash_asks_nothing word words choices files asks clash wanted (wish, other, taken, is) =
+    let same = asks_once word default_choices words wish (look choices files) other asks in
+    (subst (λ (z : Wish). IsTaken word z) same taken).1 clash
 
 pub empty_of : (words : List (String Global)) → length words ≡ 0 → words ≡ []
 empty_of [] none = refl

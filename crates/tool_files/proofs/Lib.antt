@@ -1,6 +1,8 @@
 pub mod ArgumentLaws
 pub mod CanonLaws
+pub mod FenceLaws
 pub mod InputLaws
+pub mod PartLaws
 pub mod PatientLaws
 pub mod RecodeItems
 pub mod RecodeLaws

@@ -69,11 +69,11 @@ without_item depth count item tail is are =
     ]
 
 -- Without the items in front, items are items.
-without_items : (depth count : ℕ) (before outputs tail : List ℕ) → AreRespelled depth before outputs
+without_items : (depth k count : ℕ) (before outputs tail : List ℕ) → AreRespelled depth k before outputs
     → AreItems false depth count (before ++ tail) → (n : ℕ) × AreItems false depth n tail
-without_items depth count before outputs tail s.none are = (count, are)
-without_items depth count before outputs tail (s.more {items = a} {item = b} front is spelled) are =
-    let o = without_items depth count a _ (b ++ tail) front
+without_items depth k count before outputs tail s.none are = (count, are)
+without_items depth k count before outputs tail (s.more {count = j} {items = a} {item = b} front is spelled) are =
+    let o = without_items depth j count a _ (b ++ tail) front
     (subst (λ (z : List ℕ). AreItems false depth count z) (append_assoc a b tail) are) in
     without_item depth o.0 b tail is o.1
 
@@ -126,11 +126,11 @@ one_longer (x ∷ a) b (y ∷ c) d is =
     ]
 
 -- Items, and then bytes with which no item goes on, are no beginning of a list of items.
-pub fault_begins_none : (depth : ℕ) (before outputs fed front : List ℕ) (fault : Fault)
-    → AreRespelled depth before outputs → TellsWhole false depth fed front (r.Fault fault) → Names depth fed fault
+pub fault_begins_none : (depth k : ℕ) (before outputs fed front : List ℕ) (fault : Fault)
+    → AreRespelled depth k before outputs → TellsWhole false depth fed front (r.Fault fault) → Names depth fed fault
     → BeginsNone depth (before ++ fed)
-fault_begins_none depth before outputs fed front fault are told names behind count items =
-    let o = without_items depth count before outputs (fed ++ behind) are
+fault_begins_none depth k before outputs fed front fault are told names behind count items =
+    let o = without_items depth k count before outputs (fed ++ behind) are
     (subst (λ (z : List ℕ). AreItems false depth count z) (append_assoc before fed behind) items) in
     elim (first_of depth o.0 (fed ++ behind) o.1) [
       | inl none ↦ absurd (omega (
@@ -156,7 +156,7 @@ fault_begins_none depth before outputs fed front fault are told names behind cou
 pub cut_is_none : (depth : ℕ) (bytes output : List ℕ) (within : EndWithin depth bytes output)
     → 0 < length within.part → (count : ℕ) → AreItems false depth count bytes → ⊥
 cut_is_none depth bytes output within some count items =
-    let o = without_items depth count within.before within.outputs within.part within.are
+    let o = without_items depth within.count count within.before within.outputs within.part within.are
     (subst (λ (z : List ℕ). AreItems false depth count z) within.is items) in
     let due = within.told.0 in
     elim (first_of depth o.0 within.part o.1) [
@@ -187,19 +187,19 @@ stop_is_none depth bytes verdict output stop count items =
 
 -- An answer of a copy of whole items names no fault of items.
 pub answers_items : {R W : Type 0} (left : R → Option (List ℕ)) (got : W → Option (List ℕ)) (depth : ℕ)
-    (due written : List ℕ) (answer : Result (Unit {0}) Verdict) (reader : R) (writer : W)
-    → CopiesItems left got depth due written answer reader writer → (count : ℕ) → AreItems false depth count due
+    (most : Option ℕ) (due written : List ℕ) (answer : Result (Unit {0}) Verdict) (reader : R) (writer : W)
+    → CopiesItems left got depth most due written answer reader writer → (count : ℕ) → AreItems false depth count due
     → AnswersItems answer
-answers_items left got depth due written (Ok done) reader writer copies count items = tt
-answers_items left got depth due written (Err v.TooLong) reader writer copies count items = tt
-answers_items left got depth due written (Err (v.Failed error)) reader writer copies count items = tt
-answers_items left got depth due written (Err (v.Output error)) reader writer copies count items = tt
-answers_items left got depth due written (Err (v.Short place)) reader writer copies count items =
+answers_items left got depth most due written (Ok done) reader writer copies count items = tt
+answers_items left got depth most due written (Err v.TooLong) reader writer copies count items = tt
+answers_items left got depth most due written (Err (v.Failed error)) reader writer copies count items = tt
+answers_items left got depth most due written (Err (v.Output error)) reader writer copies count items = tt
+answers_items left got depth most due written (Err (v.Short place)) reader writer copies count items =
     cut_is_none depth due copies.0 copies.1 copies.2 count items
-answers_items left got depth due written (Err (v.Syntax place)) reader writer copies count items =
+answers_items left got depth most due written (Err (v.Syntax place)) reader writer copies count items =
     stop_is_none depth due (v.Syntax place) copies.0 copies.1 count items
-answers_items left got depth due written (Err (v.Break place)) reader writer copies count items =
+answers_items left got depth most due written (Err (v.Break place)) reader writer copies count items =
     stop_is_none depth due (v.Break place) copies.0 copies.1 count items
-answers_items left got depth due written (Err (v.Deep place)) reader writer copies count items =
+answers_items left got depth most due written (Err (v.Deep place)) reader writer copies count items =
     stop_is_none depth due (v.Deep place) copies.0 copies.1 count items
-answers_items left got depth due written (Err verdict) reader writer copies count items = absurd copies
+answers_items left got depth most due written (Err verdict) reader writer copies count items = absurd copies

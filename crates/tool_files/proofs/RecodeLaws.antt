@@ -1,8 +1,9 @@
 -- A copy of items, from one piece of a copier to the next.
 use Rattle.std.proofs.Common.{◌≡◌, ℕ, ◌+◌, ◌-◌, ◌<◌, ◌≤◌, ◌⊎◌, inl, inr, false, true, List, [], ◌∷◌, ◌++◌}
 use Rattle.std.proofs.Common.{length, refl, sym, ap, subst, ◌∙◌, arith, append_assoc, append-nil, length-append}
-use Rattle.std.proofs.Common.{take, drop, Option, Some, None, rules}
+use Rattle.std.proofs.Common.{take, drop, Option, Some, None, Err, rules}
 use Rattle.std.specs.Io.KnownBytes.{Appends, Consumes, IsAtEnd, Keeps}
+use Rattle.std.proofs.lemmas.Bool.Decides.{nat_tests}
 use Rattle.std.proofs.lemmas.List.{take-append-drop, take_rest}
 use Rattle.std.proofs.Math.Seq.{take-add, take-length}
 use Rattle.cbor_checker.specs.declared.phase.Fault.{Fault}
@@ -25,7 +26,7 @@ use Rattle.cbor_item_copier.specs.Telling.{IsAnswer, IsRoom, Tells, TellsWhole, 
 use Rattle.cbor_item_copier.proofs.StateLaws.{fresh_fed, one_fed}
 use Rattle.cbor_item_copier.proofs.TellLaws.{copier_tells, more_due}
 use Rattle.tool_files.specs.Recodes.{AreRespelled, EndWithin, Names, StopAt, Stands, TooMany, fault_place}
-use Rattle.tool_files.specs.Recodes.{Feeds, TellsSome, fault_said, more}
+use Rattle.tool_files.specs.Recodes.{CopiesFront, Feeds, IsLeft, TellsSome, fault_said, more}
 use Rattle.tool_verdicts.specs.declared.verdict.Verdict.{Verdict}
 use Rattle.tool_files.proofs.RecodeItems.{fault_begins_none}
 use Rattle.tool_files.proofs.RecodePlaces.{place_within}
@@ -46,10 +47,10 @@ fresh_due : (depth : ℕ) (bytes : List ℕ) (spot : Spot) → bytes ≡ [] → 
 fresh_due depth bytes spot given start = rw (given, start) refl
 
 -- A copy of items stands at the start of an item, after these items.
-pub fresh_stands : (depth start : ℕ) (items outputs : List ℕ) (copier : ItemCopier)
-    → IsItemCopied false depth [] [] copier → AreRespelled depth items outputs → start ≡ length items
-    → Stands depth start items outputs copier
-fresh_stands depth start items outputs copier was are is =
+pub fresh_stands : (depth : ℕ) (most left : Option ℕ) (start count : ℕ) (items outputs : List ℕ) (copier : ItemCopier)
+    → IsItemCopied false depth [] [] copier → AreRespelled depth count items outputs → start ≡ length items
+    → IsLeft most left count → Stands depth most left start items outputs copier
+fresh_stands depth most left start count items outputs copier was are is limit =
     let spots = fresh_spots depth copier was in
     let told = copier_tells copier (r.More 1) (fresh_due depth (pending copier) (item_spot copier) spots.2 spots.0)
     false depth [] [] was in
@@ -60,6 +61,7 @@ fresh_stands depth start items outputs copier was are is =
         part = [];
         front = [];
         due = 1;
+        count = count;
         are = are;
         told = told;
         is = sym (append-nil items);
@@ -68,6 +70,7 @@ fresh_stands depth start items outputs copier was are is =
       copied = was;
       none = spots.2;
       start_is = is;
+      limit = limit;
     }
 
 -- Nothing is held back before the first byte.
@@ -107,7 +110,8 @@ due_more (p.Text left state) spot due = (left, refl)
 due_more p.Ended spot due = absurd cc
 due_more (p.Faulted fault) spot due = absurd cc
 
-module _ (depth start : ℕ) (fed given : List ℕ) (old new : ItemCopier) (stands : Stands depth start fed given old)
+module _ (depth : ℕ) (most left : Option ℕ) (start : ℕ) (fed given : List ℕ) (old new : ItemCopier)
+    (stands : Stands depth most left start fed given old)
     (bytes out : List ℕ) (progress : Progress)
     (copied : IsItemCopied false depth (stands.within.part ++ bytes) (stands.within.front ++ out) new)
     (tells : Tells false depth (stands.within.part ++ bytes) (stands.within.front ++ out) progress)
@@ -129,6 +133,7 @@ module _ (depth start : ℕ) (fed given : List ℕ) (old new : ItemCopier) (stan
     part = stands.within.part ++ bytes;
     front = stands.within.front ++ out;
     due = due;
+    count = stands.within.count;
     are = stands.within.are;
     told = told;
     is = all_fed;
@@ -136,7 +141,7 @@ module _ (depth start : ℕ) (fed given : List ℕ) (old new : ItemCopier) (stan
   }
 
   -- More bytes of the item are due.
-  pub stands_on : (due : ℕ) → progress ≡ r.More due → Stands depth start (fed ++ bytes) (given ++ out) new
+  pub stands_on : (due : ℕ) → progress ≡ r.More due → Stands depth most left start (fed ++ bytes) (given ++ out) new
   unfolding end_within
   stands_on due is =
       let answer : r.More due ≡ progress_of (pending new) (item_spot new) =
@@ -147,10 +152,12 @@ module _ (depth start : ℕ) (fed given : List ℕ) (old new : ItemCopier) (stan
         copied = copied;
         none = (more_due (pending new) (item_spot new) due answer).0;
         start_is = stands.start_is;
+        limit = stands.limit;
       }
 
   -- The item has ended.
-  pub one_more : (len : ℕ) → progress ≡ r.Ended len → AreRespelled depth (fed ++ bytes) (given ++ out)
+  pub one_more : (len : ℕ) → progress ≡ r.Ended len
+      → AreRespelled depth (stands.within.count + 1) (fed ++ bytes) (given ++ out)
   one_more len is =
       let told = subst (Tells false depth (stands.within.part ++ bytes) (stands.within.front ++ out)) is tells in
       rw (all_fed, all_given) (more stands.within.are told.0.0 told.1)
@@ -195,10 +202,11 @@ module _ (depth start : ℕ) (fed given : List ℕ) (old new : ItemCopier) (stan
     front = stands.within.front ++ out;
     rest = rest;
     fault = fault;
+    count = stands.within.count;
     are = stands.within.are;
     told = subst (Tells false depth (stands.within.part ++ bytes) (stands.within.front ++ out)) is tells;
     names = names fault is;
-    begins_none = fault_begins_none depth stands.within.before stands.within.outputs (stands.within.part ++ bytes)
+    begins_none = fault_begins_none depth stands.within.count stands.within.before stands.within.outputs (stands.within.part ++ bytes)
         (stands.within.front ++ out) fault stands.within.are
         (subst (Tells false depth (stands.within.part ++ bytes) (stands.within.front ++ out)) is tells)
         (names fault is);
@@ -235,6 +243,23 @@ module _ (depth start : ℕ) (fed given : List ℕ) (old new : ItemCopier) (stan
         );
       }
 
+-- Before the first item all items that are wanted are left.
+pub first_left : (most : Option ℕ) → (most ≡ Some 0 → ⊥) → IsLeft most most 0
+first_left None some = tt
+first_left (Some most) some = (omega arith, grind (arith, nat_tests, some))
+
+-- As many items as are wanted were copied.
+pub front_copied : (depth : ℕ) (most : Option ℕ) (count : ℕ) (before rest bytes output : List ℕ) → most ≡ Some count
+    → AreRespelled depth count before output → bytes ≡ before ++ rest → CopiesFront depth most bytes output
+front_copied depth most count before rest bytes output enough are is = record {
+  count = count;
+  enough = enough;
+  before = before;
+  rest = rest;
+  are = are;
+  is = is;
+}
+
 -- If there is room, the answer is `TooLong`.
 pub only_long : (progress : Progress) → (progress ≡ r.Room) ⊎ (progress ≡ r.TooLong) → (IsRoom progress → ⊥)
     → progress ≡ r.TooLong
@@ -259,12 +284,12 @@ pub fed_all : (fed piece : List ℕ) (at : ℕ) → at ≡ length piece → fed 
 fed_all fed piece at is = ap (λ (z : List ℕ). fed ++ z) (ap (λ (n : ℕ). take n piece) is ∙ take-length piece)
 
 -- A fault stops the copy.
-pub feeds_stop : (depth : ℕ) (bytes given : List ℕ) (from : ℕ) (fault : Fault) (verdict : Verdict) (start : ℕ)
+pub feeds_stop : (depth : ℕ) (most left : Option ℕ) (bytes given : List ℕ) (from : ℕ) (fault : Fault) (verdict : Verdict) (start : ℕ)
     (copier : ItemCopier) → verdict ≡ fault_said from fault → StopAt depth bytes verdict given
-    → Feeds depth bytes given (Some verdict) start copier
-feeds_stop depth bytes given from (f.Syntax place) verdict start copier is stop = rw is (rw is at stop)
-feeds_stop depth bytes given from (f.Break place) verdict start copier is stop = rw is (rw is at stop)
-feeds_stop depth bytes given from (f.Deep place) verdict start copier is stop = rw is (rw is at stop)
+    → Feeds depth most left bytes given (Some (Err verdict)) start copier
+feeds_stop depth most left bytes given from (f.Syntax place) verdict start copier is stop = rw is (rw is at stop)
+feeds_stop depth most left bytes given from (f.Break place) verdict start copier is stop = rw is (rw is at stop)
+feeds_stop depth most left bytes given from (f.Deep place) verdict start copier is stop = rw is (rw is at stop)
 
 -- ---- what the reader and the writer tell
 

@@ -15,7 +15,9 @@ use Rattle.cbor_item_copier.specs.Copying.{IsItemCopied, elements_spot, item_spo
 use Rattle.cbor_item_copier.proofs.StateLaws.{fresh_fed, one_fed}
 use Rattle.tool_verdicts.specs.declared.verdict.Verdict.{Verdict}
 use Rattle.tool_verdicts.specs.declared.verdict.Verdict.TheVariants as v
-use Rattle.tool_files.specs.Recodes.{CopiesItems, Feeds, IsOutput, Stands, StopAt}
+use Rattle.tool_verdicts.specs.Parts.{IsAtMost}
+use Rattle.tool_files.specs.Recodes.{CopiesItems, Feeds, IsLeft, IsOutput, Stands, StopAt, all_copied}
+use Rattle.tool_files.specs.Recodes.{enough_copied, whole_items}
 use Rattle.tool_files.specs.Recodes.{TellsAll, TellsSome, TooMany, end_said, fault_said, stopped, within}
 use Rattle.tool_files.proofs.RecodeLaws.{consumed_known, end_known, kept_known}
 
@@ -38,6 +40,7 @@ stop_later depth bytes more verdict output stop = record {
   front = stop.front;
   rest = stop.rest ++ more;
   fault = stop.fault;
+  count = stop.count;
   are = stop.are;
   told = stop.told;
   names = stop.names;
@@ -59,13 +62,17 @@ many_later depth bytes more output many = record {
 }
 
 -- The output of a piece, by why the copy stops in it.
-output_of : (depth : ℕ) (bytes more output : List ℕ) (stop : Option Verdict) (start : ℕ) (copier : ItemCopier)
-    → Feeds depth bytes output stop start copier → IsOutput depth (bytes ++ more) output
+output_of : (depth : ℕ) (most left : Option ℕ) (bytes more output : List ℕ)
+    (stop : Option (Result (Unit {0}) Verdict)) (start : ℕ) (copier : ItemCopier)
+    → Feeds depth most left bytes output stop start copier → IsOutput depth (bytes ++ more) output
 unfolding many_later
-output_of depth bytes more output None start copier feeds = within bytes more refl feeds.within
-output_of depth bytes more output (Some v.TooLong) start copier feeds =
+output_of depth most left bytes more output None start copier feeds = within bytes more refl feeds.within
+output_of depth most left bytes more output (Some (Ok done)) start copier feeds =
+    whole_items feeds.count feeds.before (feeds.rest ++ more) feeds.are
+    (ap (λ (z : List ℕ). z ++ more) feeds.is ∙ append_assoc feeds.before feeds.rest more)
+output_of depth most left bytes more output (Some (Err v.TooLong)) start copier feeds =
     within feeds.fed (feeds.rest ++ more) (many_later depth bytes more output feeds).is feeds.within
-output_of depth bytes more output (Some verdict) start copier feeds =
+output_of depth most left bytes more output (Some (Err verdict)) start copier feeds =
     stopped verdict (stop_later depth bytes more verdict output feeds)
 
 -- The verdict names a place at which no item goes on.
@@ -80,22 +87,30 @@ said_stop start (f.Syntax place) = tt
 said_stop start (f.Break place) = tt
 said_stop start (f.Deep place) = tt
 
-module _ {R W : Type 0} (left : R → Option (List ℕ)) (got : W → Option (List ℕ)) (depth : ℕ)
+-- A number of copied items is at most the limit.
+at_most : (most rest : Option ℕ) (count : ℕ) → IsLeft most rest count → IsAtMost most count
+at_most None None count limit = tt
+at_most (Some most) (Some rest) count limit = omega (arith, limit.0)
+at_most None (Some rest) count limit = absurd limit
+at_most (Some most) None count limit = absurd limit
+
+module _ {R W : Type 0} (left : R → Option (List ℕ)) (got : W → Option (List ℕ)) (depth : ℕ) (most : Option ℕ)
     (due written : List ℕ) where
   -- The copy took `fed` and put out `given`, which is written. What the reader has comes next.
-  pub record Held (start read : ℕ) (copier : ItemCopier) (reader : R) (writer : W) : Type 0 where
+  pub record Held (rest_wanted : Option ℕ) (start read : ℕ) (copier : ItemCopier) (reader : R) (writer : W) : Type 0 where
     pub fed : List ℕ
     pub given : List ℕ
     pub rest : List ℕ
-    pub stands : Stands depth start fed given copier
+    pub stands : Stands depth most rest_wanted start fed given copier
     pub long : length fed ≡ read
     pub split : due ≡ fed ++ rest
     pub tells : left reader ≡ Some rest
     pub all : got writer ≡ Some (written ++ given)
 
-  pub held_first : (copier : ItemCopier) (reader : R) (writer : W) → Stands depth 0 [] [] copier
-      → left reader ≡ Some due → got writer ≡ Some written → Held 0 0 copier reader writer
-  held_first copier reader writer stands tells all = record {
+  pub held_first : (rest_wanted : Option ℕ) (copier : ItemCopier) (reader : R) (writer : W)
+      → Stands depth most rest_wanted 0 [] [] copier → left reader ≡ Some due → got writer ≡ Some written
+      → Held rest_wanted 0 0 copier reader writer
+  held_first rest_wanted copier reader writer stands tells all = record {
     fed = [];
     given = [];
     rest = due;
@@ -106,11 +121,11 @@ module _ {R W : Type 0} (left : R → Option (List ℕ)) (got : W → Option (Li
     all = all ∙ ap Some (sym (append-nil written));
   }
 
-  module _ {start read : ℕ} {copier : ItemCopier} {reader : R} {writer : W}
-      (held : Held start read copier reader writer)
+  module _ {rest_wanted : Option ℕ} {start read : ℕ} {copier : ItemCopier} {reader : R} {writer : W}
+      (held : Held rest_wanted start read copier reader writer)
       (reader' : R) where
     pub read_failed : (error : Error) → Keeps (left reader) (left reader')
-        → CopiesItems left got depth due written (Err (v.Failed error)) reader' writer
+        → CopiesItems left got depth most due written (Err (v.Failed error)) reader' writer
     read_failed error keeps = (
       held.given,
       record {
@@ -125,7 +140,7 @@ module _ {R W : Type 0} (left : R → Option (List ℕ)) (got : W → Option (Li
 
     -- All items are whole if the next one would begin at the end.
     end_by : (ended : Bool) → (start == read) ≡ ended → due ≡ held.fed
-        → CopiesItems left got depth due written (cond ended (Ok tt) (Err (v.Short read))) reader' writer
+        → CopiesItems left got depth most due written (cond ended (Ok tt) (Err (v.Short read))) reader' writer
     end_by true is all =
         let s = held.stands.within in
         let empty : s.part ≡ [] = length_zero s.part (omega (
@@ -141,7 +156,7 @@ module _ {R W : Type 0} (left : R → Option (List ℕ)) (got : W → Option (Li
         all ∙ s.is ∙ ap (λ (z : List ℕ). s.before ++ z) empty ∙ append-nil s.before in
         let output : held.given ≡ s.outputs =
         s.written ∙ ap (λ (z : List ℕ). s.outputs ++ z) clear ∙ append-nil s.outputs in
-        (held.given, rw (whole, output) s.are, held.all)
+        (held.given, all_copied (at_most most rest_wanted s.count held.stands.limit) (rw (whole, output) s.are), held.all)
     end_by false is all =
         let s = held.stands.within in (
           held.given,
@@ -151,6 +166,7 @@ module _ {R W : Type 0} (left : R → Option (List ℕ)) (got : W → Option (Li
             part = s.part;
             front = s.front;
             due = s.due;
+            count = s.count;
             are = s.are;
             told = s.told;
             is = all ∙ s.is;
@@ -176,7 +192,7 @@ module _ {R W : Type 0} (left : R → Option (List ℕ)) (got : W → Option (Li
       parted = held.split ∙ ap (λ (z : List ℕ). held.fed ++ z) known.2 ∙ sym (append_assoc held.fed bytes known.0)
 
       pub read_ended : bytes ≡ [] → IsAtEnd (left reader')
-          → CopiesItems left got depth due written (end_said start read) reader' writer
+          → CopiesItems left got depth most due written (end_said start read) reader' writer
       read_ended empty end =
           let rest = end_known _ known.0 end known.1 in
           end_by (start == read) refl
@@ -184,7 +200,7 @@ module _ {R W : Type 0} (left : R → Option (List ℕ)) (got : W → Option (Li
           ∙ ap (λ (z : List ℕ). held.fed ++ z) empty ∙ append-nil held.fed)
 
       pub read_long : 2 ^ 64 ≤ read + length bytes
-          → CopiesItems left got depth due written (Err v.TooLong) reader' writer
+          → CopiesItems left got depth most due written (Err v.TooLong) reader' writer
       read_long many = (
         held.given,
         record {
@@ -204,14 +220,15 @@ module _ {R W : Type 0} (left : R → Option (List ℕ)) (got : W → Option (Li
         held.all,
       )
 
-      module _ (output : List ℕ) (stop : Option Verdict) (start' : ℕ) (copier' : ItemCopier) (writer' : W)
-          (feeds : Feeds depth (held.fed ++ bytes) (held.given ++ output) stop start' copier') where
+      module _ (output : List ℕ) (stop : Option (Result (Unit {0}) Verdict)) (rest' : Option ℕ) (start' : ℕ)
+          (copier' : ItemCopier) (writer' : W)
+          (feeds : Feeds depth most rest' (held.fed ++ bytes) (held.given ++ output) stop start' copier') where
         -- A beginning of the output of the piece is written.
         pub send_failed : (error : Error) → TellsSome got (written ++ held.given) output writer'
-            → CopiesItems left got depth due written (Err (v.Output error)) reader' writer'
+            → CopiesItems left got depth most due written (Err (v.Output error)) reader' writer'
         send_failed error some = (
           held.given ++ output,
-          rw parted (output_of depth (held.fed ++ bytes) known.0 (held.given ++ output) stop start' copier' feeds),
+          rw parted (output_of depth most rest' (held.fed ++ bytes) known.0 (held.given ++ output) stop start' copier' feeds),
           record {
             front = held.given ++ some.front;
             lost = some.lost;
@@ -225,35 +242,48 @@ module _ {R W : Type 0} (left : R → Option (List ℕ)) (got : W → Option (Li
             → TellsAll got written (held.given ++ output) writer'
         all_sent all = all ∙ ap Some (append_assoc written held.given output)
 
-        stopped_by : (verdict : Verdict)
-            → Feeds depth (held.fed ++ bytes) (held.given ++ output) (Some verdict) start' copier'
+        stopped_by : (answer : Result (Unit {0}) Verdict)
+            → Feeds depth most rest' (held.fed ++ bytes) (held.given ++ output) (Some answer) start' copier'
             → TellsAll got written (held.given ++ output) writer'
-            → CopiesItems left got depth due written (Err verdict) reader' writer'
-        stopped_by v.TooLong many all = (held.given ++ output, rw parted (many_later depth _ known.0 _ many), all)
-        stopped_by (v.Syntax place) stop all =
+            → CopiesItems left got depth most due written answer reader' writer'
+        stopped_by (Ok done) front sent = (
+          held.given ++ output,
+          enough_copied (record {
+            count = front.count;
+            enough = front.enough;
+            before = front.before;
+            rest = front.rest ++ known.0;
+            are = front.are;
+            is = parted ∙ ap (λ (z : List ℕ). z ++ known.0) front.is ∙ append_assoc front.before front.rest known.0;
+          }),
+          sent,
+        )
+        stopped_by (Err v.TooLong) many all = (held.given ++ output, rw parted (many_later depth _ known.0 _ many), all)
+        stopped_by (Err (v.Syntax place)) stop all =
             (held.given ++ output, rw parted (stop_later depth _ known.0 _ _ stop), all)
-        stopped_by (v.Break place) stop all =
+        stopped_by (Err (v.Break place)) stop all =
             (held.given ++ output, rw parted (stop_later depth _ known.0 _ _ stop), all)
-        stopped_by (v.Deep place) stop all =
+        stopped_by (Err (v.Deep place)) stop all =
             (held.given ++ output, rw parted (stop_later depth _ known.0 _ _ stop), all)
-        stopped_by verdict stop all = absurd (subst IsStop (sym stop.said) (said_stop _ stop.fault))
+        stopped_by (Err verdict) stop all = absurd (subst IsStop (sym stop.said) (said_stop _ stop.fault))
 
         -- The copy stops in the piece.
-        pub stops : (verdict : Verdict) → stop ≡ Some verdict → TellsAll got (written ++ held.given) output writer'
-            → CopiesItems left got depth due written (Err verdict) reader' writer'
-        stops verdict is all =
-            stopped_by verdict (subst (λ (z : Option Verdict). Feeds depth (held.fed ++ bytes) (held.given ++ output) z
-            start' copier') is feeds) (all_sent all)
+        pub stops : (answer : Result (Unit {0}) Verdict) → stop ≡ Some answer
+            → TellsAll got (written ++ held.given) output writer'
+            → CopiesItems left got depth most due written answer reader' writer'
+        stops answer is all =
+            stopped_by answer (subst (λ (z : Option (Result (Unit {0}) Verdict)). Feeds depth most rest'
+            (held.fed ++ bytes) (held.given ++ output) z start' copier') is feeds) (all_sent all)
 
         -- The copy goes on after the piece.
         pub held_next : stop ≡ None → TellsAll got (written ++ held.given) output writer'
-            → Held start' (read + length bytes) copier' reader' writer'
+            → Held rest' start' (read + length bytes) copier' reader' writer'
         held_next is all = record {
           fed = held.fed ++ bytes;
           given = held.given ++ output;
           rest = known.0;
-          stands = subst (λ (z : Option Verdict). Feeds depth (held.fed ++ bytes) (held.given ++ output) z start'
-              copier') is feeds;
+          stands = subst (λ (z : Option (Result (Unit {0}) Verdict)). Feeds depth most rest' (held.fed ++ bytes)
+              (held.given ++ output) z start' copier') is feeds;
           long = omega (arith, held.long, length-append held.fed bytes);
           split = parted;
           tells = known.1;

@@ -1,6 +1,7 @@
 -- The requests that the program's arguments spell.
-use Rattle.std.specs.Prelude.{◌≡◌, ℕ, ◌≤◌, Bool, true, false, List, [], ◌∷◌, ◌++◌, ◌⊎◌, codes, map, String}
-use Rattle.std.specs.Prelude.{string_bytes, Option, None, Some, IsSome}
+use Rattle.std.specs.Prelude.{◌≡◌, ℕ, ◌<◌, ◌≤◌, ◌^◌, Bool, true, false, List, [], ◌∷◌, ◌++◌, ◌⊎◌, codes, map, String}
+use Rattle.std.specs.Prelude.{string_bytes, length, slice_index, Option, None, Some, IsSome}
+use Rattle.std.specs.Str.Parse.{IsNumeral, digits_value}
 use Rattle.std.specs.Borrow.{Bor}
 use Rattle.std.specs.declared.alloc.Global.{Global}
 use Rattle.tool_requests.specs.Number.{IsNumberUpTo, most_depth}
@@ -36,11 +37,16 @@ setting_name s.Strict = codes "--strict"
 setting_name s.Deterministic = codes "--deterministic"
 setting_name (s.Order order) = codes "--order"
 setting_name s.One = codes "--one"
+setting_name (s.Skip count) = codes "--skip"
+setting_name (s.Items count) = codes "--items"
+setting_name s.Index = codes "--index"
+setting_name (s.Max rows) = codes "--max"
 setting_name s.Names = codes "--names"
 setting_name s.Hex = codes "--hex"
 setting_name s.Offsets = codes "--offsets"
 setting_name (s.Colors colors) = codes "--color"
 setting_name s.Pretty = codes "--pretty"
+setting_name s.Exact = codes "--exact"
 setting_name (s.Depth depth) = codes "--depth"
 
 -- Whether the option takes a value. A depth, as `--depth 3`, takes one, and `--strict` takes none.
@@ -48,17 +54,23 @@ abbrev pub has_value : Setting → Bool
 has_value (s.Depth depth) = true
 has_value (s.Colors colors) = true
 has_value (s.Order order) = true
+has_value (s.Skip count) = true
+has_value (s.Items count) = true
+has_value (s.Max rows) = true
 has_value s.Deterministic = false
 has_value s.Strict = false
 has_value s.One = false
+has_value s.Index = false
 has_value s.Names = false
 has_value s.Hex = false
 has_value s.Offsets = false
 has_value s.Pretty = false
+has_value s.Exact = false
 
 -- The names of the options that take a value. `--depth` is one, and `--depth=3` is none.
 abbrev pub TakesValue : List ℕ → Type 0
-TakesValue name = (name ≡ codes "--depth") ⊎ ((name ≡ codes "--color") ⊎ (name ≡ codes "--order"))
+TakesValue name = (name ≡ codes "--depth") ⊎ ((name ≡ codes "--color") ⊎ ((name ≡ codes "--order")
+    ⊎ ((name ≡ codes "--skip") ⊎ ((name ≡ codes "--items") ⊎ (name ≡ codes "--max")))))
 
 -- The first word has this option. `dump` has `--offsets`, and `check` does not.
 abbrev pub IsKnown : Word → Setting → Type 0
@@ -88,6 +100,27 @@ IsKnown (w.Show view) s.One = ⊥
 IsKnown w.Encode s.One = Unit {0}
 IsKnown w.Canon s.One = ⊥
 IsKnown w.Recode s.One = ⊥
+IsKnown w.Check (s.Skip count) = Unit {0}
+IsKnown (w.Show view) (s.Skip count) = Unit {0}
+IsKnown w.Encode (s.Skip count) = ⊥
+IsKnown w.Canon (s.Skip count) = ⊥
+IsKnown w.Recode (s.Skip count) = Unit {0}
+IsKnown w.Check (s.Items count) = Unit {0}
+IsKnown (w.Show view) (s.Items count) = Unit {0}
+IsKnown w.Encode (s.Items count) = ⊥
+IsKnown w.Canon (s.Items count) = ⊥
+IsKnown w.Recode (s.Items count) = Unit {0}
+IsKnown w.Check s.Index = Unit {0}
+IsKnown (w.Show view) s.Index = ⊥
+IsKnown w.Encode s.Index = ⊥
+IsKnown w.Canon s.Index = ⊥
+IsKnown w.Recode s.Index = ⊥
+IsKnown w.Check (s.Max rows) = ⊥
+IsKnown (w.Show v.Titles) (s.Max rows) = Unit {0}
+IsKnown (w.Show v.Notation) (s.Max rows) = ⊥
+IsKnown w.Encode (s.Max rows) = ⊥
+IsKnown w.Canon (s.Max rows) = ⊥
+IsKnown w.Recode (s.Max rows) = ⊥
 IsKnown w.Check s.Names = Unit {0}
 IsKnown (w.Show view) s.Names = ⊥
 IsKnown w.Encode s.Names = ⊥
@@ -111,6 +144,12 @@ IsKnown (w.Show v.Notation) s.Pretty = Unit {0}
 IsKnown w.Encode s.Pretty = ⊥
 IsKnown w.Canon s.Pretty = ⊥
 IsKnown w.Recode s.Pretty = ⊥
+IsKnown w.Check s.Exact = ⊥
+IsKnown (w.Show v.Titles) s.Exact = ⊥
+IsKnown (w.Show v.Notation) s.Exact = Unit {0}
+IsKnown w.Encode s.Exact = ⊥
+IsKnown w.Canon s.Exact = ⊥
+IsKnown w.Recode s.Exact = ⊥
 
 -- If the option is a depth, it is at most the greatest depth that the program takes. 256 is, and 257 is not.
 abbrev pub IsShallow : Setting → Type 0
@@ -123,12 +162,23 @@ colors_name c.Auto = codes "auto"
 colors_name c.Always = codes "always"
 colors_name c.Never = codes "never"
 
+-- The word is a count of items or of lines: digits, whose value is less than 2^64. The first digit is a zero only in
+-- the word `0`. So `10` is a count, and `01` is none.
+pub record IsCount (word : List ℕ) (n : ℕ) : Type 0 where
+  pub numeral : IsNumeral 10 word
+  pub shortest : slice_index word 0 ≡ 48 → length word ≡ 1
+  pub value : n ≡ digits_value 10 word
+  pub most : n < 2 ^ 64
+
 -- The option takes a value, and this text spells it. A depth is a number that is at most the greatest: `3`, but not
 -- `03` or `257`.
 abbrev pub SpellsValue : Setting → List ℕ → Type 0
 SpellsValue (s.Depth depth) value = IsNumberUpTo most_depth value depth
 SpellsValue (s.Colors colors) value = value ≡ colors_name colors
 SpellsValue (s.Order order) value = value ≡ order_name order
+SpellsValue (s.Skip count) value = IsCount value count
+SpellsValue (s.Items count) value = IsCount value count
+SpellsValue (s.Max rows) value = IsCount value rows
 SpellsValue setting value = ⊥
 
 -- The word has the name of the option, and its value after a `=`, as `--depth=3`.
@@ -158,11 +208,16 @@ pub record Choices : Type 0 where
   pub deterministic : Bool
   pub order : Option Order
   pub one : Bool
+  pub skip : ℕ
+  pub items : Option ℕ
+  pub index : Bool
   pub names : Bool
   pub hex : Bool
   pub offsets : Bool
+  pub max : Option ℕ
   pub colors : Colors
   pub layout : Layout
+  pub exact : Bool
   pub depth : ℕ
 
 -- The choices without options: each item on one line, and a depth of 256.
@@ -172,11 +227,16 @@ default_choices = record {
   deterministic = false;
   order = None;
   one = false;
+  skip = 0;
+  items = None;
+  index = false;
   names = false;
   hex = false;
   offsets = false;
+  max = None;
   colors = c.Auto;
   layout = l.OneLine;
+  exact = false;
   depth = most_depth;
 }
 
@@ -186,11 +246,16 @@ with_setting s.Strict choices = record choices { strict = true }
 with_setting s.Deterministic choices = record choices { deterministic = true }
 with_setting (s.Order order) choices = record choices { order = Some order }
 with_setting s.One choices = record choices { one = true }
+with_setting (s.Skip count) choices = record choices { skip = count }
+with_setting (s.Items count) choices = record choices { items = Some count }
+with_setting s.Index choices = record choices { index = true }
+with_setting (s.Max rows) choices = record choices { max = Some rows }
 with_setting s.Names choices = record choices { names = true }
 with_setting s.Hex choices = record choices { hex = true }
 with_setting s.Offsets choices = record choices { offsets = true }
 with_setting (s.Colors colors) choices = record choices { colors = colors }
 with_setting s.Pretty choices = record choices { layout = l.Indented }
+with_setting s.Exact choices = record choices { exact = true }
 with_setting (s.Depth depth) choices = record choices { depth = depth }
 
 -- The choices that the options hold, as the depth 3 that `--depth 3` set.
@@ -200,11 +265,16 @@ choices_of options = record {
   deterministic = options.deterministic;
   order = options.order;
   one = options.one;
+  skip = options.skip;
+  items = options.items;
+  index = options.index;
   names = options.names;
   hex = options.hex;
   offsets = options.offsets;
+  max = options.max;
   colors = options.colors;
   layout = options.layout;
+  exact = options.exact;
   depth = options.depth;
 }
 
@@ -273,10 +343,16 @@ abbrev pub HasNeedlessOrder : Word → Choices → Type 0
 HasNeedlessOrder w.Check choices = IsSome choices.order × (choices.deterministic ≡ false)
 HasNeedlessOrder word choices = ⊥
 
--- The program takes the wish: no order of keys is needless. A wish for help is taken, as that of
--- `check --order bytewise --help`.
+-- Options that exclude each other were given. An index and a number of items are no check of one item: `check --one
+-- --items 2`. A check of the deterministic encoding is one of the whole input: `check --deterministic --skip 1`.
+abbrev pub HasClash : Choices → Type 0
+HasClash choices = ((choices.one ≡ true) × (IsSome choices.items ⊎ (choices.index ≡ true)))
+    ⊎ ((choices.deterministic ≡ true) × ((IsSome choices.items ⊎ (choices.index ≡ true)) ⊎ (0 < choices.skip)))
+
+-- The program takes the wish: no order of keys is needless, and no options exclude each other. A wish for help is
+-- taken, as that of `check --order bytewise --help`.
 abbrev pub IsTaken : Word → Wish → Type 0
-IsTaken word (look choices files) = HasNeedlessOrder word choices → ⊥
+IsTaken word (look choices files) = (HasNeedlessOrder word choices → ⊥) × (HasClash choices → ⊥)
 IsTaken word help = Unit {0}
 
 -- The words after the first word ask for this, from the choices without options on. After `check`, `f` asks for a look

@@ -4,7 +4,9 @@ pub mod Given
 pub mod Deterministic
 pub mod Canon
 pub mod Encodes
+pub mod Fences
 pub mod Inputs
+pub mod Indexes
 pub mod Patience
 pub mod Recodes
 pub mod Shows

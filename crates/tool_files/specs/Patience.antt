@@ -3,6 +3,7 @@ use Rattle.std.specs.Prelude.{◌≡◌, ℕ, List, ◌++◌, slice_range, Optio
 use Rattle.std.specs.Io.KnownBytes.{Consumes, prepend_known}
 use Rattle.ciborium_ll.specs.Types.ReadFault.{ReadFault}
 use Rattle.tool_files.specs.declared.patient.Patient.{Patient}
+use Rattle.tool_files.specs.declared.patient.Rest.{Rest}
 use Rattle.tool_files.specs.declared.patient.Window.{Window}
 
 -- The bytes that were read ahead and not handed out: `02 03` if `01 02 03` came and 1 byte was handed out.
@@ -22,6 +23,10 @@ module _ {T : Type 0} where
   -- within are `02 03`.
   abbrev pub patient_ahead : (T → Option (List ℕ)) → Patient T → Option (List ℕ)
   patient_ahead remaining r = prepend_known (window_held r.window) (remaining r.source)
+
+  -- The bytes to come of a reader of what is left in a patient one: `02 03` if that holds `02`, and `03` is within it.
+  abbrev pub rest_ahead : (T → Option (List ℕ)) → Rest T → Option (List ℕ)
+  rest_ahead remaining r = patient_ahead remaining r.patient
 
   -- Why the reader within failed, if it did: `End` after a call that gave 0 bytes.
   abbrev pub patient_fault : Patient T → Option ReadFault

@@ -1,50 +1,115 @@
 -- How an input is shown.
-use Rattle.std.specs.Prelude.{◌≡◌, ℕ, Bool, false, [], Result}
+use Rattle.std.specs.Prelude.{◌≡◌, ℕ, Bool, [], Option, None, Some, Result, Err}
 use Rattle.std.specs.declared.io.Error.{Error}
 use Rattle.ciborium_ll.specs.Types.BufferedReader.{BufferedReader}
 use Rattle.ciborium_ll.specs.Types.Decoder.{Decoder}
 use Rattle.ciborium_ll.specs.Types.Read.{Ghosts}
+use Rattle.ciborium_ll.specs.Types.ReadFault.{ReadFault}
 use Rattle.ciborium_ll.specs.Types.Write.{Ghosts as Sink}
 use Rattle.ciborium_ll.specs.Decoding.{IsFreshAs}
 use Rattle.ciborium_ll.specs.Sides.{sides}
 use Rattle.ciborium_ll_streams.specs.Buffers.{buffered_read_fault}
+use Rattle.cbor_skip.specs.declared.SkipError.{SkipError}
+use Rattle.cbor_skip.specs.Skipping.{StopsCounted}
 use Rattle.cbor_diag.specs.declared.DiagError.{DiagError}
-use Rattle.cbor_diag.specs.declared.layout.Layout.{Layout}
+use Rattle.cbor_diag.specs.declared.layout.Style.{Style}
 use Rattle.cbor_dump.specs.Checking.{ReadsAsCheck}
 use Rattle.cbor_dump.specs.Dumps.{AreRowsTaken}
 use Rattle.cbor_dump.specs.declared.dump.DumpError.{DumpError}
-use Rattle.tool_verdicts.specs.Checking.{diag_said, dump_said}
-use Rattle.tool_verdicts.specs.Showing.{ShowsItems, WritesItems}
+use Rattle.tool_verdicts.specs.Checking.{diag_said, dump_said, fault_said, unless_failed}
+use Rattle.tool_verdicts.specs.Parts.{PassesOver}
+use Rattle.tool_verdicts.specs.Showing.{ShowsPart}
+use Rattle.tool_verdicts.specs.declared.check.TheConstants.{BUFFER_SIZE}
 use Rattle.tool_verdicts.specs.declared.verdict.Verdict.{Verdict}
+use Rattle.tool_files.specs.Fences.{IsFenced, fence_depth, fence_source}
 use Rattle.tool_files.specs.Inputs.{BeginsInput}
 use Rattle.tool_files.specs.Patience.{patient_fault, patient_held, patient_source}
+use Rattle.tool_files.specs.declared.fence.Fence.{Fence}
+use Rattle.tool_files.specs.declared.options.Options.{Options}
 use Rattle.tool_files.specs.declared.patient.Patient.{Patient}
 
+-- The style of the notation that the options choose. `--pretty` sets the indented layout, and `--exact` the exact
+-- notation.
+abbrev pub chosen_style : Options → Style
+chosen_style options = record { layout = options.layout; is_exact = options.exact }
+
 module _ {T E W F : Type 0} (reads : Ghosts (BufferedReader T) E) (sink : Sink W F) where
-  -- Items were shown from the start of the input, each in a line or in lines of its own. The result has the verdict
-  -- after them. For `01 f5` the lines are `1` and `true`.
-  pub record ShowsInput (strict : Bool) (depth : ℕ) (layout : Layout) (reader : T) (writer : W)
-      (result : Result (Result (Unit {0}) Verdict) F) (then_writer : W) : Type 0 where
+  -- Items were shown from the start of the input, each in a line or in lines of its own. With a `skip` or a limit they
+  -- are a part of the items. The result has the verdict after them. For `01 f5` the lines are `1` and `true`.
+  pub record ShowsInput (strict : Bool) (skip : ℕ) (most : Option ℕ) (depth : ℕ) (style : Style) (reader : T)
+      (writer : W) (result : Result (Result (Unit {0}) Verdict) F) (then_writer : W) : Type 0 where
     pub old : Decoder (BufferedReader T)
     pub new : Decoder (BufferedReader T)
-    pub outcome : Result E (DiagError E F)
+    pub outcome : Result (Option E) (DiagError E F)
     pub begins : BeginsInput strict reader old
-    pub items : ShowsItems reads depth old outcome new
-    pub lines : WritesItems reads sink (record { layout = layout; is_exact = false }) (sides old writer) outcome
-        (sides new then_writer)
+    pub shown :
+        ShowsPart reads sink style skip most depth BUFFER_SIZE (sides old writer) outcome (sides new then_writer)
     pub said : result ≡ diag_said outcome (buffered_read_fault new.reader) new.offset
 
-module _ {T E : Type 0} (reads : Ghosts (Patient T) E) where
-  -- The input was dumped from its start, and the result has the verdict after the rows. If a row could not be printed,
-  -- it has the row's error. After the row of `01` in `01 1c` it has `syntax 1`.
-  pub record DumpsInput (strict : Bool) (depth : ℕ) (reader : T) (result : Result (Unit {0}) Verdict) : Type 0 where
+module _ {R E : Type 0} (reads : Ghosts R E) where
+  -- The rows of the items from the state of the decoder on were printed, up to this offset. If one was refused, nothing
+  -- is said. Over `01 1c` the rows end at 2.
+  pub record PrintsRows (depth : ℕ) (old : Decoder R) (outcome : Result E (DumpError E Error)) (offset : ℕ) : Type 0
+    where
+      pub between : Decoder R
+      pub dumped : AreRowsTaken outcome → ReadsAsCheck reads depth old outcome between
+      pub at : offset ≡ between.offset
+
+  -- The items were dumped from the state of the decoder on. The result has the verdict after the rows, by the fault of
+  -- its reader. If a row could not be printed, it has the row's error. Over `01 1c` it has `syntax 1`.
+  pub record DumpsRows (fault_of : R → Option ReadFault) (depth : ℕ) (old : Decoder R) (result : Result (Unit {0}) Verdict)
+      : Type 0 where
+    pub new : Decoder R
+    pub outcome : Result E (DumpError E Error)
+    pub offset : ℕ
+    pub prints : PrintsRows depth old outcome offset
+    pub said : result ≡ dump_said outcome (fault_of new.reader) offset
+
+-- Why the reader within a fence failed, if it did: `End` after a call that gave 0 bytes.
+abbrev pub fenced_fault : {T : Type 0} → Fence (Patient T) → Option ReadFault
+fenced_fault f = patient_fault (fence_source f)
+
+-- All items that the decoder reads were dumped: both of `01 02`.
+abbrev pub DumpsAll : {T E : Type 0} → Ghosts (Patient T) E → ℕ → Decoder (Patient T) → Result (Unit {0}) Verdict → Type 0
+DumpsAll reads depth old result = DumpsRows reads patient_fault depth old result
+
+-- The items up to a fence were dumped: one of `01 02`, if the fence stands after one item. The fence stands over the
+-- decoder's reader, and the offset goes on.
+pub record DumpsSome {T E : Type 0} (reads : Ghosts (Fence (Patient T)) E) (strict : Bool) (items depth : ℕ)
+    (old : Decoder (Patient T)) (result : Result (Unit {0}) Verdict) : Type 0 where
+  pub fence : Fence (Patient T)
+  pub is_fenced : IsFenced items [] fence
+  pub depth_is : fence_depth fence ≡ depth
+  pub source : fence_source fence ≡ old.reader
+  pub start : Decoder (Fence (Patient T))
+  pub fresh : IsFreshAs strict fence old.offset start
+  pub rows : DumpsRows reads fenced_fault depth start result
+
+module _ {T E F : Type 0} (reads : Ghosts (Patient T) E) (fences : Ghosts (Fence (Patient T)) F) where
+  -- All items were dumped, or with a limit the items up to a fence. Over `01 02` these are both, and with a limit of 1
+  -- it is `01`.
+  abbrev pub DumpsRest : Bool → Option ℕ → ℕ → Decoder (Patient T) → Result (Unit {0}) Verdict → Type 0
+  DumpsRest strict None depth old result = DumpsAll reads depth old result
+  DumpsRest strict (Some items) depth old result = DumpsSome fences strict items depth old result
+
+  -- The items after the first `skip` items were dumped, or the result has the verdict on a fault among these. If one
+  -- item of `01 02` is passed over, the row of `02` has the offset 1.
+  pub data DumpsPart (strict : Bool) (skip : ℕ) (most : Option ℕ) (depth : ℕ) (old : Decoder (Patient T))
+      (result : Result (Unit {0}) Verdict) : Type 0 where
+    dumps_none : (error : SkipError E) (new : Decoder (Patient T))
+        → StopsCounted reads skip depth BUFFER_SIZE old error new
+        → result ≡ Err (unless_failed (patient_fault new.reader) (fault_said error new.offset))
+        → DumpsPart strict skip most depth old result
+    dumps_rest : (between : Decoder (Patient T)) → PassesOver reads skip depth old between
+        → DumpsRest strict most depth between result → DumpsPart strict skip most depth old result
+
+  -- The input was dumped from its start, and the result has the verdict after the rows. After the row of `01` in `01 1c`
+  -- it has `syntax 1`.
+  pub record DumpsInput (strict : Bool) (skip : ℕ) (most : Option ℕ) (depth : ℕ) (reader : T)
+      (result : Result (Unit {0}) Verdict) : Type 0 where
     pub start : Patient T
     pub source : patient_source start ≡ reader
     pub none_held : patient_held start ≡ []
     pub old : Decoder (Patient T)
-    pub between : Decoder (Patient T)
-    pub new : Decoder (Patient T)
-    pub outcome : Result E (DumpError E Error)
     pub fresh : IsFreshAs strict start 0 old
-    pub dumped : AreRowsTaken outcome → ReadsAsCheck reads depth old outcome between
-    pub said : result ≡ dump_said outcome (patient_fault new.reader) between.offset
+    pub part : DumpsPart strict skip most depth old result

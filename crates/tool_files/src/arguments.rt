@@ -4,7 +4,7 @@ ghost use Rattle.std.specs.Prelude.{◌≡◌, ◌≤◌, ◌+◌, ◌++◌, ◌
 ghost use Rattle.std.specs.Prelude.{IfErr, IfNone, IfOk, IfSome, IsTrue, vec_capacity, vec_len};
 ghost use Rattle.std.specs.declared.alloc.Global.{Global};
 ghost use Rattle.tool_files.specs.Arguments.{AsksAbout, AsksFor, AsksOf, IsHelp, IsOption, TakesValue, Wanted, Wish};
-ghost use Rattle.tool_files.specs.Arguments.{IsHelpWord, NamesTopic, choices_of, texts, wanted_by};
+ghost use Rattle.tool_files.specs.Arguments.{IsCount, IsHelpWord, NamesTopic, choices_of, texts, wanted_by};
 ghost use Rattle.tool_files.specs.Orders.{order_name};
 ghost use Rattle.cbor_deterministic.specs.declared.Order.{Order as AnyOrder};
 ghost use Rattle.tool_files.specs.declared.options.Word.{Word};
@@ -66,6 +66,21 @@ fn order_named(name: &str) -> Option<Order>
     }
 }
 
+/// Returns the count that a word spells: `0`, or a digit from 1 to 9 and digits after it, at most `usize::MAX`.
+fn count_of(word: &str) -> Option<usize>
+    ensures some { IfSome result (IsCount word.now) }
+    ensures none { IfNone result ((n : ℕ) → IsCount word.now n → ⊥) }
+{
+    let bytes = word.as_bytes();
+    if bytes.is_empty() || bytes[0] == b'+' {
+        return None;
+    }
+    if bytes[0] == b'0' && bytes.len() > 1 {
+        return None;
+    }
+    word.parse::<usize>().ok()
+}
+
 /// One option, with its value.
 #[derive(Clone, Copy)]
 enum Setting {
@@ -77,6 +92,14 @@ enum Setting {
     Order(Order),
     /// `--one`
     One,
+    /// `--skip N`
+    Skip(usize),
+    /// `--items N`
+    Items(usize),
+    /// `--index`
+    Index,
+    /// `--max N`
+    Max(usize),
     /// `--names`
     Names,
     /// `--hex`
@@ -87,6 +110,8 @@ enum Setting {
     Colors(Colors),
     /// `--pretty`
     Pretty,
+    /// `--exact`
+    Exact,
     /// `--depth N`
     Depth(usize),
 }
@@ -104,10 +129,14 @@ impl Setting {
             (Setting::Depth(_), _) => true,
             (Setting::Strict | Setting::Hex, Word::Check | Word::Show(_)) => true,
             (Setting::One, Word::Check | Word::Encode) => true,
-            (Setting::Names | Setting::Deterministic, Word::Check) => true,
+            (Setting::Names | Setting::Deterministic | Setting::Index, Word::Check) => true,
+            (Setting::Skip(_) | Setting::Items(_), Word::Check | Word::Show(_) | Word::Recode) => {
+                true
+            }
             (Setting::Order(_), Word::Check | Word::Canon) => true,
-            (Setting::Offsets | Setting::Colors(_), Word::Show(View::Titles)) => true,
-            (Setting::Pretty, Word::Show(View::Notation)) => true,
+            (Setting::Offsets | Setting::Colors(_) | Setting::Max(_), Word::Show(View::Titles)) =>
+                true,
+            (Setting::Pretty | Setting::Exact, Word::Show(View::Notation)) => true,
             _ => false,
         }
     }
@@ -122,10 +151,12 @@ impl Setting {
             "--strict" => Some(Setting::Strict),
             "--deterministic" => Some(Setting::Deterministic),
             "--one" => Some(Setting::One),
+            "--index" => Some(Setting::Index),
             "--names" => Some(Setting::Names),
             "--hex" => Some(Setting::Hex),
             "--offsets" => Some(Setting::Offsets),
             "--pretty" => Some(Setting::Pretty),
+            "--exact" => Some(Setting::Exact),
             _ => None,
         }
     }
@@ -144,6 +175,15 @@ impl Setting {
         }
         if name == "--order" {
             return Some(Setting::Order(order_named(value)?));
+        }
+        if name == "--skip" {
+            return Some(Setting::Skip(count_of(value)?));
+        }
+        if name == "--items" {
+            return Some(Setting::Items(count_of(value)?));
+        }
+        if name == "--max" {
+            return Some(Setting::Max(count_of(value)?));
         }
         None
     }
@@ -201,12 +241,15 @@ impl Setting {
 fn takes_value(name: &str) -> bool
     ensures { IsTrue result ↔ TakesValue name.now }
 {
-    name == "--depth" || name == "--color" || name == "--order"
+    matches!(
+        name,
+        "--depth" | "--color" | "--order" | "--skip" | "--items" | "--max"
+    )
 }
 
 impl Options {
     ghost use Rattle.tool_files.specs.Arguments.{AsksWith, IsShallow, default_choices, wish_of, with_setting};
-    ghost use Rattle.tool_files.specs.Arguments.{HasNeedlessOrder};
+    ghost use Rattle.tool_files.specs.Arguments.{HasClash, HasNeedlessOrder};
 
     /// Returns the options by default: bytes in any spelling, as many items as there are, to a depth of 256.
     pub fn new() -> Options
@@ -217,11 +260,16 @@ impl Options {
             deterministic: false,
             order: None,
             one: false,
+            skip: 0,
+            items: None,
+            index: false,
             names: false,
             hex: false,
             offsets: false,
+            max: None,
             colors: Colors::Auto,
             layout: Layout::OneLine,
+            exact: false,
             depth: MOST_DEPTH as usize,
         }
     }
@@ -236,11 +284,16 @@ impl Options {
             Setting::Deterministic => self.deterministic = true,
             Setting::Order(order) => self.order = Some(order),
             Setting::One => self.one = true,
+            Setting::Skip(count) => self.skip = count,
+            Setting::Items(count) => self.items = Some(count),
+            Setting::Index => self.index = true,
+            Setting::Max(rows) => self.max = Some(rows),
             Setting::Names => self.names = true,
             Setting::Hex => self.hex = true,
             Setting::Offsets => self.offsets = true,
             Setting::Colors(colors) => self.colors = colors,
             Setting::Pretty => self.layout = Layout::Indented,
+            Setting::Exact => self.exact = true,
             Setting::Depth(depth) => self.depth = depth,
         }
     }
@@ -250,6 +303,31 @@ impl Options {
         ensures { IsTrue result ↔ HasNeedlessOrder word (choices_of self.now) }
     {
         matches!(word, Word::Check) && self.order.is_some() && !self.deterministic
+    }
+
+    /// Returns whether options that exclude each other were given.
+    fn has_clash(&self) -> bool
+        ensures { IsTrue result ↔ HasClash (choices_of self.now) }
+    {
+        let is_part = self.items.is_some() || self.index;
+        self.one && is_part || self.deterministic && (is_part || self.skip > 0)
+    }
+
+    /// Returns two options that exclude each other, if there are any.
+    fn clash(&self) -> Refusal<'static> {
+        let first = if self.deterministic {
+            "--deterministic"
+        } else {
+            "--one"
+        };
+        let second = if self.index {
+            "--index"
+        } else if self.items.is_some() {
+            "--items"
+        } else {
+            "--skip"
+        };
+        Refusal::Clash(first, second)
     }
 
     /// Takes the options among the words, and puts the other words, which name files, into `files`.
@@ -324,6 +402,9 @@ fn is_option_of(word: Word, name: &str) -> bool {
         ("--depth", _) => true,
         ("--color", _) => Setting::Colors(Colors::Auto).is_known(word),
         ("--order", _) => Setting::Order(Order::Bytewise).is_known(word),
+        ("--skip", _) => Setting::Skip(0).is_known(word),
+        ("--items", _) => Setting::Items(0).is_known(word),
+        ("--max", _) => Setting::Max(0).is_known(word),
         (_, Some(setting)) => setting.is_known(word),
         (_, None) => false,
     }
@@ -396,6 +477,9 @@ fn asked_of<'w>(
     }
     if options.has_needless_order(word) {
         return Err(Refusal::NeedlessOrder);
+    }
+    if options.has_clash() {
+        return Err(options.clash());
     }
     Ok(Request::Look { word, options })
 }

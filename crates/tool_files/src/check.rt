@@ -6,28 +6,37 @@ ghost use Rattle.tool_files.specs.Inputs.{ChecksInput, CountsItems};
 use crate::arguments::Options;
 use ciborium_ll::io::{BufferedReader, Read};
 use std::io;
-use tool_verdicts::check::{decoder_of, failed_or, wanted};
+use tool_verdicts::check::{decoder_of, failed_or};
+use tool_verdicts::part::wanted_part;
 use tool_verdicts::verdict::Verdict;
 
 /// How many bytes are read ahead at most.
 pub const ROOM: usize = 8192;
 
-/// Checks a reader's bytes from their start to their end, as `wanted` does with these options, and returns the verdict.
+/// Checks a reader's bytes from their start on, as `wanted_part` does with these options, and returns the verdict.
+///
+/// Without `--items` it reads them to their end, and otherwise to the end of the last item that is wanted.
 ///
 /// If a read failed for another reason than the end, the verdict says so.
 ///
 /// If the reader tells its bytes, the numbers of the verdict are those of items that these bytes begin with. No clause
 /// says that a reader of std reaches the end of its bytes, since it can fail at any time. Tests try that.
 pub fn check_input<R: io::Read + Drop>(reader: R, options: Options) -> Verdict
-    ensures counts { IfSome (R.remaining reader) (λ bytes. CountsItems options.one options.strict options.depth bytes
-        result) }
-    ensures checks { ChecksInput ⟦<BufferedReader<'static, R> as Read>⟧ options.strict options.one options.depth reader
-        result }
+    ensures counts { IfSome (R.remaining reader) (λ bytes. CountsItems options.skip options.items options.one
+        options.strict options.depth bytes result) }
+    ensures checks { ChecksInput ⟦<BufferedReader<'static, R> as Read>⟧ options.strict options.skip options.items
+        options.one options.depth reader result }
 {
     let mut ahead = [0; ROOM];
     let reader = BufferedReader::new(reader, &mut ahead);
     let mut decoder = decoder_of(reader, options.strict);
-    let verdict = wanted(&mut decoder, options.one, options.depth);
+    let verdict = wanted_part(
+        &mut decoder,
+        options.skip,
+        options.items,
+        options.one,
+        options.depth,
+    );
     let (_, _, fault) = decoder.into_inner().into_parts();
     failed_or(fault, verdict)
 }

@@ -1,16 +1,15 @@
 //! The word `diag`.
 
-ghost use Rattle.tool_files.specs.Shows.{ShowsInput};
+ghost use Rattle.tool_files.specs.Shows.{ShowsInput, chosen_style};
 
 use crate::arguments::Options;
 use crate::check::ROOM;
 use crate::shared::{Prompt, Shared};
-use cbor_diag::Style;
 use ciborium_ll::io::{BufferedReader, BufferedWriter, Read, Write, WriteFault};
 use std::cell::RefCell;
 use std::io;
 use tool_verdicts::check::decoder_of;
-use tool_verdicts::diag::{diag_verdict, items};
+use tool_verdicts::diag::{diag_verdict, items_part};
 use tool_verdicts::verdict::Verdict;
 
 /// Writes to a writer, and knows whether the last line is open. It flushes only at its end, since the reader flushes
@@ -45,7 +44,8 @@ impl<W: io::Write> io::Write for Page<W> {
     }
 }
 
-/// Writes a reader's bytes in diagnostic notation, up to their end, each item in a line or in lines of its own.
+/// Writes a reader's bytes in diagnostic notation, up to their end, each item in a line or in lines of its own. The
+/// options may name a part of the items: those after the first ones, and at most a number of them.
 ///
 /// The call flushes each whole item before it asks the reader for more. It writes the text of an item at fault up to
 /// the fault.
@@ -98,17 +98,20 @@ fn show_items<R: io::Read + Drop, W: Write>(
     writer: &mut W,
     options: Options,
 ) -> Result<Result<(), Verdict>, W::Error>
-    ensures { ShowsInput ⟦<BufferedReader<'static, R> as Read>⟧ W.Write options.strict options.depth options.layout
-        reader writer.old result writer.new }
+    ensures { ShowsInput ⟦<BufferedReader<'static, R> as Read>⟧ W.Write options.strict options.skip options.items
+        options.depth (chosen_style options) reader writer.old result writer.new }
 {
     let mut ahead = [0; ROOM];
     let reader = BufferedReader::new(reader, &mut ahead);
     let mut decoder = decoder_of(reader, options.strict);
-    let style = Style {
-        layout: options.layout,
-        is_exact: false,
-    };
-    let outcome = items(&mut decoder, writer, options.depth, style);
+    let outcome = items_part(
+        &mut decoder,
+        writer,
+        options.skip,
+        options.items,
+        options.depth,
+        options.style(),
+    );
     let offset = decoder.offset();
     let (_, _, fault) = decoder.into_inner().into_parts();
     diag_verdict(outcome, fault, offset)

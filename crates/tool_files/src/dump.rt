@@ -8,22 +8,24 @@ ghost use Rattle.cbor_dump.specs.Dumps.{AreRowsTaken};
 ghost use Rattle.cbor_dump.specs.Sequences.{IsSequence};
 ghost use Rattle.cbor_dump.specs.Takings.{IsInMode, most_bytes};
 ghost use Rattle.tool_verdicts.specs.Checking.{FindsBehindRows, dump_said};
-ghost use Rattle.tool_files.specs.Shows.{DumpsInput};
+ghost use Rattle.tool_files.specs.Shows.{DumpsAll, DumpsInput, DumpsSome, PrintsRows};
 ghost use Rattle.ciborium_ll.specs.Limits.{MOST_LEVELS};
 
 use crate::arguments::Options;
+use crate::fence::Fence;
 use crate::patient::Patient;
 use crate::shared::{Prompt, Shared};
+use cbor_dump::counted::skip_items;
 use cbor_dump::dump::{DumpError, dump};
 use cbor_dump::rows::{Meaning, Row, Rows};
-use ciborium_ll::Decoder;
 use ciborium_ll::io::Read;
+use ciborium_ll::{Decoder, Spelling};
 use std::alloc::{AllocError, Global};
 use std::cell::RefCell;
 use std::fmt::Write;
 use std::io;
 use std::io::Write as _;
-use tool_verdicts::check::decoder_of;
+use tool_verdicts::check::{BUFFER_SIZE, decoder_of, failed_or, fault_of};
 use tool_verdicts::dump::{dump_verdict, left_shown};
 use tool_verdicts::verdict::Verdict;
 
@@ -36,7 +38,31 @@ struct Printer<W> {
     colors: bool,
     /// The level of a part of the last row's title or body.
     below: usize,
+    /// How many rows of a body are printed at most, if not all are.
+    most: Option<usize>,
+    /// How many rows of the present body were printed.
+    rows: usize,
+    /// The bytes of the present body that are in no row.
+    hidden: Hidden,
 }
+
+/// Bytes of a body that are not shown.
+#[derive(Clone, Copy)]
+struct Hidden {
+    /// How many bytes they are.
+    bytes: usize,
+    /// How many spaces a row of them would begin with.
+    indent: usize,
+}
+
+/// No bytes.
+const NONE_HIDDEN: Hidden = Hidden {
+    bytes: 0,
+    indent: 0,
+};
+
+/// How many columns an offset takes, with the colon and the space after it, if it has at most six digits.
+const OFFSET_COLUMNS: usize = 8;
 
 /// The escape sequence before the meaning of a title or of a part of a text.
 const MEANING: &[u8] = b"\x1b[36m";
@@ -55,6 +81,44 @@ impl<W: io::Write> Printer<W> {
             write!(self.line, "{:6}: ", row.offset)?;
         }
         write!(self.line, "{row}")
+    }
+
+    /// Prints a row of a body, or hides it if enough rows of the body were printed.
+    fn put_body(&mut self, row: Row<'_>) -> io::Result<()> {
+        if self.most.is_none_or(|most| self.rows < most) {
+            self.rows = self.rows.saturating_add(1);
+            self.set_line(row)?;
+            return self.put(false);
+        }
+        if self.hidden.bytes == 0 {
+            self.line.clear();
+            write!(self.line, "{row}")?;
+            self.hidden.indent = first_digit(self.line.as_str());
+        }
+        self.hidden.bytes = self.hidden.bytes.saturating_add(row.bytes.len());
+        Ok(())
+    }
+
+    /// Prints how many bytes of the last body were hidden, if there are any.
+    fn end_body(&mut self) -> io::Result<()> {
+        self.rows = 0;
+        let Hidden { bytes, indent } = self.hidden;
+        if bytes == 0 {
+            return Ok(());
+        }
+        self.hidden = NONE_HIDDEN;
+        self.line.clear();
+        let indent = if self.offsets {
+            indent.saturating_add(OFFSET_COLUMNS)
+        } else {
+            indent
+        };
+        for _ in 0..indent {
+            self.line.push(' ')?;
+        }
+        let plural = if bytes == 1 { "" } else { "s" };
+        write!(self.line, "# ... {bytes} more byte{plural}")?;
+        self.put(false)
     }
 
     /// Prints the line. If colors are wanted, the part from the first `#` on has a color, and a fault has one
@@ -79,6 +143,7 @@ impl<W: io::Write> Printer<W> {
 
     /// Prints the verdict after the rows.
     fn end(&mut self, verdict: &Verdict) -> io::Result<()> {
+        self.end_body()?;
         self.line.clear();
         write!(self.line, "# {verdict}")?;
         self.put(true)
@@ -99,6 +164,10 @@ impl<W: io::Write> Rows for Printer<W> {
     /// The error is that of the writer, or says that there is no memory for the line.
     fn row(&mut self, row: Row<'_>) -> io::Result<()> {
         self.below = level_below(&row);
+        if matches!(row.meaning, Meaning::Bytes | Meaning::Text) {
+            return self.put_body(row);
+        }
+        self.end_body()?;
         self.set_line(row)?;
         self.put(matches!(row.meaning, Meaning::Fault))
     }
@@ -119,7 +188,16 @@ fn first_hash(line: &str) -> usize
     line.find('#').unwrap_or(line.len())
 }
 
+/// Returns the index of the first character that is no space, or the length of the line if it has none.
+fn first_digit(line: &str) -> usize {
+    line.find(|character| character != ' ')
+        .unwrap_or(line.len())
+}
+
 /// Dumps a reader's bytes, up to their end. After a fault of the bytes a line names it.
+///
+/// The options may name a part of the items: those after the first ones, and at most a number of them. If they name a
+/// number of lines, each body has at most that number, and a comment after them says how many bytes follow.
 ///
 /// The call flushes each whole line before it asks the reader for more. Colors are escape sequences between the bytes
 /// of the lines, and change none of them.
@@ -142,10 +220,14 @@ pub fn dump_input<R: io::Read + Drop, W: io::Write + Drop>(
         offsets: options.offsets,
         colors,
         below: 0,
+        most: options.max,
+        rows: 0,
+        hidden: NONE_HIDDEN,
     };
     let outcome = dump_rows(Prompt::new(reader, &output), &mut printer, options);
     let ended = match &outcome {
-        Ok(()) | Err(Verdict::Output(_) | Verdict::Failed(_)) => Ok(()),
+        Err(Verdict::Output(_)) => Ok(()),
+        Ok(()) | Err(Verdict::Failed(_)) => printer.end_body(),
         Err(verdict) => printer.end(verdict),
     };
     match (ended, printer.writer.flush()) {
@@ -154,21 +236,77 @@ pub fn dump_input<R: io::Read + Drop, W: io::Write + Drop>(
     }
 }
 
-/// Prints the rows of a reader's bytes, from their start, and the bytes that are left of a title or of a body after
-/// them.
+/// Prints the rows of a part of a reader's bytes, from their start, and the bytes that are left of a title or of a body
+/// after them. It prints nothing of the items that are passed over.
 fn dump_rows<R: io::Read + Drop, W: io::Write>(
     reader: R,
     printer: &mut Printer<W>,
     options: Options,
 ) -> Result<(), Verdict>
-    ensures { DumpsInput ⟦<Patient<R> as Read>⟧ options.strict options.depth reader result }
+    ensures { DumpsInput ⟦<Patient<R> as Read>⟧ ⟦<Fence<Patient<R>> as Read>⟧ options.strict options.skip options.items
+        options.depth reader result }
 {
     let mut decoder = decoder_of(Patient::new(reader), options.strict);
-    let outcome = print_rows(&mut decoder, options.depth, options.strict, printer);
-    let offset = decoder.offset();
-    let outcome = left_shown(&mut decoder, outcome, printer.below, printer);
+    let mut buffer = [0; BUFFER_SIZE];
+    if let Err(error) = skip_items(&mut decoder, options.skip, options.depth, &mut buffer) {
+        let verdict = fault_of(error, decoder.offset());
+        let (_, fault) = decoder.into_inner().into_parts();
+        return Err(failed_or(fault, verdict));
+    }
+    match options.items {
+        None => dump_all(decoder, printer, options),
+        Some(items) => dump_some(decoder, items, printer, options),
+    }
+}
+
+/// Prints the rows of all bytes that a decoder reads.
+fn dump_all<R: io::Read + Drop, W: io::Write>(
+    mut decoder: Decoder<Patient<R>>,
+    printer: &mut Printer<W>,
+    options: Options,
+) -> Result<(), Verdict>
+    requires alike { IsInMode options.strict decoder }
+    ensures { DumpsAll ⟦<Patient<R> as Read>⟧ options.depth decoder result }
+{
+    let (outcome, offset) = print_all(&mut decoder, printer, options);
     let (_, fault) = decoder.into_inner().into_parts();
     dump_verdict(outcome, fault, offset)
+}
+
+/// Prints the rows of at most as many items as `items` of those that a decoder reads.
+fn dump_some<R: io::Read + Drop, W: io::Write>(
+    mut decoder: Decoder<Patient<R>>,
+    items: usize,
+    printer: &mut Printer<W>,
+    options: Options,
+) -> Result<(), Verdict>
+    ensures { DumpsSome ⟦<Fence<Patient<R>> as Read>⟧ options.strict items options.depth decoder result }
+{
+    let start = decoder.offset();
+    let fence = Fence::new(decoder.into_inner(), items, options.depth);
+    let spelling = Spelling::shortest_if(options.strict);
+    let mut decoder = Decoder::with_spelling(fence, spelling, start);
+    let (outcome, offset) = print_all(&mut decoder, printer, options);
+    let (_, fault) = decoder.into_inner().into_inner().into_parts();
+    dump_verdict(outcome, fault, offset)
+}
+
+/// Prints the rows of the bytes that a decoder reads, and the bytes that are left of a title or of a body after them.
+/// Returns the answer of the dump, and the offset at which the rows ended.
+fn print_all<R: Read, W: io::Write>(
+    decoder: &mut Decoder<R>,
+    printer: &mut Printer<W>,
+    options: Options,
+) -> (Result<R::Error, DumpError<R::Error, io::Error>>, usize)
+where
+    R::Error: Drop,
+    requires alike { IsInMode options.strict decoder.old }
+    ensures { PrintsRows R.Read options.depth decoder.old result.0 result.1 }
+{
+    let outcome = print_rows(decoder, options.depth, options.strict, printer);
+    let offset = decoder.offset();
+    let outcome = left_shown(decoder, outcome, printer.below, printer);
+    (outcome, offset)
 }
 
 /// Prints the rows of the bytes that a decoder reads. The decoder is as strict as the dump.

@@ -79,6 +79,9 @@ The faults are syntax, short, break, deep and more, and with --deterministic ref
     --depth N           takes tags, arrays and maps nested at most N levels deep. N is at most 256, which also holds
                         without it
     --one               wants exactly one item
+    --skip N            passes over the first N items, which must be well-formed. Offsets stay those of the whole file
+    --items N           takes at most N items, and reads nothing after them as an item
+    --index             writes a line for each item at its end: its offset and its length. The verdict is the last line
     --names             begins each answer with the name of the file, even if there is one file alone
     --hex               reads hexadecimal digits, as docs/PROGRAM.md says
     --help              prints this text, as -h does
@@ -89,6 +92,10 @@ The faults are syntax, short, break, deep and more, and with --deterministic ref
     -: short 2
     $ printf '81 18 01' | ./cbor check --deterministic --hex || true
     refused 1: a shorter form says the same
+    $ printf '01 81 02 f6' | ./cbor check --skip 1 --index --hex
+    1 2
+    3 1
+    ok 2 3
 
 The status is 0 if each file is well-formed, 1 if a file is not, 2 after other arguments, 3 if a file can't be read or
 the output can't be written, and 141 if the reader of the output has gone away.
@@ -100,10 +107,14 @@ usage: cbor dump [OPTION..] [FILE..]
 
 Shows each title of the files on a line: its bytes as digits, indented by its level, and after a # what it means. The
 bodies of strings follow in lines of at most 16 bytes. A last line says where a file is not well-formed, and why.
+Standard error says so too, unless the output is a terminal.
 
     --strict        takes the shortest spelling alone
     --depth N       takes tags, arrays and maps nested at most N levels deep. N is at most 256, which also holds without
                     it
+    --skip N        passes over the first N items, which must be well-formed. Offsets stay those of the whole file
+    --items N       shows at most N items, and reads nothing after them as an item
+    --max N         shows at most N lines of each body, and then how many bytes of it follow
     --offsets       begins each line that has bytes with the offset of the first one
     --color WHEN    has colors: always, never, or auto, which also holds without it: if the output is a terminal
     --hex           reads hexadecimal digits, as docs/PROGRAM.md says
@@ -129,6 +140,9 @@ Writes the items of the files in diagnostic notation, each on a line.
 
     --strict    takes the shortest spelling alone
     --depth N   takes tags, arrays and maps nested at most N levels deep. N is at most 256, which also holds without it
+    --skip N    passes over the first N items, which must be well-formed. Offsets stay those of the whole file
+    --items N   writes at most N items, and reads nothing after them as an item
+    --exact     writes notation that loses nothing of the bytes: encode makes the same bytes of it
     --pretty    writes each item that an array or a map contains on a line of its own, indented by its level
     --hex       reads hexadecimal digits, as docs/PROGRAM.md says
     --help      prints this text, as -h does
@@ -200,6 +214,9 @@ byte at fault. A word of digits is a COUNT, so a file with such a name is given 
 
     --depth N   without a COUNT takes tags, arrays and maps nested at most N levels deep. N is at most 256, which also
                 holds without it
+    --skip N    without a COUNT passes over the first N items, which must be well-formed. Offsets stay those of the
+                whole file
+    --items N   without a COUNT copies at most N items, and reads nothing after them as an item
     --help      prints this text, as -h does
 
     $ printf '\\x58\\x01\\x01' | ./cbor recode 1 | od -An -tx1

@@ -4,7 +4,7 @@ ghost use Rattle.std.specs.Prelude.{◌≡◌, ◌≤◌};
 ghost use Rattle.ciborium_ll.specs.Limits.{MOST_LEVELS};
 
 use cbor_deterministic::Order;
-use cbor_diag::Layout;
+use cbor_diag::{Layout, Style};
 
 /// A word for a look at files.
 #[derive(Clone, Copy)]
@@ -52,16 +52,26 @@ pub struct Options {
     pub order: Option<Order>,
     /// Whether exactly one item is wanted, in bytes or in notation.
     pub one: bool,
+    /// How many items are passed over.
+    pub skip: usize,
+    /// How many items after them are looked at, if not all are.
+    pub items: Option<usize>,
+    /// Whether the place of each item is written.
+    pub index: bool,
     /// Whether each answer has the file's name, even for a single file.
     pub names: bool,
     /// Whether the input is hexadecimal digits.
     pub hex: bool,
     /// Whether each line of a dump has its offset.
     pub offsets: bool,
+    /// How many lines of a dump a body has at most, if not all are shown.
+    pub max: Option<usize>,
     /// When a dump has colors.
     pub colors: Colors,
     /// How items in diagnostic notation are laid out.
     pub layout: Layout,
+    /// Whether the notation loses nothing of the bytes.
+    pub exact: bool,
     /// How many levels deep tags, arrays and maps may be nested.
     pub depth: usize,
     ghost shallow: { depth ≤ MOST_LEVELS },
@@ -69,6 +79,17 @@ pub struct Options {
 
 impl Options {
     ghost use Rattle.tool_files.specs.Orders.{chosen_order};
+    ghost use Rattle.tool_files.specs.Shows.{chosen_style};
+
+    /// Returns the style of diagnostic notation.
+    pub fn style(self) -> Style
+        ensures { result ≡ chosen_style self }
+    {
+        Style {
+            layout: self.layout,
+            is_exact: self.exact,
+        }
+    }
 
     /// Returns the order of keys: the one that was given, or the bytewise order.
     pub fn key_order(self) -> Order

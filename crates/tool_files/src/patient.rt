@@ -205,3 +205,35 @@ impl<T: io::Read> Read for Patient<T> {
         Ok(())
     }
 }
+
+/// Reads what is left in a patient reader: the bytes that it holds, and then those of the reader within.
+#[derive(Drop)]
+pub(crate) struct Rest<T> {
+    patient: Patient<T>,
+}
+
+impl<T: io::Read> Rest<T> {
+    ghost use Rattle.tool_files.specs.Patience.{patient_ahead, rest_ahead};
+
+    /// Makes a reader of what is left in a patient one.
+    pub(crate) fn new(patient: Patient<T>) -> Rest<T>
+        ensures { rest_ahead T.remaining result ≡ patient_ahead T.remaining patient }
+    {
+        Rest { patient }
+    }
+}
+
+impl<T: io::Read> io::Read for Rest<T> {
+    ghost use Rattle.tool_files.specs.Patience.{rest_ahead};
+
+    ghost remaining = { rest_ahead T.remaining };
+
+    fn read(&mut self, buf: &mut [u8]) -> io::Result<usize> {
+        let count = buf.len().min(self.patient.window.len());
+        if count == 0 {
+            return self.patient.source.read(buf);
+        }
+        self.patient.window.take(&mut buf[..count]);
+        Ok(count)
+    }
+}

@@ -7,24 +7,31 @@ use std::io;
 /// How many bytes are read before the line is written, and before it is written again: 32 MiB.
 const STEP: u64 = 1 << 25;
 
-/// A reader that says in a line how many bytes were read. Each line takes the place of the line before.
+/// How many bytes the line counts as one.
+const MEGABYTE: u64 = 1_000_000;
+
+/// A reader that says in a line how many bytes were read, and of how many, if that is known. Each line takes the place of
+/// the line before.
 #[derive(Drop)]
 pub struct Watched<'p, R, P> {
     source: R,
     to: &'p P,
     is_on: bool,
+    total: Option<u64>,
     is_said: bool,
     bytes: u64,
     next: u64,
 }
 
 impl<'p, R: io::Read, P: io::Eprint> Watched<'p, R, P> {
-    /// Makes a reader that has read nothing. If `is_on` is false, it writes no line.
-    pub fn new(source: R, to: &'p P, is_on: bool) -> Watched<'p, R, P> {
+    /// Makes a reader that has read nothing of `total` bytes, if their number is known. If `is_on` is false, it writes no
+    /// line.
+    pub fn new(source: R, to: &'p P, is_on: bool, total: Option<u64>) -> Watched<'p, R, P> {
         Watched {
             source,
             to,
             is_on,
+            total,
             is_said: false,
             bytes: 0,
             next: STEP,
@@ -47,8 +54,11 @@ impl<'p, R: io::Read, P: io::Eprint> Watched<'p, R, P> {
         if self.is_on && self.bytes >= self.next {
             self.next = self.bytes.saturating_add(STEP);
             self.is_said = true;
-            let megabytes = self.bytes / 1_000_000;
-            let _ = eprint!(self.to; "\r{megabytes} MB");
+            let megabytes = self.bytes / MEGABYTE;
+            let _ = match self.total {
+                Some(total) => eprint!(self.to; "\r{megabytes} of {} MB", total / MEGABYTE),
+                None => eprint!(self.to; "\r{megabytes} MB"),
+            };
         }
     }
 }

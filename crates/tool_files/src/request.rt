@@ -78,6 +78,8 @@ pub enum Refusal<'w> {
     },
     /// An order of keys without `--deterministic`, which alone looks at it.
     NeedlessOrder,
+    /// Two options that exclude each other.
+    Clash(&'static str, &'static str),
     /// This word follows, and none may.
     Needless(&'w str),
 }

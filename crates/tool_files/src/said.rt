@@ -46,6 +46,7 @@ impl fmt::Display for Said<'_> {
                 )?;
             }
             Refusal::NeedlessOrder => f.write_str("--order wants --deterministic")?,
+            Refusal::Clash(first, second) => write!(f, "{first} and {second} exclude each other")?,
             Refusal::Needless(word) => write!(f, "\"{}\" is one word too many", Shown(word))?,
         }
         if let Some(name) = self.nearest {
@@ -86,6 +87,9 @@ pub fn options_of(word: Word) -> &'static [&'static str] {
             "--order",
             "--depth",
             "--one",
+            "--skip",
+            "--items",
+            "--index",
             "--names",
             "--hex",
             "--help",
@@ -93,15 +97,20 @@ pub fn options_of(word: Word) -> &'static [&'static str] {
         Word::Show(View::Titles) => &[
             "--strict",
             "--depth",
+            "--skip",
+            "--items",
+            "--max",
             "--offsets",
             "--color",
             "--hex",
             "--help",
         ],
-        Word::Show(View::Notation) => &["--strict", "--depth", "--pretty", "--hex", "--help"],
+        Word::Show(View::Notation) => &[
+            "--strict", "--depth", "--skip", "--items", "--pretty", "--exact", "--hex", "--help",
+        ],
         Word::Encode => &["--depth", "--one", "--help"],
         Word::Canon => &["--order", "--depth", "--help"],
-        Word::Recode => &["--depth", "--help"],
+        Word::Recode => &["--depth", "--skip", "--items", "--help"],
     }
 }
 
@@ -110,6 +119,7 @@ fn values_of(option: &str) -> &'static str {
     match option {
         "--depth" => "a number of at most 256",
         "--order" => "bytewise or length-first",
+        "--skip" | "--items" | "--max" => "a number below 2^64",
         _ => "always, never or auto",
     }
 }
@@ -119,10 +129,9 @@ fn values_for(option: &str, value: &str) -> &'static str {
     let bytes = value.as_bytes();
     let is_number = bytes.first().is_some_and(|byte| *byte != b'0')
         && bytes.iter().all(|byte| byte.is_ascii_digit());
-    if option == "--depth" && is_number {
-        "at most 256"
-    } else {
-        values_of(option)
+    match option {
+        "--depth" if is_number => "at most 256",
+        _ => values_of(option),
     }
 }
 

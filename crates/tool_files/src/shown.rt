@@ -21,3 +21,20 @@ impl fmt::Display for Shown<'_> {
         write_text(f, self.0)
     }
 }
+
+/// Prints a name that may be no UTF-8, as `Shown` prints a name. It prints a byte that belongs to no character as `\x` and
+/// two hexadecimal digits.
+#[derive(Clone, Copy, Drop)]
+pub struct ShownBytes<'n>(pub &'n [u8]);
+
+impl fmt::Display for ShownBytes<'_> {
+    fn fmt<W: fmt::Write>(&self, f: &mut fmt::Formatter<W>) -> fmt::Result {
+        for chunk in self.0.utf8_chunks() {
+            write_text(f, chunk.valid())?;
+            for byte in chunk.invalid() {
+                write!(f, "\\x{byte:02x}")?;
+            }
+        }
+        Ok(())
+    }
+}

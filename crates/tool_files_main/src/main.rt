@@ -7,24 +7,25 @@
 #![tactic(auto)]
 
 use cbor_encode::{Expected, NotationError};
-use std::env::VarError;
+use std::env::{Env, VarError};
 use std::fs::File;
 use std::io::{BufWriter, IsTerminal};
 use std::process::ExitCode;
-use std::{env, io};
+use std::{env, fs, io};
 use tool_files::arguments::{Colors, Options, Request, View, Word, asked_by};
-use tool_files::canon::canon_input;
+use tool_files::canon::{CanonFault, canon_input};
 use tool_files::check::check_input;
 use tool_files::deterministic::check_deterministic;
 use tool_files::diag::diag_input;
 use tool_files::dump::dump_input;
 use tool_files::encode::{EncodeFault, encode_input};
 use tool_files::help::{VERSION, help_text};
+use tool_files::index::index_input;
 use tool_files::input::Input;
 use tool_files::progress::Watched;
-use tool_files::recode::copy_items;
+use tool_files::recode::copy_part;
 use tool_files::said::Said;
-use tool_files::shown::Shown;
+use tool_files::shown::{Shown, ShownBytes};
 use tool_verdicts::verdict::{Status, Verdict};
 
 /// The number of the error that a read of a folder gives.
@@ -39,12 +40,48 @@ struct Task {
     is_named: bool,
 }
 
+/// How many bytes an argument has at most, with the zero that ends it, on Linux.
+const MOST_ARGUMENT: usize = 131_072;
+
 fn main(rt: HostRuntime) -> ExitCode {
-    let Ok(words) = words_of(&rt) else {
-        let _ = eprintln!(rt; "cbor: the arguments can't be read");
-        return ExitCode::from(Status::Failed.code());
+    let status = match words_of(&rt) {
+        Ok(words) => run(&rt, words.as_slice()),
+        Err(error) => {
+            name_argument(&rt, error);
+            Status::Failed
+        }
     };
-    ExitCode::from(run(&rt, words.as_slice()).code())
+    ExitCode::from(status.code())
+}
+
+/// Says on standard error why the arguments can't be read: one is not UTF-8, and the message has it, or the error.
+fn name_argument(rt: &HostRuntime, error: io::Error) {
+    for index in 1..usize::MAX {
+        let Ok(Some(bytes)) = argument(rt, index) else {
+            let _ = eprintln!(rt; "cbor: the arguments can't be read: {error}");
+            return;
+        };
+        if str::from_utf8(bytes.as_slice()).is_err() {
+            let _ = eprintln!(rt;
+                "cbor: the argument {} is not UTF-8",
+                ShownBytes(bytes.as_slice())
+            );
+            return;
+        }
+    }
+}
+
+/// Returns the bytes of an argument, if there is one of this index, and if it is no longer than Linux lets it be. The
+/// error says that there is no memory.
+fn argument(rt: &HostRuntime, index: usize) -> io::Result<Option<Vec<u8>>> {
+    let mut bytes = vec![in rt.alloc(); 0; MOST_ARGUMENT]?;
+    match rt.arg(index, bytes.as_mut_slice()) {
+        Ok(len) => {
+            bytes.truncate(len);
+            Ok(Some(bytes))
+        }
+        Err(_) => Ok(None),
+    }
 }
 
 /// Runs the request of the words.
@@ -117,10 +154,10 @@ fn run_all(rt: &HostRuntime, task: Task, files: &[&str]) -> Status {
 /// Runs a task on one file, or on standard input for `-`.
 fn run_file(rt: &HostRuntime, task: Task, file: &str) -> Status {
     if file == "-" {
-        return run_stream(rt, task, file, rt.reader());
+        return run_stream(rt, task, file, rt.reader(), None);
     }
     match open_file(rt, file) {
-        Ok(source) => run_stream(rt, task, file, source),
+        Ok((source, total)) => run_stream(rt, task, file, source, total),
         Err(error) => {
             let _ = eprintln!(rt; "cbor: {}: {error}", Shown(file));
             Status::Failed
@@ -128,39 +165,96 @@ fn run_file(rt: &HostRuntime, task: Task, file: &str) -> Status {
     }
 }
 
-/// Opens a file that is no folder.
-fn open_file(rt: &HostRuntime, name: &str) -> io::Result<File> {
+/// Opens a file that is no folder. Returns it with its length, if it has one.
+fn open_file(rt: &HostRuntime, name: &str) -> io::Result<(File, Option<u64>)> {
     let file = File::open(rt, name)?;
-    if file.metadata()?.is_dir() {
+    let metadata = file.metadata()?;
+    if metadata.is_dir() {
         return Err(io::Error::from_raw_os_error(IS_A_DIRECTORY));
     }
-    Ok(file)
+    let total = if metadata.is_file() {
+        Some(metadata.len())
+    } else {
+        None
+    };
+    Ok((file, total))
 }
 
-/// Runs a task on the bytes of a reader.
-fn run_stream<R: io::Read + Drop>(rt: &HostRuntime, task: Task, file: &str, reader: R) -> Status {
+/// Runs a task on the bytes of a reader, and says on a terminal how far it is. `total` is the number of bytes, if it is
+/// known.
+fn run_stream<R: io::Read + Drop>(
+    rt: &HostRuntime,
+    task: Task,
+    file: &str,
+    reader: R,
+    total: Option<u64>,
+) -> Status {
+    let mut reader = Watched::new(reader, rt, is_watched(rt, task), total);
     match task.word {
-        Word::Check => print_verdict(rt, task, file, check_stream(rt, reader, task.options)),
-        Word::Show(view) => show_stream(rt, task, file, view, reader),
-        Word::Encode => encode_stream(rt, task, file, reader),
-        Word::Canon => canon_stream(rt, task, file, reader),
-        Word::Recode => recode_stream(rt, task, file, reader),
+        Word::Check => {
+            let outcome = check_stream(rt, &mut reader, task.options);
+            reader.clear();
+            print_verdict(rt, task, file, outcome)
+        }
+        Word::Show(view) => {
+            let outcome = show_stream(rt, task, file, view, &mut reader);
+            reader.clear();
+            show_status(rt, file, view, outcome)
+        }
+        Word::Encode => {
+            let mut writer = io::writer(rt);
+            let outcome = encode_input(rt.alloc(), &mut reader, &mut writer, task.options);
+            reader.clear();
+            encode_status(rt, file, outcome)
+        }
+        Word::Canon => {
+            let mut writer = io::writer(rt);
+            let outcome = canon_input(rt.alloc(), &mut reader, &mut writer, task.options);
+            reader.clear();
+            written(rt, file, outcome.map_err(CanonFault::verdict))
+        }
+        Word::Recode => {
+            let (_, outcome) = copy_part(&mut reader, io::writer(rt), task.options);
+            reader.clear();
+            written(rt, file, outcome)
+        }
     }
 }
+/// Returns whether standard error is a terminal that may be told how far the program is, and standard output doesn't go
+/// there: the word writes a line alone, or into a file.
+fn is_watched(rt: &HostRuntime, task: Task) -> bool {
+    let is_told = rt.stderr().is_terminal() && !is_plain(rt) && !is_set(rt, "CI");
+    let writes_a_line = matches!(task.word, Word::Check) && !task.options.index;
+    is_told && (writes_a_line || writes_to_file(rt))
+}
 
-/// Checks the bytes of a reader. If standard error is a terminal, the call says there how far the check is.
+/// Returns whether standard output is a file.
+fn writes_to_file(rt: &HostRuntime) -> bool {
+    matches!(fs::metadata(rt, "/dev/stdout"), Ok(metadata) if metadata.is_file())
+}
+
+/// Checks the bytes of a reader. With `--index` it also writes the places of items.
 fn check_stream<R: io::Read + Drop>(rt: &HostRuntime, reader: R, options: Options) -> Verdict {
-    let is_on = rt.stderr().is_terminal() && !is_plain(rt) && !is_set(rt, "CI");
-    let mut reader = Watched::new(reader, rt, is_on);
-    let mut input = Input::new(&mut reader, options);
-    let verdict = if options.deterministic {
+    let mut input = Input::new(reader, options);
+    let verdict = if options.index {
+        index_stream(rt, &mut input, options)
+    } else if options.deterministic {
         check_deterministic(rt.alloc(), &mut input, options)
     } else {
         check_input(&mut input, options)
     };
-    let verdict = input.judge(verdict);
-    reader.clear();
-    verdict
+    input.judge(verdict)
+}
+
+/// Checks the bytes of a reader, and writes the places of items.
+fn index_stream<R: io::Read + Drop>(rt: &HostRuntime, reader: R, options: Options) -> Verdict {
+    let outcome = BufWriter::new(rt.alloc(), io::writer(rt)).and_then(|writer| index_input(
+        rt.alloc(),
+        reader,
+        writer,
+        options,
+    ));
+    outcome.unwrap_or_else(Verdict::Output)
 }
 
 /// Returns whether the environment asks for no escape sequences.
@@ -193,20 +287,36 @@ fn show_stream<R: io::Read + Drop>(
     file: &str,
     view: View,
     reader: R,
-) -> Status {
-    let named = if task.is_named {
-        println!(rt; "# {}", Shown(file))
-    } else {
-        Ok(())
-    };
-    let outcome = match named {
-        Ok(()) => write_view(rt, reader, view, task.options),
-        Err(error) => Err(Verdict::Output(error)),
-    };
+) -> Result<(), Verdict> {
+    if task.is_named {
+        println!(rt; "# {}", Shown(file)).map_err(Verdict::Output)?;
+    }
+    write_view(rt, reader, view, task.options)
+}
+
+/// Says on standard error why a file was not shown whole. If standard output is a terminal, the last line of a dump has
+/// said a fault of the bytes there.
+fn show_status(rt: &HostRuntime, file: &str, view: View, outcome: Result<(), Verdict>) -> Status {
     match outcome {
         Ok(()) => Status::Well,
-        Err(verdict) => name_fault(rt, file, verdict),
+        Err(verdict) => {
+            let is_said = matches!(view, View::Titles)
+                && is_row(&verdict)
+                && rt.stdout().is_terminal();
+            if is_said {
+                return verdict.status();
+            }
+            name_fault(rt, file, verdict)
+        }
     }
+}
+
+/// Returns whether the last line of a dump says the verdict.
+fn is_row(verdict: &Verdict) -> bool {
+    !matches!(
+        verdict,
+        Verdict::Failed(_) | Verdict::Output(_) | Verdict::Text(_)
+    )
 }
 
 /// Says on standard error why a file was not written whole. A reader that has gone away is no news.
@@ -216,6 +326,14 @@ fn name_fault(rt: &impl Eprint, file: &str, verdict: Verdict) -> Status {
         let _ = eprintln!(rt; "cbor: {}: {verdict}", Shown(file));
     }
     status
+}
+
+/// Says on standard error why a file was not written whole, if it was not.
+fn written(rt: &impl Eprint, file: &str, outcome: Result<(), Verdict>) -> Status {
+    match outcome {
+        Ok(()) => Status::Well,
+        Err(verdict) => name_fault(rt, file, verdict),
+    }
 }
 
 /// Writes the view of a reader's bytes.
@@ -243,15 +361,9 @@ fn write_view<R: io::Read + Drop>(
     }
 }
 
-/// Writes the bytes that the notation of a reader spells.
-fn encode_stream<R: io::Read + Drop>(
-    rt: &HostRuntime,
-    task: Task,
-    file: &str,
-    reader: R,
-) -> Status {
-    let mut writer = io::writer(rt);
-    match encode_input(rt.alloc(), reader, &mut writer, task.options) {
+/// Says on standard error why notation was not encoded, if it was not.
+fn encode_status(rt: &impl Eprint, file: &str, outcome: Result<(), EncodeFault>) -> Status {
+    match outcome {
         Ok(()) => Status::Well,
         Err(EncodeFault::Output(error)) => output_failed(rt, error),
         Err(EncodeFault::Input(error)) => {
@@ -265,30 +377,6 @@ fn encode_stream<R: io::Read + Drop>(
     }
 }
 
-/// Writes the bytes of a reader in the deterministic encoding.
-fn canon_stream<R: io::Read + Drop>(rt: &HostRuntime, task: Task, file: &str, reader: R) -> Status {
-    let mut writer = io::writer(rt);
-    match canon_input(rt.alloc(), reader, &mut writer, task.options) {
-        Ok(()) => Status::Well,
-        Err(fault) => name_fault(rt, file, fault.verdict()),
-    }
-}
-
-/// Copies the items of a reader in their shortest spelling. It writes output that is ready before it waits for more of
-/// the input.
-fn recode_stream<R: io::Read + Drop>(
-    rt: &HostRuntime,
-    task: Task,
-    file: &str,
-    reader: R,
-) -> Status {
-    let (_, _, copied) = copy_items(reader, io::writer(rt), task.options);
-    match copied {
-        Ok(()) => Status::Well,
-        Err(verdict) => name_fault(rt, file, verdict),
-    }
-}
-
 /// Returns how the program ends after a text that is not encoded.
 fn status_of(error: NotationError) -> Status {
     match error.expected {
@@ -297,13 +385,13 @@ fn status_of(error: NotationError) -> Status {
     }
 }
 
-/// Prints a verdict on standard output, and a failure to read on standard error.
+/// Prints a verdict on standard output, and a failure on standard error.
 fn print_verdict(rt: &(impl Print + Eprint), task: Task, file: &str, verdict: Verdict) -> Status {
     let status = verdict.status();
     let printed = match (verdict, task.is_named) {
+        (Verdict::Output(error), _) => return output_failed(rt, error),
         (verdict @ (Verdict::Failed(_) | Verdict::Text(_)), _) => {
-            let _ = eprintln!(rt; "cbor: {}: {verdict}", Shown(file));
-            return status;
+            return name_fault(rt, file, verdict);
         }
         (verdict, true) => println!(rt; "{}: {verdict}", Shown(file)),
         (verdict, false) => println!(rt; "{verdict}"),

@@ -60,7 +60,7 @@ sequence_well (Err stopped) offset P same = (
 
 module _ {R E : Type 0} (source : Ghosts R E) where
   -- The error of an item's skip names the fault that stops its read.
-  fault_met : (strict : Bool) (depth : ℕ) (due : List ℕ) (old new : Decoder R) (start : ℕ) (error : SkipError E)
+  pub fault_met : (strict : Bool) (depth : ℕ) (due : List ℕ) (old new : Decoder R) (start : ℕ) (error : SkipError E)
       → SkipsTold source strict depth due old (Err error) new → old.offset ≡ start
       → StopsAsNamed strict depth due start (fault_said error new.offset)
   fault_met strict depth due old new start (s.Break at) met from = (met.fault, omega (arith, met.place, from))

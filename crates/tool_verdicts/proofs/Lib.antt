@@ -1,3 +1,4 @@
 pub mod DeterministicLaws
 pub mod FoundLaws
 pub mod ShowLaws
+pub mod PartLaws

@@ -95,7 +95,7 @@ dump_said (Err (u.Rows error)) fault offset = Err (v.Output error)
 
 -- The verdict for the answer of `diag`, or the error of its writer: `Deep(1)` for `Read` of `Deep(1)`, if no read
 -- failed.
-abbrev pub diag_said : {E F : Type 0} → Result E (DiagError E F) → Option ReadFault → ℕ
+abbrev pub diag_said : {E F : Type 0} → Result (Option E) (DiagError E F) → Option ReadFault → ℕ
     → Result (Result (Unit {0}) Verdict) F
 diag_said (Ok ended) fault offset = Ok (end_said fault)
 diag_said (Err (d.Read error)) fault offset = Ok (Err (unless_failed fault (fault_said error offset)))

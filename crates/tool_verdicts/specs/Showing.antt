@@ -1,5 +1,6 @@
 -- The reads and the writes of `diag` for a sequence of items (RFC 8742), and the end of a line.
-use Rattle.std.specs.Prelude.{◌≡◌, ℕ, zero, suc, ◌+◌, ◌⊎◌, [], ◌∷◌, Result, Ok, Err, IsSome}
+use Rattle.std.specs.Prelude.{◌≡◌, ℕ, zero, suc, ◌+◌, ◌⊎◌, [], ◌∷◌, Option, None, Some}
+use Rattle.std.specs.Prelude.{Result, Ok, Err, IsSome}
 use Rattle.ciborium_ll.specs.Types.Read.{Ghosts}
 use Rattle.ciborium_ll.specs.Types.Write.{Ghosts as Sink}
 use Rattle.ciborium_ll.specs.Encoding.{WritesAll, WritesFront}
@@ -8,7 +9,7 @@ use Rattle.ciborium_ll.specs.Types.Decoder.{Decoder}
 use Rattle.ciborium_ll.specs.Types.Error.TheVariants as e
 use Rattle.cbor_skip.specs.declared.SkipError.{SkipError}
 use Rattle.cbor_skip.specs.declared.SkipError.TheVariants as s
-use Rattle.cbor_skip.specs.Skipping.{SkipsItem}
+use Rattle.cbor_skip.specs.Skipping.{SkipsItem, StopsCounted}
 use Rattle.cbor_diag.specs.declared.DiagError.{DiagError}
 use Rattle.cbor_diag.specs.declared.DiagError.TheVariants as d
 use Rattle.cbor_diag.specs.declared.layout.Style.{Style}
@@ -17,6 +18,7 @@ use Rattle.cbor_diag.specs.ItemStops.{ItemStops}
 use Rattle.cbor_diag.specs.Showing.{CountsShown}
 use Rattle.cbor_dump.specs.Sequences.{IsEnd, ReadsItems}
 use Rattle.cbor_diag.specs.declared.strings.TheConstants.{BUFFER_SIZE}
+use Rattle.tool_verdicts.specs.Parts.{IsBelow, PassesOver}
 
 module _ {E F : Type 0} where
   -- The error says that the reader failed before a byte of an item came: `Io` for an item at the offset 2, if the read
@@ -27,14 +29,16 @@ module _ {E F : Type 0} where
 
   -- The answer to an error after whole items, of a show that began at the place and stopped at `stop`. For `Io` and the
   -- place 2 it is the end if `stop` is 2, and an error if `stop` is 3.
-  abbrev pub EndsShow : DiagError E F → ℕ → ℕ → Result E (DiagError E F) → Type 0
-  EndsShow error place stop (Ok fault) = (error ≡ d.Read (s.Read (e.Io fault))) × (stop ≡ place)
+  abbrev pub EndsShow : DiagError E F → ℕ → ℕ → Result (Option E) (DiagError E F) → Type 0
+  EndsShow error place stop (Ok None) = ⊥
+  EndsShow error place stop (Ok (Some fault)) = (error ≡ d.Read (s.Read (e.Io fault))) × (stop ≡ place)
   EndsShow error place stop (Err other) = (other ≡ error) × (IsEndOfItems error place stop → ⊥)
 
   -- How often the reader failed, by the answer: once at the end, and before the end once if the error of the read says
-  -- so. At the end after 2 failures there are 3.
-  abbrev pub CountsItems : Result E (DiagError E F) → ℕ → ℕ → Type 0
-  CountsItems (Ok fault) old new = new ≡ old + 1
+  -- so. At the end after 2 failures there are 3, and after as many items as are wanted there are 2.
+  abbrev pub CountsItems : Result (Option E) (DiagError E F) → ℕ → ℕ → Type 0
+  CountsItems (Ok None) old new = new ≡ old
+  CountsItems (Ok (Some fault)) old new = new ≡ old + 1
   CountsItems (Err error) old new = CountsShown {T = Unit {0}} (Err error) old new
 
 module _ {W F : Type 0} (sink : Sink W F) where
@@ -80,12 +84,15 @@ module _ {R E : Type 0} (source : Ghosts R E) where
     pub fails : SkipsItem source depth BUFFER_SIZE between (Err error) new
     pub no_end : IsEnd error between.offset new.offset → ⊥
 
-  -- The show of a sequence, by its answer: whole items, up to the end or to a further item whose read failed (RFC
-  -- 8742). Over `01 02` it ends after two items, and over `01 1c` at `1c`.
-  abbrev pub ShowsItems : {F : Type 0} → ℕ → Decoder R → Result E (DiagError E F) → Decoder R → Type 0
-  ShowsItems depth old (Ok fault) new = EndsItems depth old fault new
-  ShowsItems depth old (Err (d.Read error)) new = StopsItems depth old error new
-  ShowsItems depth old (Err (d.Write fault)) new = Unit {0}
+  -- The show of a sequence, by its answer: as many items as are wanted, or fewer up to the end or to a further item
+  -- whose read failed (RFC 8742). Over `01 02` it ends after two items, and over `01 1c` at `1c`. If one item is wanted,
+  -- it reads `01` alone.
+  abbrev pub ShowsItems : {F : Type 0} → ℕ → Option ℕ → Decoder R → Result (Option E) (DiagError E F) → Decoder R
+      → Type 0
+  ShowsItems depth most old (Ok None) new = (count : ℕ) × (most ≡ Some count) × ReadsItems source depth count old new
+  ShowsItems depth most old (Ok (Some fault)) new = (ends : EndsItems depth old fault new) × IsBelow most ends.count
+  ShowsItems depth most old (Err (d.Read error)) new = (stops : StopsItems depth old error new) × IsBelow most stops.count
+  ShowsItems depth most old (Err (d.Write fault)) new = Unit {0}
 
 module _ {R E W F : Type 0} (source : Ghosts R E) (sink : Sink W F) (style : Style) where
   -- `count` items were shown, each on a line of its own: its text, and an end of the line. The items of `01 02` make
@@ -107,7 +114,18 @@ module _ {R E W F : Type 0} (source : Ghosts R E) (sink : Sink W F) (style : Sty
         → StopsLines old error new
 
   -- The show of a sequence, by its answer. The fault of a read that consumed nothing is that of a further item. Over
-  -- `01 02` the answer is the fault after both lines.
-  abbrev pub WritesItems : Sides R W → Result E (DiagError E F) → Sides R W → Type 0
-  WritesItems old (Ok fault) new = StopsLines old (d.Read (s.Read (e.Io fault))) new
-  WritesItems old (Err error) new = StopsLines old error new
+  -- `01 02` the answer is the fault after both lines. If one item is wanted, it is `None` after the first line.
+  abbrev pub WritesItems : Option ℕ → Sides R W → Result (Option E) (DiagError E F) → Sides R W → Type 0
+  WritesItems most old (Ok None) new = (count : ℕ) × (most ≡ Some count) × ShowsLines count old new
+  WritesItems most old (Ok (Some fault)) new = StopsLines old (d.Read (s.Read (e.Io fault))) new
+  WritesItems most old (Err error) new = StopsLines old error new
+
+  -- The show of the items after the first `skip` items, by its answer, or the error that stopped the read of these. If
+  -- one item of `01 02` is passed over, the one line is `2`.
+  pub data ShowsPart (skip : ℕ) (most : Option ℕ) (depth room : ℕ) (old : Sides R W)
+      (result : Result (Option E) (DiagError E F)) (new : Sides R W) : Type 0 where
+    shows_few : (error : SkipError E) → StopsCounted source skip depth room old.decoder error new.decoder
+        → result ≡ Err (d.Read error) → new.writer ≡ old.writer → ShowsPart skip most depth room old result new
+    shows_rest : (between : Decoder R) → PassesOver source skip depth old.decoder between
+        → ShowsItems source depth most between result new.decoder
+        → WritesItems most (sides between old.writer) result new → ShowsPart skip most depth room old result new

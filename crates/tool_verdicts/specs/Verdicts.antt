@@ -1,5 +1,5 @@
 -- The texts of the program about an input, and how it ends.
-use Rattle.std.specs.Prelude.{ℕ, List, ◌++◌, Option, Some, None, codes, decimal}
+use Rattle.std.specs.Prelude.{ℕ, ◌+◌, ◌-◌, ◌^◌, min, List, ◌++◌, Option, Some, None, codes, decimal}
 use Rattle.std.specs.IoError.{error_kind}
 use Rattle.std.specs.declared.io.ErrorKind.{ErrorKind}
 use Rattle.std.specs.declared.io.ErrorKind.TheVariants as k
@@ -39,6 +39,22 @@ verdict_status v.TooLong = s.Failed
 verdict_status (v.Failed error) = s.Failed
 verdict_status (v.Text fault) = s.Malformed
 verdict_status (v.Output error) = output_status (error_kind error)
+
+-- The place in an input that begins at the offset `start` of another one, at most the greatest number: 3 for 2 after one
+-- byte.
+abbrev pub place_moved : ℕ → ℕ → ℕ
+place_moved start place = min (start + place) (2 ^ 64 - 1)
+
+-- The verdict on an input that begins at the offset `start` of another one: `Break(3)` for `Break(2)` after one byte.
+abbrev pub verdict_moved : ℕ → Verdict → Verdict
+verdict_moved start (v.Syntax place) = v.Syntax (place_moved start place)
+verdict_moved start (v.Short place) = v.Short (place_moved start place)
+verdict_moved start (v.Break place) = v.Break (place_moved start place)
+verdict_moved start (v.Deep place) = v.Deep (place_moved start place)
+verdict_moved start (v.More place) = v.More (place_moved start place)
+verdict_moved start (v.Refused refusal) =
+    v.Refused (record { why = refusal.why; place = place_moved start refusal.place })
+verdict_moved start verdict = verdict
 
 -- The text of a reason why a text spells no bytes: "half a byte" for `HalfByte`.
 abbrev pub reason_text : TextReason → List ℕ

@@ -8,4 +8,5 @@ pub mod check;
 pub mod deterministic;
 pub mod diag;
 pub mod dump;
+pub mod part;
 pub mod verdict;

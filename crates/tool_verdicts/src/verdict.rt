@@ -141,6 +141,27 @@ pub enum Verdict {
 }
 
 impl Verdict {
+    ghost use Rattle.tool_verdicts.specs.Verdicts.{verdict_moved};
+
+    /// Returns the verdict on an input that begins at the offset `start` of another one. A place that would be greater
+    /// than `usize::MAX` is `usize::MAX`.
+    pub fn moved_by(self, start: usize) -> Verdict
+        ensures { result ≡ verdict_moved start self }
+    {
+        match self {
+            Verdict::Syntax(place) => Verdict::Syntax(start.saturating_add(place)),
+            Verdict::Short(place) => Verdict::Short(start.saturating_add(place)),
+            Verdict::Break(place) => Verdict::Break(start.saturating_add(place)),
+            Verdict::Deep(place) => Verdict::Deep(start.saturating_add(place)),
+            Verdict::More(place) => Verdict::More(start.saturating_add(place)),
+            Verdict::Refused(refusal) => Verdict::Refused(Refusal {
+                why: refusal.why,
+                place: start.saturating_add(refusal.place),
+            }),
+            verdict => verdict,
+        }
+    }
+
     /// Returns how the program ends after this input.
     pub fn status(&self) -> Status
         ensures { result ≡ verdict_status self.now }

@@ -4,23 +4,24 @@ use Rattle.tool_files.proofs.check.check_input.Goals as goal
 
 pub returns-clause-counts : goal.returns-clause-counts
 returns-clause-counts g c =
-    verdict_counted _ c.args.options.strict c.args.options.one c.args.options.depth (g.R.Read.remaining c.args.reader)
-    c.new-reader.result c.decoder_of-decoder.result c.wanted-verdict.new.decoder c.wanted-verdict.result
+    verdict_counted _ c.args.options.strict c.args.options.skip c.args.options.items c.args.options.one
+    c.args.options.depth (g.R.Read.remaining c.args.reader)
+    c.new-reader.result c.decoder_of-decoder.result c.wanted_part-verdict.new.decoder c.wanted_part-verdict.result
     c.failed_or.result c.into_parts-fault.result.2 c.decoder_of-decoder.ensures c.new-reader.ensures.ahead
-    c.wanted-verdict.ensures.says c.failed_or.ensures
+    c.wanted_part-verdict.ensures.says c.failed_or.ensures
 
 pub returns-clause-checks : goal.returns-clause-checks
 returns-clause-checks g c = record {
   old = c.decoder_of-decoder.result;
-  new = c.wanted-verdict.new.decoder;
-  found = c.wanted-verdict.result;
+  new = c.wanted_part-verdict.new.decoder;
+  found = c.wanted_part-verdict.result;
   begins = record {
     start = c.new-reader.result;
     source = c.new-reader.ensures.source;
     none_ahead = c.new-reader.ensures.read_ahead;
     fresh = c.decoder_of-decoder.ensures;
   };
-  says = c.wanted-verdict.ensures.says;
+  says = c.wanted_part-verdict.ensures.says;
   said = first_of (
     cc (c.failed_or.ensures, c.into_parts-fault.ensures.fault, c.into_inner.ensures),
     search rules,

@@ -4,16 +4,15 @@ use Rattle.tool_files.proofs.diag.show_items.Goals as goal
 pub returns : goal.returns
 returns g c = record {
   old = c.decoder_of-decoder.result;
-  new = c.items-outcome.new.decoder;
-  outcome = c.items-outcome.result;
+  new = c.items_part-outcome.new.decoder;
+  outcome = c.items_part-outcome.result;
   begins = record {
     start = c.new-reader.result;
     source = c.new-reader.ensures.source;
     none_ahead = c.new-reader.ensures.read_ahead;
     fresh = c.decoder_of-decoder.ensures;
   };
-  items = c.items-outcome.ensures.reads;
-  lines = c.items-outcome.ensures.writes;
+  shown = rw c.style.ensures at c.items_part-outcome.ensures;
   said = first_of (
     cc (
       c.diag_verdict.ensures,

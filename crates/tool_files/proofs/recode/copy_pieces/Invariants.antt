@@ -8,10 +8,10 @@ invariant-pieces g l = record {
   piece : length l.piece ≡ 8192;
   out : length l.out ≡ 8208;
   depth : l.copy.depth ≡ l.depth;
-  after : IsAfter l.depth l.copy.start l.read l.copy.copier;
+  after : IsAfter l.depth l.copy.left l.copy.start l.read l.copy.copier;
   held : (due written : List ℕ) → g.R.Read.remaining l.fn.reader ≡ Some due
       → g.W.Write.contents l.fn.writer.sink ≡ Some written
-      → Held g.R.Read.remaining g.W.Write.contents l.depth due written l.copy.start l.read l.copy.copier l.reader
+      → Held g.R.Read.remaining g.W.Write.contents l.depth l.fn.most due written l.copy.left l.copy.start l.read l.copy.copier l.reader
       l.writer.sink;
 }
 

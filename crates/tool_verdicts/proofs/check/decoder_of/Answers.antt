@@ -1,4 +1,3 @@
-use Rattle.std.proofs.Common.{rules}
 use Rattle.tool_verdicts.proofs.check.decoder_of.Goals as goal
 
 pub returns : goal.returns

@@ -1,4 +1,4 @@
-use Rattle.std.proofs.Common.{suc, Err, arith, refl, sym, subst, ◌∙◌}
+use Rattle.std.proofs.Common.{rules, Err, add-one, arith, refl, sym, subst, ◌∙◌}
 use Rattle.ciborium_ll.proofs.DecodingLaws.{MovesOn-none, MovesOn-then}
 use Rattle.cbor_skip.specs.Skipping.{ReadsItem, SkipsItem, strictness}
 use Rattle.ciborium_ll.specs.Sides.{sides}
@@ -7,12 +7,14 @@ use Rattle.cbor_diag.specs.ItemStops.{ItemStops}
 use Rattle.cbor_dump.proofs.ItemRows.{items_counted}
 use Rattle.cbor_dump.proofs.SequenceLaws.{none_read, one_more}
 use Rattle.tool_verdicts.specs.Showing.{at_end, more, none}
+use Rattle.tool_verdicts.specs.Parts.{IsBelow}
+use Rattle.tool_verdicts.proofs.PartLaws.{below_by, least_of, up_to}
 use Rattle.tool_verdicts.proofs.ShowLaws.{lines_end, show_ends, show_failures}
 use Rattle.tool_verdicts.proofs.diag.items.Goals as goal
 
 pub items-init : goal.items-init
 items-init g c = record {
-  count = 0;
+  few = least_of c.args.most;
   reads = none_read g.R.Read c.args.depth c.args.decoder.now;
   lines = none;
   moves_on = MovesOn-none g.R.Read c.args.decoder.now;
@@ -27,8 +29,9 @@ returns-in-Err-clause-reads g c =
     (Err c.in-Err.error)) (sym c.offset.ensures.same)
     (subst (λ x. OnReading {T = Unit {0}} (λ answer. SkipsItem g.R.Read c.args.depth 64 x answer c.diagnose.new.decoder)
     (Err c.in-Err.error)) c.offset-place.ensures.same c.in-Err.ensures.reads.reads) in
-    show_ends g.R.Read c.args.depth c.items.invariant.count c.offset-place.result c.offset.result c.args.decoder.now
-    c.items.decoder new c.in-Err.error c.ended.result c.items.invariant.reads fails c.ended.ensures
+    let below : IsBelow c.args.most c.items.shown = below_by c.args.most c.items.shown (search rules) c.items.invariant.few in
+    show_ends g.R.Read c.args.depth c.args.most c.items.shown c.offset-place.result c.offset.result
+    c.args.decoder.now c.items.decoder new c.in-Err.error c.ended.result below c.items.invariant.reads fails c.ended.ensures
     c.offset-place.ensures.value (rw c.offset.ensures.same c.offset.ensures.value)
 
 -- Each item takes at least one byte.
@@ -44,10 +47,10 @@ items-preserved g c =
     let item : ReadsItem g.R.Read c.args.depth c.items.decoder c.diagnose.new.decoder =
     rw c.offset-place.ensures.same at c.in_default.ensures.reads.reads in
     record {
-      count = suc c.items.invariant.count;
-      reads = one_more g.R.Read c.args.depth c.items.invariant.count _ _ _ c.items.invariant.reads item;
-      lines = more c.items.invariant.lines (rw c.offset-place.ensures.same at c.in_default.ensures.shown)
-          c.in_default-line_ended.ensures;
+      few = up_to c.args.most c.items.shown (below_by c.args.most c.items.shown (search rules) c.items.invariant.few);
+      reads = rw add-one (one_more g.R.Read c.args.depth c.items.shown _ _ _ c.items.invariant.reads item);
+      lines = rw add-one (more c.items.invariant.lines (rw c.offset-place.ensures.same at c.in_default.ensures.shown)
+          c.in_default-line_ended.ensures);
       moves_on = MovesOn-then g.R.Read _ _ _ c.items.invariant.moves_on
           (rw c.offset-place.ensures.same at c.diagnose.ensures.reads.moves_on);
     }
@@ -60,12 +63,12 @@ returns-in-Err-clause-writes g c =
     (sides new writer) =
     subst (λ x. ItemStops g.R.Read g.W.Write c.args.style (sides c.items.decoder c.items.writer) c.in-Err.error
     (sides x writer)) (sym c.offset.ensures.same) (rw c.offset-place.ensures.same at c.in-Err.ensures.shown) in
-    lines_end g.R.Read g.W.Write c.args.style c.items.invariant.count c.offset-place.result c.offset.result _ _ _
+    lines_end g.R.Read g.W.Write c.args.style c.args.most c.items.shown c.offset-place.result c.offset.result _ _ _
     c.in-Err.error c.ended.result c.items.invariant.lines stops c.ended.ensures
 
 pub returns-in-Err-line_ended-clause-writes : goal.returns-in-Err-line_ended-clause-writes
 returns-in-Err-line_ended-clause-writes g c =
-    at_end c.items.invariant.count _ _ _ c.items.invariant.lines
+    at_end c.items.shown _ _ _ c.items.invariant.lines
     (rw c.offset-place.ensures.same at c.in_default.ensures.shown) c.in-Err-line_ended.ensures refl
 
 -- ---- how the decoder is left
@@ -89,3 +92,12 @@ returns-in-Err-clause-failures g c =
 pub returns-in-Err-line_ended-clause-failures : goal.returns-in-Err-line_ended-clause-failures
 returns-in-Err-line_ended-clause-failures g c =
     (rw c.offset-place.ensures.same at c.in_default.ensures.reads.failures) ∙ c.items.invariant.reads.passed.failures
+
+pub overflow_add-shown : goal.overflow_add-shown
+overflow_add-shown g c =
+    let item : ReadsItem g.R.Read c.args.depth c.items.decoder c.diagnose.new.decoder =
+    rw c.offset-place.ensures.same at c.in_default.ensures.reads.reads in
+    let some = items_counted (strictness c.items.decoder) c.args.depth 1 item.item item.is_item in
+    let reads = c.items.invariant.reads in
+    let all = items_counted (strictness c.args.decoder.now) c.args.depth c.items.shown reads.bytes reads.are_items in
+    omega (arith, some, all, item.passed.offset, reads.passed.offset)

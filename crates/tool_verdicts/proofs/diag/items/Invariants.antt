@@ -1,15 +1,16 @@
-use Rattle.std.proofs.Common.{◌-◌, ◌^◌, ℕ}
+use Rattle.std.proofs.Common.{◌-◌, ◌^◌}
 use Rattle.ciborium_ll.specs.Decoding.{MovesOn}
 use Rattle.ciborium_ll.specs.Sides.{sides}
 use Rattle.cbor_dump.specs.Sequences.{ReadsItems}
+use Rattle.tool_verdicts.specs.Parts.{IsAtMost}
 use Rattle.tool_verdicts.specs.Showing.{ShowsLines}
 use Rattle.tool_verdicts.proofs.diag.items.Given as goal
 
 abbrev pub invariant-items : goal.invariant-items
 invariant-items g l = record {
-  count : ℕ;
-  reads : ReadsItems g.R.Read l.depth count l.fn.decoder l.decoder;
-  lines : ShowsLines g.R.Read g.W.Write l.fn.style count (sides l.fn.decoder l.fn.writer) (sides l.decoder l.writer);
+  few : IsAtMost l.most l.shown;
+  reads : ReadsItems g.R.Read l.depth l.shown l.fn.decoder l.decoder;
+  lines : ShowsLines g.R.Read g.W.Write l.fn.style l.shown (sides l.fn.decoder l.fn.writer) (sides l.decoder l.writer);
   moves_on : MovesOn g.R.Read l.fn.decoder l.decoder;
 }
 
