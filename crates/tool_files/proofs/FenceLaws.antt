@@ -1,5 +1,5 @@
 -- A reader that ends after a number of items, from one piece of the bytes to the next.
-use Rattle.std.proofs.Common.{◌≡◌, ℕ, ◌+◌, ◌≤◌, ◌^◌, ◌⊎◌, inl, inr, false, List, [], ◌++◌, length}
+use Rattle.std.proofs.Common.{◌≡◌, ℕ, ◌+◌, inl, inr, false, List, [], ◌++◌, length}
 use Rattle.std.proofs.Common.{refl, sym, ap, subst, ◌∙◌, arith, append_assoc, append-nil, length-append}
 use Rattle.ciborium_ll_grammar.specs.Items.{AreItems, IsItem, no_items}
 use Rattle.cbor_skip.proofs.ItemSteps.{items_item}
@@ -36,7 +36,7 @@ answer_fault p.Ended spot fault is = absurd cc
 module _ {R : Type 0} (items : ℕ) where
   -- No byte was handed out.
   pub fence_first : (f : Fence R) → IsFed false f.depth [] (spot_of f.checker) → f.left ≡ items → IsFenced items [] f
-  fence_first f fresh all = within 0 [] [] [] no_items fresh refl (inl refl) (omega (arith, all))
+  fence_first f anew all = within 0 [] [] [] no_items anew refl (inl refl) (omega (arith, all))
 
   -- The reader within has no part in it.
   pub fence_same : (given : List ℕ) (old new : Fence R) → new.depth ≡ old.depth → new.checker ≡ old.checker
@@ -76,22 +76,22 @@ module _ {R : Type 0} (items : ℕ) where
     pub fence_ended : (len : ℕ) → progress ≡ c.Ended len → c.Ended len ≡ progress_of spot
         → IsFed false old.depth [] (spot_of new.checker) → old.left ≡ new.left + 1 → IsFenced items given old
         → IsFenced items (given ++ taken) new
-    fence_ended len is answers fresh less (within count before part rest are is_fed at (inl none) counted) =
+    fence_ended len is answers anew less (within count before part rest are is_fed at (inl none) counted) =
         let item : IsItem false old.depth (part ++ taken) =
         (subst (λ (z : Progress). Tells false old.depth (part ++ taken) z) is (tells part is_fed)).0 in
         within (count + 1) (before ++ (part ++ taken)) [] []
         (subst (λ (n : ℕ). AreItems false n (count + 1) (before ++ (part ++ taken))) (sym deep)
         (subst (λ (n : ℕ). AreItems false old.depth n (before ++ (part ++ taken))) (omega arith)
         (items_item false old.depth count before (part ++ taken) are item)))
-        (subst (λ (n : ℕ). IsFed false n [] (spot_of new.checker)) (sym deep) fresh)
+        (subst (λ (n : ℕ). IsFed false n [] (spot_of new.checker)) (sym deep) anew)
         (ap (λ (z : List ℕ). z ++ taken) (at ∙ ap (λ (z : List ℕ). before ++ (part ++ z)) none)
         ∙ ap (λ (z : List ℕ). (before ++ z) ++ taken) (append-nil part) ∙ append_assoc before part taken
         ∙ sym (append-nil (before ++ (part ++ taken))))
         (inl refl) (omega (arith, counted, less))
-    fence_ended len is answers fresh less (within count before part rest are is_fed at (inr stuck) counted) =
+    fence_ended len is answers anew less (within count before part rest are is_fed at (inr stuck) counted) =
         let fault = still stuck in absurd cc
-    fence_ended len is answers fresh less (fenced before rest are at zero) = absurd (omega (arith, less, zero))
-    fence_ended len is answers fresh less (lost many zero) = absurd (omega (arith, less, zero))
+    fence_ended len is answers anew less (fenced before rest are at zero) = absurd (omega (arith, less, zero))
+    fence_ended len is answers anew less (lost many zero) = absurd (omega (arith, less, zero))
 
     -- More bytes of the item are due, and all were taken.
     pub fence_more : (due : ℕ) → progress ≡ c.More due → c.More due ≡ progress_of spot → spot ≡ spot_of new.checker

@@ -1,6 +1,6 @@
 -- The meaning of a check's verdict for an input whose bytes are told.
 use Rattle.std.proofs.Common.{◌≡◌, ℕ, Bool, true, false, List, ◌++◌, length, Option, None, Some, Result, Ok, Err}
-use Rattle.std.proofs.Common.{IfSome, append_assoc, ap, arith, inl, inr, refl, subst, sym, ◌∙◌}
+use Rattle.std.proofs.Common.{IfSome, append_assoc, ap, arith, inl, inr, refl, sym, ◌∙◌}
 use Rattle.std.specs.Io.KnownBytes.{Consumes}
 use Rattle.ciborium_ll.specs.Types.BufferedReader.{BufferedReader}
 use Rattle.ciborium_ll.specs.Types.Decoder.{Decoder}
@@ -20,7 +20,7 @@ use Rattle.cbor_dump.specs.Sequences.{ChecksItems, ReadsItems}
 use Rattle.cbor_dump.specs.Singles.{ChecksOne}
 use Rattle.tool_verdicts.specs.Checking.{fault_said, sequence_said, single_said}
 use Rattle.tool_verdicts.specs.Checking.{unless_failed}
-use Rattle.tool_verdicts.specs.Parts.{EndsSome, IsAtMost, IsBelow, PassesOver, SaysPart, SaysRest, SaysSome, enough}
+use Rattle.tool_verdicts.specs.Parts.{EndsSome, IsAtMost, IsBelow, PassesOver, SaysPart, SaysRest, enough}
 use Rattle.tool_verdicts.specs.Parts.{few, rest, stops}
 use Rattle.tool_verdicts.specs.declared.verdict.Verdict.{Verdict}
 use Rattle.tool_verdicts.specs.declared.verdict.Verdict.TheVariants as v

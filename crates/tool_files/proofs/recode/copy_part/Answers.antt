@@ -1,5 +1,5 @@
-use Rattle.std.proofs.Common.{rules, ◌≡◌, ℕ, Some, length, false, arith, ◌∙◌}
-use Rattle.tool_files.specs.Patience.{patient_ahead, rest_ahead}
+use Rattle.std.proofs.Common.{rules, ◌≡◌, Some, length, false, arith, ◌∙◌}
+use Rattle.tool_files.specs.Patience.{rest_ahead}
 use Rattle.tool_files.specs.Recodes.{copies_none, copies_rest}
 use Rattle.tool_files.proofs.PartLaws.{bytes_then, few_bytes, few_items, items_then}
 use Rattle.tool_files.proofs.recode.copy_part.Goals as goal
