@@ -291,18 +291,18 @@ fn offsets_of_dumps(rt: HostRuntime) {
 static SHORTENED: &str = "\
 = 82 5824 000102030405060708090a0b0c0d0e0f101112131415161718191a1b1c1d1e1f20212223 4101
 82                                  # array 2
-   58 24                            #   bytes 36
+   58 24                            # [0] bytes 36
       00 01 02 03 04 05 06 07 08 09 0a 0b 0c 0d 0e 0f
       # ... 20 more bytes
-   41                               #   bytes 1
+   41                               # [1] bytes 1
       01
 = 6e 6161616161616161616161616161
 6e                                  # text 14
-   61 61 61 61 61 61 61 61 61 61 61 61 61 #   \"aaaaaaaaaaaaa\"
-   # ... 1 more byte
+   61 61 61 61 61 61 61 61          # \"aaaaaaaa\"
+   # ... 6 more bytes
 = 5f 5812 000102030405060708090a0b0c0d0e0f1011 ff 1c
 5f                                  # bytes *
-   58 12                            #   bytes 18
+   58 12                            # bytes 18
       00 01 02 03 04 05 06 07 08 09 0a 0b 0c 0d 0e 0f
       # ... 2 more bytes
 ff                                  # break
@@ -314,7 +314,7 @@ ff                                  # break
 static BODILESS: &str = "\
 = 81 420102
      0: 81                                  # array 1
-     1:    42                               #   bytes 2
+     1:    42                               # [0] bytes 2
               # ... 2 more bytes
 ";
 
