@@ -276,7 +276,8 @@ pub extern "C" fn cll_canonical(
     report: &mut CllReport,
 ) -> u32
     ensures rewritten { (keys : AnyOrder) → depth ≤ MOST_LEVELS → order ≡ order_code keys
-        → (answer : CllAnswer) × (result ≡ code answer) × Rewrites keys depth bytes.now answer out.new report.new }
+        → (answer : CllAnswer) × (result ≡ code answer)
+        × Rewrites keys depth bytes.now (length spans.old) answer out.new report.new }
     ensures argument { (MOST_LEVELS < depth) ⊎ IsNoOrder order
         → (result ≡ code a.Argument) × Reports report.new 0 0 0 × (out.new ≡ out.old) }
 {
