@@ -6,6 +6,7 @@ use Rattle.ciborium_ll_grammar.specs.declared.hdr.Float.{Float}
 use Rattle.cbor_deterministic.specs.declared.Order.{Order}
 use Rattle.std.proofs.Common.{Some, ◌≡◌, ℕ, zero, suc, ◌-◌, ◌<◌, ◌≤◌, ◌⊎◌, inl, inr, List, [], ◌++◌, length, take}
 use Rattle.std.proofs.Common.{refl, sym, ◌∙◌, ap, subst, append_assoc, arith, Bor, Result, Ok, Err, MatchResult}
+use Rattle.std.proofs.Common.{◌+◌, drop, take-append-drop}
 use Rattle.cbor_deterministic.specs.declared.Why.{Why}
 use Rattle.cbor_deterministic.specs.declared.Stop.{Stop}
 use Rattle.cbor_deterministic.specs.Preferred.{IsPreferredTitle}
@@ -150,6 +151,24 @@ module _ (ord : Order) where
         there = λ more g. m.there more (items_there e k rest behind more f g);
         stops = λ why left s. m.stops why left (items_behind e k rest behind why left f s);
       }
+
+  run_leads : (e n k m : ℕ) (bytes rest front behind : List ℕ) → ItemsLead ord e n bytes (m + k) rest
+      → AreDeterministic ord e m front → rest ≡ front ++ behind → ItemsLead ord e n bytes k behind
+  run_leads e n k m bytes rest front behind l no_items z =
+      let none : 0 + k ≡ k = omega arith in
+      subst (λ (w : List ℕ). ItemsLead ord e n bytes k w) z (rw none at l)
+  run_leads e n k m bytes rest front behind l (more_items {count = j} {first = f} {others = o} i is) z =
+      let more = items_more e n (suc j + k) (j + k) bytes rest (o ++ behind) l (omega arith)
+      (record { front = f; is = i; whole = z ∙ append_assoc f o behind }) in
+      run_leads e n k j bytes (o ++ behind) o behind more is refl
+
+  -- Items in a row that are done at once.
+  pub items_run : (e n d k len : ℕ) (bytes rest : List ℕ) → ItemsLead ord e n bytes d rest → k ≤ d
+      → AreDeterministic ord e (d - k) (take len rest) → ItemsLead ord e n bytes k (drop len rest)
+  items_run e n d k len bytes rest l less is =
+      let all : d ≡ (d - k) + k = omega (arith, less) in
+      run_leads e n k (d - k) bytes rest (take len rest) (drop len rest) (rw all at l) is
+      (sym (take-append-drop len rest))
 
 -- ---- a number of pairs
 

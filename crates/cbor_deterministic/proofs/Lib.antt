@@ -4,6 +4,7 @@ pub mod ItemLaws
 pub mod NoneLaws
 pub mod OrderLaws
 pub mod TitleRuns
+pub mod FlatLaws
 pub mod ItemRuns
 pub mod OneFault
 pub mod Exact

@@ -1,5 +1,6 @@
 pub mod Deterministic
 pub mod Fitting
+pub mod Flat
 pub mod Floats
 pub mod Fronts
 pub mod Held

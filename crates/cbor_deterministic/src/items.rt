@@ -10,10 +10,10 @@ ghost use Rattle.cbor_deterministic.specs.Preferred.{IsIndefinite};
 ghost use Rattle.cbor_deterministic.specs.Refusals.{FailsItem, FailsWithin, FailsItems, FailsPairs, FailsOrder};
 ghost use Rattle.cbor_deterministic.specs.Fronts.{InFront, IsOfLength, IsTextOfLength};
 
+use crate::flat::{flat_len, flat_run, is_text};
 use crate::title::next_title;
 use crate::{Order, Stop, Why};
 use ciborium_ll_grammar::hdr::Header;
-use ciborium_ll_text::state::{State, text_front};
 use std::cmp::Ordering;
 
 /// Returns the rest after a body of `len` bytes.
@@ -29,13 +29,6 @@ fn skip_body(bytes: &[u8], len: usize) -> Result<&[u8], Stop>
             left: 0,
         }),
     }
-}
-
-/// Returns whether the bytes are UTF-8.
-fn is_text(bytes: &[u8]) -> bool
-    ensures { IsTrue result ↔ IsCharacters bytes.now }
-{
-    text_front(bytes, 0, State::Between).0.len() == bytes.len()
 }
 
 /// Returns the rest after a text of `len` bytes. Its title begins `left` bytes before the end.
@@ -94,7 +87,21 @@ fn check_order(order: Order, above: &[u8], key: &[u8]) -> Option<Why>
 
 /// Returns the rest after one item, with tags, arrays and maps nested at most `depth` levels deep.
 #[cycle(nests)]
+#[inline(always)]
 pub(crate) fn skip_item(bytes: &[u8], depth: usize, order: Order) -> Result<&[u8], Stop>
+    ensures { MatchResult result (λ rest. InFront (IsDeterministic order depth) bytes.now rest.now)
+        (λ stop. FailsItem order depth bytes.now stop.why stop.left) }
+{
+    let len = flat_len(bytes);
+    if len > 0 {
+        return Ok(&bytes[len..]);
+    }
+    skip_titled(bytes, depth, order)
+}
+
+/// Does what [`skip_item`] does, by the title at the start.
+#[cycle(nests)]
+fn skip_titled(bytes: &[u8], depth: usize, order: Order) -> Result<&[u8], Stop>
     ensures { MatchResult result (λ rest. InFront (IsDeterministic order depth) bytes.now rest.now)
         (λ stop. FailsItem order depth bytes.now stop.why stop.left) }
 {
@@ -150,8 +157,12 @@ fn skip_items(bytes: &[u8], count: usize, depth: usize, order: Order) -> Result<
     let mut rest = bytes;
     let mut due = count;
     'items: while due > 0 {
-        rest = skip_item(rest, depth, order)?;
-        due -= 1;
+        let run = flat_run(rest, due);
+        if run.left == 0 {
+            return Ok(&rest[run.len..]);
+        }
+        rest = skip_titled(&rest[run.len..], depth, order)?;
+        due = run.left - 1;
     }
     Ok(rest)
 }

@@ -10,6 +10,7 @@ ghost use Rattle.cbor_deterministic.specs.Deterministic.{HasDeterministic};
 ghost use Rattle.cbor_deterministic.specs.Refusals.{HasRefusal};
 ghost use Rattle.cbor_deterministic.specs.declared.Why.{Why as AnyWhy};
 
+mod flat;
 pub mod floats;
 mod items;
 pub mod laws;

@@ -18,7 +18,7 @@ unreachable-requires-in_default-next_item c =
 pub returns : goal.returns
 returns c =
     λ value q. none_left c.args.depth c.pairs.due c.pairs.rest.now c.args.key.now value c.pairs.invariant.are
-    (omega (arith, c.pairs-test.false)) (c.pairs.invariant.back value q)
+    (omega arith) (c.pairs.invariant.back value q)
 
 pub pairs-preserved : goal.pairs-preserved
 pairs-preserved c =
