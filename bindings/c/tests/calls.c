@@ -579,8 +579,8 @@ static int fits_exactly(const uint8_t *data, size_t len, uint32_t order, const u
 /*
  * Writes items of RFC 8949, Appendix A, with other spellings of them, and maps with the keys of 4.2.1 and 4.2.3. The
  * encodings follow from 4.2.1, and stand there a second time for the order of 4.2.3 if that is another one. The number
- * is that of the spans: the pairs of a map whose keys ascend, or else half of the bytes of its pairs, rounded up. Of
- * several maps the greatest number counts.
+ * is that of the spans: none if the item is in the encoding already, the pairs of a map whose keys ascend, or else half
+ * of the bytes of its pairs, rounded up. Of several maps the greatest number counts.
  */
 static int writes_canonical(void)
 {
@@ -610,10 +610,11 @@ static int writes_canonical(void)
         {"bf6346756ef563416d7421ff", "a263416d74216346756ef5", NULL, 5, 0},
         {"bff4006261610020008118640019000a00812000617a00186400ff", "a80a001864002000617a006261610081186400812000f400",
             "a80a002000f400186400617a008120006261610081186400", 12, 12},
-        {"a101a2200019010000", "a101a2190100002000", "a101a2200019010000", 3, 2},
+        {"a101a2200019010000", "a101a2190100002000", "a101a2200019010000", 3, 0},
         {"a2a20200010000a1010000", "a2a1010000a20100020000", NULL, 5, 0},
         {"a4fa3f80000000f9800000f90000000100", "a40100f9000000f93c0000f9800000", NULL, 7, 0},
-        {"82a201000200a1626161f4", "82a201000200a1626161f4", NULL, 2, 0},
+        {"82a201000200a1626161f4", "82a201000200a1626161f4", NULL, 0, 0},
+        {"82a201000200a1626161190001", "82a201000200a162616101", NULL, 2, 0},
     };
     uint8_t data[64], want[64];
     for (size_t i = 0; i < sizeof rows / sizeof *rows; i++) {

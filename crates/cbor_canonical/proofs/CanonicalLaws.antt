@@ -150,6 +150,16 @@ item_written ord d item rest start written e i t =
     (subst (λ (z : List ℕ). IsRewritten ord d t.front z)
     (sym (t.wrote ∙ ap (λ (z : List ℕ). z ++ t.written) e)) t.is)
 
+-- An item that is rewritten at the start of the output begins the bytes.
+pub first_written : (ord : Order) (d : ℕ) (bytes rest start written : List ℕ) → start ≡ []
+    → Turns (IsRewritten ord d) bytes rest start written → IsCanonical ord d bytes rest written
+first_written ord d bytes rest start written e t = record {
+  item = t.front;
+  whole = t.whole;
+  is = subst (λ (z : List ℕ). IsRewritten ord d t.front z)
+      (sym (t.wrote ∙ ap (λ (z : List ℕ). z ++ t.written) e)) t.is;
+}
+
 -- What is refused of an item is refused of the bytes that it begins.
 pub unwritten_more : (d : ℕ) (bytes item rest : List ℕ) (error : CanonicalError) → IsItem false d item
     → bytes ≡ item ++ rest → IsUnwritten d item error → IsUnwritten d bytes error

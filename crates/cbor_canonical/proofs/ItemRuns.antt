@@ -125,7 +125,7 @@ module _ {ord : Order} (d : ℕ) (y : Header) (bytes old new : List ℕ) where
       range (inl l) r = inl l
       range (inr l) r = inr (l, r)
 
-float_fits : (x : AnyFloat) (bits : ℕ) → IsFloatOf x bits → bits < 2 ^ 64
+pub float_fits : (x : AnyFloat) (bits : ℕ) → IsFloatOf x bits → bits < 2 ^ 64
 float_fits x bits (double_of l) = l
 float_fits x bits (single_of l i) = l
 float_fits x bits (half_of b l i m j) = m

@@ -19,3 +19,5 @@ pub mod SpelledLaws
 pub mod RoomRuns
 pub mod RoomStrings
 pub mod RoomPairs
+pub mod KeptLaws
+pub mod AsideRuns

@@ -70,7 +70,7 @@ joined_front out n ss =
 -- ---- pairs that are moved
 
 -- A pair between the offsets has as many bytes as its place says.
-entry_there : (out : List ℕ) (at end : ℕ) (s : Span) → IsWithin at end s → end ≤ length out
+pub entry_there : (out : List ℕ) (at end : ℕ) (s : Span) → IsWithin at end s → end ≤ length out
     → length (key_at out s ++ value_at out s) ≡ s.end - s.start
 entry_there out at end s w l =
     ap (length {A = ℕ}) (parts_meet s.start s.key_end s.end out w.1 w.2)

@@ -12,7 +12,9 @@ ghost use Rattle.cbor_canonical.specs.Canonical.{IsCanonical, IsRewritten};
 ghost use Rattle.cbor_canonical.specs.Refusals.{HasWhy, IsUnwritten};
 ghost use Rattle.cbor_canonical.specs.Room.{IsTooSmall, LacksMemory};
 
+mod aside;
 mod check;
+mod kept;
 pub mod laws;
 pub mod narrow;
 mod pairs;
@@ -22,9 +24,10 @@ mod title;
 mod walk;
 
 use crate::check::split_item;
+use crate::kept::copy_item;
 pub use crate::pairs::Span;
 use crate::rewrite::rewrite_item;
-use cbor_deterministic::{MAX_DEPTH, Order};
+use cbor_deterministic::{MAX_DEPTH, Order, deterministic_len};
 use std::alloc::{AllocError, Global};
 
 /// An encoding has at most one byte more for this many bytes of its item.
@@ -128,9 +131,10 @@ impl From<Refusal> for CanonicalError {
 /// # Time and memory
 ///
 /// For an item of `n` bytes, `n + n / 256` bytes of `out` and half as many spans are enough. The contents of `spans` are
-/// unknown after the call. The call reads the bytes twice. It sorts the pairs of a map whose keys do not ascend, in
-/// `n * log n` comparisons of keys. It moves a byte once for each such map, and each map or array of indefinite length,
-/// that contains the byte. On the stack each level takes the frames of six calls.
+/// unknown after the call. The call copies an item that is in the encoding already. It reads the bytes at most twice, or
+/// four times before an error. It sorts the pairs of a map whose keys do not ascend, in `n * log n` comparisons of keys.
+/// It moves a byte at most twice for each such map, and once for each map or array of indefinite length, that contains
+/// the byte. On the stack each level takes the frames of six calls.
 pub fn canonical_into<'a>(
     bytes: &'a [u8],
     depth: usize,
@@ -144,6 +148,13 @@ pub fn canonical_into<'a>(
     ensures within { IfOk result (λ found. found.0 ≤ length out.new) }
     ensures room { result ≡ Err NoMemory → LacksMemory depth bytes.now (length out.old) (length spans.old) }
 {
+    if let Some(len) = copy_item(bytes, depth, order, out) {
+        return Ok((len, &bytes[len..]));
+    }
+    if let Ok((rest, end)) = rewrite_item(bytes, depth, order, out, 0, spans) {
+        return Ok((end, rest));
+    }
+    // The item alone says why it is not rewritten.
     let (item, rest) = split_item(bytes, depth)?;
     let end = rewrite_checked(item, depth, order, out, spans)?;
     Ok((end, rest))
@@ -182,7 +193,8 @@ fn rewrite_checked(
 ///
 /// # Time and memory
 ///
-/// The call takes `n + n / 256` bytes and half as many spans for an item of `n` bytes, and gives the spans back.
+/// The call takes `n + n / 256` bytes and half as many spans for an item of `n` bytes, and gives the spans back. An item
+/// that is in the encoding already needs no spans.
 pub fn canonical(
     alloc: Global,
     bytes: &[u8],
@@ -193,6 +205,11 @@ pub fn canonical(
     ensures { MatchResult result (λ found. IsCanonical order depth bytes.now found.1.now found.0.items)
         (IsUnwritten depth bytes.now) }
 {
+    if let Ok(len) = deterministic_len(bytes, depth, order) {
+        let mut copy = Vec::new(alloc);
+        copy.extend_from_slice(&bytes[..len])?;
+        return Ok((copy, &bytes[len..]));
+    }
     let (item, rest) = split_item(bytes, depth)?;
     let room = item.len() + item.len() / BYTES_PER_SPARE;
     let mut out = Vec::new(alloc);

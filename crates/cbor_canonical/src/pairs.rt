@@ -15,6 +15,7 @@ ghost use Rattle.cbor_deterministic.specs.declared.TheConstants.{MAX_DEPTH};
 ghost use Rattle.ciborium_ll_grammar.specs.Items.{AreItems};
 
 use crate::Stop;
+use crate::aside::move_aside;
 use crate::walk::left_after;
 use cbor_deterministic::{Order, compare_keys};
 use std::cmp::Ordering;
@@ -44,7 +45,7 @@ pub(crate) fn put_span(spans: &mut [Span], done: usize, span: Span) -> Result<()
 }
 
 /// Returns the bytes of the output from an offset to another. Both are taken as the end if they are beyond it.
-fn part(out: &[u8], start: usize, end: usize) -> &[u8]
+pub(crate) fn part(out: &[u8], start: usize, end: usize) -> &[u8]
     ensures { result.now ≡ take (end - start) (drop start out.now) }
 {
     let rest = &out[start.min(out.len())..];
@@ -176,6 +177,9 @@ fn move_pairs(
         → at + length (joined_pairs (entries_at out.old (take done spans.old))) ≤ end
         → 2 * length spans.old < end - at) }
 {
+    if end - at <= out.len() - end {
+        return move_aside(out, at, end, spans, done);
+    }
     save_bytes(&out[at..end], spans)?;
     let mut place = at;
     let mut next = 0;
@@ -223,7 +227,9 @@ fn later_left(bytes: &[u8], depth: usize, spans: &[Span], index: usize) -> usize
 }
 
 /// Puts the pairs that stand from `at` to `end` of the output in the order of their keys. Their places are the first
-/// `done` ones, and `bytes` is the content of the map. Returns the offset after the pairs.
+/// `done` ones, and `bytes` is the content of the map. Returns the offset after the pairs. It stays a function of its own,
+/// so that the calls for nests need less of the stack.
+#[inline(never)]
 pub(crate) fn order_pairs(
     bytes: &[u8],
     depth: usize,

@@ -11,10 +11,11 @@ ghost use Rattle.ciborium_ll_grammar.specs.Title.{IsTitle};
 ghost use Rattle.ciborium_ll_grammar.specs.declared.hdr.Header.TheVariants.{Array as ArrayOf, Map as MapOf};
 
 use crate::Stop;
+use crate::kept::flat_len;
 use crate::narrow::narrowest;
 use crate::pairs::{Span, order_pairs, put_span};
 use crate::strings::{StringKind, rewrite_string};
-use crate::title::{insert_title, next_title, put_title};
+use crate::title::{insert_title, next_title, put_bytes, put_title};
 use cbor_deterministic::Order;
 use ciborium_ll_grammar::hdr::Header;
 
@@ -46,7 +47,32 @@ fn limit_of(count: Option<usize>, bytes: &[u8]) -> usize
 /// Rewrites the item at the beginning of the bytes to this offset of the output. Returns the rest, and the offset after
 /// what it wrote.
 #[cycle(rewrites)]
+#[inline(always)]
 pub(crate) fn rewrite_item<'a>(
+    bytes: &'a [u8],
+    depth: usize,
+    order: Order,
+    out: &mut [u8],
+    at: usize,
+    spans: &mut [Span],
+) -> Result<(&'a [u8], usize), Stop>
+    requires { at ≤ length out.old }
+    ensures written { MatchResult result
+        (λ found. Extends (Turns (IsRewritten order depth) bytes.now found.0.now) at found.1 out.old out.new)
+        (FailsItem depth bytes.now) }
+    ensures room { MatchResult result (λ found. Grows 1 (length bytes.now) (length found.0.now) at found.1)
+        (LacksRoom (length bytes.now) at (length out.old) (length bytes.now) (length spans.old)) }
+{
+    if let Some(len) = flat_len(bytes, order) {
+        let end = put_bytes(&bytes[..len], out, at)?;
+        return Ok((&bytes[len..], end));
+    }
+    rewrite_titled(bytes, depth, order, out, at, spans)
+}
+
+/// Does what [`rewrite_item`] does, by the title at the beginning.
+#[cycle(rewrites)]
+fn rewrite_titled<'a>(
     bytes: &'a [u8],
     depth: usize,
     order: Order,

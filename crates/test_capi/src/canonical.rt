@@ -78,11 +78,23 @@ const LENGTH_FIRST: &[u8] = &[
     0x62, 0x61, 0x61, 0x00, 0x81, 0x18, 0x64, 0x00,
 ];
 
-// The pairs of KEYS take 23 bytes of the encoding, so 12 spans are enough.
-static WRITTEN: [Row; 13] = [
+// The keys ascend, and the second value has a longer title than it needs.
+const WIDE: &[u8] = &[0xa2, 0x01, 0x00, 0x02, 0x18, 0x00];
+
+// The pairs of KEYS take 23 bytes of the encoding, so 12 spans are enough. An item in the encoding takes no span, and
+// WIDE takes one for each of its pairs.
+static WRITTEN: [Row; 14] = [
     (KEYS, (2, 0), (24, 12), CllAnswer::Ok, (27, 0), BYTEWISE),
     (KEYS, (2, 1), (24, 12), CllAnswer::Ok, (27, 0), LENGTH_FIRST),
-    (BYTEWISE, (2, 0), (24, 8), CllAnswer::Ok, (24, 0), BYTEWISE),
+    (BYTEWISE, (2, 0), (24, 0), CllAnswer::Ok, (24, 0), BYTEWISE),
+    (
+        WIDE,
+        (1, 0),
+        (6, 2),
+        CllAnswer::Ok,
+        (6, 0),
+        &[0xa2, 0x01, 0x00, 0x02, 0x00],
+    ),
     (
         BYTEWISE,
         (256, 1),
@@ -178,7 +190,7 @@ static WRITTEN: [Row; 13] = [
 static REFUSED: [Row; 24] = [
     (KEYS, (2, 0), (23, 12), CllAnswer::Room, (0, 0), &[]),
     (KEYS, (2, 1), (24, 11), CllAnswer::Room, (0, 0), &[]),
-    (BYTEWISE, (2, 0), (24, 7), CllAnswer::Room, (0, 0), &[]),
+    (WIDE, (1, 0), (6, 1), CllAnswer::Room, (0, 0), &[]),
     (&[0x05], (0, 0), (0, 0), CllAnswer::Room, (0, 0), &[]),
     // The key [100] is a level deeper than the map.
     (KEYS, (1, 0), ALL, CllAnswer::TooDeep, (9, 9), &[]),

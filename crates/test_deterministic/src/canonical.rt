@@ -237,22 +237,20 @@ fn growing_items(rt: HostRuntime) {
     );
 }
 
-// Whether the places are too few.
-fn is_short(bytes: &[u8], spans: &mut [Span]) -> bool {
-    let mut out = [0; MOST];
-    match canonical_into(bytes, DEPTH, Order::Bytewise, &mut out, spans) {
+// Whether the memory or the places are too few.
+fn is_short(bytes: &[u8], out: &mut [u8], spans: &mut [Span]) -> bool {
+    match canonical_into(bytes, DEPTH, Order::Bytewise, out, spans) {
         Ok(_written) => false,
         Err(error) => error == CanonicalError::Memory,
     }
 }
 
-// A map takes a place for each pair, and a place for two bytes of its pairs if these are moved.
+// An item that is in the encoding already takes no place. In any other one a map takes a place for each pair.
 #[test]
 fn places_of_pairs(rt: HostRuntime) {
     let mut out = [0; MOST];
     let mut none = [NO_SPAN; 0];
     let mut one = [NO_SPAN; 1];
-    let mut two = [NO_SPAN; 2];
     let order = Order::Bytewise;
     let array = [0x82, 0x01, 0x40];
     holds(
@@ -263,19 +261,34 @@ fn places_of_pairs(rt: HostRuntime) {
     let sorted = [0xa2, 0x01, 0x00, 0x02, 0x00];
     holds(
         &rt,
-        is_lent(&sorted, order, &sorted, &mut out, &mut two),
-        "two pairs",
+        is_lent(&sorted, order, &sorted, &mut out, &mut none),
+        "no place",
     );
-    holds(&rt, is_short(&sorted, &mut one), "one place");
     let other = [0xa2, 0x02, 0x00, 0x01, 0x00];
-    holds(
-        &rt,
-        is_lent(&other, order, &sorted, &mut out, &mut two),
-        "four bytes",
-    );
-    // {"bb": 0, "a": 0} has 7 bytes of pairs.
+    holds(&rt, is_short(&other, &mut out, &mut one), "one place");
+}
+
+// If the pairs of a map are moved, the map also takes a place for two bytes of them, unless as many bytes of memory
+// follow the pairs. {2: 0, 1: 0} has 4 bytes of pairs, and {"bb": 0, "a": 0} has 7.
+#[test]
+fn bytes_of_pairs(rt: HostRuntime) {
+    let (mut out, mut fewer, mut more) = ([0; 5], [0; 14], [0; 15]);
+    let mut two = [NO_SPAN; 2];
+    let mut three = [NO_SPAN; 3];
+    let mut four = [NO_SPAN; 4];
+    let order = Order::Bytewise;
+    let other = [0xa2, 0x02, 0x00, 0x01, 0x00];
+    let sorted = [0xa2, 0x01, 0x00, 0x02, 0x00];
+    let is_sorted = is_lent(&other, order, &sorted, &mut out, &mut two);
+    holds(&rt, is_sorted, "four bytes");
     let text = [0xa2, 0x62, 0x62, 0x62, 0x00, 0x61, 0x61, 0x00];
-    holds(&rt, is_short(&text, &mut two), "seven bytes");
+    let moved = [0xa2, 0x61, 0x61, 0x00, 0x62, 0x62, 0x62, 0x00];
+    let is_few = is_short(&text, &mut fewer, &mut three);
+    holds(&rt, is_few, "seven bytes");
+    let is_enough = is_lent(&text, order, &moved, &mut fewer, &mut four);
+    holds(&rt, is_enough, "four places");
+    let is_after = is_lent(&text, order, &moved, &mut more, &mut two);
+    holds(&rt, is_after, "seven bytes after the pairs");
 }
 
 // Whether the bytes are refused for this reason at this offset.

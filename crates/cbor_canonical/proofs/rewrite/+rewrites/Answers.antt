@@ -1,6 +1,7 @@
 use Rattle.std.proofs.Common.{arith, length, refl, rules, take, ◌*◌, ◌+◌, ◌-◌, ◌∙◌, ap, inl, inr, Some}
 use Rattle.ciborium_ll_grammar.specs.declared.hdr.Header.TheVariants as h
 use Rattle.ciborium_ll_grammar.specs.Title.{Array, Map, title_len}
+use Rattle.std.proofs.lemmas.List.{take_rest}
 use Rattle.std.proofs.lemmas.Result.{err_from_is_err_and, MatchResult-weaker}
 use Rattle.ciborium_ll_grammar.specs.Strings.{Bytes as OfBytes, Text as OfText}
 use Rattle.cbor_canonical.specs.declared.Stop.TheVariants.{Malformed}
@@ -17,6 +18,7 @@ use Rattle.cbor_canonical.proofs.MapRuns.{map_told, map_open, pairs_placed, pair
 use Rattle.cbor_canonical.proofs.RoomPairs.{order_reach}
 use Rattle.cbor_canonical.proofs.RoomRuns.{grows_none, grows_more, grows_pair, grows_alone, grows_titled, grows_opened}
 use Rattle.cbor_canonical.proofs.RoomRuns.{lacks_title, lacks_alone, lacks_titled, lacks_opened, lacks_order, title_grows}
+use Rattle.cbor_canonical.proofs.KeptLaws.{flat_grows, flat_turned}
 use Rattle.cbor_canonical.proofs.WriteRuns.{adds_reach}
 use Rattle.cbor_canonical.proofs.rewrite.+rewrites.Goals as goal
 use Rattle.cbor_canonical.proofs.rewrite.+rewrites.Goals.{rewrite_rest-in-Tag+else-depth-gt0}
@@ -27,11 +29,26 @@ use Rattle.cbor_canonical.proofs.rewrite.+rewrites.Goals.{rewrite_rest-else-numb
 
 -- ---- one item
 
-pub rewrite_item-returns-in-None-clause-written : goal.rewrite_item-returns-in-None-clause-written
-rewrite_item-returns-in-None-clause-written t c = no_title_stops c.args.depth c.args.bytes.now c.in-None.ensures
-
 pub rewrite_item-returns-in-Some-clause-written : goal.rewrite_item-returns-in-Some-clause-written
 rewrite_item-returns-in-Some-clause-written t c =
+    let w = c.in_ok-end.ensures.written in
+    rw take_rest (record {
+      is = flat_turned c.args.order c.args.depth c.in-Some.len c.args.bytes.now (take c.args.at c.args.out.now)
+          (take c.in_ok-end.end c.put_bytes.new.out) c.in-Some.ensures w.is;
+      from = w.from;
+      within = w.within;
+    })
+
+pub rewrite_item-returns-in-Some-clause-room : goal.rewrite_item-returns-in-Some-clause-room
+rewrite_item-returns-in-Some-clause-room t c =
+    rw take_rest (flat_grows c.args.order c.args.depth c.in-Some.len c.args.bytes.now c.args.at c.in_ok-end.end
+    c.in-Some.ensures (adds_reach _ c.args.at _ c.args.out.now _ c.requires c.in_ok-end.ensures.written))
+
+pub rewrite_titled-returns-in-None-clause-written : goal.rewrite_titled-returns-in-None-clause-written
+rewrite_titled-returns-in-None-clause-written t c = no_title_stops c.args.depth c.args.bytes.now c.in-None.ensures
+
+pub rewrite_titled-returns-in-Some-clause-written : goal.rewrite_titled-returns-in-Some-clause-written
+rewrite_titled-returns-in-Some-clause-written t c =
     MatchResult-weaker c.rewrite_rest.result c.rewrite_rest.ensures.written
     (λ found g. record {
       is = item_turned c.args.depth c.in-Some.header c.args.bytes.now c.in-Some.rest.now found.0.now

@@ -7,28 +7,31 @@ use Rattle.cbor_canonical.proofs.rewrite.+rewrites.Given as goal
 
 -- The contents of a nest are a level deeper.
 abbrev pub decreases-rewrite_rest : goal.decreases-rewrite_rest
-decreases-rewrite_rest l = 7 * l.depth
+decreases-rewrite_rest l = 8 * l.depth
+
+abbrev pub decreases-rewrite_titled : goal.decreases-rewrite_titled
+decreases-rewrite_titled l = 8 * l.depth + 1
 
 abbrev pub decreases-rewrite_item : goal.decreases-rewrite_item
-decreases-rewrite_item l = 7 * l.depth + 1
+decreases-rewrite_item l = 8 * l.depth + 2
 
 abbrev pub decreases-rewrite_pair : goal.decreases-rewrite_pair
-decreases-rewrite_pair l = 7 * l.depth + 2
+decreases-rewrite_pair l = 8 * l.depth + 3
 
 abbrev pub decreases-rewrite_items : goal.decreases-rewrite_items
-decreases-rewrite_items l = 7 * l.depth + 3
+decreases-rewrite_items l = 8 * l.depth + 4
 
 abbrev pub decreases-rewrite_pairs : goal.decreases-rewrite_pairs
-decreases-rewrite_pairs l = 7 * l.depth + 3
+decreases-rewrite_pairs l = 8 * l.depth + 4
 
 abbrev pub decreases-rewrite_sorted : goal.decreases-rewrite_sorted
-decreases-rewrite_sorted l = 7 * l.depth + 4
+decreases-rewrite_sorted l = 8 * l.depth + 5
 
 abbrev pub decreases-rewrite_array : goal.decreases-rewrite_array
-decreases-rewrite_array l = 7 * l.depth + 5
+decreases-rewrite_array l = 8 * l.depth + 6
 
 abbrev pub decreases-rewrite_map : goal.decreases-rewrite_map
-decreases-rewrite_map l = 7 * l.depth + 5
+decreases-rewrite_map l = 8 * l.depth + 6
 
 abbrev pub invariant-rewrite_items-items : goal.invariant-rewrite_items-items
 invariant-rewrite_items-items l = record {
