@@ -399,8 +399,9 @@ CLL_NODISCARD cll_answer cll_deterministic(const uint8_t *data, size_t len, uint
  * which is at most 256. `order` is a number of cll_order.
  *
  * For an item of `n` bytes, `n + n / 256` bytes of `out` and half as many spans are enough, and an item has at most
- * `len` bytes. Fewer do if the encoding takes fewer bytes. A map whose keys ascend needs a span for each pair, and any
- * other map also one for two bytes of its pairs. The contents of `spans` need not be set before the call, and mean
+ * `len` bytes. Fewer do if the encoding takes fewer bytes. An item that is in the encoding already needs no spans. In
+ * any other one a map needs a span for each pair. If its keys do not ascend, it also needs one for two bytes of its
+ * pairs, unless as many bytes of `out` follow these. The contents of `spans` need not be set before the call, and mean
  * nothing after it.
  *
  * Returns:

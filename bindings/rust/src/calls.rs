@@ -278,8 +278,9 @@ pub struct Span(cll_span);
 ///
 /// Returns the lengths of the item and of its encoding. The call counts no elements.
 ///
-/// For an item of `n` bytes an output of `n + n / 256` bytes and half as many spans are enough. A map whose keys ascend
-/// needs a span for each pair, and any other map also one for two bytes of its pairs.
+/// For an item of `n` bytes an output of `n + n / 256` bytes and half as many spans are enough. An item that is in the
+/// encoding already needs no spans. In any other one a map needs a span for each pair. If its keys do not ascend, it
+/// also needs one for two bytes of its pairs, unless as many bytes of the output follow these.
 ///
 /// # Errors
 ///
