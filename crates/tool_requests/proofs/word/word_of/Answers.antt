@@ -1,4 +1,4 @@
-use Rattle.std.proofs.Common.{◌≡◌, arith, string_bytes, rules}
+use Rattle.std.proofs.Common.{◌≡◌, arith, string_bytes}
 use Rattle.std.proofs.lemmas.Result.{IfOk-weaker}
 use Rattle.hex.specs.Hex.{IsBytes, encode_lower}
 use Rattle.tool_requests.proofs.WordLaws.{bytes_of_word-encode_lower}
@@ -10,6 +10,3 @@ returns-clause-back c =
     let back = bytes_of_word-encode_lower c.args.bytes.now (c.if-is_empty.ensures) fits in
     IfOk-weaker c.encode.result (λ word. string_bytes word ≡ encode_lower c.args.bytes.now) _
     (λ word h. rw h back) c.encode.ensures
-
-pub returns-then-is_empty-clause-word : goal.returns-then-is_empty-clause-word
-returns-then-is_empty-clause-word c = search rules

@@ -1,4 +1,4 @@
-use Rattle.std.proofs.Common.{◌∙◌, [], ◌∷◌, length, sym, ap, length-append, arith, rules}
+use Rattle.std.proofs.Common.{◌∙◌, [], ◌∷◌, length, sym, ap, length-append, arith}
 use Rattle.cbor_copier.proofs.FrontLaws.{text_room, text_some}
 use Rattle.cbor_copier.proofs.copier.Copier.text_step.Goals as goal
 
@@ -16,6 +16,3 @@ invariant_of-self-in_default-clause-room c =
     (λ between. c.in_default.not-Between (c.step-state.ensures ∙ between)) in
     let long = ap length c.push.ensures in
     rw c.step-state.ensures (omega (arith, room, long, length-append front (c.args.byte ∷ [])))
-
-pub returns-in_default : goal.returns-in_default
-returns-in_default c = search rules
