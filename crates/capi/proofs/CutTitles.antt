@@ -4,12 +4,14 @@ use Rattle.std.proofs.Common.{subst, ◌∙◌, arith, append-nil, length-append
 use Rattle.ciborium_ll.specs.Types.Header.{Header}
 use Rattle.ciborium_ll.specs.Title.{IsTitle, IsCutTitle, affix_len}
 use Rattle.ciborium_ll.proofs.AffixLaws.{announced, title_not_cut}
+use Rattle.cbor_checker.specs.declared.checker.Checker.{Checker}
 use Rattle.cbor_checker.specs.declared.phase.Phase.{Phase}
 use Rattle.cbor_checker.specs.declared.phase.Phase.TheVariants as p
 use Rattle.cbor_checker.specs.declared.progress.Progress.TheVariants as r
+use Rattle.cbor_checker.specs.Checking.{Answers, HasRead, spot_of}
 use Rattle.cbor_checker.specs.Spots.{Spot}
 use Rattle.cbor_checker.specs.Steps.{IsFed, fresh, more, StepIn, TitleStep, cut, early, whole, none, with_byte}
-use Rattle.cbor_checker.specs.Telling.{FaultIn, IsAtFault, progress_in, progress_of, title_due}
+use Rattle.cbor_checker.specs.Telling.{FaultIn, IsAtFault, progress_in, title_due}
 
 -- A title is due, and all of its bytes so far are these bytes.
 record AtTitle (bytes : List ℕ) (spot : Spot) : Type 0 where
@@ -66,12 +68,14 @@ title_lacks (p.Text left state) spot due at lacks = absurd cc
 title_lacks p.Ended spot due at lacks = absurd cc
 
 -- A checker lacks as many bytes of a cut title as the title lacks.
-pub cut_lacks : (strict : Bool) (depth : ℕ) (bytes : List ℕ) (spot : Spot) (due : ℕ) → IsFed strict depth bytes spot
-    → IsCutTitle bytes → progress_of spot ≡ r.More due → due ≡ title_due bytes
-cut_lacks strict depth bytes spot due fed is_cut lacks =
-    elim (at_title strict depth bytes spot fed is_cut) [
-      | inl at ↦ title_lacks spot.phase spot due at.phase lacks ∙ ap title_due at.front
-      | inr has ↦ absurd (fault_lacks_none spot.phase spot due has lacks)
+pub cut_lacks : (strict : Bool) (depth : ℕ) (bytes : List ℕ) (checker : Checker) (due : ℕ)
+    → HasRead strict depth bytes checker → IsCutTitle bytes → Answers checker (r.More due) → due ≡ title_due bytes
+unfolding HasRead Answers
+cut_lacks strict depth bytes checker due has_read is_cut lacks =
+    let spot : Spot = spot_of checker in
+    elim (at_title strict depth bytes spot has_read is_cut) [
+      | inl at ↦ title_lacks spot.phase spot due at.phase (sym lacks) ∙ ap title_due at.front
+      | inr has ↦ absurd (fault_lacks_none spot.phase spot due has (sym lacks))
     ]
 
 least_by : (bytes next affix : List ℕ) (first : ℕ) → bytes ++ next ≡ first ∷ affix

@@ -192,7 +192,7 @@ module _ (strict : Bool) (law : StrictLaw strict) (whole : ℕ) (bytes : List �
     title_due_least (b ∷ next) header some is_title positive =
         let is_cut = cut_before front.rest b next header is_title in
         let checker = lacks.checker positive in
-        let same = cut_lacks strict 1 front.rest checker.spot due checker.is_fed is_cut checker.lacks in
+        let same = cut_lacks strict 1 front.rest checker.checker due checker.has_read is_cut checker.lacks in
         omega (arith, same, title_least front.rest (b ∷ next) header is_title)
 
     next_least : (next : List ℕ) → 0 < length next → Shape strict (front.rest ++ next)

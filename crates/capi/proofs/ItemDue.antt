@@ -7,21 +7,21 @@ use Rattle.ciborium_ll.specs.Items.{IsItem}
 use Rattle.ciborium_ll.proofs.Lists.{front_of_front}
 use Rattle.cbor_checker.specs.declared.progress.Progress.TheVariants as r
 use Rattle.cbor_checker.specs.declared.phase.Fault.{Fault}
-use Rattle.cbor_checker.specs.Spots.{Spot}
-use Rattle.cbor_checker.specs.Steps.{IsFed}
-use Rattle.cbor_checker.specs.Telling.{Tells, progress_of}
+use Rattle.cbor_checker.specs.declared.checker.Checker.{Checker}
+use Rattle.cbor_checker.specs.Checking.{Answers, HasRead}
+use Rattle.cbor_checker.specs.Reading.{Tells}
 use Rattle.cbor_skip.specs.ItemFaults.{BeginsWithItem}
 use Rattle.capi.specs.Lacking.{ItemLacks}
 
 -- The bytes end within an item, and its other bytes begin `more`.
-pub record GoesOn (strict : Bool) (depth : ℕ) (bytes more : List ℕ) : Type 0 where
+pub record IsCutIn (strict : Bool) (depth : ℕ) (bytes more : List ℕ) : Type 0 where
   pub next : List ℕ
   pub rest : List ℕ
   pub is_item : IsItem strict depth (bytes ++ next)
   pub is : more ≡ next ++ rest
 
 module _ (strict : Bool) (depth : ℕ) (bytes : List ℕ) (cut : BeginsWithItem strict depth bytes → ⊥) where
-  pub goes_on : (more : List ℕ) → BeginsWithItem strict depth (bytes ++ more) → GoesOn strict depth bytes more
+  pub goes_on : (more : List ℕ) → BeginsWithItem strict depth (bytes ++ more) → IsCutIn strict depth bytes more
   goes_on more front =
       elim (cases_lt (length front.item) (length bytes)) [
         | inl less ↦ (
@@ -40,10 +40,10 @@ module _ (strict : Bool) (depth : ℕ) (bytes : List ℕ) (cut : BeginsWithItem 
       ]
 
   -- If a checker lacks some bytes, the item lacks them.
-  pub some_lack : (taken due : ℕ) (spot : Spot) → taken ≡ length bytes → IsFed strict depth (take taken bytes) spot
-      → Tells strict depth (take taken bytes) (r.More due) → r.More due ≡ progress_of spot
-      → ItemLacks strict depth bytes due
-  some_lack taken due spot all fed tells answer =
+  pub some_lack : (taken due : ℕ) (checker : Checker) → taken ≡ length bytes
+      → HasRead strict depth (take taken bytes) checker → Tells strict depth (take taken bytes) (r.More due)
+      → Answers checker (r.More due) → ItemLacks strict depth bytes due
+  some_lack taken due checker all has_read tells answer =
       let whole : take taken bytes ≡ bytes = take_all taken bytes (omega (arith, all)) in
       let told = subst (λ (z : List ℕ). Tells strict depth z (r.More due)) whole tells in
       record {
@@ -51,20 +51,21 @@ module _ (strict : Bool) (depth : ℕ) (bytes : List ℕ) (cut : BeginsWithItem 
             let on = goes_on more front in
             let counted = ap length on.is in
             let most = told.2 on.next on.is_item in
-            (told.0, omega (arith, most, counted, length-append on.next on.rest));
-        some = λ positive. (
-          told.1.0,
-          record {
-            item = bytes ++ told.1.0;
-            rest = [];
-            is_item = told.1.1;
-            is = sym (append-nil (bytes ++ told.1.0));
-          },
-        );
+            (told.1, omega (arith, most, counted, length-append on.next on.rest));
+        some = λ positive.
+            let begins = told.0.begins in (
+              begins.0,
+              record {
+                item = bytes ++ begins.0;
+                rest = [];
+                is_item = begins.1;
+                is = sym (append-nil (bytes ++ begins.0));
+              },
+            );
         checker = λ positive. record {
-          spot = spot;
-          is_fed = subst (λ (z : List ℕ). IsFed strict depth z spot) whole fed;
-          lacks = sym answer;
+          checker = checker;
+          has_read = subst (λ (z : List ℕ). HasRead strict depth z checker) whole has_read;
+          lacks = answer;
         };
       }
 
@@ -77,7 +78,7 @@ module _ (strict : Bool) (depth : ℕ) (bytes : List ℕ) (cut : BeginsWithItem 
         let parts : bytes ++ on.next ≡ take taken bytes ++ (drop taken bytes ++ on.next) =
         ap (λ (z : List ℕ). z ++ on.next) (sym (take-append-drop taken bytes))
         ∙ append_assoc (take taken bytes) (drop taken bytes) on.next in
-        absurd (never (drop taken bytes ++ on.next) (subst (IsItem strict depth) parts on.is_item));
+        absurd (never (drop taken bytes ++ on.next, subst (IsItem strict depth) parts on.is_item));
     some = λ positive. absurd (omega (arith, positive));
     checker = λ positive. absurd (omega (arith, positive));
   }

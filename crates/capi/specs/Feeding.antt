@@ -1,34 +1,40 @@
 -- The results of the calls of a checker. C keeps the checker in memory of its own.
-use Rattle.std.specs.Prelude.{◌≡◌, ◌<◌, ◌≤◌, Bool, ℕ, false, List, [], ◌++◌, length, take}
+use Rattle.std.specs.Prelude.{◌≡◌, ◌<◌, ◌≤◌, Bool, ℕ, List, [], ◌++◌, length, take}
 use Rattle.cbor_checker.specs.declared.phase.Fault.{Fault}
 use Rattle.cbor_checker.specs.declared.phase.Fault.TheVariants as f
 use Rattle.cbor_checker.specs.declared.progress.Progress.{Progress}
 use Rattle.cbor_checker.specs.declared.progress.Progress.TheVariants as r
 use Rattle.cbor_checker.specs.declared.progress.End.{End}
 use Rattle.cbor_checker.specs.declared.progress.End.TheVariants as e
-use Rattle.cbor_checker.specs.Snapshots.{Holds}
-use Rattle.cbor_checker.specs.Spots.{Spot}
-use Rattle.cbor_checker.specs.Steps.{IsFed}
-use Rattle.cbor_checker.specs.Telling.{IsMore, Tells, TellsEnd, end_of, is_due, progress_of}
+use Rattle.cbor_checker.specs.declared.checker.Checker.{Checker}
+use Rattle.cbor_checker.specs.Checking.{Answers, AnswersEnd, HasRead, HoldsSome, Keeps}
+use Rattle.cbor_checker.specs.Reading.{GoesOn, Tells, TellsEnd}
 use Rattle.capi.specs.declared.answer.CllAnswer.{CllAnswer}
 use Rattle.capi.specs.declared.answer.CllAnswer.TheVariants as a
 use Rattle.capi.specs.declared.answer.CllReport.{CllReport}
 use Rattle.capi.specs.declared.checker.CllChecker.{CllChecker}
 use Rattle.capi.specs.Answers.{Reports}
 
--- This memory holds a checker that has come to the spot. The mark is "ciborium" in ASCII.
-pub record IsKept (checker : CllChecker) (spot : Spot) : Type 0 where
+-- This memory holds a checker of an item to the depth, which has read exactly these bytes. With `strict` the item is one
+-- in its shortest spelling. The mark is "ciborium" in ASCII. After `cll_checker_feed` took `82 01`, it holds a checker
+-- that has read `82 01`.
+pub record IsKept (strict : Bool) (depth : ℕ) (read : List ℕ) (checker : CllChecker) : Type 0 where
   pub mark : checker.mark ≡ 7163364913109890413
-  pub state : Holds checker.state spot
+  pub state : Keeps strict depth read checker.state
+
+-- This memory holds a checker, even if no bytes lead to its state. With the mark 0 it does not.
+pub record IsChecker (checker : CllChecker) : Type 0 where
+  pub mark : checker.mark ≡ 7163364913109890413
+  pub state : HoldsSome checker.state
 
 -- This memory holds no checker. Memory with the mark 0 holds none.
 abbrev pub IsNoChecker : CllChecker → Type 0
-IsNoChecker checker = (spot : Spot) → IsKept checker spot → ⊥
+IsNoChecker checker = IsChecker checker → ⊥
 
--- This memory holds a checker of an item to the depth, to which nothing came. With `strict` the item is one in its
--- shortest spelling. A title is due at the offset 0.
+-- This memory holds a checker of an item to the depth, which has read no byte. With `strict` the item is one in its
+-- shortest spelling. Without a byte `cll_checker_end` says `Ok` of it.
 abbrev pub IsSetUp : Bool → ℕ → CllChecker → Type 0
-IsSetUp strict depth checker = (spot : Spot) × IsKept checker spot × IsFed strict depth [] spot
+IsSetUp strict depth checker = IsKept strict depth [] checker
 
 -- The answer that stands for a fault. The break of `81 ff` has `BreakDue`.
 abbrev pub fault_answer : Fault → CllAnswer
@@ -69,12 +75,16 @@ end_number e.Between = 0
 end_number (e.Short due) = due
 end_number (e.Fault fault) = fault_place fault
 
--- The answer with its number is that of the spot. If no more bytes can be counted, more are due there. After `19 01`
--- the answer is `Short` with 1.
-abbrev pub IsAnswer : CllAnswer → ℕ → Spot → Type 0
-IsAnswer a.TooLong number spot = IsMore (progress_of spot)
-IsAnswer answer number spot =
-    (answer ≡ progress_answer (progress_of spot)) × (number ≡ progress_number (progress_of spot))
+-- The answer with its number is that of the checker. After `19 01` it is `Short` with 1.
+abbrev pub IsAnswer : CllAnswer → ℕ → Checker → Type 0
+IsAnswer answer number checker =
+    (progress : Progress) × Answers checker progress × (answer ≡ progress_answer progress)
+    × (number ≡ progress_number progress)
+
+-- The answer with its number is that of the checker if no more bytes come. After `19 01` it is `Short` with 1.
+abbrev pub IsEndAnswer : CllAnswer → ℕ → Checker → Type 0
+IsEndAnswer answer number checker =
+    (end : End) × AnswersEnd checker end × (answer ≡ end_answer end) × (number ≡ end_number end)
 
 -- The meaning of an answer and its number for all bytes so far. They are one item of this length. Or at least this many
 -- more bytes are due. Or no item begins so, with a fault at this place (RFC 7049, 2.1 to 2.4). After `43 01` the answer
@@ -94,22 +104,22 @@ pub record TakesWithin (bytes : List ℕ) (report : CllReport) : Type 0 where
   pub taken : report.consumed ≤ length bytes
   pub written : report.written ≡ 0
 
--- The result of `cll_checker_feed` for a piece, and for a checker that has come to the old spot. The call takes all
--- bytes if more are due, fewer if no more can be counted, and none if none was due. The answer holds for all bytes so
--- far, which have led to the spot of the new checker (RFC 7049, 2.1 to 2.4). After `43 01` the piece `02 03 04` is `Ok`
--- with 4, and 2 bytes of it are consumed.
-pub record Feeds (strict : Bool) (depth : ℕ) (fed : List ℕ) (old : Spot) (bytes : List ℕ) (answer : CllAnswer) (report : CllReport)
+-- The result of `cll_checker_feed` for a piece, and for a checker that has read some bytes. `goes`: the call takes a
+-- byte only if an item goes on after all bytes before it. It takes all bytes if more are due, and fewer if no more can
+-- be counted. The answer holds for all bytes so far (RFC 7049, 2.1 to 2.4). `answers`: unless no more can be counted,
+-- the answer and its number are those of any checker that has read the same bytes. After `43 01` the piece `02 03 04` is
+-- `Ok` with 4, and 2 bytes of it are consumed.
+pub record Feeds (strict : Bool) (depth : ℕ) (read bytes : List ℕ) (answer : CllAnswer) (report : CllReport)
     (new : CllChecker) : Type 0 where
   pub taken : report.consumed ≤ length bytes
+  pub goes : (len : ℕ) → len < report.consumed → GoesOn strict depth (read ++ take len bytes)
   pub all : answer ≡ a.Short → report.consumed ≡ length bytes
   pub long : answer ≡ a.TooLong → report.consumed < length bytes
   pub reports : Reports report report.consumed 0 report.place
-  pub says : SaysOf strict depth (fed ++ take report.consumed bytes) answer report.place
-  pub spot : Spot
-  pub is_kept : IsKept new spot
-  pub is_fed : IsFed strict depth (fed ++ take report.consumed bytes) spot
-  pub answers : IsAnswer answer report.place spot
-  pub stays : is_due old.phase ≡ false → (report.consumed ≡ 0) × (spot ≡ old)
+  pub says : SaysOf strict depth (read ++ take report.consumed bytes) answer report.place
+  pub is_kept : IsKept strict depth (read ++ take report.consumed bytes) new
+  pub answers : (answer ≡ a.TooLong → ⊥) → (checker : Checker)
+      → HasRead strict depth (read ++ take report.consumed bytes) checker → IsAnswer answer report.place checker
 
 -- The meaning of an answer and its number if no more bytes come: none came or they are one item, they are cut off, or
 -- no item begins so. After `43 01` it is `Short` with 2, and without a byte `Ok` with 0.
@@ -121,11 +131,9 @@ SaysOfEnd strict depth whole a.BreakDue number = TellsEnd strict depth whole (e.
 SaysOfEnd strict depth whole a.TooDeep number = TellsEnd strict depth whole (e.Fault (f.Deep number))
 SaysOfEnd strict depth whole answer number = ⊥
 
--- The result of `cll_checker_end` at the spot: the answer and its number are those of the spot (RFC 7049, 2.1 to 2.4).
--- After `19 01` it is `Short` with 1.
-pub record EndsFed (strict : Bool) (depth : ℕ) (fed : List ℕ) (spot : Spot) (answer : CllAnswer) (report : CllReport)
-    : Type 0 where
-  pub says : SaysOfEnd strict depth fed answer report.place
-  pub answers : answer ≡ end_answer (end_of spot)
-  pub number : report.place ≡ end_number (end_of spot)
+-- The result of `cll_checker_end`: the answer holds for all bytes (RFC 7049, 2.1 to 2.4). `answers`: the answer and its
+-- number are those of any checker that has read the same bytes. After `19 01` it is `Short` with 1.
+pub record EndsFed (strict : Bool) (depth : ℕ) (read : List ℕ) (answer : CllAnswer) (report : CllReport) : Type 0 where
+  pub says : SaysOfEnd strict depth read answer report.place
+  pub answers : (checker : Checker) → HasRead strict depth read checker → IsEndAnswer answer report.place checker
   pub reports : Reports report 0 0 report.place

@@ -1,18 +1,17 @@
 -- The number of bytes that are due if `cll_skip`, `cll_recode` and `cll_strict` answer that the bytes end too early.
-use Rattle.std.specs.Prelude.{◌≡◌, ℕ, ◌≤◌, Bool, List, ◌++◌, drop, length}
+use Rattle.std.specs.Prelude.{ℕ, ◌≤◌, Bool, List, ◌++◌, drop, length}
 use Rattle.ciborium_ll.specs.Faults.{BeginsWithElements}
 use Rattle.cbor_checker.specs.declared.progress.Progress.TheVariants as r
-use Rattle.cbor_checker.specs.Spots.{Spot}
-use Rattle.cbor_checker.specs.Steps.{IsFed}
-use Rattle.cbor_checker.specs.Telling.{progress_of}
+use Rattle.cbor_checker.specs.declared.checker.Checker.{Checker}
+use Rattle.cbor_checker.specs.Checking.{Answers, HasRead}
 use Rattle.cbor_skip.specs.ItemFaults.{BeginsWithItem}
 
--- A checker that got exactly these bytes lacks this many more: the rest of a title or of a body (RFC 7049, 2.1), or 1.
--- After `43 01` it lacks 2.
+-- A checker that has read exactly these bytes lacks this many more: the rest of a title or of a body (RFC 7049, 2.1), or
+-- 1. After `43 01` it lacks 2.
 pub record CheckerLacks (strict : Bool) (depth : ℕ) (bytes : List ℕ) (due : ℕ) : Type 0 where
-  pub spot : Spot
-  pub is_fed : IsFed strict depth bytes spot
-  pub lacks : progress_of spot ≡ r.More due
+  pub checker : Checker
+  pub has_read : HasRead strict depth bytes checker
+  pub lacks : Answers checker (r.More due)
 
 -- All bytes that complete an item are at least this many, and at least one. 0 says that no bytes do. Any other number
 -- says that some bytes do, and that a checker lacks this many (RFC 7049, 2.1 to 2.4). To a depth of 1, `82 01` lacks 1,

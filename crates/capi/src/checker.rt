@@ -1,12 +1,10 @@
 //! Checkers that a program in C keeps in memory of its own.
 
 ghost use Rattle.std.specs.Prelude.{◌≡◌, ◌≤◌, Bool, ℕ, List, true};
-ghost use Rattle.cbor_checker.specs.Checking.{spot_of};
-ghost use Rattle.cbor_checker.specs.Spots.{Spot};
-ghost use Rattle.cbor_checker.specs.Steps.{IsFed};
+ghost use Rattle.cbor_checker.specs.Checking.{HasRead};
 ghost use Rattle.capi.specs.declared.answer.CllAnswer.TheVariants as a;
 ghost use Rattle.capi.specs.Answers.{Reports};
-ghost use Rattle.capi.specs.Feeding.{EndsFed, Feeds, IsKept, IsNoChecker, IsSetUp, TakesWithin};
+ghost use Rattle.capi.specs.Feeding.{EndsFed, Feeds, IsChecker, IsKept, IsNoChecker, IsSetUp, TakesWithin};
 ghost use Rattle.capi.specs.Feeding.{end_answer, end_number, fault_answer, fault_place};
 ghost use Rattle.capi.specs.Feeding.{progress_answer, progress_number};
 ghost use Rattle.ciborium_ll_grammar.specs.Spellings.{is_shortest};
@@ -35,9 +33,9 @@ impl CllChecker {
     /// Makes `checker` the one that this memory holds, and says whether it holds one.
     #[inline(always)]
     fn load_into(&self, checker: &mut Checker) -> bool
-        ensures some { result ≡ true → IsKept self.now (spot_of checker.new) }
-        ensures found { (spot : Spot) → IsKept self.now spot → result ≡ true }
-        ensures same { (spot : Spot) → IsKept self.now spot → spot_of checker.new ≡ spot }
+        ensures kept { (strict : Bool) (depth : ℕ) (read : List ℕ) → IsKept strict depth read self.now
+            → (result ≡ true) × HasRead strict depth read checker.new }
+        ensures some { result ≡ true → IsChecker self.now }
     {
         self.mark == MARK && checker.load(&self.state)
     }
@@ -91,8 +89,8 @@ pub(crate) fn init(checker: &mut CllChecker, depth: usize, spelling: Spelling)
 
 /// Gives a checker the next bytes of its item.
 pub(crate) fn feed(checker: &mut CllChecker, bytes: &[u8], report: &mut CllReport) -> CllAnswer
-    ensures fed { (strict : Bool) (depth : ℕ) (fed : List ℕ) (spot : Spot) → IsFed strict depth fed spot → IsKept checker.old spot
-        → Feeds strict depth fed spot bytes.now result report.new checker.new }
+    ensures fed { (strict : Bool) (depth : ℕ) (read : List ℕ) → IsKept strict depth read checker.old
+        → Feeds strict depth read bytes.now result report.new checker.new }
     ensures within { TakesWithin bytes.now report.new }
     ensures argument { IsNoChecker checker.old
         → (result ≡ a.Argument) × (checker.new ≡ checker.old) × Reports report.new 0 0 0 }
@@ -112,8 +110,8 @@ pub(crate) fn feed(checker: &mut CllChecker, bytes: &[u8], report: &mut CllRepor
 
 /// Says what it means that no more bytes come to a checker.
 pub(crate) fn end(checker: &CllChecker, report: &mut CllReport) -> CllAnswer
-    ensures ended { (strict : Bool) (depth : ℕ) (fed : List ℕ) (spot : Spot) → IsFed strict depth fed spot → IsKept checker.now spot
-        → EndsFed strict depth fed spot result report.new }
+    ensures ended { (strict : Bool) (depth : ℕ) (read : List ℕ) → IsKept strict depth read checker.now
+        → EndsFed strict depth read result report.new }
     ensures argument { IsNoChecker checker.now → (result ≡ a.Argument) × Reports report.new 0 0 0 }
 {
     let mut restored = Checker::new(0);

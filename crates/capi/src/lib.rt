@@ -10,7 +10,6 @@ ghost use Rattle.cbor_deterministic.specs.declared.Why.{Why as AnyWhy};
 ghost use Rattle.cbor_deterministic.specs.Deterministic.{HasDeterministic};
 ghost use Rattle.cbor_deterministic.specs.Refusals.{HasRefusal};
 ghost use Rattle.cbor_checker.specs.Spots.{Spot};
-ghost use Rattle.cbor_checker.specs.Steps.{IsFed};
 ghost use Rattle.ciborium_ll.specs.Faults.{BeginsWithElements};
 ghost use Rattle.ciborium_ll.specs.Recoding.{CopiesElements};
 ghost use Rattle.ciborium_ll.specs.Sides.{sides};
@@ -607,9 +606,9 @@ pub fn cll_checker_init_strict(checker: &mut CllChecker, depth: u32) -> u32
 
 /// Gives a checker the next bytes of its item.
 pub fn cll_checker_feed(checker: &mut CllChecker, bytes: &[u8], report: &mut CllReport) -> u32
-    ensures fed { (strict : Bool) (depth : ℕ) (fed : List ℕ) (spot : Spot) → IsFed strict depth fed spot → IsKept checker.old spot
+    ensures fed { (strict : Bool) (depth : ℕ) (read : List ℕ) → IsKept strict depth read checker.old
         → (answer : CllAnswer) × (result ≡ code answer)
-        × Feeds strict depth fed spot bytes.now answer report.new checker.new }
+        × Feeds strict depth read bytes.now answer report.new checker.new }
     ensures answers { IsCode result }
     ensures within { TakesWithin bytes.now report.new }
     ensures argument { IsNoChecker checker.old
@@ -620,8 +619,8 @@ pub fn cll_checker_feed(checker: &mut CllChecker, bytes: &[u8], report: &mut Cll
 
 /// Says what it means that no more bytes come to a checker, and leaves it as it is.
 pub fn cll_checker_end(checker: &CllChecker, report: &mut CllReport) -> u32
-    ensures ended { (strict : Bool) (depth : ℕ) (fed : List ℕ) (spot : Spot) → IsFed strict depth fed spot → IsKept checker.now spot
-        → (answer : CllAnswer) × (result ≡ code answer) × EndsFed strict depth fed spot answer report.new }
+    ensures ended { (strict : Bool) (depth : ℕ) (read : List ℕ) → IsKept strict depth read checker.now
+        → (answer : CllAnswer) × (result ≡ code answer) × EndsFed strict depth read answer report.new }
     ensures answers { IsCode result }
     ensures argument { IsNoChecker checker.now → (result ≡ code a.Argument) × Reports report.new 0 0 0 }
 {

@@ -26,7 +26,6 @@ ghost use Rattle.cbor_deterministic.specs.declared.Why.{Why as AnyWhy};
 ghost use Rattle.cbor_deterministic.specs.Deterministic.{HasDeterministic};
 ghost use Rattle.cbor_deterministic.specs.Refusals.{HasRefusal};
 ghost use Rattle.cbor_checker.specs.Spots.{Spot};
-ghost use Rattle.cbor_checker.specs.Steps.{IsFed};
 ghost use Rattle.ciborium_ll.specs.Faults.{BeginsWithElements};
 ghost use Rattle.ciborium_ll_text.specs.Text.{IsCharacters};
 ghost use Rattle.cbor_skip.specs.ItemFaults.{BeginsWithItem};
@@ -488,9 +487,9 @@ pub extern "C" fn cll_checker_feed(
     bytes: &[u8],
     report: &mut CllReport,
 ) -> u32
-    ensures fed { (strict : Bool) (depth : ℕ) (fed : List ℕ) (spot : Spot) → IsFed strict depth fed spot → IsKept checker.old spot
+    ensures fed { (strict : Bool) (depth : ℕ) (read : List ℕ) → IsKept strict depth read checker.old
         → (answer : CllAnswer) × (result ≡ code answer)
-        × Feeds strict depth fed spot bytes.now answer report.new checker.new }
+        × Feeds strict depth read bytes.now answer report.new checker.new }
     ensures answers { IsCode result }
     ensures within { TakesWithin bytes.now report.new }
     ensures argument { IsNoChecker checker.old
@@ -508,8 +507,8 @@ pub extern "C" fn cll_checker_feed(
 /// - `Syntax`, `BreakDue`, `TooDeep`, `Argument`: as of [`cll_checker_feed`].
 #[unsafe(no_mangle)]
 pub extern "C" fn cll_checker_end(checker: &CllChecker, report: &mut CllReport) -> u32
-    ensures ended { (strict : Bool) (depth : ℕ) (fed : List ℕ) (spot : Spot) → IsFed strict depth fed spot → IsKept checker.now spot
-        → (answer : CllAnswer) × (result ≡ code answer) × EndsFed strict depth fed spot answer report.new }
+    ensures ended { (strict : Bool) (depth : ℕ) (read : List ℕ) → IsKept strict depth read checker.now
+        → (answer : CllAnswer) × (result ≡ code answer) × EndsFed strict depth read answer report.new }
     ensures answers { IsCode result }
     ensures argument { IsNoChecker checker.now → (result ≡ code a.Argument) × Reports report.new 0 0 0 }
 {

@@ -1,4 +1,5 @@
 pub mod BlockedLaws
+pub mod EndLaws
 pub mod EnterLaws
 pub mod ExactLaws
 pub mod HighBits
@@ -11,7 +12,9 @@ pub mod LongerBegun
 pub mod OneSpot
 pub mod PlainLaws
 pub mod PlainRuns
+pub mod ReadLaws
 pub mod RunLaws
+pub mod SavedLaws
 pub mod SettledLaws
 pub mod StackLaws
 pub mod StepLaws

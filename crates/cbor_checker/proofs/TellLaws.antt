@@ -7,12 +7,15 @@ use Rattle.ciborium_ll_grammar.specs.Items.{IsItem}
 use Rattle.ciborium_ll_grammar.proofs.AffixLaws.{announced}
 use Rattle.cbor_checker.specs.declared.phase.Phase.{Phase}
 use Rattle.cbor_checker.specs.declared.phase.Phase.TheVariants as p
+use Rattle.cbor_checker.specs.declared.phase.Fault.{Fault}
 use Rattle.cbor_checker.specs.Spots.{Spot}
 use Rattle.cbor_checker.specs.Steps.{start, with_byte, TitleStep, whole, StepIn, IsFed, fresh, more}
-use Rattle.cbor_checker.specs.Telling.{has_left, is_due, title_due, progress_in, progress_of, Tells}
+use Rattle.cbor_checker.specs.Reading.{BeginsItem, GoesOn, LacksAtLeast, Tells}
+use Rattle.cbor_checker.specs.Telling.{has_left, is_due, title_due, progress_in, progress_of, EndedIn}
 use Rattle.cbor_checker.specs.declared.progress.Progress.{Progress}
 use Rattle.cbor_checker.specs.declared.progress.Progress.TheVariants as r
 use Rattle.cbor_checker.proofs.KeptLaws.{entered_kept, bytes_kept, left_kept}
+use Rattle.cbor_checker.proofs.ExactLaws.{ended_exact}
 use Rattle.cbor_checker.proofs.LiveLaws.{fed_goes}
 use Rattle.cbor_checker.proofs.Waiting.{BodyThen, WaitsIn}
 use Rattle.cbor_checker.proofs.StepLaws.{Titled, due_titled, fed_same}
@@ -39,6 +42,22 @@ fed_counts s d fed spot (more {bytes = a} {spot = before} b byte is step) =
     let one = step_counts before.phase before spot b step in
     omega (arith, so_far, one, length-append a (b ∷ []))
 
+-- ---- an item goes on if more bytes are due
+
+due_unended : (phase : Phase) → is_due phase ≡ true → EndedIn phase → ⊥
+due_unended p.Ended due has = cc
+due_unended phase due has = has
+
+due_sound : (phase : Phase) → is_due phase ≡ true → (fault : Fault) → phase ≡ p.Faulted fault → ⊥
+due_sound phase due fault is = let both = sym due ∙ ap is_due is in cc
+
+pub goes_on : (s : Bool) (d : ℕ) (fed : List ℕ) (spot : Spot) → IsFed s d fed spot → is_due spot.phase ≡ true
+    → GoesOn s d fed
+goes_on s d fed spot is due = record {
+  begins = fed_goes s d fed spot is (due_sound spot.phase due);
+  unended = λ item. due_unended spot.phase due ((ended_exact s d fed spot is).1 item);
+}
+
 -- ---- how many bytes are due
 
 title_least : (front y rest t affix : List ℕ) (byte : ℕ) → front ++ y ≡ t ++ rest → t ≡ byte ∷ affix
@@ -63,24 +82,33 @@ title_lacks front short = grind (arith, nat_tests)
 body_by : {len : ℕ} {P Then : List ℕ → Type 0} {y : List ℕ} → BodyThen len P Then y → len ≤ length y
 body_by o = let whole = ap length o.is in omega (arith, o.long, whole, length-append o.body o.rest)
 
+more_tells : (s : Bool) (d : ℕ) (fed : List ℕ) (due : ℕ) → 1 ≤ due → BeginsItem s d fed → LacksAtLeast s d fed due
+    → Tells s d fed (r.More due)
+more_tells s d fed due some begins least = (
+  record { begins = begins; unended = λ item. omega (arith, some, least [] (rw append-nil item)) },
+  some,
+  least,
+)
+
 tells_in : (phase : Phase) (s : Bool) (d : ℕ) (fed : List ℕ) (spot : Spot) → phase ≡ spot.phase → IsFed s d fed spot
     → ((y : List ℕ) → IsItem s d (fed ++ y) → WaitsIn phase spot y) → has_left phase ≡ true
     → length spot.front ≤ affix_len (slice_index spot.front 0 % 32) → Tells s d fed (progress_in phase spot)
-tells_in p.Title s d fed spot e is waits left short = (
-  title_lacks spot.front short,
-  fed_goes s d fed spot is (λ fault same. let both = e ∙ same in cc),
-  λ y i. due_by spot y (due_titled _ spot.within _ spot.levels _ (waits y i)),
-)
+tells_in p.Title s d fed spot e is waits left short =
+    more_tells s d fed (title_due spot.front) (title_lacks spot.front short)
+    (fed_goes s d fed spot is (λ fault same. let both = e ∙ same in cc))
+    (λ y i. due_by spot y (due_titled _ spot.within _ spot.levels _ (waits y i)))
 tells_in (p.Bytes zero) s d fed spot e is waits left short = absurd cc
 tells_in (p.Bytes (suc n)) s d fed spot e is waits left short =
-    (omega arith, fed_goes s d fed spot is (λ fault same. let both = e ∙ same in cc), λ y i. body_by (waits y i))
+    more_tells s d fed (suc n) (omega arith) (fed_goes s d fed spot is (λ fault same. let both = e ∙ same in cc))
+    (λ y i. body_by (waits y i))
 tells_in (p.Text zero state) s d fed spot e is waits left short = absurd cc
 tells_in (p.Text (suc n) state) s d fed spot e is waits left short =
-    (omega arith, fed_goes s d fed spot is (λ fault same. let both = e ∙ same in cc), λ y i. body_by (waits y i))
+    more_tells s d fed (suc n) (omega arith) (fed_goes s d fed spot is (λ fault same. let both = e ∙ same in cc))
+    (λ y i. body_by (waits y i))
 tells_in p.Ended s d fed spot e is waits left short =
     let item = (fed_same s d fed spot is []).1 (subst (λ (z : Phase). WaitsIn z spot []) e refl) in
     (rw append-nil at item, fed_counts s d fed spot is)
-tells_in (p.Faulted fault) s d fed spot e is waits left short = waits
+tells_in (p.Faulted fault) s d fed spot e is waits left short = λ begins. waits begins.0 begins.1
 
 pub tells : (s : Bool) (d : ℕ) (fed : List ℕ) (spot : Spot) → IsFed s d fed spot → has_left spot.phase ≡ true
     → length spot.front ≤ affix_len (slice_index spot.front 0 % 32) → Tells s d fed (progress_of spot)

@@ -3,9 +3,9 @@ pub mod Checking
 pub mod Levels
 pub mod Longer
 pub mod Opens
-pub mod Piece
 pub mod Places
 pub mod Plain
+pub mod Reading
 pub mod Snapshots
 pub mod Spots
 pub mod Stack

@@ -1,5 +1,5 @@
 -- The *spot* that the bytes so far have come to. `proofs/Waiting.antt` says what a spot means: which bytes after it
--- make a whole item of all. The law `exact_states` says it of the bytes alone.
+-- make a whole item of all. `Tells` says it of the bytes alone.
 use Rattle.std.specs.Prelude.{ℕ, zero, suc, ◌-◌, Bool, true, false, List, [], ◌∷◌, Some, None}
 use Rattle.ciborium_ll_grammar.specs.declared.hdr.Header.{Header}
 use Rattle.ciborium_ll_grammar.specs.declared.hdr.Header.TheVariants as h

@@ -1,14 +1,13 @@
--- The answers of a checker, and what they say of the bytes so far.
-use Rattle.std.specs.Prelude.{◌≡◌, ℕ, zero, ◌+◌, ◌-◌, ◌%◌, ◌<◌, ◌≤◌, ◌^◌, ◌⊎◌, Bool, true, false, List, [], ◌∷◌}
-use Rattle.std.specs.Prelude.{◌++◌, ◌==◌, if◌then◌else◌, length}
+-- The answers of a checker by its spot.
+use Rattle.std.specs.Prelude.{◌≡◌, ℕ, zero, ◌-◌, ◌%◌, Bool, true, false, List, [], ◌∷◌, ◌==◌, if◌then◌else◌, length}
 use Rattle.ciborium_ll_grammar.specs.Title.{affix_len}
-use Rattle.ciborium_ll_grammar.specs.Items.{IsItem}
 use Rattle.cbor_checker.specs.declared.phase.Phase.{Phase}
 use Rattle.cbor_checker.specs.declared.phase.Phase.TheVariants as p
 use Rattle.cbor_checker.specs.declared.progress.Progress.{Progress}
 use Rattle.cbor_checker.specs.declared.progress.Progress.TheVariants as r
 use Rattle.cbor_checker.specs.declared.progress.End.{End}
 use Rattle.cbor_checker.specs.declared.progress.End.TheVariants as e
+use Rattle.cbor_checker.specs.Reading.{IsMore}
 use Rattle.cbor_checker.specs.Spots.{Spot}
 
 -- If a body is due, it has bytes left: so it is with `Bytes(2)` after `42` and with `Title`, and not with `Bytes(0)`.
@@ -52,34 +51,11 @@ end_in r.TooLong = e.Between
 abbrev pub end_of : Spot → End
 end_of spot = if spot.offset == 0 then e.Between else end_in (progress_of spot)
 
--- The answer is that more bytes are due: so is the `More(2)` of `19`, and `TooLong` is not.
-abbrev pub IsMore : Progress → Type 0
-IsMore (r.More due) = Unit {0}
-IsMore progress = ⊥
-
 -- The answer is that of the spot. With `TooLong`, more bytes are due there. After `19`, `More(2)` and `TooLong` are
 -- answers, and `More(1)` is none.
 abbrev pub IsAnswer : Progress → Spot → Type 0
 IsAnswer r.TooLong spot = IsMore (progress_of spot)
 IsAnswer progress spot = progress ≡ progress_of spot
-
--- The meaning of the answer for all bytes so far (RFC 7049, 2.1 to 2.4). `More`: they are no item, some more bytes make
--- them an item, and all that do are at least `due`. `Ended`: they are one item, of this length. `Fault`: no item begins
--- so. With depth 1, `82 01` gets `More(1)`, `82 01 02` gets `Ended(3)`, and `ff` gets a fault.
-abbrev pub Tells : Bool → ℕ → List ℕ → Progress → Type 0
-Tells strict depth bytes (r.More due) =
-    (1 ≤ due) × ((more : List ℕ) × IsItem strict depth (bytes ++ more))
-    × ((more : List ℕ) → IsItem strict depth (bytes ++ more) → due ≤ length more)
-Tells strict depth bytes (r.Ended len) = IsItem strict depth bytes × (len ≡ length bytes)
-Tells strict depth bytes (r.Fault fault) = (more : List ℕ) → IsItem strict depth (bytes ++ more) → ⊥
-Tells strict depth bytes r.TooLong = 2 ^ 64 ≤ length bytes + 1
-
--- The meaning of the last answer for all bytes: they end between items or within an item, or no item begins so. `82 01`
--- ends within an item.
-abbrev pub TellsEnd : Bool → ℕ → List ℕ → End → Type 0
-TellsEnd strict depth bytes e.Between = (bytes ≡ []) ⊎ IsItem strict depth bytes
-TellsEnd strict depth bytes (e.Short due) = (0 < length bytes) × Tells strict depth bytes (r.More due)
-TellsEnd strict depth bytes (e.Fault fault) = Tells strict depth bytes (r.Fault fault)
 
 -- The item is whole: the phase is `Ended`, as after `f6`, and not `Bytes(2)`.
 abbrev pub EndedIn : Phase → Type 0

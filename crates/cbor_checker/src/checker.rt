@@ -24,24 +24,22 @@ pub struct Checker {
 }
 
 impl Checker {
-    ghost use Rattle.cbor_checker.specs.Checking.{IsAt, spot_of};
-    ghost use Rattle.cbor_checker.specs.Snapshots.{Holds};
-    ghost use Rattle.std.specs.Prelude.{Bool, ℕ, ◌++◌, List, [], IfSome, take, true, false};
-    ghost use Rattle.cbor_checker.specs.Steps.{IsFed};
-    ghost use Rattle.cbor_checker.specs.Telling.{IsAnswer, IsMore, Tells, TellsEnd, end_of, is_due, progress_of};
+    ghost use Rattle.cbor_checker.specs.Checking.{Answers, AnswersEnd, AnswersPiece, HasRead, HoldsSome, Keeps, Saves};
+    ghost use Rattle.std.specs.Prelude.{Bool, ℕ, ◌++◌, List, [], IfSome, IsSomeAnd, take, true, false};
+    ghost use Rattle.cbor_checker.specs.Reading.{IsMore, Reads, Tells, TellsEnd};
+    ghost use Rattle.cbor_checker.specs.declared.progress.Progress.{Progress};
     ghost use Rattle.cbor_checker.specs.declared.progress.Progress.TheVariants as r;
-    ghost use Rattle.cbor_checker.specs.Spots.{Spot};
     ghost use Rattle.ciborium_ll_grammar.specs.Spellings.{is_shortest};
     ghost use Rattle.ciborium_ll_grammar.specs.declared.limits.TheConstants.{MOST_LEVELS};
 
-    /// Makes a checker for one item, before its first byte.
+    /// Makes a checker for one item (RFC 7049, 2.1 to 2.4), which has read no byte.
     ///
     /// Tags, arrays and maps may be nested at most `depth` levels deep, and `depth` is at most 256. Each takes a level,
     /// even if it is empty; a string takes none.
     #[inline(always)]
     pub fn new(depth: usize) -> Checker
         requires { depth ≤ MOST_LEVELS }
-        ensures { IsFed false depth [] (spot_of result) }
+        ensures { HasRead false depth [] result }
     {
         Checker::with_spelling(depth, Spelling::Any)
     }
@@ -54,7 +52,7 @@ impl Checker {
     #[inline(always)]
     pub fn strict(depth: usize) -> Checker
         requires { depth ≤ MOST_LEVELS }
-        ensures { IsFed true depth [] (spot_of result) }
+        ensures { HasRead true depth [] result }
     {
         Checker::with_spelling(depth, Spelling::Shortest)
     }
@@ -63,7 +61,7 @@ impl Checker {
     #[inline(always)]
     pub fn with_spelling(depth: usize, spelling: Spelling) -> Checker
         requires { depth ≤ MOST_LEVELS }
-        ensures { IsFed (is_shortest spelling) depth [] (spot_of result) }
+        ensures { HasRead (is_shortest spelling) depth [] result }
     {
         Checker {
             position: Position::of(spelling.is_shortest(), depth),
@@ -73,11 +71,12 @@ impl Checker {
     }
 
     /// Returns the last answer of [`Checker::feed`], or `More(1)` before the first piece. After a `TooLong` it returns
-    /// `More`.
+    /// `More`. The answer is true of all bytes that the checker has read.
     pub fn progress(&self) -> Progress
-        ensures answers { result ≡ progress_of (spot_of self.now) }
-        ensures tells { (strict : Bool) (depth : ℕ) (fed : List ℕ) → IsFed strict depth fed (spot_of self.now)
-            → Tells strict depth fed result }
+        ensures tells { (strict : Bool) (depth : ℕ) (read : List ℕ) → HasRead strict depth read self.now
+            → Tells strict depth read result }
+        ensures is { Answers self.now result }
+        ensures long { result ≡ r.TooLong → ⊥ }
     {
         answer(
             self.position.phase,
@@ -86,11 +85,12 @@ impl Checker {
         )
     }
 
-    /// Returns how the item stands if no more bytes come.
+    /// Returns how the item stands if no more bytes come. The number that is due and the fault are those of
+    /// [`Checker::progress`].
     pub fn end(&self) -> End
-        ensures answers { result ≡ end_of (spot_of self.now) }
-        ensures tells { (strict : Bool) (depth : ℕ) (fed : List ℕ) → IsFed strict depth fed (spot_of self.now)
-            → TellsEnd strict depth fed result }
+        ensures tells { (strict : Bool) (depth : ℕ) (read : List ℕ) → HasRead strict depth read self.now
+            → TellsEnd strict depth read result }
+        ensures is { AnswersEnd self.now result }
     {
         if self.position.offset == 0 {
             return End::Between;
@@ -107,21 +107,19 @@ impl Checker {
     /// come.
     ///
     /// The call takes all bytes, or those up to the end of the item, or those up to and with the byte at fault. After
-    /// the end or a fault, a later call answers the same. A checker that took two pieces equals a checker that took
-    /// both, joined.
+    /// the end or a fault, a later call takes no byte and answers the same. The answer is true of all bytes that the
+    /// checker has read, however a caller cut them ([`one_answer`](crate::laws::one_answer)).
     #[inline(always)]
     pub fn feed(&mut self, bytes: &[u8]) -> Feed
+        ensures read { (strict : Bool) (depth : ℕ) (read : List ℕ) → HasRead strict depth read self.old
+            → HasRead strict depth (read ++ take result.taken bytes.now) self.new
+            × Reads strict depth read bytes.now result }
+        ensures is { AnswersPiece self.new result.progress }
         ensures taken { result.taken ≤ length bytes.now }
         ensures all { IsMore result.progress → result.taken ≡ length bytes.now }
         ensures long { result.progress ≡ r.TooLong → result.taken < length bytes.now }
-        ensures fed { (strict : Bool) (depth : ℕ) (fed : List ℕ) → IsFed strict depth fed (spot_of self.old)
-            → IsFed strict depth (fed ++ take result.taken bytes.now) (spot_of self.new) }
-        ensures tells { (strict : Bool) (depth : ℕ) (fed : List ℕ) → IsFed strict depth fed (spot_of self.old)
-            → Tells strict depth (fed ++ take result.taken bytes.now) result.progress }
-        ensures counted { (strict : Bool) (depth : ℕ) (fed : List ℕ) → IsFed strict depth fed (spot_of self.old)
-            → length fed + result.taken ≤ usize.MAX }
-        ensures answers { IsAnswer result.progress (spot_of self.new) }
-        ensures stays { is_due (spot_of self.old).phase ≡ false → (result.taken ≡ 0) × (spot_of self.new ≡ spot_of self.old) }
+        ensures stays { (progress : Progress) → Answers self.old progress → (IsMore progress → ⊥)
+            → (result.taken ≡ 0) × (result.progress ≡ progress) × Answers self.new progress }
     {
         self.position.feed(&mut self.kinds, &mut self.counts, bytes)
     }
@@ -130,7 +128,9 @@ impl Checker {
     /// numbers of only those levels that are in use.
     #[inline(always)]
     pub fn save(&self, snapshot: &mut Snapshot)
-        ensures { Holds snapshot.new (spot_of self.now) }
+        ensures keeps { (strict : Bool) (depth : ℕ) (read : List ℕ) → HasRead strict depth read self.now
+            → Keeps strict depth read snapshot.new }
+        ensures saves { Saves self.now snapshot.new }
     {
         copy_levels(
             self.position.nests,
@@ -142,12 +142,13 @@ impl Checker {
         self.position.save(snapshot);
     }
 
-    /// Becomes the checker that [`Checker::save`] wrote, and returns whether there is one.
+    /// Becomes the checker that [`Checker::save`] wrote, and returns whether there is one. It has read the same bytes.
     #[inline(always)]
     pub fn load(&mut self, snapshot: &Snapshot) -> bool
-        ensures some { result ≡ true → Holds snapshot.now (spot_of self.new) }
-        ensures found { (spot : Spot) → Holds snapshot.now spot → result ≡ true }
-        ensures same { (spot : Spot) → Holds snapshot.now spot → spot_of self.new ≡ spot }
+        ensures kept { (strict : Bool) (depth : ℕ) (read : List ℕ) → Keeps strict depth read snapshot.now
+            → (result ≡ true) × HasRead strict depth read self.new }
+        ensures some { result ≡ true → Saves self.new snapshot.now }
+        ensures found { HoldsSome snapshot.now → result ≡ true }
         ensures none { result ≡ false → self.new ≡ self.old }
     {
         if !self.position.load(snapshot) {
@@ -158,11 +159,14 @@ impl Checker {
         true
     }
 
-    /// Returns the checker that [`Checker::save`] wrote, or `None` if [`Checker::load`] finds none.
+    /// Returns the checker that [`Checker::save`] wrote, or `None` if [`Checker::load`] finds none. It has read the
+    /// same bytes.
     #[inline(always)]
     pub fn restore(snapshot: &Snapshot) -> Option<Checker>
-        ensures some { IfSome result (λ checker. Holds snapshot.now (spot_of checker)) }
-        ensures same { (spot : Spot) → Holds snapshot.now spot → IsAt result spot }
+        ensures kept { (strict : Bool) (depth : ℕ) (read : List ℕ) → Keeps strict depth read snapshot.now
+            → IsSomeAnd result (λ checker. HasRead strict depth read checker) }
+        ensures some { IfSome result (λ checker. Saves checker snapshot.now) }
+        ensures found { HoldsSome snapshot.now → IsSome result }
     {
         let mut checker = Checker::new(0);
         if checker.load(snapshot) {

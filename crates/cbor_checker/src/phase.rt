@@ -7,7 +7,7 @@ use ciborium_ll_text::state::State;
 
 /// Why no item begins with the bytes so far, whatever follows them. The number is an offset in bytes.
 ///
-/// A list of bytes has at most one fault (`one_state`). It is the fault of `skip_item` of `cbor_skip`, unless
+/// A list of bytes has at most one fault (`one_answer`). It is the fault of `skip_item` of `cbor_skip`, unless
 /// `skip_item` ends short before it. The fault differs only for a nest that is too deep and has a longer title: a
 /// strict checker names the nest. Laws of `cbor_checker_laws` say so.
 #[derive(Clone, Copy, Debug, PartialEq, Eq)]

@@ -39,7 +39,8 @@ impl Position {
     ghost use Rattle.cbor_checker.specs.Snapshots.{Holds};
     ghost use Rattle.cbor_checker.specs.Spots.{Spot};
     ghost use Rattle.cbor_checker.specs.Steps.{IsFed, start};
-    ghost use Rattle.cbor_checker.specs.Telling.{IsAnswer, IsMore, Tells, is_due};
+    ghost use Rattle.cbor_checker.specs.Reading.{IsMore, Tells};
+    ghost use Rattle.cbor_checker.specs.Telling.{IsAnswer, is_due};
     ghost use Rattle.cbor_checker.specs.declared.progress.Progress.TheVariants as r;
     ghost use Rattle.ciborium_ll_grammar.specs.declared.limits.TheConstants.{MOST_LEVELS};
 

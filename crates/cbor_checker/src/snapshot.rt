@@ -1,10 +1,8 @@
 //! A checker's state as plain numbers.
 
-ghost use Rattle.std.specs.Prelude.{◌≡◌, ◌<◌, ◌≤◌, true, false, IfNone, IfSome, IsSome};
-ghost use Rattle.cbor_checker.specs.Piece.{TakesPiece};
+ghost use Rattle.std.specs.Prelude.{◌≡◌, ◌<◌, ◌≤◌, length, true, false, IfNone, IfSome, IsSome, IsSomeAnd};
 ghost use Rattle.cbor_checker.specs.Opens.{open_count};
-ghost use Rattle.cbor_checker.specs.Spots.{Spot};
-ghost use Rattle.cbor_checker.specs.Snapshots.{Holds, IsState, strict_in};
+ghost use Rattle.cbor_checker.specs.Snapshots.{IsState, strict_in};
 ghost use Rattle.cbor_checker.specs.Telling.{has_left};
 
 use crate::phase::{Phase, Within};
@@ -56,9 +54,16 @@ pub struct Snapshot {
 }
 
 impl Snapshot {
+    ghost use Rattle.std.specs.Prelude.{Bool, ℕ, List, ◌++◌, take};
+    ghost use Rattle.cbor_checker.specs.Checking.{Answers, AnswersPiece, HasRead, HoldsSome, Keeps, Saves};
+    ghost use Rattle.cbor_checker.specs.Reading.{IsMore, Reads};
+    ghost use Rattle.cbor_checker.specs.declared.checker.Checker.{Checker};
+    ghost use Rattle.cbor_checker.specs.declared.progress.Progress.{Progress};
+    ghost use Rattle.cbor_checker.specs.declared.progress.Progress.TheVariants as r;
+
     /// Returns numbers that are no state.
     pub fn new() -> Snapshot
-        ensures { (spot : Spot) → Holds result spot → ⊥ }
+        ensures { HoldsSome result → ⊥ }
     {
         Snapshot {
             offset: 0,
@@ -85,10 +90,19 @@ impl Snapshot {
     /// [`Checker::save`](crate::Checker::save) do, but copies no numbers of nests.
     #[inline(always)]
     pub fn feed(&mut self, bytes: &[u8]) -> Option<Feed>
-        ensures found { (spot : Spot) → Holds self.old spot → IsSome result }
-        ensures some { IfSome result (λ feed. (spot : Spot) × Holds self.old spot) }
-        ensures fed { (old : Spot) → Holds self.old old → IfSome result (λ feed. (new : Spot) × Holds self.new new
-            × TakesPiece old bytes.now feed new) }
+        ensures read { (strict : Bool) (depth : ℕ) (read : List ℕ) → Keeps strict depth read self.old
+            → IsSomeAnd result (λ feed. Keeps strict depth (read ++ take feed.taken bytes.now) self.new
+            × Reads strict depth read bytes.now feed) }
+        ensures is { (strict : Bool) (depth : ℕ) (read : List ℕ) → Keeps strict depth read self.old
+            → IfSome result (λ feed. (checker : Checker) → HasRead strict depth (read ++ take feed.taken bytes.now) checker
+            → AnswersPiece checker feed.progress) }
+        ensures taken { IfSome result (λ feed. feed.taken ≤ length bytes.now) }
+        ensures all { IfSome result (λ feed. IsMore feed.progress → feed.taken ≡ length bytes.now) }
+        ensures long { IfSome result (λ feed. feed.progress ≡ r.TooLong → feed.taken < length bytes.now) }
+        ensures found { HoldsSome self.old → IsSome result }
+        ensures some { IfSome result (λ feed. HoldsSome self.old × HoldsSome self.new) }
+        ensures stays { (checker : Checker) (progress : Progress) → Saves checker self.old → Answers checker progress
+            → (IsMore progress → ⊥) → IfSome result (λ feed. (feed.taken ≡ 0) × (feed.progress ≡ progress)) }
         ensures none { IfNone result (self.new ≡ self.old) }
     {
         let mut position = Position::of(false, 0);

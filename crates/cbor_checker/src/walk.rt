@@ -47,7 +47,8 @@ impl Walk<'_> {
     ghost use Rattle.ciborium_ll_text.specs.States.{after_byte};
     ghost use Rattle.cbor_checker.specs.Steps.{IsFed, Leads, TitleStep, counted, counted_by, start, text_left};
     ghost use Rattle.cbor_checker.specs.Steps.{title_place, with_byte};
-    ghost use Rattle.cbor_checker.specs.Telling.{IsAnswer, IsMore, Tells, TellsEnd, end_of, is_due, progress_of, title_due};
+    ghost use Rattle.cbor_checker.specs.Reading.{IsMore, Tells, TellsEnd};
+    ghost use Rattle.cbor_checker.specs.Telling.{IsAnswer, end_of, is_due, progress_of, title_due};
     ghost use Rattle.cbor_checker.specs.Spots.{Spot, at_phase, body_placed, broken, bytes_due, bytes_entered, entered};
     ghost use Rattle.cbor_checker.specs.Spots.{item_done, item_entered, nested, string_closed, string_done, string_open};
     ghost use Rattle.cbor_checker.specs.Spots.{open_entered, refused, text_due, text_entered};

@@ -21,9 +21,12 @@ use Rattle.cbor_checker.specs.declared.phase.Fault.{Fault}
 use Rattle.cbor_checker.specs.declared.progress.Progress.{Progress}
 use Rattle.cbor_checker.specs.declared.progress.Progress.TheVariants as r
 use Rattle.cbor_checker.specs.Spots.{Spot}
-use Rattle.cbor_checker.specs.Steps.{StepIn, IsFed}
-use Rattle.cbor_checker.specs.Telling.{progress_in, progress_of, IsAnswer, IsMore, Tells}
-use Rattle.cbor_checker_laws.specs.SameFaults.{Names, AnswersFault, SaysEnd, IsFault, BeginsNoItem, FeedTells, SkipTells}
+use Rattle.cbor_checker.specs.Steps.{StepIn}
+use Rattle.cbor_checker.specs.declared.checker.Checker.{Checker}
+use Rattle.cbor_checker.specs.Checking.{Answers, HasRead, spot_of}
+use Rattle.cbor_checker.specs.Reading.{IsEnd, IsFault, IsMore, Tells}
+use Rattle.cbor_checker.specs.Telling.{progress_in}
+use Rattle.cbor_checker_laws.specs.SameFaults.{Names, AnswersFault, BeginsNoItem, FeedTells, SkipTells}
 use Rattle.cbor_checker_laws.proofs.Runs.{Runs, faulted, goes, fed_runs, at, behind}
 use Rattle.cbor_checker_laws.proofs.TitleRuns.{taken_on}
 use Rattle.cbor_checker_laws.proofs.ItemRuns.{completes_on}
@@ -37,9 +40,11 @@ phase_is phase spot fault e = grind (arith, nat_tests)
 
 module _ (s : Bool) (depth : ℕ) (fed more : List ℕ) (fault : Fault) (names : Names s depth fed fault) where
   pub runs_here : FromStart fault s depth (fed ++ more)
+  unfolding HasRead Answers
   runs_here =
-      fed_runs fault s depth fed more names.spot names.is_fed
-      (faulted (phase_is names.spot.phase names.spot fault names.answers))
+      let spot : Spot = spot_of names.checker in
+      fed_runs fault s depth fed more spot names.has_read
+      (faulted (phase_is spot.phase spot fault (sym names.answers)))
 
   -- ---- no item at the start of the bytes
 
@@ -86,13 +91,14 @@ fresh_ready source room strict reader decoder due fresh steady ahead wide fits =
 }
 
 module _ {R E : Type 0} (source : Ghosts R E) (old new : Decoder R) where
-  pub both_answer : (s : Bool) (depth taken : ℕ) (bytes : List ℕ) (fault : Fault) (progress : Progress) (spot : Spot)
-      (result : Result (Unit {0}) (SkipError E)) → IsFed s depth ([] ++ take taken bytes) spot → IsAnswer progress spot
-      → old.offset ≡ 0 → strict_of old ≡ s → SkipsTold source (strict_of old) depth bytes old result new
+  pub both_answer : (s : Bool) (depth taken : ℕ) (bytes : List ℕ) (fault : Fault) (progress : Progress) (checker : Checker)
+      (result : Result (Unit {0}) (SkipError E)) → HasRead s depth (take taken bytes) checker
+      → ((progress ≡ r.TooLong → ⊥) → Answers checker progress) → old.offset ≡ 0 → strict_of old ≡ s → SkipsTold source (strict_of old) depth bytes old result new
       → progress ≡ r.Fault fault → AnswersFault s depth bytes fault 0 result
-  both_answer s depth taken bytes fault progress spot result is_fed answers start mode told e =
+  both_answer s depth taken bytes fault progress checker result has_read answers start mode told e =
+      let answer = subst (Answers checker) e (answers (λ far. let both = sym e ∙ far in cc)) in
       let names : Names s depth (take taken bytes) fault =
-      record { spot = spot; is_fed = is_fed; answers = sym (rw e at answers) } in
+      record { checker = checker; has_read = has_read; answers = answer } in
       let all : take taken bytes ++ drop taken bytes ≡ bytes = take-append-drop taken bytes in
       rw (all, start) at (skip_answers s depth (take taken bytes) (drop taken bytes) fault names source old new result
       (rw all (subst (λ (z : Bool). SkipsTold source z depth bytes old result new) mode told)))
@@ -112,9 +118,9 @@ module _ {R E : Type 0} (source : Ghosts R E) (old new : Decoder R) where
 
 -- ---- the answers of a checker, in terms of all bytes
 
-module _ (s : Bool) (depth taken : ℕ) (bytes : List ℕ) (spot : Spot) (room : length bytes + 1 < 2 ^ 64) where
+module _ (s : Bool) (depth taken : ℕ) (bytes : List ℕ) (checker : Checker) (room : length bytes + 1 < 2 ^ 64) where
   abbrev fed : List ℕ
-  fed = [] ++ take taken bytes
+  fed = take taken bytes
 
   all_bytes : fed ++ drop taken bytes ≡ bytes
   all_bytes = take-append-drop taken bytes
@@ -131,36 +137,38 @@ module _ (s : Bool) (depth taken : ℕ) (bytes : List ℕ) (spot : Spot) (room :
   -- If more bytes are due, the bytes begin with no item.
   more_none : (due : ℕ) → Tells s depth fed (r.More due) → taken ≡ length bytes → BeginsWithItem s depth bytes → ⊥
   more_none due tells e front =
-      let more = tells.1.0 in
+      let more = tells.0.begins.0 in
       let parts : front.item ++ (front.rest ++ more) ≡ (fed ++ more) ++ [] =
       sym (append_assoc front.item front.rest more) ∙ (ap (λ (z : List ℕ). z ++ more) (sym front.is ∙ sym (whole e))
       ∙ sym (append-nil (fed ++ more))) in
-      let one = one_item s s depth depth front.item (fed ++ more) (front.rest ++ more) [] front.is_item tells.1.1
-      parts in
+      let one = one_item s s depth depth front.item (fed ++ more) (front.rest ++ more) [] front.is_item
+      tells.0.begins.1 parts in
       let nothing = ap length one.1 in
-      let least = tells.2 more tells.1.1 in
-      omega (arith, nothing, least, tells.0, length-append front.rest more)
+      let least = tells.2 more tells.0.begins.1 in
+      omega (arith, nothing, least, tells.1, length-append front.rest more)
 
   -- If more bytes are due, some further bytes complete an item.
   more_begins : (due : ℕ) → Tells s depth fed (r.More due) → taken ≡ length bytes → BeginsNoItem s depth bytes → ⊥
   more_begins due tells e none =
-      let more = tells.1.0 in
+      let more = tells.0.begins.0 in
       none more (record {
         item = fed ++ more;
         rest = [];
-        is_item = tells.1.1;
+        is_item = tells.0.begins.1;
         is = ap (λ (z : List ℕ). z ++ more) (sym (whole e)) ∙ sym (append-nil (fed ++ more));
       })
 
   -- The number of bytes fed is less than `2 ^ 64 - 1`.
-  not_long : 2 ^ 64 ≤ length fed + 1 → ⊥
+  not_long : length fed + 1 ≡ 2 ^ 64 → ⊥
   not_long long =
       let parts = ap length all_bytes in
       omega (arith, long, room, parts, length-append fed (drop taken bytes))
 
-  fault_none : (fault : Fault) → IsFed s depth fed spot → r.Fault fault ≡ progress_of spot → BeginsNoItem s depth bytes
-  fault_none fault is_fed e more front =
-      let names : Names s depth fed fault = record { spot = spot; is_fed = is_fed; answers = sym e } in
+  fault_none : (fault : Fault) → HasRead s depth fed checker → Answers checker (r.Fault fault)
+      → BeginsNoItem s depth bytes
+  fault_none fault has_read answers more front =
+      let names : Names s depth fed fault =
+      record { checker = checker; has_read = has_read; answers = answers } in
       let all : fed ++ (drop taken bytes ++ more) ≡ bytes ++ more =
       sym (append_assoc fed (drop taken bytes) more) ∙ ap (λ (z : List ℕ). z ++ more) all_bytes in
       item_none s depth fed (drop taken bytes ++ more) fault names front.item front.rest front.is_item (all ∙ front.is)
@@ -168,32 +176,45 @@ module _ (s : Bool) (depth taken : ℕ) (bytes : List ℕ) (spot : Spot) (room :
   item_here : BeginsWithItem s depth bytes → BeginsNoItem s depth bytes → ⊥
   item_here front none = none [] (rw append-nil front)
 
-  module _ (is_fed : IsFed s depth fed spot) where
+  module _ (has_read : HasRead s depth fed checker) where
     -- The exact answer of the checker.
     abbrev Exact : Progress → Type 0
     Exact progress =
-        (progress ≡ progress_of spot) × (SaysEnd progress ↔ BeginsWithItem s depth bytes)
+        Answers checker progress × (IsEnd progress ↔ BeginsWithItem s depth bytes)
         × (IsFault progress ↔ BeginsNoItem s depth bytes)
 
-    pub exactly : (progress : Progress) → IsAnswer progress spot → Tells s depth fed progress
-        → (IsMore progress → taken ≡ length bytes) → Exact progress
+    pub exactly : (progress : Progress) → ((progress ≡ r.TooLong → ⊥) → Answers checker progress)
+        → Tells s depth fed progress → (IsMore progress → taken ≡ length bytes) → Exact progress
     exactly (r.More due) answers tells all = (
-      answers,
+      answers (λ far. cc),
       (λ is. absurd is, more_none due tells (all tt)),
       (λ is. absurd is, more_begins due tells (all tt)),
     )
     exactly (r.Ended len) answers tells all =
-        let front = ended_front tells.0 in
-        (answers, (λ is. front, λ front. tt), (λ is. absurd is, λ none. item_here front none))
+        let front = ended_front tells.0 in (
+          answers (λ far. cc),
+          (λ is. front, λ front. tt),
+          (λ is. absurd is, λ none. item_here front none),
+        )
     exactly (r.Fault fault) answers tells all =
-        let none = fault_none fault is_fed answers in
-        (answers, (λ is. absurd is, λ front. item_here front none), (λ is. none, λ none. tt))
-    exactly r.TooLong answers tells all = absurd (not_long tells)
+        let answer = answers (λ far. cc) in
+        let none = fault_none fault has_read answer in
+        (answer, (λ is. absurd is, λ front. item_here front none), (λ is. none, λ none. tt))
+    exactly r.TooLong answers tells all = absurd (not_long tells.1)
 
-    pub feed_tells : (progress : Progress) → IsAnswer progress spot → Tells s depth fed progress
-        → (IsMore progress → taken ≡ length bytes) → FeedTells s depth bytes progress
+    pub feed_tells : (progress : Progress) → ((progress ≡ r.TooLong → ⊥) → Answers checker progress)
+        → Tells s depth fed progress → (IsMore progress → taken ≡ length bytes) → FeedTells s depth bytes progress
     feed_tells progress answers tells all =
         let is = sym all_bytes in
         let none = λ (more : IsMore progress). none_left (all more) in
         let answer = (exactly progress answers tells all).0 in
-        record { taken = fed; rest = _; is = is; all = none; spot = spot; is_fed = is_fed; answers = answer }
+        record {
+          taken = fed;
+          rest = _;
+          is = is;
+          all = none;
+          tells = tells;
+          checker = checker;
+          has_read = has_read;
+          answers = answer;
+        }

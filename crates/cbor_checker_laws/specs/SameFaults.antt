@@ -14,20 +14,21 @@ use Rattle.cbor_checker.specs.declared.phase.Fault.{Fault}
 use Rattle.cbor_checker.specs.declared.phase.Fault.TheVariants as f
 use Rattle.cbor_checker.specs.declared.progress.Progress.{Progress}
 use Rattle.cbor_checker.specs.declared.progress.Progress.TheVariants as r
-use Rattle.cbor_checker.specs.Spots.{Spot}
-use Rattle.cbor_checker.specs.Steps.{IsFed}
-use Rattle.cbor_checker.specs.Telling.{progress_of, IsMore}
+use Rattle.cbor_checker.specs.declared.checker.Checker.{Checker}
+use Rattle.cbor_checker.specs.Checking.{Answers, HasRead}
+use Rattle.cbor_checker.specs.Reading.{IsMore, Tells}
 
--- The answer of a checker that was fed the bytes. It took a beginning of them, and all of them if more are due. Its
--- answer is that of the spot to which the bytes that it took lead. For `01 02` it took `01`, and answers `Ended(1)`.
+-- The answer of a checker that was fed the bytes. It has read a beginning of them, and all of them if more are due. The
+-- answer is true of what it has read. For `01 02` it has read `01`, and answers `Ended(1)`.
 pub record FeedTells (strict : Bool) (depth : ℕ) (bytes : List ℕ) (progress : Progress) : Type 0 where
   pub taken : List ℕ
   pub rest : List ℕ
   pub is : bytes ≡ taken ++ rest
   pub all : IsMore progress → rest ≡ []
-  pub spot : Spot
-  pub is_fed : IsFed strict depth taken spot
-  pub answers : progress ≡ progress_of spot
+  pub tells : Tells strict depth taken progress
+  pub checker : Checker
+  pub has_read : HasRead strict depth taken checker
+  pub answers : Answers checker progress
 
 -- The answer of a skip of the bytes, which begins at the offset 0. The bytes begin with an item, or end too early, or
 -- are at fault at the named place. The fault may be a break or a nest that may not stand there. For `82 01 ff`, with a
@@ -43,21 +44,11 @@ SkipTells strict depth bytes (Err (s.Read (e.Io error))) =
 SkipTells strict depth bytes (Err (s.Read e.TooLong)) = ⊥
 SkipTells strict depth bytes (Err (s.Read e.Waiting)) = ⊥
 
--- A checker that was fed these bytes answers this fault: `Break(2)` for `82 01 ff`, if the depth is 1 or more.
+-- A checker that has read these bytes answers this fault: `Break(2)` for `82 01 ff`, if the depth is 1 or more.
 pub record Names (strict : Bool) (depth : ℕ) (fed : List ℕ) (fault : Fault) : Type 0 where
-  pub spot : Spot
-  pub is_fed : IsFed strict depth fed spot
-  pub answers : progress_of spot ≡ r.Fault fault
-
--- The answer is that the item has ended, as `Ended(3)` for `82 01 02`.
-abbrev pub SaysEnd : Progress → Type 0
-SaysEnd (r.Ended len) = Unit {0}
-SaysEnd progress = ⊥
-
--- The answer is a fault, as `Break(0)` for `ff`.
-abbrev pub IsFault : Progress → Type 0
-IsFault (r.Fault fault) = Unit {0}
-IsFault progress = ⊥
+  pub checker : Checker
+  pub has_read : HasRead strict depth fed checker
+  pub answers : Answers checker (r.Fault fault)
 
 -- The bytes begin no item, whatever follows them. Nothing makes an item of `ff`, but `02` makes one of `82 01`, if the
 -- depth is 1 or more.

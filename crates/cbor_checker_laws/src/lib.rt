@@ -6,7 +6,8 @@ ghost use Rattle.std.specs.Prelude.{◌≡◌, ◌↔◌, ◌+◌, ◌≤◌, le
 ghost use Rattle.cbor_skip.specs.ItemFaults.{BeginsWithItem};
 ghost use Rattle.cbor_checker.specs.declared.phase.Fault.{Fault};
 ghost use Rattle.cbor_checker.specs.declared.progress.Progress.TheVariants as r;
-ghost use Rattle.cbor_checker_laws.specs.SameFaults.{AnswersFault, BeginsNoItem, FeedTells, SaysEnd, IsFault, SkipTells};
+ghost use Rattle.cbor_checker.specs.Reading.{IsEnd, IsFault};
+ghost use Rattle.cbor_checker_laws.specs.SameFaults.{AnswersFault, BeginsNoItem, FeedTells, SkipTells};
 ghost use Rattle.ciborium_ll_grammar.specs.declared.limits.TheConstants.{MOST_LEVELS};
 
 pub mod laws;
@@ -37,7 +38,7 @@ pub fn feed_and_skip(
     requires room { length bytes.now + BUFFER_SIZE ≤ usize.MAX }
     ensures feed_told { FeedTells strict depth bytes.now result.0 }
     ensures skip_told { SkipTells strict depth bytes.now result.1 }
-    ensures ended { SaysEnd result.0 ↔ BeginsWithItem strict depth bytes.now }
+    ensures ended { IsEnd result.0 ↔ BeginsWithItem strict depth bytes.now }
     ensures skipped { IsOk result.1 ↔ BeginsWithItem strict depth bytes.now }
     ensures faulted { IsFault result.0 ↔ BeginsNoItem strict depth bytes.now }
     ensures same { (fault : Fault) → result.0 ≡ r.Fault fault → AnswersFault strict depth bytes.now fault 0 result.1 }

@@ -1,6 +1,6 @@
 -- The steps of a piece through a checker, and through a copier of elements, which does not get the byte at fault.
-use Rattle.std.proofs.Common.{◌≡◌, ℕ, ◌+◌, ◌<◌, ◌≤◌, ◌^◌, ◌⊎◌, Bool, true, List, [], ◌∷◌, ◌++◌, length, take, drop}
-use Rattle.std.proofs.Common.{refl, sym, ap, subst, ◌∙◌, arith, inl, inr, append_assoc, append-nil, length-append}
+use Rattle.std.proofs.Common.{◌≡◌, ℕ, ◌+◌, ◌<◌, ◌≤◌, ◌^◌, ◌⊎◌, ◌↔◌, Bool, true, List, [], ◌∷◌, ◌++◌, length, take, drop}
+use Rattle.std.proofs.Common.{refl, sym, ap, subst, arith, inl, inr, append_assoc, append-nil, length-append}
 use Rattle.std.proofs.Common.{get_or, take-append-drop}
 use Rattle.std.proofs.lemmas.Bool.{cases_lt}
 use Rattle.std.proofs.lemmas.List.{take_all, take_more, length-take-le, take-take}
@@ -20,12 +20,17 @@ use Rattle.cbor_copier.specs.Telling.{NoneGoOn}
 use Rattle.cbor_copier.proofs.StepLaws as one_copy
 use Rattle.cbor_checker.specs.declared.phase.Phase.{Phase}
 use Rattle.cbor_checker.specs.declared.phase.Phase.TheVariants as p
+use Rattle.cbor_checker.specs.declared.checker.Checker.{Checker}
+use Rattle.cbor_checker.specs.declared.phase.Fault.{Fault}
+use Rattle.cbor_checker.specs.declared.progress.Feed.{Feed}
 use Rattle.cbor_checker.specs.declared.progress.Progress.{Progress}
 use Rattle.cbor_checker.specs.declared.progress.Progress.TheVariants as r
 use Rattle.cbor_checker.specs.Spots.{Spot}
 use Rattle.cbor_checker.specs.Steps.{IsFed}
-use Rattle.cbor_checker.specs.Telling.{is_due, progress_in, IsAnswer, IsMore, Tells, FaultIn, IsAtFault}
-use Rattle.cbor_checker.proofs.OneSpot.{one_spot}
+use Rattle.cbor_checker.specs.Checking.{Answers, spot_of}
+use Rattle.cbor_checker.specs.Reading.{GoesOn, IsFault, IsMore, Reads, Tells}
+use Rattle.cbor_checker.specs.Telling.{is_due, progress_in, FaultIn, IsAtFault}
+use Rattle.cbor_checker.proofs.TellLaws.{goes_on}
 use Rattle.cbor_item_copier.specs.Copying.{most, AreTaken, AreFed, pending_of}
 use Rattle.cbor_item_copier.proofs.RunLaws.{run_long}
 use Rattle.cbor_item_copier.proofs.StateLaws.{fed_bytes, all_taken, due_sound, sound_goes, before_goes}
@@ -36,28 +41,44 @@ back_bytes (x ∷ a) b are = back_bytes a b are.1
 
 -- ---- a checker takes bytes
 
-due_more : (phase : Phase) (spot : Spot) → is_due phase ≡ true → IsMore (progress_in phase spot)
-due_more p.Ended spot due = absurd cc
-due_more (p.Faulted fault) spot due = absurd cc
-due_more phase spot due = tt
+-- If an item goes on and the answer is not `More`, no more bytes can be counted.
+too_many : (progress : Progress) (s : Bool) (d : ℕ) (fed : List ℕ) → GoesOn s d fed → (IsMore progress → ⊥)
+    → Tells s d fed progress → length fed + 1 ≡ 2 ^ 64
+too_many r.TooLong s d fed on never tells = tells.1
+too_many (r.More due) s d fed on never tells = absurd (never tt)
+too_many (r.Ended len) s d fed on never tells = absurd (on.unended tells.0)
+too_many (r.Fault fault) s d fed on never tells = absurd (tells on.begins)
 
--- If more bytes are due and the answer is not `More`, no more bytes can be counted.
-too_many : (progress : Progress) (s : Bool) (d : ℕ) (fed : List ℕ) (spot : Spot) → is_due spot.phase ≡ true
-    → IsAnswer progress spot → (IsMore progress → ⊥) → Tells s d fed progress → 2 ^ 64 ≤ length fed + 1
-too_many r.TooLong s d fed spot on answer never says = says
-too_many progress s d fed spot on answer never says =
-    absurd (never (subst IsMore (sym answer) (due_more spot.phase spot on)))
+pub none_taken : (s : Bool) (d : ℕ) (fed bytes : List ℕ) (feed : Feed) (old new : Spot) → 0 < length bytes
+    → feed.taken ≡ 0 → is_due old.phase ≡ true → IsFed s d fed old → IsFed s d (fed ++ take feed.taken bytes) new
+    → Reads s d fed bytes feed → IsFed s d fed new × (length fed + 1 ≡ 2 ^ 64)
+none_taken s d fed bytes feed old new some none due was is so =
+    let same : fed ++ take feed.taken bytes ≡ fed = rw none (append-nil fed) in
+    let on = goes_on s d fed old was due in (
+      rw same at is,
+      too_many feed.progress s d fed on (λ more. omega (arith, none, some, so.all more)) (rw same at so.tells),
+    )
 
-pub none_taken : (s : Bool) (d : ℕ) (fed bytes : List ℕ) (taken : ℕ) (old new : Spot) (progress : Progress)
-    → 0 < length bytes → taken ≡ 0 → is_due old.phase ≡ true → IsFed s d fed old
-    → IsFed s d (fed ++ take taken bytes) new
-    → Tells s d (fed ++ take taken bytes) progress → IsAnswer progress new → (IsMore progress → taken ≡ length bytes)
-    → IsFed s d fed new × (2 ^ 64 ≤ length fed + 1)
-none_taken s d fed bytes taken old new progress some none due was is says answer all =
-    let same : fed ++ take taken bytes ≡ fed = rw none (append-nil fed) in
-    let now = rw same at is in
-    let on = ap (λ (z : Spot). is_due z.phase) (one_spot s d fed new old now was) ∙ due in
-    (now, too_many progress s d fed new on answer (λ more. omega (arith, none, some, all more)) (rw same at says))
+-- The checker's answer is a fault exactly if there is a fault at its spot.
+fault_in : (phase : Phase) (spot : Spot) → IsFault (progress_in phase spot) ↔ FaultIn phase
+fault_in p.Title spot = (λ is. is, λ has. has)
+fault_in (p.Bytes left) spot = (λ is. is, λ has. has)
+fault_in (p.Text left state) spot = (λ is. is, λ has. has)
+fault_in p.Ended spot = (λ is. is, λ has. has)
+fault_in (p.Faulted fault) spot = (λ is. is, λ has. has)
+
+pub not_fault : (progress : Progress) → ((fault : Fault) → progress ≡ r.Fault fault → ⊥) → IsFault progress → ⊥
+not_fault (r.Fault fault) none is = none fault refl
+not_fault (r.More due) none is = is
+not_fault (r.Ended len) none is = is
+not_fault r.TooLong none is = is
+
+pub at_fault : (checker : Checker) (progress : Progress) → Answers checker progress
+    → IsFault progress ↔ IsAtFault (spot_of checker)
+unfolding Answers
+at_fault checker progress answers =
+    let spot : Spot = spot_of checker in
+    subst (λ (z : Progress). IsFault z ↔ IsAtFault spot) (sym answers) (fault_in spot.phase spot)
 
 -- ---- a copier of elements takes the bytes, too
 

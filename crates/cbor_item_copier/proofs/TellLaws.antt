@@ -8,8 +8,12 @@ use Rattle.cbor_copier.specs.Spots.{Spot as Elements}
 use Rattle.cbor_copier.specs.Steps.{IsFed as AreElementsFed, fresh as start, more as go}
 use Rattle.cbor_checker.specs.declared.phase.Phase.{Phase}
 use Rattle.cbor_checker.specs.declared.phase.Phase.TheVariants as p
+use Rattle.cbor_checker.specs.declared.progress.End.{End as CheckedEnd}
 use Rattle.cbor_checker.specs.declared.progress.End.TheVariants as g
+use Rattle.cbor_checker.specs.declared.progress.Progress.{Progress as Checked}
 use Rattle.cbor_checker.specs.Spots.{Spot}
+use Rattle.cbor_checker.specs.Checking.{Answers, AnswersEnd}
+use Rattle.cbor_checker.specs.Reading as reads
 use Rattle.cbor_checker.specs.Telling as checker
 use Rattle.cbor_checker.specs.Telling.{has_left, is_due, progress_in}
 use Rattle.cbor_checker.proofs.TellLaws as told
@@ -63,7 +67,7 @@ more_due (b ∷ bytes) spot due e = absurd cc
 
 module _ (s : Bool) (d : ℕ) (fed output : List ℕ) (item : Spot) (elements : Elements)
     (are : AreFed s d fed item elements output) where
-  whole_told : (phase : Phase) → AreTaken phase fed are.bytes → checker.Tells s d fed (progress_in phase item)
+  whole_told : (phase : Phase) → AreTaken phase fed are.bytes → reads.Tells s d fed (progress_in phase item)
       → TellsWhole s d fed output (of_checker (progress_in phase item))
   whole_told p.Ended taken says =
       let o = item_run s d are.bytes (rw taken at says.0) in
@@ -100,12 +104,12 @@ tells (b ∷ rest) s d fed given item elements are left short = record {
 
 -- If no more bytes can be counted, `TooLong` is true of the bytes and the output.
 pub tells_long : (rest : List ℕ) (s : Bool) (d : ℕ) (fed given : List ℕ) (item : Spot) (elements : Elements) (due : ℕ)
-    → r.More due ≡ progress_of rest item → AreFed s d fed item elements (given ++ rest) → 2 ^ 64 ≤ length fed + 1
+    → r.More due ≡ progress_of rest item → AreFed s d fed item elements (given ++ rest) → length fed + 1 ≡ 2 ^ 64
     → Tells s d fed given r.TooLong
 tells_long rest s d fed given item elements due e are far =
     let on = more_due rest item due e in
     let all = all_taken item.phase fed are.bytes (due_sound item.phase on.1) are.taken in
-    (far, rw (on.0, append-nil, ← all) at (cut s d fed (given ++ rest) item elements are))
+    ((told.goes_on s d fed item are.checked on.1, far), rw (on.0, append-nil, ← all) at (cut s d fed (given ++ rest) item elements are))
 
 -- ---- no more bytes come
 
@@ -148,6 +152,17 @@ tells_end [] s d fed given item elements are says =
 tells_end (b ∷ rest) s d fed given item elements are says = says
 
 -- ---- the answers of a copier
+
+-- If nothing is pending, the checker's answer is the copier's.
+pub checker_answers : (copier : ItemCopier) (progress : Checked) → pending copier ≡ []
+    → Answers copier.checker progress → of_checker progress ≡ progress_of (pending copier) (item_spot copier)
+unfolding Answers
+checker_answers copier progress none answers = rw none (ap of_checker answers)
+
+pub checker_ends : (copier : ItemCopier) (end : CheckedEnd) → pending copier ≡ [] → AnswersEnd copier.checker end
+    → of_end end ≡ end_of (pending copier) (item_spot copier)
+unfolding AnswersEnd
+checker_ends copier end none answers = rw none (ap of_end answers)
 
 tells_now : (copier : ItemCopier) (s : Bool) (d : ℕ) (fed given : List ℕ) → IsItemCopied s d fed given copier
     → Tells s d fed given (progress_of (pending copier) (item_spot copier))

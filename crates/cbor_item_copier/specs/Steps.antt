@@ -22,7 +22,7 @@ pub record Stops (old : ItemCopier) (room out : List ℕ) (new : ItemCopier) : T
   pub held_same : held new ≡ held old
   pub same : out ≡ room
   pub copied : (strict : Bool) (depth : ℕ) (fed given : List ℕ) → IsItemCopied strict depth fed given old
-      → IsItemCopied strict depth fed given new × (2 ^ 64 ≤ length fed + 1)
+      → IsItemCopied strict depth fed given new × (length fed + 1 ≡ 2 ^ 64)
 
 -- A step, by the numbers of bytes that were taken and written, or `None` if it stops. With room for one byte the
 -- numbers of `82 01` may be 2 and 1.

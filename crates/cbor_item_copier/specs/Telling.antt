@@ -4,6 +4,7 @@ use Rattle.ciborium_ll_grammar.specs.Faults.{Short}
 use Rattle.cbor_copier.specs.Telling.{AreSpelled, ComesTo}
 use Rattle.cbor_checker.specs.declared.progress.Progress.TheVariants as f
 use Rattle.cbor_checker.specs.declared.progress.End.TheVariants as g
+use Rattle.cbor_checker.specs.Reading as reads
 use Rattle.cbor_checker.specs.Telling as checker
 use Rattle.cbor_checker.specs.declared.progress.Progress.{Progress as Checked}
 use Rattle.cbor_checker.specs.declared.progress.End.{End as CheckedEnd}
@@ -77,13 +78,13 @@ pub record IsCutBefore (bytes output : List ℕ) : Type 0 where
 -- of the bytes before the last byte. For `82 ff` it is `82`, with a fault.
 abbrev pub TellsWhole : Bool → ℕ → List ℕ → List ℕ → Progress → Type 0
 TellsWhole strict depth bytes output (r.More due) =
-    checker.Tells strict depth bytes (f.More due) × IsCutCopy bytes output
+    reads.Tells strict depth bytes (f.More due) × IsCutCopy bytes output
 TellsWhole strict depth bytes output r.Room = ⊥
 TellsWhole strict depth bytes output (r.Ended len) =
-    checker.Tells strict depth bytes (f.Ended len) × IsSpelled bytes output
+    reads.Tells strict depth bytes (f.Ended len) × IsSpelled bytes output
 TellsWhole strict depth bytes output (r.Fault fault) =
-    checker.Tells strict depth bytes (f.Fault fault) × IsCutBefore bytes output
-TellsWhole strict depth bytes output r.TooLong = checker.Tells strict depth bytes f.TooLong × IsCutCopy bytes output
+    reads.Tells strict depth bytes (f.Fault fault) × IsCutBefore bytes output
+TellsWhole strict depth bytes output r.TooLong = reads.Tells strict depth bytes f.TooLong × IsCutCopy bytes output
 
 -- The output and then some pending bytes have one of these meanings. For `82 01 02` the output may be `82 01`, and then
 -- `02` is pending.
@@ -103,7 +104,7 @@ Tells strict depth bytes output progress = TellsWhole strict depth bytes output 
 -- `Short`: the bytes are a part of an item. `82 01` with the same output gets `Short 1`.
 abbrev pub TellsEnd : Bool → ℕ → List ℕ → List ℕ → End → Type 0
 TellsEnd strict depth bytes output e.Between =
-    ((bytes ≡ []) × (output ≡ [])) ⊎ (checker.Tells strict depth bytes (f.Ended (length bytes)) × IsSpelled bytes output)
+    ((bytes ≡ []) × (output ≡ [])) ⊎ (reads.Tells strict depth bytes (f.Ended (length bytes)) × IsSpelled bytes output)
 TellsEnd strict depth bytes output (e.Short due) =
     (0 < length bytes) × Tells strict depth bytes output (r.More due)
 TellsEnd strict depth bytes output e.Room = LacksRoom strict depth bytes output

@@ -42,7 +42,7 @@ fn check(checker: &mut Checker, bytes: &[u8]) -> usize
     ensures taken { (strict : Bool) (depth : ℕ) (fed : List ℕ) → IsFed strict depth fed (spot_of checker.old)
         → IsFed strict depth (fed ++ take result bytes.now) (spot_of checker.new) × (length fed + result ≤ most) }
     ensures none { (strict : Bool) (depth : ℕ) (fed : List ℕ) → IsFed strict depth fed (spot_of checker.old)
-        → result ≡ 0 → IsFed strict depth fed (spot_of checker.new) × (2 ^ 64 ≤ length fed + 1) }
+        → result ≡ 0 → IsFed strict depth fed (spot_of checker.new) × (length fed + 1 ≡ 2 ^ 64) }
 {
     checker.feed(bytes).taken
 }

@@ -1,48 +1,43 @@
 -- A reader that ends after a number of items, from one piece of the bytes to the next.
-use Rattle.std.proofs.Common.{◌≡◌, ℕ, ◌+◌, inl, inr, false, List, [], ◌++◌, length}
+use Rattle.std.proofs.Common.{◌≡◌, ℕ, ◌+◌, ◌<◌, inl, inr, Bool, false, List, [], ◌++◌, length, take}
 use Rattle.std.proofs.Common.{refl, sym, ap, subst, ◌∙◌, arith, append_assoc, append-nil, length-append}
 use Rattle.ciborium_ll_grammar.specs.Items.{AreItems, IsItem, no_items}
 use Rattle.cbor_skip.proofs.ItemSteps.{items_item}
-use Rattle.cbor_checker.specs.declared.phase.Phase.{Phase}
-use Rattle.cbor_checker.specs.declared.phase.Phase.TheVariants as p
+use Rattle.cbor_checker.specs.declared.checker.Checker.{Checker}
 use Rattle.cbor_checker.specs.declared.phase.Fault.{Fault}
+use Rattle.cbor_checker.specs.declared.progress.Feed.{Feed}
 use Rattle.cbor_checker.specs.declared.progress.Progress.{Progress}
 use Rattle.cbor_checker.specs.declared.progress.Progress.TheVariants as c
-use Rattle.cbor_checker.specs.Checking.{spot_of}
-use Rattle.cbor_checker.specs.Spots.{Spot}
-use Rattle.cbor_checker.specs.Steps.{IsFed}
-use Rattle.cbor_checker.specs.Telling.{FaultIn, IsAtFault, Tells, is_due, progress_in, progress_of}
+use Rattle.cbor_checker.specs.Checking.{HasRead}
+use Rattle.cbor_checker.specs.Reading.{BeginsItem, GoesOn, IsFault, Reads, Tells}
+use Rattle.cbor_checker.proofs.ReadLaws.{none_exact}
 use Rattle.tool_files.specs.Fences.{IsFenced, fenced, lost, within}
 use Rattle.tool_files.specs.declared.fence.Fence.{Fence}
 
--- At a fault no byte is due.
-fault_not_due : (phase : Phase) → FaultIn phase → is_due phase ≡ false
-fault_not_due (p.Faulted fault) at = refl
-fault_not_due phase at = absurd at
+-- If no item begins with the bytes so far, the answer is a fault.
+fault_stays : (s : Bool) (d : ℕ) (bytes : List ℕ) (progress : Progress) → Tells s d bytes progress
+    → (BeginsItem s d bytes → ⊥) → IsFault progress
+fault_stays s d bytes progress tells none = (none_exact s d bytes progress tells).1 none
 
--- The answer at a fault is a fault.
-fault_answer : (phase : Phase) (spot : Spot) → FaultIn phase → (fault : Fault) × (progress_in phase spot ≡ c.Fault fault)
-fault_answer (p.Faulted fault) spot at = (fault, refl)
-fault_answer phase spot at = absurd at
-
--- An answer of a fault is one at a fault.
-answer_fault : (phase : Phase) (spot : Spot) (fault : Fault) → c.Fault fault ≡ progress_in phase spot → FaultIn phase
-answer_fault (p.Faulted found) spot fault is = tt
-answer_fault p.Title spot fault is = absurd cc
-answer_fault (p.Bytes left) spot fault is = absurd cc
-answer_fault (p.Text left state) spot fault is = absurd cc
-answer_fault p.Ended spot fault is = absurd cc
+-- If no item begins with the bytes so far, a checker takes no more.
+pub none_taken : (s : Bool) (d : ℕ) (read piece : List ℕ) (feed : Feed) → Reads s d read piece feed
+    → (BeginsItem s d read → ⊥) → take feed.taken piece ≡ []
+none_taken s d read piece feed so none =
+    let stays : 0 < feed.taken → ⊥ = λ some.
+    let on : GoesOn s d read = rw append-nil at (so.goes 0 some) in none on.begins in
+    let zero : feed.taken ≡ 0 = omega (arith, stays) in
+    ap (λ (n : ℕ). take n piece) zero
 
 module _ {R : Type 0} (items : ℕ) where
   -- No byte was handed out.
-  pub fence_first : (f : Fence R) → IsFed false f.depth [] (spot_of f.checker) → f.left ≡ items → IsFenced items [] f
+  pub fence_first : (f : Fence R) → HasRead false f.depth [] f.checker → f.left ≡ items → IsFenced items [] f
   fence_first f anew all = within 0 [] [] [] no_items anew refl (inl refl) (omega (arith, all))
 
   -- The reader within has no part in it.
   pub fence_same : (given : List ℕ) (old new : Fence R) → new.depth ≡ old.depth → new.checker ≡ old.checker
       → new.left ≡ old.left → IsFenced items given old → IsFenced items given new
-  fence_same given old new deep same left (within count before part rest are is_fed is stuck counted) =
-      within count before part rest (rw deep are) (rw (deep, same) is_fed) is (rw same stuck)
+  fence_same given old new deep same left (within count before part rest are has_read is stuck counted) =
+      within count before part rest (rw deep are) (rw (deep, same) has_read) is (rw deep stuck)
       (omega (arith, counted, left))
   fence_same given old new deep same left (fenced before rest are is zero) =
       fenced before rest (rw deep are) is (left ∙ zero)
@@ -51,7 +46,7 @@ module _ {R : Type 0} (items : ℕ) where
   -- After the last item any bytes follow.
   pub fence_behind : (given more : List ℕ) (f : Fence R) → IsFenced items given f → f.left ≡ 0
       → IsFenced items (given ++ more) f
-  fence_behind given more f (within count before part rest are is_fed is stuck counted) none =
+  fence_behind given more f (within count before part rest are has_read is stuck counted) none =
       fenced before ((part ++ rest) ++ more)
       (subst (λ (n : ℕ). AreItems false f.depth n before) (omega (arith, counted, none)) are)
       (ap (λ (z : List ℕ). z ++ more) is ∙ append_assoc before (part ++ rest) more) none
@@ -59,99 +54,101 @@ module _ {R : Type 0} (items : ℕ) where
       fenced before (rest ++ more) are (ap (λ (z : List ℕ). z ++ more) is ∙ append_assoc before rest more) none
   fence_behind given more f (lost many zero) none = lost (omega (arith, many, length-append given more)) none
 
-  module _ (given taken : List ℕ) (old new : Fence R) (progress : Progress) (spot : Spot) (deep : new.depth ≡ old.depth)
-      (feeds : (part : List ℕ) → IsFed false old.depth part (spot_of old.checker)
-      → IsFed false old.depth (part ++ taken) spot)
-      (tells : (part : List ℕ) → IsFed false old.depth part (spot_of old.checker)
+  module _ (given taken : List ℕ) (old new : Fence R) (progress : Progress) (checker : Checker)
+      (deep : new.depth ≡ old.depth)
+      (feeds : (part : List ℕ) → HasRead false old.depth part old.checker
+      → HasRead false old.depth (part ++ taken) checker)
+      (tells : (part : List ℕ) → HasRead false old.depth part old.checker
       → Tells false old.depth (part ++ taken) progress)
-      (stays : is_due (spot_of old.checker).phase ≡ false → (taken ≡ []) × (spot ≡ spot_of old.checker)) where
-    -- At a fault the answer is that fault, and no byte is taken.
-    still : IsAtFault (spot_of old.checker) → (fault : Fault) × (progress_of spot ≡ c.Fault fault)
-    still at =
-        let same = stays (fault_not_due (spot_of old.checker).phase at) in
-        let answer = fault_answer (spot_of old.checker).phase (spot_of old.checker) at in
-        (answer.0, ap progress_of same.1 ∙ answer.1)
+      (stays : (part : List ℕ) → HasRead false old.depth part old.checker → (BeginsItem false old.depth part → ⊥)
+      → taken ≡ []) where
+    -- If no item begins with the part, the answer is a fault.
+    still : (part : List ℕ) → HasRead false old.depth part old.checker → (BeginsItem false old.depth part → ⊥)
+        → IsFault progress
+    still part has_read none =
+        let same : part ++ taken ≡ part = rw (stays part has_read none) (append-nil part) in
+        fault_stays false old.depth part progress (rw same at (tells part has_read)) none
 
     -- An item has ended.
-    pub fence_ended : (len : ℕ) → progress ≡ c.Ended len → c.Ended len ≡ progress_of spot
-        → IsFed false old.depth [] (spot_of new.checker) → old.left ≡ new.left + 1 → IsFenced items given old
+    pub fence_ended : (len : ℕ) → progress ≡ c.Ended len
+        → HasRead false old.depth [] new.checker → old.left ≡ new.left + 1 → IsFenced items given old
         → IsFenced items (given ++ taken) new
-    fence_ended len is answers anew less (within count before part rest are is_fed at (inl none) counted) =
+    fence_ended len is anew less (within count before part rest are has_read at (inl none) counted) =
         let item : IsItem false old.depth (part ++ taken) =
-        (subst (λ (z : Progress). Tells false old.depth (part ++ taken) z) is (tells part is_fed)).0 in
+        (subst (λ (z : Progress). Tells false old.depth (part ++ taken) z) is (tells part has_read)).0 in
         within (count + 1) (before ++ (part ++ taken)) [] []
         (subst (λ (n : ℕ). AreItems false n (count + 1) (before ++ (part ++ taken))) (sym deep)
         (subst (λ (n : ℕ). AreItems false old.depth n (before ++ (part ++ taken))) (omega arith)
         (items_item false old.depth count before (part ++ taken) are item)))
-        (subst (λ (n : ℕ). IsFed false n [] (spot_of new.checker)) (sym deep) anew)
+        (subst (λ (n : ℕ). HasRead false n [] new.checker) (sym deep) anew)
         (ap (λ (z : List ℕ). z ++ taken) (at ∙ ap (λ (z : List ℕ). before ++ (part ++ z)) none)
         ∙ ap (λ (z : List ℕ). (before ++ z) ++ taken) (append-nil part) ∙ append_assoc before part taken
         ∙ sym (append-nil (before ++ (part ++ taken))))
         (inl refl) (omega (arith, counted, less))
-    fence_ended len is answers anew less (within count before part rest are is_fed at (inr stuck) counted) =
-        let fault = still stuck in absurd cc
-    fence_ended len is answers anew less (fenced before rest are at zero) = absurd (omega (arith, less, zero))
-    fence_ended len is answers anew less (lost many zero) = absurd (omega (arith, less, zero))
+    fence_ended len is anew less (within count before part rest are has_read at (inr stuck) counted) =
+        absurd (subst IsFault is (still part has_read stuck))
+    fence_ended len is anew less (fenced before rest are at zero) = absurd (omega (arith, less, zero))
+    fence_ended len is anew less (lost many zero) = absurd (omega (arith, less, zero))
 
     -- More bytes of the item are due, and all were taken.
-    pub fence_more : (due : ℕ) → progress ≡ c.More due → c.More due ≡ progress_of spot → spot ≡ spot_of new.checker
+    pub fence_more : (due : ℕ) → progress ≡ c.More due → checker ≡ new.checker
         → new.left ≡ old.left → IsFenced items given old → IsFenced items (given ++ taken) new
-    fence_more due is answers here same (within count before part rest are is_fed at (inl none) counted) =
+    fence_more due is here same (within count before part rest are has_read at (inl none) counted) =
         within count before (part ++ taken) []
         (subst (λ (n : ℕ). AreItems false n count before) (sym deep) are)
-        (subst (λ (n : ℕ). IsFed false n (part ++ taken) (spot_of new.checker)) (sym deep)
-        (subst (λ (z : Spot). IsFed false old.depth (part ++ taken) z) here (feeds part is_fed)))
+        (subst (λ (n : ℕ). HasRead false n (part ++ taken) new.checker) (sym deep)
+        (subst (HasRead false old.depth (part ++ taken)) here (feeds part has_read)))
         (ap (λ (z : List ℕ). z ++ taken) (at ∙ ap (λ (z : List ℕ). before ++ (part ++ z)) none)
         ∙ ap (λ (z : List ℕ). (before ++ z) ++ taken) (append-nil part) ∙ append_assoc before part taken
         ∙ ap (λ (z : List ℕ). before ++ z) (sym (append-nil (part ++ taken))))
         (inl refl) (omega (arith, counted, same))
-    fence_more due is answers here same (within count before part rest are is_fed at (inr stuck) counted) =
-        let fault = still stuck in absurd cc
-    fence_more due is answers here same (fenced before rest are at zero) =
+    fence_more due is here same (within count before part rest are has_read at (inr stuck) counted) =
+        absurd (subst IsFault is (still part has_read stuck))
+    fence_more due is here same (fenced before rest are at zero) =
         fenced before (rest ++ taken) (subst (λ (n : ℕ). AreItems false n items before) (sym deep) are)
         (ap (λ (z : List ℕ). z ++ taken) at ∙ append_assoc before rest taken) (same ∙ zero)
-    fence_more due is answers here same (lost many zero) =
+    fence_more due is here same (lost many zero) =
         lost (omega (arith, many, length-append given taken)) (same ∙ zero)
 
     -- No item goes on, and bytes follow the byte at fault.
     pub fence_fault : (fault : Fault) (behind : List ℕ) → progress ≡ c.Fault fault
-        → c.Fault fault ≡ progress_of spot
-        → spot ≡ spot_of new.checker → new.left ≡ old.left → IsFenced items given old
+        → checker ≡ new.checker → new.left ≡ old.left → IsFenced items given old
         → IsFenced items (given ++ (taken ++ behind)) new
-    fence_fault fault behind is answers here same (within count before part rest are is_fed at (inl none) counted) =
+    fence_fault fault behind is here same (within count before part rest are has_read at (inl none) counted) =
         within count before (part ++ taken) behind
         (subst (λ (n : ℕ). AreItems false n count before) (sym deep) are)
-        (subst (λ (n : ℕ). IsFed false n (part ++ taken) (spot_of new.checker)) (sym deep)
-        (subst (λ (z : Spot). IsFed false old.depth (part ++ taken) z) here (feeds part is_fed)))
+        (subst (λ (n : ℕ). HasRead false n (part ++ taken) new.checker) (sym deep)
+        (subst (HasRead false old.depth (part ++ taken)) here (feeds part has_read)))
         (ap (λ (z : List ℕ). z ++ (taken ++ behind)) (at ∙ ap (λ (z : List ℕ). before ++ (part ++ z)) none)
         ∙ ap (λ (z : List ℕ). (before ++ z) ++ (taken ++ behind)) (append-nil part)
         ∙ append_assoc before part (taken ++ behind)
         ∙ ap (λ (z : List ℕ). before ++ z) (sym (append_assoc part taken behind)))
-        (inr (subst IsAtFault here (answer_fault spot.phase spot fault answers)))
+        (inr (rw deep (subst (Tells false old.depth (part ++ taken)) is (tells part has_read))))
         (omega (arith, counted, same))
-    fence_fault fault behind is answers here same (within count before part rest are is_fed at (inr stuck) counted) =
-        let held = stays (fault_not_due (spot_of old.checker).phase stuck) in
+    fence_fault fault behind is here same (within count before part rest are has_read at (inr stuck) counted) =
+        let held = stays part has_read stuck in
+        let whole : part ++ taken ≡ part = rw held (append-nil part) in
         within count before part (rest ++ behind)
         (subst (λ (n : ℕ). AreItems false n count before) (sym deep) are)
-        (subst (λ (n : ℕ). IsFed false n part (spot_of new.checker)) (sym deep)
-        (subst (λ (z : Spot). IsFed false old.depth part z) (sym held.1 ∙ here) is_fed))
-        (ap (λ (z : List ℕ). given ++ (z ++ behind)) held.0 ∙ ap (λ (z : List ℕ). z ++ behind) at
+        (subst (λ (n : ℕ). HasRead false n part new.checker) (sym deep)
+        (subst (HasRead false old.depth part) here (rw whole at (feeds part has_read))))
+        (ap (λ (z : List ℕ). given ++ (z ++ behind)) held ∙ ap (λ (z : List ℕ). z ++ behind) at
         ∙ append_assoc before (part ++ rest) behind
         ∙ ap (λ (z : List ℕ). before ++ z) (append_assoc part rest behind))
-        (inr (subst IsAtFault (sym held.1 ∙ here) stuck)) (omega (arith, counted, same))
-    fence_fault fault behind is answers here same (fenced before rest are at zero) =
+        (inr (rw deep stuck)) (omega (arith, counted, same))
+    fence_fault fault behind is here same (fenced before rest are at zero) =
         fenced before (rest ++ (taken ++ behind)) (subst (λ (n : ℕ). AreItems false n items before) (sym deep) are)
         (ap (λ (z : List ℕ). z ++ (taken ++ behind)) at ∙ append_assoc before rest (taken ++ behind)) (same ∙ zero)
-    fence_fault fault behind is answers here same (lost many zero) =
+    fence_fault fault behind is here same (lost many zero) =
         lost (omega (arith, many, length-append given (taken ++ behind))) (same ∙ zero)
 
     -- No more bytes can be counted.
     pub fence_lost : progress ≡ c.TooLong → new.left ≡ 0 → IsFenced items given old → IsFenced items (given ++ taken) new
-    fence_lost is none (within count before part rest are is_fed at stuck counted) =
-        let long = subst (λ (z : Progress). Tells false old.depth (part ++ taken) z) is (tells part is_fed) in
+    fence_lost is none (within count before part rest are has_read at stuck counted) =
+        let long = subst (λ (z : Progress). Tells false old.depth (part ++ taken) z) is (tells part has_read) in
         lost (omega (
           arith,
-          long,
+          long.1,
           ap (length {A = ℕ}) at,
           length-append before (part ++ rest),
           length-append part rest,

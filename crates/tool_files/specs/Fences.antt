@@ -1,9 +1,8 @@
 -- A reader that ends after a number of items: the items that were handed out.
 use Rattle.std.specs.Prelude.{◌≡◌, ℕ, ◌+◌, ◌≤◌, ◌^◌, ◌⊎◌, false, List, [], ◌++◌, length}
 use Rattle.ciborium_ll_grammar.specs.Items.{AreItems}
-use Rattle.cbor_checker.specs.Checking.{spot_of}
-use Rattle.cbor_checker.specs.Steps.{IsFed}
-use Rattle.cbor_checker.specs.Telling.{IsAtFault}
+use Rattle.cbor_checker.specs.Checking.{HasRead}
+use Rattle.cbor_checker.specs.Reading.{BeginsItem}
 use Rattle.tool_files.specs.declared.fence.Fence.{Fence}
 
 module _ {R : Type 0} where
@@ -24,12 +23,12 @@ module _ {R : Type 0} where
   fence_failures f = f.failures.count
 
   -- These bytes were handed out. `within`: fewer items have ended than are wanted, and a part of the next item follows
-  -- them. If no item goes on after the part, any bytes follow. `fenced`: all items have ended. `lost`: there are more
+  -- them, which the checker has read. If no item begins with the part, any bytes follow. `fenced`: all items have ended. `lost`: there are more
   -- bytes than can be counted. Of 2 items, `01 82` is within, and `01 80` is fenced.
   pub data IsFenced (items : ℕ) (given : List ℕ) (f : Fence R) : Type 0 where
     within : (count : ℕ) (before part rest : List ℕ) → AreItems false f.depth count before
-        → IsFed false f.depth part (spot_of f.checker) → given ≡ before ++ (part ++ rest)
-        → (rest ≡ []) ⊎ IsAtFault (spot_of f.checker) → count + f.left ≡ items → IsFenced items given f
+        → HasRead false f.depth part f.checker → given ≡ before ++ (part ++ rest)
+        → (rest ≡ []) ⊎ (BeginsItem false f.depth part → ⊥) → count + f.left ≡ items → IsFenced items given f
     fenced : (before rest : List ℕ) → AreItems false f.depth items before → given ≡ before ++ rest → f.left ≡ 0
         → IsFenced items given f
     lost : 2 ^ 64 ≤ length given + 1 → f.left ≡ 0 → IsFenced items given f

@@ -1,5 +1,5 @@
 use Rattle.capi.proofs.cll_checker_end.Goals as goal
 
 pub returns-clause-ended : goal.returns-clause-ended
-returns-clause-ended c = λ strict depth fed spot is kept.
-    (c.end.result, c.code.ensures, c.end.ensures.ended strict depth fed spot is kept)
+returns-clause-ended c = λ strict depth read kept.
+    (c.end.result, c.code.ensures, c.end.ensures.ended strict depth read kept)

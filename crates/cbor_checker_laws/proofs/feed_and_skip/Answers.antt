@@ -2,13 +2,14 @@ use Rattle.std.proofs.Common.{◌↔◌, Bool, [], subst, arith, refl, IsOk}
 use Rattle.cbor_skip.specs.ItemFaults.{BeginsWithItem}
 use Rattle.cbor_checker_laws.proofs.AnswerLaws.{both_answer, exactly, fresh_ready, feed_tells, skip_tells}
 use Rattle.cbor_checker_laws.specs.SameFaults.{SkipTells}
+use Rattle.cbor_checker.proofs.ReadLaws.{answers_unless}
 use Rattle.cbor_checker_laws.proofs.feed_and_skip.Goals as goal
 
 pub returns-clause-feed_told : goal.returns-clause-feed_told
 returns-clause-feed_told c =
     let start = rw c.shortest_if-spelling.ensures at c.with_spelling-checker.ensures in
-    feed_tells _ _ _ _ _ (omega (arith, c.requires.room)) (c.feed-fed.ensures.fed c.args.strict c.args.depth [] start) _
-    c.feed-fed.ensures.answers (c.feed-fed.ensures.tells c.args.strict c.args.depth [] start) c.feed-fed.ensures.all
+    let read = c.feed-fed.ensures.read c.args.strict c.args.depth [] start in
+    feed_tells _ _ _ _ _ (omega (arith, c.requires.room)) read.0 _ (answers_unless _ _ c.feed-fed.ensures.is) read.1.tells read.1.all
 
 pub returns-clause-skip_told : goal.returns-clause-skip_told
 returns-clause-skip_told c =
@@ -21,14 +22,14 @@ returns-clause-skip_told c =
 pub returns-clause-ended : goal.returns-clause-ended
 returns-clause-ended c =
     let start = rw c.shortest_if-spelling.ensures at c.with_spelling-checker.ensures in
-    (exactly _ _ _ _ _ (omega (arith, c.requires.room)) (c.feed-fed.ensures.fed c.args.strict c.args.depth [] start) _
-    c.feed-fed.ensures.answers (c.feed-fed.ensures.tells c.args.strict c.args.depth [] start) c.feed-fed.ensures.all).1
+    let read = c.feed-fed.ensures.read c.args.strict c.args.depth [] start in
+    (exactly _ _ _ _ _ (omega (arith, c.requires.room)) read.0 _ (answers_unless _ _ c.feed-fed.ensures.is) read.1.tells read.1.all).1
 
 pub returns-clause-faulted : goal.returns-clause-faulted
 returns-clause-faulted c =
     let start = rw c.shortest_if-spelling.ensures at c.with_spelling-checker.ensures in
-    (exactly _ _ _ _ _ (omega (arith, c.requires.room)) (c.feed-fed.ensures.fed c.args.strict c.args.depth [] start) _
-    c.feed-fed.ensures.answers (c.feed-fed.ensures.tells c.args.strict c.args.depth [] start) c.feed-fed.ensures.all).2
+    let read = c.feed-fed.ensures.read c.args.strict c.args.depth [] start in
+    (exactly _ _ _ _ _ (omega (arith, c.requires.room)) read.0 _ (answers_unless _ _ c.feed-fed.ensures.is) read.1.tells read.1.all).2
 
 pub returns-clause-skipped : goal.returns-clause-skipped
 returns-clause-skipped c =
@@ -43,5 +44,5 @@ returns-clause-same c = λ fault e.
     let fresh = rw c.shortest_if-spelling.ensures at c.with_spelling-decoder.ensures in
     let told = c.skip_item-skipped.ensures.told c.args.bytes.now
     (fresh_ready _ _ _ _ _ _ fresh refl c.new.ensures.ahead (omega arith) (omega (arith, c.requires.room))) in
-    both_answer _ _ _ _ _ _ _ fault _ _ _
-    (c.feed-fed.ensures.fed c.args.strict c.args.depth [] start) c.feed-fed.ensures.answers fresh.offset fresh.mode told e
+    let read = c.feed-fed.ensures.read c.args.strict c.args.depth [] start in
+    both_answer _ _ _ _ _ _ _ fault _ _ _ read.0 (answers_unless _ _ c.feed-fed.ensures.is) fresh.offset fresh.mode told e

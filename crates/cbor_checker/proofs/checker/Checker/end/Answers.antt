@@ -1,32 +1,50 @@
-use Rattle.std.proofs.Common.{◌∙◌, sym, inl, inr, arith, rules}
+use Rattle.std.proofs.Common.{◌∙◌, sym, subst, inl, inr, arith}
 use Rattle.ciborium_ll_text.proofs.Lists.{length_zero}
 use Rattle.cbor_checker.specs.declared.progress.Progress.TheVariants as r
-use Rattle.cbor_checker.proofs.TellLaws.{fed_counts, told}
+use Rattle.cbor_checker.specs.Checking.{Answers, AnswersEnd, HasRead, spot_of}
+use Rattle.cbor_checker.specs.Reading.{Tells}
+use Rattle.cbor_checker.proofs.EndLaws.{end_none, end_some}
+use Rattle.cbor_checker.proofs.TellLaws.{fed_counts}
 use Rattle.cbor_checker.proofs.checker.Checker.end.Goals as goal
 
 pub returns-then-self-eq0-clause-tells : goal.returns-then-self-eq0-clause-tells
-returns-then-self-eq0-clause-tells c = λ strict depth fed is.
-    inl (length_zero fed (omega (arith, fed_counts strict depth fed _ is, c.if-self-eq0.true)))
+unfolding HasRead
+returns-then-self-eq0-clause-tells c = λ strict depth read is.
+    inl (length_zero read (omega (arith, fed_counts strict depth read _ is, c.if-self-eq0.true)))
 
 pub returns-in-Ended-clause-tells : goal.returns-in-Ended-clause-tells
-returns-in-Ended-clause-tells c = λ strict depth fed is.
-    let position = c.args.self.now.position in
-    inr (told strict depth fed _ (r.Ended c.in-Ended.field-0) (sym c.in-Ended.is ∙ c.progress.ensures.answers) is
-    position.left position.begun).0
+returns-in-Ended-clause-tells c = λ strict depth read is.
+    inr (subst (Tells strict depth read) c.in-Ended.is (c.progress.ensures.tells strict depth read is)).0
 
 pub returns-in-Fault-clause-tells : goal.returns-in-Fault-clause-tells
-returns-in-Fault-clause-tells c = λ strict depth fed is.
-    let position = c.args.self.now.position in
-    told strict depth fed _ (r.Fault c.in-Fault.fault) (sym c.in-Fault.is ∙ c.progress.ensures.answers) is position.left
-    position.begun
+returns-in-Fault-clause-tells c = λ strict depth read is.
+    subst (Tells strict depth read) c.in-Fault.is (c.progress.ensures.tells strict depth read is)
 
 pub returns-in-More-clause-tells : goal.returns-in-More-clause-tells
-returns-in-More-clause-tells c = λ strict depth fed is.
-    let position = c.args.self.now.position in (
-      omega (arith, fed_counts strict depth fed _ is, c.if-self-eq0.false),
-      told strict depth fed _ (r.More c.in-More.due) (sym c.in-More.is ∙ c.progress.ensures.answers) is position.left
-          position.begun,
-    )
+unfolding HasRead
+returns-in-More-clause-tells c = λ strict depth read is. (
+  omega (arith, fed_counts strict depth read _ is, c.if-self-eq0.false),
+  subst (Tells strict depth read) c.in-More.is (c.progress.ensures.tells strict depth read is),
+)
 
-pub returns-in-More-clause-answers : goal.returns-in-More-clause-answers
-returns-in-More-clause-answers c = search rules
+pub returns-then-self-eq0-clause-is : goal.returns-then-self-eq0-clause-is
+unfolding AnswersEnd
+returns-then-self-eq0-clause-is c = end_none (spot_of c.args.self.now) (omega (arith, c.if-self-eq0.true))
+
+pub returns-in-Ended-clause-is : goal.returns-in-Ended-clause-is
+unfolding Answers AnswersEnd
+returns-in-Ended-clause-is c =
+    end_some (spot_of c.args.self.now) (r.Ended c.in-Ended.field-0) (sym c.in-Ended.is ∙ c.progress.ensures.is)
+    (λ none. omega (arith, none, c.if-self-eq0.false))
+
+pub returns-in-Fault-clause-is : goal.returns-in-Fault-clause-is
+unfolding Answers AnswersEnd
+returns-in-Fault-clause-is c =
+    end_some (spot_of c.args.self.now) (r.Fault c.in-Fault.fault) (sym c.in-Fault.is ∙ c.progress.ensures.is)
+    (λ none. omega (arith, none, c.if-self-eq0.false))
+
+pub returns-in-More-clause-is : goal.returns-in-More-clause-is
+unfolding Answers AnswersEnd
+returns-in-More-clause-is c =
+    end_some (spot_of c.args.self.now) (r.More c.in-More.due) (sym c.in-More.is ∙ c.progress.ensures.is)
+    (λ none. omega (arith, none, c.if-self-eq0.false))

@@ -2,16 +2,19 @@ use Rattle.std.proofs.Common.{◌≡◌, refl, arith, rules, subst, true}
 use Rattle.cbor_checker.specs.declared.progress.Progress.TheVariants.{More}
 use Rattle.cbor_checker.specs.Places.{spot_in}
 use Rattle.cbor_checker.specs.Spots.{Spot}
-use Rattle.cbor_checker.specs.Telling.{IsMore, is_due, progress_of}
-use Rattle.cbor_checker.proofs.TellLaws.{fed_counts, more_due, never_long, told}
+use Rattle.cbor_checker.specs.Reading.{IsMore}
+use Rattle.cbor_checker.specs.Telling.{is_due, progress_of}
+use Rattle.cbor_checker.proofs.TellLaws.{fed_counts, goes_on, more_due, never_long, told}
 use Rattle.cbor_checker.proofs.position.Position.tell.Goals as goal
 
 pub returns-in-More-clause-tells : goal.returns-in-More-clause-tells
 returns-in-More-clause-tells c = λ kinds counts strict depth fed is.
     let spot : Spot = spot_in c.args.self.now kinds counts in
     let due : is_due spot.phase ≡ true =
-    more_due spot.phase spot c.in-More.field-0 (search (rules, c.answer.ensures spot refl refl refl)) in
-    omega (arith, c.requires.full c.if-left.true due, fed_counts strict depth fed spot is)
+    more_due spot.phase spot c.in-More.field-0 (search (rules, c.answer.ensures spot refl refl refl)) in (
+      goes_on strict depth fed spot is due,
+      omega (arith, c.requires.full c.if-left.true due, fed_counts strict depth fed spot is),
+    )
 
 pub returns-in-More-clause-answers : goal.returns-in-More-clause-answers
 returns-in-More-clause-answers c = λ kinds counts.

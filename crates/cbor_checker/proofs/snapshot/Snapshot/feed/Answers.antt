@@ -1,9 +1,12 @@
-use Rattle.std.proofs.Common.{◌≡◌, ℕ, ◌<◌, ◌≤◌, true, ltb, arith, rules, subst}
+use Rattle.std.proofs.Common.{◌≡◌, ◌∙◌, ℕ, ◌<◌, ◌≤◌, true, ltb, ap, arith, rules, subst, sym}
 use borrow.Author.Tests.{lt-ltb}
-use Rattle.cbor_checker.specs.declared.progress.Feed.{Feed}
-use Rattle.cbor_checker.specs.Piece.{TakesPiece}
+use Rattle.cbor_checker.specs.Checking.{Answers, HasRead, HoldsSome, Keeps, Saves, spot_of}
 use Rattle.cbor_checker.specs.Places.{spot_in}
 use Rattle.cbor_checker.specs.Spots.{Spot}
+use Rattle.cbor_checker.specs.Steps.{IsFed}
+use Rattle.cbor_checker.specs.Telling.{is_due, IsAnswer}
+use Rattle.cbor_checker.proofs.OneSpot.{one_spot}
+use Rattle.cbor_checker.proofs.ReadLaws.{answer_stays, answers_piece, off_at, reads}
 use Rattle.cbor_checker.proofs.snapshot.Snapshot.feed.Goals as goal
 
 -- If more bytes are due, the call takes all bytes, since otherwise there are too many.
@@ -11,23 +14,68 @@ all_taken : {More : Type 0} (n m : ℕ) → n ≤ m → (ltb n m ≡ true → Mo
 all_taken n m within none more =
     let whole : n < m → ⊥ = λ less. none (lt-ltb n m less) more in omega (arith, within, whole)
 
-pub returns-clause-fed : goal.returns-clause-fed
-returns-clause-fed c = λ old is.
+pub returns-then-not-load-clause-read : goal.returns-then-not-load-clause-read
+unfolding Keeps
+returns-then-not-load-clause-read c = λ strict depth read keeps.
+    let (old, is, holds) = keeps in
+    let both = sym c.if-not-load.true ∙ c.load.ensures.found old holds in absurd cc
+
+pub returns-then-not-load-clause-found : goal.returns-then-not-load-clause-found
+unfolding HoldsSome
+returns-then-not-load-clause-found c = λ holds.
+    let both = sym c.if-not-load.true ∙ c.load.ensures.found holds.0 holds.1 in absurd cc
+
+pub returns-clause-all : goal.returns-clause-all
+returns-clause-all c = all_taken _ _ c.take-taken.ensures.taken c.tell.ensures.all
+
+pub returns-clause-long : goal.returns-clause-long
+returns-clause-long c = λ is. search (rules, c.tell.ensures.long is)
+
+pub returns-clause-some : goal.returns-clause-some
+unfolding HoldsSome
+returns-clause-some c = (
+  (_, c.load.ensures.some (search rules)),
+  (_, c.save.ensures.holds c.take-taken.ensures.known),
+)
+
+pub returns-clause-stays : goal.returns-clause-stays
+unfolding Answers Saves
+returns-clause-stays c = λ checker progress holds is none.
+    let same = c.load.ensures.same (spot_of checker) holds in
+    let kinds = c.take-taken.new.kinds in
+    let counts = c.take-taken.new.counts in
+    let new : Spot = spot_in c.take-taken.new.self kinds counts in
+    let off = off_at progress (spot_of checker) is none in
+    let stays = c.take-taken.ensures.stays (ap (λ (z : Spot). is_due z.phase) same ∙ off) in (
+      stays.0,
+      answer_stays progress c.tell.result (spot_of checker) new is none (stays.1 ∙ same)
+          (c.tell.ensures.answers kinds counts),
+    )
+
+pub returns-clause-read : goal.returns-clause-read
+unfolding Keeps
+returns-clause-read c = λ strict depth read keeps.
+    let (old, is, holds) = keeps in
+    let was = subst (IsFed strict depth read) (sym (c.load.ensures.same old holds)) is in
     let taken = c.take-taken.ensures in
     let kinds = c.take-taken.new.kinds in
     let counts = c.take-taken.new.counts in
     let new : Spot = spot_in c.take-taken.new.self kinds counts in
-    let feed : Feed = record { taken = c.take-taken.result; progress = c.tell.result } in (
-      new,
-      c.save.ensures.holds taken.known,
-      subst (λ (z : Spot). TakesPiece z c.args.bytes.now feed new) (c.load.ensures.same old is) (record {
-        taken = taken.taken;
-        all = all_taken _ _ taken.taken c.tell.ensures.all;
-        long = λ is. search (rules, c.tell.ensures.long is);
-        fed = taken.fed;
-        tells = λ strict depth fed is. c.tell.ensures.tells kinds counts strict depth _ (taken.fed strict depth fed is);
-        counted = λ strict depth fed is. omega (arith, taken.counted strict depth fed is);
-        answers = c.tell.ensures.answers kinds counts;
-        stays = taken.stays;
-      }),
+    let now = taken.fed strict depth read was in (
+      (new, now, c.save.ensures.holds taken.known),
+      reads strict depth read c.args.bytes.now (record { taken = c.take-taken.result; progress = c.tell.result }) new
+          taken.taken (returns-clause-all c) (returns-clause-long c) now
+          (c.tell.ensures.tells kinds counts strict depth _ now) (omega (arith, taken.counted strict depth read was)),
     )
+
+pub returns-clause-is : goal.returns-clause-is
+unfolding HasRead Keeps
+returns-clause-is c = λ strict depth read keeps checker has_read.
+    let (old, is, holds) = keeps in
+    let was = subst (IsFed strict depth read) (sym (c.load.ensures.same old holds)) is in
+    let kinds = c.take-taken.new.kinds in
+    let counts = c.take-taken.new.counts in
+    let new : Spot = spot_in c.take-taken.new.self kinds counts in
+    let same = one_spot strict depth _ new (spot_of checker) (c.take-taken.ensures.fed strict depth read was) has_read in
+    answers_piece c.tell.result checker
+    (subst (IsAnswer c.tell.result) same (c.tell.ensures.answers kinds counts))

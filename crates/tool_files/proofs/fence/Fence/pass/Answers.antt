@@ -1,9 +1,8 @@
 use Rattle.std.proofs.Common.{◌≡◌, ◌+◌, ◌-◌, ◌++◌, ℕ, List, length, take, drop, false, refl, sym, ap, subst, ◌∙◌, arith}
 use Rattle.std.proofs.Common.{append-nil, append_assoc}
 use Rattle.std.proofs.lemmas.List.{length-drop, length-take-le}
-use Rattle.cbor_checker.specs.Checking.{spot_of}
-use Rattle.cbor_checker.specs.Telling.{IsAnswer, IsMore}
-use Rattle.tool_files.proofs.FenceLaws.{fence_behind, fence_ended, fence_fault, fence_lost, fence_more}
+use Rattle.cbor_checker.specs.Reading.{IsMore}
+use Rattle.tool_files.proofs.FenceLaws.{fence_behind, fence_ended, fence_fault, fence_lost, fence_more, none_taken}
 use Rattle.tool_files.proofs.RecodeLaws.{fed_all, fed_more, fed_rest}
 use Rattle.tool_files.proofs.fence.Fence.pass.Goals as goal
 
@@ -23,7 +22,6 @@ items-preserved-in-Ended g c =
     let taken = c.feed-fed.result.taken in
     let rest = take (length bytes - at) (drop at bytes) in
     let old = c.items.self in
-    let spot = spot_of c.feed-fed.new.self in
     record {
       within = omega (
         arith,
@@ -35,12 +33,11 @@ items-preserved-in-Ended g c =
       source = c.items.invariant.source;
       failures = c.items.invariant.failures;
       fenced = λ items given was. rw (← fed_more given bytes at taken) (fence_ended items (given ++ take at bytes)
-          (take taken rest) old _ c.feed-fed.result.progress spot refl
-          (λ part fed. c.feed-fed.ensures.fed false old.depth part fed)
-          (λ part fed. c.feed-fed.ensures.tells false old.depth part fed)
-          (λ not_due. (ap (λ (n : ℕ). take n rest) (c.feed-fed.ensures.stays not_due).0, (c.feed-fed.ensures.stays not_due).1))
-          c.in-Ended.field-0 c.in-Ended.is (subst (λ z. IsAnswer z spot) c.in-Ended.is c.feed-fed.ensures.answers)
-          c.new-self.ensures (omega (arith, c.if-self-gt0.true)) (c.items.invariant.fenced items given was));
+          (take taken rest) old _ c.feed-fed.result.progress c.feed-fed.new.self refl
+          (λ part read. (c.feed-fed.ensures.read false old.depth part read).0)
+          (λ part read. (c.feed-fed.ensures.read false old.depth part read).1.tells)
+          (λ part read. none_taken false old.depth part rest _ (c.feed-fed.ensures.read false old.depth part read).1)
+          c.in-Ended.field-0 c.in-Ended.is c.new-self.ensures (omega (arith, c.if-self-gt0.true)) (c.items.invariant.fenced items given was));
     }
 
 pub items-preserved : goal.items-preserved
@@ -50,7 +47,6 @@ items-preserved g c =
     let taken = c.feed-fed.result.taken in
     let rest = take (length bytes - at) (drop at bytes) in
     let old = c.items.self in
-    let spot = spot_of c.feed-fed.new.self in
     record {
       within = omega (
         arith,
@@ -62,10 +58,10 @@ items-preserved g c =
       source = c.items.invariant.source;
       failures = c.items.invariant.failures;
       fenced = λ items given was. rw (← fed_more given bytes at taken) (fence_lost items (given ++ take at bytes)
-          (take taken rest) old _ c.feed-fed.result.progress spot refl
-          (λ part fed. c.feed-fed.ensures.fed false old.depth part fed)
-          (λ part fed. c.feed-fed.ensures.tells false old.depth part fed)
-          (λ not_due. (ap (λ (n : ℕ). take n rest) (c.feed-fed.ensures.stays not_due).0, (c.feed-fed.ensures.stays not_due).1))
+          (take taken rest) old _ c.feed-fed.result.progress c.feed-fed.new.self refl
+          (λ part read. (c.feed-fed.ensures.read false old.depth part read).0)
+          (λ part read. (c.feed-fed.ensures.read false old.depth part read).1.tells)
+          (λ part read. none_taken false old.depth part rest _ (c.feed-fed.ensures.read false old.depth part read).1)
           c.in-TooLong.is refl (c.items.invariant.fenced items given was));
     }
 
@@ -76,7 +72,6 @@ returns-in-More-clause-fenced g c = λ items given was.
     let taken = c.feed-fed.result.taken in
     let rest = take (length bytes - at) (drop at bytes) in
     let old = c.items.self in
-    let spot = spot_of c.feed-fed.new.self in
     let all : at + taken ≡ length bytes = omega (
       arith,
       c.feed-fed.ensures.all (subst IsMore (sym c.in-More.is) tt),
@@ -84,11 +79,11 @@ returns-in-More-clause-fenced g c = λ items given was.
       c.items.invariant.within,
     ) in
     rw (← fed_all given bytes (at + taken) all, ← fed_more given bytes at taken) (fence_more items
-    (given ++ take at bytes) (take taken rest) old _ c.feed-fed.result.progress spot refl
-    (λ part fed. c.feed-fed.ensures.fed false old.depth part fed)
-    (λ part fed. c.feed-fed.ensures.tells false old.depth part fed)
-    (λ not_due. (ap (λ (n : ℕ). take n rest) (c.feed-fed.ensures.stays not_due).0, (c.feed-fed.ensures.stays not_due).1))
-    c.in-More.field-0 c.in-More.is (subst (λ z. IsAnswer z spot) c.in-More.is c.feed-fed.ensures.answers) refl refl
+    (given ++ take at bytes) (take taken rest) old _ c.feed-fed.result.progress c.feed-fed.new.self refl
+    (λ part read. (c.feed-fed.ensures.read false old.depth part read).0)
+    (λ part read. (c.feed-fed.ensures.read false old.depth part read).1.tells)
+    (λ part read. none_taken false old.depth part rest _ (c.feed-fed.ensures.read false old.depth part read).1)
+    c.in-More.field-0 c.in-More.is refl refl
     (c.items.invariant.fenced items given was))
 
 pub returns-in-Fault-clause-fenced : goal.returns-in-Fault-clause-fenced
@@ -98,18 +93,16 @@ returns-in-Fault-clause-fenced g c = λ items given was.
     let taken = c.feed-fed.result.taken in
     let rest = take (length bytes - at) (drop at bytes) in
     let old = c.items.self in
-    let spot = spot_of c.feed-fed.new.self in
     let whole : given ++ bytes ≡ (given ++ take at bytes) ++ (take taken rest ++ drop (at + taken) bytes) =
     fed_rest given bytes (at + taken)
     ∙ (ap (λ (z : List ℕ). z ++ drop (at + taken) bytes) (sym (fed_more given bytes at taken))
     ∙ append_assoc (given ++ take at bytes) (take taken rest) (drop (at + taken) bytes)) in
     rw whole (fence_fault items
-    (given ++ take at bytes) (take taken rest) old _ c.feed-fed.result.progress spot refl
-    (λ part fed. c.feed-fed.ensures.fed false old.depth part fed)
-    (λ part fed. c.feed-fed.ensures.tells false old.depth part fed)
-    (λ not_due. (ap (λ (n : ℕ). take n rest) (c.feed-fed.ensures.stays not_due).0, (c.feed-fed.ensures.stays not_due).1))
-    c.in-Fault.field-0 (drop (at + taken) bytes) c.in-Fault.is
-    (subst (λ z. IsAnswer z spot) c.in-Fault.is c.feed-fed.ensures.answers) refl refl
+    (given ++ take at bytes) (take taken rest) old _ c.feed-fed.result.progress c.feed-fed.new.self refl
+    (λ part read. (c.feed-fed.ensures.read false old.depth part read).0)
+    (λ part read. (c.feed-fed.ensures.read false old.depth part read).1.tells)
+    (λ part read. none_taken false old.depth part rest _ (c.feed-fed.ensures.read false old.depth part read).1)
+    c.in-Fault.field-0 (drop (at + taken) bytes) c.in-Fault.is refl refl
     (c.items.invariant.fenced items given was))
 
 pub returns-else-self-gt0-clause-fenced : goal.returns-else-self-gt0-clause-fenced
