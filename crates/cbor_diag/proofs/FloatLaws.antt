@@ -1,5 +1,5 @@
 -- The text of a float, written piece by piece.
-use Rattle.std.proofs.Common.{◌≡◌, ℕ, List, ◌++◌, Result, refl}
+use Rattle.std.proofs.Common.{◌≡◌, ℕ, List, ◌++◌, Result}
 use Rattle.std.specs.Float.{Float}
 use Rattle.ciborium_ll.specs.Types.Write.{Ghosts}
 use Rattle.ciborium_ll.specs.Types.Float.{Float as Raw}

@@ -13,10 +13,11 @@ use Rattle.cbor_skip.specs.Skipping.{SkipsItem}
 use Rattle.cbor_skip.proofs.FailureLaws.{body_fails, pull_fails, stop_fails}
 use Rattle.cbor_diag.specs.declared.DiagError.{DiagError}
 use Rattle.cbor_diag.specs.declared.DiagError.TheVariants as d
-use Rattle.cbor_diag.specs.declared.layout.Style.{Style}
 use Rattle.cbor_diag.specs.declared.marks.Mark.{Mark}
 use Rattle.cbor_diag.specs.declared.strings.quotes.Quotes.{Quotes}
-use Rattle.cbor_diag.specs.ItemStops.{ItemStops, RestStops, ShowsItem, WithinStops, behind, closing, deep, item, lead}
+use Rattle.cbor_diag.specs.ItemStops.{ItemStopsAt, RestStops, ShowsItemAt, WithinStops, behind, closing, deep, held, item, lead}
+use Rattle.cbor_diag.specs.HeldStops.{Inside}
+use Rattle.cbor_diag.specs.Places.{Place}
 use Rattle.cbor_diag.specs.ItemStops.{no_item, opening, plain, title, within}
 use Rattle.cbor_diag.specs.Showing.{CountsShown, IsWriting, OnReading, ShowsHeader}
 use Rattle.cbor_diag.specs.StringShows.{BodyStopped, ShowsString, StringStops, StringUnshown, kind_quotes}
@@ -77,41 +78,43 @@ module _ {R E W F : Type 0} (source : Ghosts R E) (sink : Sink W F) where
       → failures_of source new.decoder ≡ failures_of source old.decoder
   header_unfailed exact header mark old new error writing shows = grind (arith, string_by_unfailed)
 
-  module _ (style : Style) where
+  module _ (inside : Inside W F) where
     mutual
-      rest_unfailed : (level : ℕ) (header : Header) (mark : Mark) (old new : Sides R W) (error : DiagError E F) → IsWriting error
-          → RestStops source sink style level header mark old error new
+      rest_unfailed : (place : Place) (header : Header) (mark : Mark) (old new : Sides R W) (error : DiagError E F) → IsWriting error
+          → RestStops source sink inside place header mark old error new
           → failures_of source new.decoder ≡ failures_of source old.decoder
-      rest_unfailed level header mark old new error writing (plain shows) =
-          header_unfailed style.is_exact header mark old new error writing shows
-      rest_unfailed level header mark old new error writing deep = absurd writing
-      rest_unfailed level header mark old new error writing (opening stopped) = refl
-      rest_unfailed level header mark old new error writing (within {opened = w} opens stops) =
+      rest_unfailed place header mark old new error writing (plain free shows) =
+          header_unfailed place.line.style.is_exact header mark old new error writing shows
+      rest_unfailed place header mark old new (d.Read error) writing (held is stops) = absurd writing
+      rest_unfailed place header mark old new (d.Write fault) writing (held is stops) = stops.ends.passed.failures
+      rest_unfailed place header mark old new error writing deep = absurd writing
+      rest_unfailed place header mark old new error writing (opening stopped) = refl
+      rest_unfailed place header mark old new error writing (within {opened = w} opens stops) =
           within_unfailed _ header mark _ new error writing stops
-      rest_unfailed level header mark old new error writing (closing opens shown stopped) = shown.passed.failures
+      rest_unfailed place header mark old new error writing (closing opens shown stopped) = shown.passed.failures
 
-      within_unfailed : (level : ℕ) (header : Header) (mark : Mark) (old new : Sides R W) (error : DiagError E F) → IsWriting error
-          → WithinStops source sink style level header mark old error new
+      within_unfailed : (place : Place) (header : Header) (mark : Mark) (old new : Sides R W) (error : DiagError E F) → IsWriting error
+          → WithinStops source sink inside place header mark old error new
           → failures_of source new.decoder ≡ failures_of source old.decoder
-      within_unfailed level header mark old new error writing (title begun came) = absurd writing
-      within_unfailed level header mark old new error writing (lead begun pulled stopped) =
+      within_unfailed place header mark old new error writing (title begun came) = absurd writing
+      within_unfailed place header mark old new error writing (lead begun pulled stopped) =
           pulled.failures ∙ begun.passed.failures
-      within_unfailed level header mark old new error writing (item begun pulled leads stops) =
-          rest_unfailed level _ _ _ new error writing stops ∙ (pulled.failures ∙ begun.passed.failures)
+      within_unfailed place header mark old new error writing (item begun pulled leads stops) =
+          rest_unfailed place _ _ _ new error writing stops ∙ (pulled.failures ∙ begun.passed.failures)
 
-    item_unfailed : (old new : Sides R W) (error : DiagError E F) → IsWriting error
-        → ItemStops source sink style old error new
+    item_unfailed : (place : Place) (old new : Sides R W) (error : DiagError E F) → IsWriting error
+        → ItemStopsAt source sink inside place old error new
         → failures_of source new.decoder ≡ failures_of source old.decoder
-    item_unfailed old new error writing (no_item came) = absurd writing
-    item_unfailed old new error writing (behind pulled stops) =
-        rest_unfailed 0 _ _ _ new error writing stops ∙ pulled.failures
+    item_unfailed place old new error writing (no_item came) = absurd writing
+    item_unfailed place old new error writing (behind pulled stops) =
+        rest_unfailed place _ _ _ new error writing stops ∙ pulled.failures
 
     -- The reader fails as often as the answer of a show says.
-    pub item_failures : (depth : ℕ) (old new : Sides R W) (result : Result (Unit {0}) (DiagError E F))
+    pub item_failures : (place : Place) (depth : ℕ) (old new : Sides R W) (result : Result (Unit {0}) (DiagError E F))
         → OnReading (λ answer. SkipsItem source depth 64 old.decoder answer new.decoder) result
-        → ShowsItem source sink style old result new
+        → ShowsItemAt source sink inside place old result new
         → CountsShown result (failures_of source old.decoder) (failures_of source new.decoder)
-    item_failures depth old new (Ok done) reads shows = reads.passed.failures
-    item_failures depth old new (Err (d.Read error)) reads shows = grind (arith, stop_fails)
-    item_failures depth old new (Err (d.Write fault)) reads shows =
-        item_unfailed old new (d.Write fault) tt shows
+    item_failures place depth old new (Ok done) reads shows = reads.passed.failures
+    item_failures place depth old new (Err (d.Read error)) reads shows = grind (arith, stop_fails)
+    item_failures place depth old new (Err (d.Write fault)) reads shows =
+        item_unfailed place old new (d.Write fault) tt shows

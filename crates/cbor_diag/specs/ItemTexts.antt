@@ -19,6 +19,7 @@ use Rattle.cbor_diag.specs.Floats.{IsShownFloat}
 use Rattle.cbor_diag.specs.Marks.{is_marked, mark_text, title_mark}
 use Rattle.cbor_diag.specs.Notation.{header_notation}
 use Rattle.cbor_diag.specs.OpenShows.{IsStringText}
+use Rattle.cbor_diag.specs.Places.{IsEmbedded, Place, first_place, place_inside, place_within}
 use Rattle.cbor_diag.specs.StringShows.{is_indefinite}
 
 -- ---- the text around the items of a tag, an array or a map
@@ -49,13 +50,6 @@ indent (suc level) = codes "  " ++ indent level
 -- A line feed, and the indent of a line of this level. At the level 1 it is `0a 20 20`.
 abbrev pub new_line : ℕ → List ℕ
 new_line level = 10 ∷ indent level
-
--- The level of the content of a header: one deeper in an array or a map, and the same in a tag. At the level 0 the
--- content of `82` has the level 1, and that of `c1` the level 0.
-abbrev pub level_within : Header → ℕ → ℕ
-level_within (h.Array len) level = suc level
-level_within (h.Map len) level = suc level
-level_within header level = level
 
 -- Whether an underscore follows the bracket of an array or a map: in the indefinite form, or by a mark. It does in
 -- `[_ 1]` and `[_0 1]`.
@@ -134,62 +128,85 @@ nest_end (h.Map None) = 0xff ∷ []
 nest_end header = []
 
 mutual
-  -- `IsShown style level header mark rest text`: the text shows an item of this level. A title of the header, with this
-  -- mark, begins the item, and the rest follows it (RFC 8949, 8). `82 01 02` is shown on one line as `[1, 2]`.
-  pub data IsShown (style : Style) : ℕ → Header → Mark → List ℕ → List ℕ → Type 0 where
-    scalar : {level : ℕ} {header : Header} {mark : Mark} {text : List ℕ} → header_notation header mark ≡ Some text
-        → IsShown style level header mark [] text
-    float : {level : ℕ} {value : Float} {mark : Mark} {text : List ℕ} → IsShownFloat style.is_exact value text
-        → IsShown style level (h.Float value) mark [] text
-    string : {level : ℕ} {mark : Mark} {rest text : List ℕ} (kind : Kind) (len : Option ℕ)
-        → IsStringText style.is_exact kind len mark rest text
-        → IsShown style level (kind_header kind len) mark rest text
-    nest : {level count : ℕ} {header : Header} {mark : Mark} {items text : List ℕ} → IsAll header count
-        → AreShown style (level_within header level) header mark count items text
-        → IsShown style level header mark (items ++ nest_end header)
-        (nest_opening header mark
-        ++ (text ++ (nest_last header mark style.layout level (is_first_at count) ++ nest_closing header)))
+  -- `IsShown place header mark rest text`: the text shows an item at this place. A title of the header, with this mark,
+  -- begins the item, and the rest follows it (RFC 8949, 8). `82 01 02` is shown on one line as `[1, 2]`.
+  pub data IsShown : Place → Header → Mark → List ℕ → List ℕ → Type 0 where
+    scalar : {place : Place} {header : Header} {mark : Mark} {text : List ℕ} → header_notation header mark ≡ Some text
+        → IsShown place header mark [] text
+    float : {place : Place} {value : Float} {mark : Mark} {text : List ℕ}
+        → IsShownFloat place.line.style.is_exact value text → IsShown place (h.Float value) mark [] text
+    string : {place : Place} {mark : Mark} {rest text : List ℕ} (kind : Kind) (len : Option ℕ)
+        → IsStringText place.line.style.is_exact kind len mark rest text
+        → (IsEmbedded place (kind_header kind len) rest → ⊥)
+        → IsShown place (kind_header kind len) mark rest text
+    -- The body of a byte string is one item (RFC 8610, G.3). `41 00` is shown as `<<0>>`.
+    embedded : {place : Place} {header first : Header} {mark : Mark} {title rest text : List ℕ}
+        → IsEmbedded place header (title ++ rest) → IsTitle title first
+        → IsShown (place_inside (length (title ++ rest)) place) first
+        (title_mark place.line.style.is_exact first (length title)) rest text
+        → IsShown place header mark (title ++ rest) (codes "<<" ++ (text ++ (codes ">>" ++ mark_text mark)))
+    nest : {place : Place} {count : ℕ} {header : Header} {mark : Mark} {items text : List ℕ} → IsAll header count
+        → AreShown (place_within header place) header mark count items text
+        → IsShown place header mark (items ++ nest_end header)
+        (nest_opening header mark ++ (text
+        ++ (nest_last header mark place.line.style.layout place.line.level (is_first_at count) ++ nest_closing header)))
 
-  -- `AreShown style level header mark count items text`: the text shows `count` items of this level within the header,
-  -- each with the text before it. After `82` the items `01 02` are shown on one line as `1, 2`.
-  pub data AreShown (style : Style) : ℕ → Header → Mark → ℕ → List ℕ → List ℕ → Type 0 where
-    none : {level : ℕ} {header : Header} {mark : Mark} → AreShown style level header mark zero [] []
-    more : {level count : ℕ} {header first : Header} {mark : Mark} {items text title rest item : List ℕ}
-        → AreShown style level header mark count items text → IsTitle title first
-        → IsShown style level first (title_mark style.is_exact first (length title)) rest item
-        → AreShown style level header mark (suc count) (items ++ (title ++ rest))
-        (text ++ (item_lead header mark style.layout level (is_value_at header count) (is_first_at count) ++ item))
+  -- `AreShown place header mark count items text`: the text shows `count` items at this place within the header, each
+  -- with the text before it. After `82` the items `01 02` are shown on one line as `1, 2`.
+  pub data AreShown : Place → Header → Mark → ℕ → List ℕ → List ℕ → Type 0 where
+    none : {place : Place} {header : Header} {mark : Mark} → AreShown place header mark zero [] []
+    more : {place : Place} {count : ℕ} {header first : Header} {mark : Mark} {items text title rest item : List ℕ}
+        → AreShown place header mark count items text → IsTitle title first
+        → IsShown place first (title_mark place.line.style.is_exact first (length title)) rest item
+        → AreShown place header mark (suc count) (items ++ (title ++ rest))
+        (text ++ (item_lead header mark place.line.style.layout place.line.level (is_value_at header count)
+        (is_first_at count) ++ item))
 
-module _ {R E W F : Type 0} (source : Reader R E) (sink : Writer W F) (style : Style) where
+-- The text shows one whole item at this place. `82 01 02` is shown on one line as `[1, 2]`.
+pub record IsItemText (place : Place) (item text : List ℕ) : Type 0 where
+  pub title : List ℕ
+  pub header : Header
+  pub rest : List ℕ
+  pub is_title : IsTitle title header
+  pub shown : IsShown place header (title_mark place.line.style.is_exact header (length title)) rest text
+  pub is : item ≡ title ++ rest
+
+module _ {R E W F : Type 0} (source : Reader R E) (sink : Writer W F) where
   -- After its header the rest of an item was read, and its whole text was written. After `82` the rest `01 02` has the
   -- text `[1, 2]` on one line.
-  pub record RestShown (level : ℕ) (header : Header) (mark : Mark) (old new : Sides R W) : Type 0 where
+  pub record RestShown (place : Place) (header : Header) (mark : Mark) (old new : Sides R W) : Type 0 where
     pub rest : List ℕ
     pub text : List ℕ
-    pub shown : IsShown style level header mark rest text
+    pub shown : IsShown place header mark rest text
     pub passed : ReadsPast source old.decoder rest new.decoder
     pub written : WritesAll sink old.writer text new.writer
 
   -- After the header all its content was read, and its text was written. The answer says whether it contains nothing.
   -- After `82` the content `01 02` has the text `1, 2` on one line.
-  pub record WithinShown (level : ℕ) (header : Header) (mark : Mark) (old : Sides R W) (empty : Bool)
+  pub record WithinShown (place : Place) (header : Header) (mark : Mark) (old : Sides R W) (empty : Bool)
       (new : Sides R W) : Type 0 where
     pub count : ℕ
     pub items : List ℕ
     pub text : List ℕ
     pub all : IsAll header count
-    pub shown : AreShown style level header mark count items text
+    pub shown : AreShown place header mark count items text
     pub passed : ReadsPast source old.decoder (items ++ nest_end header) new.decoder
     pub written : WritesAll sink old.writer text new.writer
     pub counted : empty ≡ (is_first_at count)
 
-  -- One whole item was read, and its whole text was written. The item `82 01 02` has the text `[1, 2]` on one line.
-  pub record ItemShown (old new : Sides R W) : Type 0 where
+  -- One whole item was read at this place, and its whole text was written. The item `82 01 02` has the text `[1, 2]` on
+  -- one line.
+  pub record ItemShownAt (place : Place) (old new : Sides R W) : Type 0 where
     pub title : List ℕ
     pub header : Header
     pub rest : List ℕ
     pub text : List ℕ
     pub is_title : IsTitle title header
-    pub shown : IsShown style 0 header (title_mark style.is_exact header (length title)) rest text
+    pub shown : IsShown place header (title_mark place.line.style.is_exact header (length title)) rest text
     pub passed : ReadsPast source old.decoder (title ++ rest) new.decoder
     pub written : WritesAll sink old.writer text new.writer
+
+  -- The same for an item that no header contains, in a text that shows no string as an item. In this text `41 00` is
+  -- `h'00'`.
+  abbrev pub ItemShown : Style → Sides R W → Sides R W → Type 0
+  ItemShown style old new = ItemShownAt (first_place style) old new

@@ -1,5 +1,7 @@
 pub mod DiagTexts
+pub mod EmbeddedShows
 pub mod Floats
+pub mod HeldStops
 pub mod ItemStops
 pub mod ItemTexts
 pub mod Marks
@@ -7,6 +9,7 @@ pub mod NextShows
 pub mod Notation
 pub mod OpenShows
 pub mod Passing
+pub mod Places
 pub mod Quoting
 pub mod Showing
 pub mod StringShows

@@ -2,11 +2,13 @@
 
 ghost use Rattle.std.specs.Prelude.{◌≡◌, ◌<◌, ◌++◌};
 ghost use Rattle.ciborium_ll.specs.Encoding.{WritesBytes};
-ghost use Rattle.cbor_diag.specs.ItemTexts.{comma, item_space, last_space, level_within, nest_last, nest_space, new_line};
+ghost use Rattle.cbor_diag.specs.ItemTexts.{comma, item_space, last_space, nest_last, nest_space, new_line};
+ghost use Rattle.cbor_diag.specs.Places.{asks_alone, asks_within, first_line, line_inside, line_within};
 ghost use Rattle.ciborium_ll_grammar.specs.declared.limits.TheConstants.{MOST_LEVELS};
 
 use crate::marks::Marked;
 use crate::put::put;
+use cbor_embedded::{ENCODED_ITEM, Embedded};
 use ciborium_ll::Header;
 use ciborium_ll::io::Write;
 
@@ -29,26 +31,55 @@ pub struct Style {
     pub is_exact: bool,
 }
 
-/// A style, and the level that is shown.
+/// A style, the level that is shown, and which byte strings are shown as the item that they contain.
 #[derive(Clone, Copy)]
 pub(crate) struct Line {
     pub(crate) style: Style,
     pub(crate) level: usize,
+    pub(crate) embedded: Embedded,
+    /// Whether a byte string of this line is asked for as an item.
+    pub(crate) is_asked: bool,
 }
 
 impl Line {
+    /// Returns the line of an item that no header contains.
+    pub(crate) fn first(style: Style, embedded: Embedded) -> Line
+        ensures { result ≡ first_line style embedded }
+    {
+        Line {
+            style,
+            level: 0,
+            embedded,
+            is_asked: asks_alone(embedded),
+        }
+    }
+
     /// Returns the line of the content of a header.
     pub(crate) fn within(self, header: Header) -> Line
         requires { self.level < MOST_LEVELS }
-        ensures style { result.style ≡ self.style }
-        ensures level { result.level ≡ level_within header self.level }
+        ensures { result ≡ line_within header self }
     {
-        match header {
-            Header::Array(_) | Header::Map(_) => Line {
-                style: self.style,
-                level: self.level + 1,
-            },
-            _ => self,
+        let level = match header {
+            Header::Array(_) | Header::Map(_) => self.level + 1,
+            _ => self.level,
+        };
+        Line {
+            style: self.style,
+            level,
+            embedded: self.embedded,
+            is_asked: asks_within(self.embedded, header),
+        }
+    }
+
+    /// Returns the line of the item that a byte string of this line contains.
+    pub(crate) fn inside(self) -> Line
+        ensures { result ≡ line_inside self }
+    {
+        Line {
+            style: self.style,
+            level: self.level,
+            embedded: self.embedded,
+            is_asked: asks_alone(self.embedded),
         }
     }
 
@@ -146,5 +177,23 @@ impl Line {
             put(writer, b"  ")?;
         }
         Ok(())
+    }
+}
+
+/// Returns whether a byte string that no header contains is asked for as an item.
+fn asks_alone(embedded: Embedded) -> bool
+    ensures { result ≡ asks_alone embedded }
+{
+    matches!(embedded, Embedded::Everywhere)
+}
+
+/// Returns whether a byte string within this header is asked for as an item.
+fn asks_within(embedded: Embedded, header: Header) -> bool
+    ensures { result ≡ asks_within embedded header }
+{
+    match (embedded, header) {
+        (Embedded::Everywhere, _) => true,
+        (Embedded::Tagged, Header::Tag(number)) => number == ENCODED_ITEM,
+        _ => false,
     }
 }

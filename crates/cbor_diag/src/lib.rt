@@ -2,14 +2,17 @@
 //! Shows an item of CBOR in diagnostic notation (RFC 8949, section 8). No call takes memory.
 #![tactic(auto)]
 
-ghost use Rattle.std.specs.Prelude.{◌≡◌, ◌≤◌};
+ghost use Rattle.std.specs.Prelude.{◌≡◌, ◌≤◌, length};
 ghost use Rattle.ciborium_ll.specs.Sides.{sides};
+ghost use Rattle.cbor_diag.specs.EmbeddedShows.{ShowsEmbedded};
 ghost use Rattle.cbor_diag.specs.ItemStops.{ShowsItem};
 ghost use Rattle.cbor_diag.specs.Showing.{ReadsShown};
 ghost use Rattle.ciborium_ll_grammar.specs.declared.limits.TheConstants.{MOST_LEVELS};
 
+mod embedded;
 mod layout;
 mod marks;
+mod memory;
 mod messages;
 mod nests;
 mod plain;
@@ -17,13 +20,17 @@ pub mod put;
 pub mod scalars;
 pub mod strings;
 
+use self::embedded::{Flat, Nested};
 use self::layout::Line;
 pub use self::layout::{Layout, Style};
-use self::marks::pull_marked;
-use self::nests::show_item;
+use self::nests::show_one;
+use cbor_embedded::Embedded;
 use cbor_skip::SkipError;
-use ciborium_ll::io::{Read, Write};
-use ciborium_ll::{Decoder, Error, Header};
+use ciborium_ll::io::{Read, SliceReader, Write};
+use ciborium_ll::{Decoder, Error};
+
+/// The most byte strings that contain one another and are shown as items.
+pub const MOST_STRINGS: usize = 8;
 
 /// Why an item was not shown whole.
 #[derive(Debug, Drop)]
@@ -97,11 +104,45 @@ pub fn diagnose<R: Read, W: Write>(
         (sides decoder.new writer.new) }
     ensures reads { ReadsShown R.Read depth decoder.old result decoder.new }
 {
-    let place = decoder.offset();
-    let marked = pull_marked(decoder, style.is_exact)?;
-    if let Header::Break = marked.header {
-        return Err(DiagError::Read(SkipError::Break(place)));
-    }
-    let line = Line { style, level: 0 };
-    show_item(decoder, writer, marked, place, depth, line)
+    let line = Line::first(style, Embedded::Nowhere);
+    show_one::<R, W, Flat>(decoder, writer, depth, line, &mut [])
 }
+
+/// Shows the next item as [`diagnose`] does, and byte strings as the item that they contain (RFC 8949, section 8, and
+/// RFC 8610, G.3).
+///
+/// With `Tagged`, `d8 18 43 82 01 02` is `24(<<[1, 2]>>)`, and `43 82 01 02` is `h'820102'`. With `Everywhere` both are
+/// shown as items. `embedded` says which byte strings are asked for. One that is asked for is shown so if all of this
+/// holds:
+///
+/// - It has a definite length of at most `memory.len()` bytes, less those of the strings that contain it.
+/// - Its body is one item, in any spelling, to the depth that is left. Its text has a level as the content of a tag has.
+/// - At most seven strings that contain it are shown so.
+///
+/// Each other byte string is shown as in `diagnose`. In exact notation `cbor_encode::encode` gives the bytes back.
+///
+/// A string that is asked for and fits is read into the memory before its text is written.
+///
+/// # Errors
+///
+/// Those of `diagnose`. If the read of such a string stops, nothing of it is written. If the writer fails within it, all
+/// of it was read.
+pub fn diagnose_embedded<R: Read, W: Write>(
+    decoder: &mut Decoder<R>,
+    writer: &mut W,
+    depth: usize,
+    style: Style,
+    embedded: Embedded,
+    memory: &mut [u8],
+) -> Result<(), DiagError<R::Error, W::Error>>
+    requires shallow { depth ≤ MOST_LEVELS }
+    ensures shown { ShowsEmbedded ⟦<SliceReader<'static> as Read>⟧ R.Read W.Write style embedded MOST_STRINGS depth
+        (length memory.old) (sides decoder.old writer.old) result (sides decoder.new writer.new) }
+    ensures reads { ReadsShown R.Read depth decoder.old result decoder.new }
+{
+    let line = Line::first(style, embedded);
+    show_one::<R, W, Strings>(decoder, writer, depth, line, memory)
+}
+
+/// How many byte strings that contain one another are shown as items: [`MOST_STRINGS`].
+type Strings = Nested<Nested<Nested<Nested<Nested<Nested<Nested<Nested<Flat>>>>>>>>;

@@ -1,6 +1,6 @@
 //! Shows items, and the content of tags, arrays and maps.
 
-ghost use Rattle.std.specs.Prelude.{◌≡◌, ◌≤◌, ◌+◌, ◌++◌, Bool, Err, None, Ok, if◌then◌else◌};
+ghost use Rattle.std.specs.Prelude.{◌≡◌, ◌≤◌, ◌+◌, ◌++◌, Bool, Err, None, Ok, length, if◌then◌else◌};
 ghost use Rattle.ciborium_ll.specs.Types.Decoder.{Decoder as AnyDecoder};
 ghost use Rattle.ciborium_ll.specs.Title.{title_len};
 ghost use Rattle.ciborium_ll.specs.Decoding.{IsSteady, MovesOn, PullsTitle, offset_of, waiting_of};
@@ -9,36 +9,64 @@ ghost use Rattle.ciborium_ll.specs.Sides.{sides};
 ghost use Rattle.cbor_skip.specs.Due.{IsNest};
 ghost use Rattle.cbor_skip.specs.Remaining.{closes};
 ghost use Rattle.cbor_skip.specs.Skipping.{SkipsWithin};
+ghost use Rattle.cbor_diag.specs.EmbeddedShows.{fails_inside};
+ghost use Rattle.cbor_diag.specs.Places.{place_of};
 ghost use Rattle.cbor_diag.specs.ItemTexts.{item_lead, nest_closing, nest_last, nest_opening};
-ghost use Rattle.cbor_diag.specs.ItemStops.{ShowsRest, ShowsWithin};
-ghost use Rattle.cbor_diag.specs.Showing.{OnReading, ReadsFrom};
+ghost use Rattle.cbor_diag.specs.ItemStops.{ShowsItemAt, ShowsRest, ShowsWithin};
+ghost use Rattle.cbor_diag.specs.Showing.{OnReading, ReadsFrom, ReadsShown};
 ghost use Rattle.ciborium_ll_grammar.specs.declared.limits.TheConstants.{MOST_LEVELS};
 ghost use Rattle.cbor_diag.specs.declared.strings.TheConstants.{BUFFER_SIZE};
 
 use crate::DiagError;
+use crate::embedded::{Bodies, held_len};
 use crate::layout::Line;
 use crate::marks::{Marked, pull_marked, put_marked};
+use crate::memory::show_held;
 use crate::plain::show_plain;
 use crate::put::{put, said};
 use cbor_skip::{Remaining, SkipError};
-use ciborium_ll::io::{Read, Write};
+use ciborium_ll::io::{Read, SliceReader, Write};
 use ciborium_ll::{Decoder, Header};
 use itoa::Buffer;
 
+/// Shows the next item.
+pub(crate) fn show_one<R: Read, W: Write, B: Bodies>(
+    decoder: &mut Decoder<R>,
+    writer: &mut W,
+    depth: usize,
+    line: Line,
+    memory: &mut [u8],
+) -> Result<(), DiagError<R::Error, W::Error>>
+    requires shallow { line.level + depth ≤ MOST_LEVELS }
+    ensures shown { ShowsItemAt R.Read W.Write (fails_inside ⟦<SliceReader<'static> as Read>⟧ W.Write B.strings)
+        (place_of line B.strings depth (length memory.old)) (sides decoder.old writer.old) result
+        (sides decoder.new writer.new) }
+    ensures reads { ReadsShown R.Read depth decoder.old result decoder.new }
+{
+    let place = decoder.offset();
+    let marked = pull_marked(decoder, line.style.is_exact)?;
+    if let Header::Break = marked.header {
+        return Err(DiagError::Read(SkipError::Break(place)));
+    }
+    show_item::<R, W, B>(decoder, writer, marked, place, depth, line, memory)
+}
+
 /// Shows the content of a tag, an array or a map after its header, and returns whether it is empty.
 #[cycle(items)]
-pub(crate) fn show_within<R: Read, W: Write>(
+pub(crate) fn show_within<R: Read, W: Write, B: Bodies>(
     decoder: &mut Decoder<R>,
     writer: &mut W,
     nest: Marked,
     depth: usize,
     line: Line,
+    memory: &mut [u8],
 ) -> Result<bool, DiagError<R::Error, W::Error>>
     requires nest { IsNest nest.header }
     requires shallow { line.level + depth ≤ MOST_LEVELS }
     ensures reads { OnReading (λ answer. SkipsWithin R.Read nest.header depth BUFFER_SIZE decoder.old answer decoder.new)
         result }
-    ensures shown { ShowsWithin R.Read W.Write line.style line.level nest.header nest.mark
+    ensures shown { ShowsWithin R.Read W.Write (fails_inside ⟦<SliceReader<'static> as Read>⟧ W.Write B.strings)
+        (place_of line B.strings depth (length memory.old)) nest.header nest.mark
         (sides decoder.old writer.old) result (sides decoder.new writer.new) }
     ensures moves_on { MovesOn R.Read decoder.old decoder.new }
 {
@@ -51,7 +79,7 @@ pub(crate) fn show_within<R: Read, W: Write>(
             return at_break(remaining, place, is_first);
         }
         said(before(writer, line, nest, remaining.is_value(), is_first))?;
-        show_item(decoder, writer, next, place, depth, line)?;
+        show_item::<R, W, B>(decoder, writer, next, place, depth, line, memory)?;
         remaining = remaining.after_item();
         is_first = false;
     }
@@ -74,13 +102,14 @@ fn at_break<E, F>(
 
 /// Shows an item after its header, which was pulled at the offset `place`.
 #[cycle(items)]
-pub(crate) fn show_item<R: Read, W: Write>(
+pub(crate) fn show_item<R: Read, W: Write, B: Bodies>(
     decoder: &mut Decoder<R>,
     writer: &mut W,
     marked: Marked,
     place: usize,
     depth: usize,
     line: Line,
+    memory: &mut [u8],
 ) -> Result<(), DiagError<R::Error, W::Error>>
     requires none_waits { waiting_of decoder.old ≡ None }
     requires covered { title_len marked.header ≤ offset_of decoder.old }
@@ -89,10 +118,14 @@ pub(crate) fn show_item<R: Read, W: Write>(
     ensures reads { (before : AnyDecoder R) (outer : Bool) → place ≡ offset_of before
         → PullsTitle R.Read before marked.header decoder.old → (IsSteady R.Read before → IsSteady R.Read decoder.old)
         → OnReading (λ answer. ReadsFrom R.Read outer depth BUFFER_SIZE before answer decoder.new) result }
-    ensures shown { ShowsRest R.Read W.Write line.style line.level marked.header marked.mark
+    ensures shown { ShowsRest R.Read W.Write (fails_inside ⟦<SliceReader<'static> as Read>⟧ W.Write B.strings)
+        (place_of line B.strings depth (length memory.old)) marked.header marked.mark
         (sides decoder.old writer.old) result (sides decoder.new writer.new) }
     ensures moves_on { MovesOn R.Read decoder.old decoder.new }
 {
+    if let Some(len) = held_len::<B>(marked.header, depth, line, memory.len()) {
+        return show_held::<R, W, B>(decoder, writer, len, marked.mark, depth, line, memory);
+    }
     match marked.header {
         Header::Tag(_) | Header::Array(_) | Header::Map(_) => {
             if depth == 0 {
@@ -100,7 +133,14 @@ pub(crate) fn show_item<R: Read, W: Write>(
             }
             said(open(writer, marked))?;
             let inner = line.within(marked.header);
-            let is_empty = show_within(decoder, writer, marked, depth - 1, inner)?;
+            let is_empty = show_within::<R, W, B>(
+                decoder,
+                writer,
+                marked,
+                depth - 1,
+                inner,
+                memory,
+            )?;
             said(close(writer, line, marked, is_empty))
         }
         _ => show_plain(decoder, writer, marked, line.style.is_exact),

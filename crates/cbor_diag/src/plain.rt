@@ -1,13 +1,13 @@
 //! Shows items that contain no others.
 
-ghost use Rattle.std.specs.Prelude.{◌≡◌, ◌≤◌, ℕ, Bool, None, OnOk};
+ghost use Rattle.std.specs.Prelude.{◌≡◌, ◌≤◌, ℕ, Bool, false, None, OnOk};
 ghost use Rattle.ciborium_ll.specs.Types.Decoder.{Decoder as AnyDecoder};
 ghost use Rattle.ciborium_ll.specs.Title.{title_len};
 ghost use Rattle.ciborium_ll.specs.Decoding.{IsSteady, MovesOn, PullsTitle, offset_of, waiting_of};
 ghost use Rattle.ciborium_ll.specs.Sides.{sides};
 ghost use Rattle.cbor_skip.specs.Due.{IsNest};
-ghost use Rattle.cbor_diag.specs.declared.layout.Style.{Style};
 ghost use Rattle.cbor_diag.specs.ItemTexts.{RestShown};
+ghost use Rattle.cbor_diag.specs.Places.{Place, is_held};
 ghost use Rattle.cbor_diag.specs.Showing.{OnReading, ReadsFrom, ShowsHeader};
 ghost use Rattle.cbor_diag.specs.declared.strings.TheConstants.{BUFFER_SIZE};
 
@@ -35,8 +35,8 @@ pub(crate) fn show_plain<R: Read, W: Write>(
         → OnReading (λ answer. ReadsFrom R.Read outer depth BUFFER_SIZE before answer decoder.new) result }
     ensures text { ShowsHeader R.Read W.Write is_exact marked.header marked.mark (sides decoder.old writer.old) result
         (sides decoder.new writer.new) }
-    ensures shown { (style : Style) (level : ℕ) → style.is_exact ≡ is_exact → OnOk result (RestShown R.Read W.Write
-        style level marked.header marked.mark (sides decoder.old writer.old) (sides decoder.new writer.new)) }
+    ensures shown { (place : Place) → place.line.style.is_exact ≡ is_exact → is_held place marked.header ≡ false
+        → OnOk result (RestShown R.Read W.Write place marked.header marked.mark (sides decoder.old writer.old) (sides decoder.new writer.new)) }
     ensures moves_on { MovesOn R.Read decoder.old decoder.new }
 {
     let mark = marked.mark;

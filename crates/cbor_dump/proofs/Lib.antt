@@ -14,6 +14,7 @@ pub mod DumpLaws
 pub mod WalkLaws
 pub mod TitleLaws
 pub mod RefusedLaws
+mod KeyLaws
 pub mod StringLaws
 pub mod PieceLaws
 pub mod StopLaws

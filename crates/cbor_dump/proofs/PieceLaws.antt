@@ -202,7 +202,7 @@ module _ {R E : Type 0} (source : Ghosts R E) where
         shows_then source depth start drawn middle then_drawn (items ++ title) so_far.bytes row old between new
         so_far.shows (record {
           lines = title_line depth start middle then_drawn ((items ++ title) ++ so_far.bytes) row x level offset
-              w.Nothing nests (suc so_far.opens) due_within p same (open_place x nests so_far.opens) (at ∙ here) drawn_line;
+              w.Nothing nests (suc so_far.opens) due_within p same (open_place depth x nests so_far.opens _) (at ∙ here) drawn_line;
           takes = takes;
           left = λ idle. IfSome-all (view source new) _ (λ any. tt);
         })

@@ -2,17 +2,18 @@
 use Rattle.std.proofs.lemmas.Bool.Decides.{nat_tests}
 use Rattle.std.proofs.Common.{◌≡◌, ◌∙◌, ℕ, zero, suc, ◌+◌, ◌<◌, List, [], ◌∷◌, ◌++◌, refl, sym, ap, arith}
 use Rattle.std.proofs.Common.{append-nil, append_assoc, length, take, get_or, Option, None, Some, Result, subst}
-use Rattle.std.proofs.Common.{◌⊎◌, inl, inr}
+use Rattle.std.proofs.Common.{◌⊎◌, inl, inr, ◌-◌, ◌*◌, ◌/◌, ◌^◌, ◌≤◌, min, nat_le, length-append, Bool, true, false, codes}
+use Rattle.std.proofs.Common.{le-leb}
 use Rattle.std.proofs.lemmas.List.{take_more}
 use Rattle.std.proofs.lemmas.Str.{IsUtf8-from_is_utf8, is_utf8-from_IsUtf8}
 use Rattle.std.specs.Result.{MatchResult, result_unwrap_or}
-use Rattle.std.specs.Str.{IsUtf8, is_utf8}
+use Rattle.std.specs.Str.{IsUtf8, chars, is_utf8}
 use Rattle.std.proofs.lemmas.Grind.{put_two}
 use Rattle.std.specs.Fmt.{HasWritten, IsPlainFormatter, DisplaysOnOk, WritesOnOk}
 use Rattle.std.specs.declared.fmt.Formatter.{Formatter}
 use Rattle.ciborium_ll_text.specs.Digits.{hex_text}
 use Rattle.cbor_dump.specs.RowTexts.{blank, more_text, characters_text, character_text}
-use Rattle.cbor_dump.specs.RowTexts.{shown_text}
+use Rattle.cbor_dump.specs.RowTexts.{shown_text, bytes_key, digits_text, no_key, quoted_text, text_key}
 use Rattle.cbor_dump.specs.RowTexts.{IsHeaderValue, IsRowText, IsValue, WritesOneOnOk, known_header, known_of}
 use Rattle.cbor_dump.specs.RowTexts.{known_text, row_text}
 use Rattle.cbor_dump.specs.declared.rows.Meaning.{Meaning}
@@ -44,6 +45,43 @@ characters_more [] character = append-nil (character_text character)
 characters_more (first ∷ characters) character =
     ap (λ (z : List ℕ). character_text first ++ z) (characters_more characters character)
     ∙ sym (append_assoc (character_text first) (characters_text characters) (character_text character))
+
+-- One more character adds its columns to those that were counted.
+pub more_columns : (characters : List ℕ) (character len one sum : ℕ)
+    → len ≡ min (length (characters_text characters)) (2 ^ 64 - 1) → one ≡ length (character_text character)
+    → sum ≡ min (len + one) (2 ^ 64 - 1)
+    → sum ≡ min (length (characters_text (characters ++ character ∷ []))) (2 ^ 64 - 1)
+more_columns characters character len one sum counted single added =
+    let all = ap length (characters_more characters character)
+    ∙ length-append (characters_text characters) (character_text character) in
+    omega (arith, counted, single, added, all)
+
+-- Few columns are counted exactly.
+pub at_most : (len all most : ℕ) → len ≡ min all (2 ^ 64 - 1) → most ≤ 22 → nat_le len most ≡ nat_le all most
+at_most len all most counted few = grind (arith, nat_tests)
+
+-- If the columns have room for it, a byte string is shown.
+pub bytes_fit : (most : ℕ) (bytes : List ℕ) → length bytes ≤ most / 3
+    → codes "h'" ++ (digits_text bytes ++ codes "'") ≡ bytes_key most bytes
+bytes_fit most bytes fits =
+    let few : 3 * length bytes ≤ most = omega (arith, fits) in
+    rw (le-leb _ _ few) refl
+
+-- A text that has too many columns is not shown.
+pub text_cut : (most : ℕ) (bytes text : List ℕ) (fits : Bool) → text ≡ shown_text bytes
+    → fits ≡ nat_le (length (characters_text (chars text))) most → fits ≡ false → no_key ≡ text_key most bytes
+text_cut most bytes text fits same counted none =
+    let long : nat_le (length (characters_text (chars (shown_text bytes)))) most ≡ false =
+    subst (λ (z : List ℕ). nat_le (length (characters_text (chars z))) most ≡ false) same (sym counted ∙ none) in
+    rw long refl
+
+pub text_fits : (most : ℕ) (bytes text : List ℕ) (fits : Bool) → text ≡ shown_text bytes
+    → fits ≡ nat_le (length (characters_text (chars text))) most → fits ≡ true
+    → quoted_text bytes ≡ text_key most bytes
+text_fits most bytes text fits same counted some =
+    let short : nat_le (length (characters_text (chars (shown_text bytes)))) most ≡ true =
+    subst (λ (z : List ℕ). nat_le (length (characters_text (chars z))) most ≡ true) same (sym counted ∙ some) in
+    rw short refl
 
 -- The text is that of the bytes if they are UTF-8, and otherwise the given one.
 pub text_or_none : {B E : Type 0} (Rest : E → Type 0) (now : B → List ℕ) (bytes : List ℕ) (result : Result B E)

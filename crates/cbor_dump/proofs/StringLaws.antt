@@ -2,7 +2,7 @@
 use Rattle.std.proofs.lemmas.Bool.Decides.{nat_tests}
 use Rattle.std.proofs.Common.{◌≡◌, ℕ, zero, suc, ◌+◌, ◌-◌, ◌<◌, ◌≤◌, List, [], ◌∷◌, ◌++◌, length, Option, Some, None}
 use Rattle.std.proofs.Common.{Result, Err, inr, refl, sym, ap, subst, ◌∙◌, arith, append-nil, append_assoc}
-use Rattle.std.proofs.Common.{length-append, Bool, IfSome, false}
+use Rattle.std.proofs.Common.{length-append, Bool, IfSome, false, OnOk}
 use Rattle.ciborium_ll.specs.Types.Read.{Ghosts}
 use Rattle.ciborium_ll.specs.Types.Decoder.{Decoder}
 use Rattle.ciborium_ll.specs.Title.{IsTitle, IsStrictTitle}
@@ -23,6 +23,8 @@ use Rattle.cbor_dump.specs.declared.rows.Meaning.TheVariants as m
 use Rattle.cbor_dump.specs.declared.rows.Within.TheVariants as w
 use Rattle.cbor_dump.specs.declared.strings.Kind.{Kind as CodeKind}
 use Rattle.cbor_dump.specs.declared.strings.Kind.TheVariants as k
+use Rattle.cbor_dump.specs.declared.key.KeyBody.{KeyBody}
+use Rattle.cbor_dump.specs.Keys.{IsKept, body_bytes, most_key}
 use Rattle.cbor_dump.specs.Parts.{FailsInBody}
 use Rattle.cbor_dump.specs.Takings.{IsSteadyNoneWaiting, LeavesBehind, most_bytes, TakesBytes, Keeps}
 use Rattle.cbor_dump.specs.Levels.{Line, Nest, AreOpen, more, TitleDue, HasBody, HasNoText, FitsRow, Stands}
@@ -88,6 +90,20 @@ part_stands : (kind : CodeKind) (depth : ℕ) (before : List ℕ) (line : Line)
 part_stands k.Bytes depth before line body written = body
 part_stands k.Text depth before line body written = (body, written)
 
+-- A part that fits is kept after the front.
+pub push_kept : (len left : ℕ) (front bytes : List ℕ) (kept then_kept : KeyBody) → length front + left ≡ len
+    → length bytes ≤ left → body_bytes kept ≡ front
+    → (length (body_bytes kept) + length bytes ≤ most_key → body_bytes then_kept ≡ body_bytes kept ++ bytes)
+    → len ≤ most_key → body_bytes then_kept ≡ front ++ bytes
+push_kept len left front bytes kept then_kept counted few same pushed short =
+    let size : length (body_bytes kept) ≡ length front = ap length same in
+    pushed (omega (arith, counted, few, short, size)) ∙ ap (λ (z : List ℕ). z ++ bytes) same
+
+-- Of a string of indefinite length any bytes are kept.
+pub any_kept : {E W : Type 0} (result : Result (Unit {0}) (DumpError E W)) (bytes : List ℕ) (kept : KeyBody)
+    → OnOk result (IsKept None bytes kept)
+any_kept result bytes kept = grind (arith, nat_tests)
+
 module _ {R E : Type 0} (source : Ghosts R E) where
   -- The bytes of a row that was empty are those that were read.
   pub taken_all : (nothing row : List ℕ) (old new : Decoder R) → nothing ≡ [] → Keeps source nothing row old new
@@ -102,6 +118,12 @@ module _ {R E : Type 0} (source : Ghosts R E) where
     pub counted : length front + left ≡ len
     pub written : IsWritable kind front
     pub passed : old.waiting ≡ None → ReadsPast source old front new
+
+  -- A front of a body was shown, and it is kept if the body is short.
+  pub record KeptSoFar (depth start : ℕ) (drawn then_drawn : Option (List Line)) (before : List ℕ) (kind : Kind)
+      (len left : ℕ) (kept : KeyBody) (old new : Decoder R) : Type 0 where
+    pub shown : SoFar depth start drawn then_drawn before kind len left old new
+    pub keeps : len ≤ most_key → body_bytes kept ≡ shown.front
 
   -- The next line begins at the offset after the bytes that were shown.
   pub next_offset : (depth start : ℕ) (drawn then_drawn : Option (List Line)) (before bytes : List ℕ)
@@ -154,31 +176,34 @@ module _ {R E : Type 0} (source : Ghosts R E) where
         meaning = meaning_of kind;
         within = w.Nothing;
       } ∷ []) → FitsRow bytes
-      → SoFar depth start drawn then_drawn (outer ++ title) (kind_of kind) len (left - length bytes) old new
+      → (shown : SoFar depth start drawn then_drawn (outer ++ title) (kind_of kind) len (left - length bytes) old new)
+      × (shown.front ≡ so_far.front ++ bytes)
   part_shown depth start opens nests outer title kind len left level offset drawn middle then_drawn bytes old between
       new at begun so_far takes few here written full went drawn_line filled =
       let counted = so_far.counted in
       let rest : left ≡ len - length so_far.front = omega (arith, counted) in
-      let fits : length so_far.front + length bytes ≤ len = omega (arith, counted, few) in
-      record {
-        front = so_far.front ++ bytes;
-        shows = shows_then source depth start drawn middle then_drawn (outer ++ title) so_far.front bytes old between
-            new so_far.shows (record {
-              lines = lines_one depth start middle then_drawn ((outer ++ title) ++ so_far.front) _ drawn_line
-                  (here ∙ next_offset depth start drawn middle (outer ++ title) so_far.front old between so_far.shows
-                  begun) filled
-                  (part_stands kind depth ((outer ++ title) ++ so_far.front) _
-                  (body_here depth opens nests outer title (kind_of kind) len level at so_far.front bytes fits
-                  (subst (λ (n : ℕ). IsFullPart (kind_of kind) n bytes) rest full) offset (meaning_of kind)) written)
-                  (part_meant kind, tt);
-              takes = takes;
-              left = λ idle. IfSome-all (view source new) _ (λ any. tt);
-            });
-        counted = omega (arith, counted, few, length-append so_far.front bytes);
-        written = writable_then (kind_of kind) so_far.front bytes so_far.written written;
-        passed = λ none. ReadsPast-then source old between new so_far.front bytes (so_far.passed none)
-            (went (passes_idle source old between so_far.front (so_far.passed none) none));
-      }
+      let fits : length so_far.front + length bytes ≤ len = omega (arith, counted, few) in (
+        record {
+          front = so_far.front ++ bytes;
+          shows = shows_then source depth start drawn middle then_drawn (outer ++ title) so_far.front bytes old between
+              new so_far.shows (record {
+                lines = lines_one depth start middle then_drawn ((outer ++ title) ++ so_far.front) _ drawn_line
+                    (here ∙ next_offset depth start drawn middle (outer ++ title) so_far.front old between so_far.shows
+                    begun) filled
+                    (part_stands kind depth ((outer ++ title) ++ so_far.front) _
+                    (body_here depth opens nests outer title (kind_of kind) len level at so_far.front bytes fits
+                    (subst (λ (n : ℕ). IsFullPart (kind_of kind) n bytes) rest full) offset (meaning_of kind)) written)
+                    (part_meant kind, tt);
+                takes = takes;
+                left = λ idle. IfSome-all (view source new) _ (λ any. tt);
+              });
+          counted = omega (arith, counted, few, length-append so_far.front bytes);
+          written = writable_then (kind_of kind) so_far.front bytes so_far.written written;
+          passed = λ none. ReadsPast-then source old between new so_far.front bytes (so_far.passed none)
+              (went (passes_idle source old between so_far.front (so_far.passed none) none));
+        },
+        refl,
+      )
 
 -- ---- opens
 

@@ -37,7 +37,9 @@ use Rattle.cbor_dump.proofs.RowLaws.{title_filled}
 use Rattle.cbor_dump.proofs.WalkLaws.{stands_any}
 use Rattle.cbor_dump.specs.declared.rows.Within.{Within}
 use Rattle.cbor_dump.specs.declared.rows.Within.TheVariants as w
-use Rattle.cbor_dump.specs.Levels.{title_within, within_nests}
+use Rattle.cbor_dump.specs.Levels.{IsPlace, IsTitlePlace}
+use Rattle.cbor_dump.specs.Keys.{IsKeyOf}
+use Rattle.cbor_dump.specs.declared.key.Key.{Key}
 use Rattle.cbor_dump.proofs.TakingLaws.{takes_none}
 use Rattle.cbor_dump.proofs.DumpLaws.{lines_one, shows_fault, shows_nothing, shows_read}
 use Rattle.cbor_dump.proofs.DumpLaws.{shows_says, shows_then, title_fault, title_row}
@@ -56,19 +58,23 @@ pub string_level : (k : Kind) (len : Option ℕ) (nests : List Nest) (opens : �
     → title_level (kind_header k len) nests opens ≡ length nests + opens
 string_level k len nests opens = grind (arith, nat_tests)
 
-pub nest_place : (x : Header) (nests : List Nest) → IsNest x → title_within x nests 0 ≡ within_nests nests
-nest_place x nests p = grind (arith, nat_tests)
+-- A title outside of strings has the place of the item that is due.
+pub nest_place : (depth : ℕ) (x : Header) (nests : List Nest) (before : List ℕ) (within : Within) → IsNest x
+    → IsPlace depth nests before within → IsTitlePlace depth x nests 0 before within
+nest_place depth x nests before within p here = grind (arith, nat_tests)
 
-pub value_place : (x : Header) (nests : List Nest) → IsItemAlone x → title_within x nests 0 ≡ within_nests nests
-value_place x nests p = grind (arith, nat_tests)
+pub value_place : (depth : ℕ) (x : Header) (nests : List Nest) (before : List ℕ) (within : Within) → IsItemAlone x
+    → IsPlace depth nests before within → IsTitlePlace depth x nests 0 before within
+value_place depth x nests before within p here = grind (arith, nat_tests)
 
-pub string_place : (k : Kind) (len : Option ℕ) (nests : List Nest)
-    → title_within (kind_header k len) nests 0 ≡ within_nests nests
-string_place k len nests = grind (arith, nat_tests)
+pub string_place : (depth : ℕ) (k : Kind) (len : Option ℕ) (nests : List Nest) (before : List ℕ) (within : Within)
+    → IsPlace depth nests before within → IsTitlePlace depth (kind_header k len) nests 0 before within
+string_place depth k len nests before within here = grind (arith, nat_tests)
 
 -- Within an open no title has a place.
-pub open_place : (x : Header) (nests : List Nest) (opens : ℕ) → w.Nothing ≡ title_within x nests (suc opens)
-open_place x nests opens = grind (arith, nat_tests)
+pub open_place : (depth : ℕ) (x : Header) (nests : List Nest) (opens : ℕ) (before : List ℕ)
+    → IsTitlePlace depth x nests (suc opens) before w.Nothing
+open_place depth x nests opens before = grind (arith, nat_tests)
 
 -- ---- lines
 
@@ -88,7 +94,7 @@ due_here depth nests before within = record {
 
 pub title_line : (depth start : ℕ) (old new : Option (List Line)) (before title : List ℕ) (x : Header)
     (level place : ℕ) (within : Within) (nests : List Nest) (opens : ℕ) → TitleDue depth nests opens before
-    → IsTitle title x → level ≡ title_level x nests opens → within ≡ title_within x nests opens
+    → IsTitle title x → level ≡ title_level x nests opens → IsTitlePlace depth x nests opens before within
     → place ≡ start + length before
     → Draws old new (record { level = level; offset = place; bytes = title; meaning = m.Header x; within = within }
     ∷ [])
@@ -101,10 +107,11 @@ title_line depth start old new before title x level place within nests opens due
 pub walk_line : (strict : Bool) (depth whole start : ℕ) (old new : Option (List Line)) (before title : List ℕ)
     (x : Header)
     (level place : ℕ) (within : Within) (walk : Walk) (due : IsDue strict depth whole walk before) → IsTitle title x
-    → title_level x due.nests 0 ≡ length due.nests + 0 → title_within x due.nests 0 ≡ within_nests due.nests
+    → title_level x due.nests 0 ≡ length due.nests + 0
+    → (IsPlace depth due.nests before within → IsTitlePlace depth x due.nests 0 before within)
     → level ≡ walk.used
     → ((strict : Bool) (depth whole : ℕ) (before : List ℕ) (due : IsDue strict depth whole walk before)
-    → within ≡ within_nests due.nests)
+    → IsPlace depth due.nests before within)
     → place ≡ start + length before
     → Draws old new (record { level = level; offset = place; bytes = title; meaning = m.Header x; within = within }
     ∷ [])
@@ -115,7 +122,7 @@ walk_line strict depth whole start old new before title x level place within wal
     let counted : length due.nests ≡ length due.nests + 0 = omega arith in
     title_line depth start old new before title x level place within due.nests 0
     (due_here depth due.nests before (whole, stands_any strict depth whole due.nests before due.within)) p
-    (same ∙ (used ∙ (counted ∙ sym plain))) (here strict depth whole before due ∙ sym placed) at drawn
+    (same ∙ (used ∙ (counted ∙ sym plain))) (placed (here strict depth whole before due)) at drawn
 
 pub break_line : (strict : Bool) (depth whole start : ℕ) (old new : Option (List Line)) (before title : List ℕ)
     (level place : ℕ)
@@ -137,22 +144,36 @@ break_line strict depth whole start old new before title level place closed walk
 
 -- ---- items
 
--- An item follows if one was due.
-pub behind_item : (strict : Bool) (depth whole : ℕ) (walk : Walk) (before item : List ℕ)
-    → IsDue strict depth whole walk before → walk.used ≤ walk.depth
-    → ((levels : ℕ) → IsItem strict levels item) → IsBehindItem strict depth whole walk (before ++ item)
-behind_item strict depth whole walk before item due within is_item =
+-- An item follows if one was due, and the key names it.
+pub behind_item : (strict : Bool) (depth whole : ℕ) (walk : Walk) (x : Header) (key : Key) (before title rest : List ℕ)
+    → IsDue strict depth whole walk before → walk.used ≤ walk.depth → IsTitle title x → IsKeyOf x rest key
+    → ((levels : ℕ) → IsItem strict levels (title ++ rest))
+    → IsBehindItem strict depth whole walk key (before ++ (title ++ rest))
+behind_item strict depth whole walk x key before title rest due within p named is_item =
     let used = due.keeps.used in
     let same = due.keeps.same_depth in
     record {
       before = before;
-      item = item;
+      item = title ++ rest;
       levels = depth - length due.nests;
-      due = due;
+      nests = due.nests;
+      within = due.within;
+      keeps = due.keeps;
       left = omega (arith, used, same, within);
       is_item = is_item (depth - length due.nests);
       is = refl;
+      names = record { header = x; title = title; rest = rest; is_title = p; is = refl; named = named };
     }
+
+-- A title that is an item, and the key names it.
+pub behind_alone : (strict : Bool) (depth whole : ℕ) (walk : Walk) (x : Header) (key : Key) (before title : List ℕ)
+    → IsDue strict depth whole walk before → walk.used ≤ walk.depth → IsTitle title x → IsKeyOf x [] key
+    → ((levels : ℕ) → IsItem strict levels title)
+    → IsBehindItem strict depth whole walk key (before ++ title)
+behind_alone strict depth whole walk x key before title due within p named is_item =
+    subst (λ (z : List ℕ). IsBehindItem strict depth whole walk key (before ++ z)) (append-nil title)
+    (behind_item strict depth whole walk x key before title [] due within p named
+    (λ levels. subst (λ (z : List ℕ). IsItem strict levels z) (sym (append-nil title)) (is_item levels)))
 
 value_completes : (strict : Bool) (x : Header) → IsItemAlone x → (levels : ℕ) → Completes strict levels x []
 value_completes strict x p levels = grind (arith, nat_tests, positive, negative, float, simple)

@@ -1,8 +1,8 @@
 -- The steps of a walk: what it keeps of the nests within which an item is due.
 use Rattle.std.proofs.lemmas.Bool.Decides.{nat_tests}
-use Rattle.std.proofs.Common.{◌≡◌, ℕ, zero, suc, ◌+◌, ◌-◌, ◌<◌, ◌≤◌, Bool, true, false, List, [], ◌∷◌, ◌++◌}
+use Rattle.std.proofs.Common.{◌≡◌, ℕ, zero, suc, ◌+◌, ◌-◌, ◌*◌, ◌<◌, ◌≤◌, Bool, true, false, List, [], ◌∷◌, ◌++◌}
 use Rattle.std.proofs.Common.{length, set, refl, sym, ap, subst, ◌∙◌, arith, append_assoc}
-use Rattle.std.proofs.Common.{append-nil}
+use Rattle.std.proofs.Common.{append-nil, Option, Some, None}
 use Rattle.std.proofs.lemmas.List.{get_or-set_same, get_or-set_other, length-set}
 use Rattle.ciborium_ll.specs.Types.Header.{Header}
 use Rattle.ciborium_ll.specs.Types.Header.TheVariants as h
@@ -11,14 +11,19 @@ use Rattle.ciborium_ll.specs.Items.{Completes, tag, array, pairs, open_array, op
 use Rattle.ciborium_ll.specs.Items.{IsTakenTitle}
 use Rattle.cbor_skip.specs.declared.remaining.Remaining.{Remaining}
 use Rattle.cbor_skip.specs.Due.{TakesMore}
-use Rattle.cbor_skip.specs.Remaining.{IsRemaining, is_done, closes}
+use Rattle.cbor_skip.specs.Remaining.{IsRemaining, is_done, closes, is_value}
+use Rattle.cbor_skip.specs.declared.remaining.Remaining.TheVariants as r
 use Rattle.cbor_skip.proofs.RemainingLaws.{takes_more}
 use Rattle.cbor_skip.proofs.ItemSteps.{item_of, items_item}
 use Rattle.cbor_skip.proofs.StrictnessLaws.{items_looser}
 use Rattle.cbor_dump.specs.declared.walk.Walk.{Walk}
-use Rattle.cbor_dump.specs.Levels.{Nest, StandsBehind, outside, inside, closes_one, place_in, title_level, within_nests}
+use Rattle.cbor_dump.specs.Levels.{Nest, StandsBehind, StandsWithin, outside, inside, closes_one, title_level}
+use Rattle.cbor_dump.specs.Levels.{index_in, IsBehindKey, IsPairPlace, IsPlace, IsPlaceIn}
+use Rattle.cbor_dump.specs.Keys.{IsKeyOf, NamesItem}
+use Rattle.cbor_dump.specs.declared.key.Key.{Key}
+use Rattle.cbor_dump.specs.declared.key.Key.TheVariants as keys
 use Rattle.cbor_dump.specs.Walks.{remaining_at, AreKept, KeepsNests, IsDue, IsDueBehind, IsBehindItem, Breaks}
-use Rattle.cbor_dump.specs.Walks.{AreAt, IsDeepest, place_at}
+use Rattle.cbor_dump.specs.Walks.{AreAt, IsDeepest, IsKeyKept, index_at, place_of}
 use Rattle.cbor_dump.specs.declared.rows.Within.{Within}
 use Rattle.cbor_dump.specs.declared.rows.Within.TheVariants as w
 
@@ -53,20 +58,20 @@ kept_more : (levels : List Remaining) (nests : List Nest) (nest : Nest) (at : �
 kept_more levels nests nest at x end room is some kept =
     grind (arith, nat_tests, levels, get_or-set_same, is, some, kept_below)
 
--- A write above the nests leaves their places.
-at_below : (places : List Within) (nests : List Nest) (at : ℕ) (x : Within) → length nests ≤ at
-    → AreAt places nests → AreAt (set places at x) nests
-at_below places [] at x few kept = tt
-at_below places (nest ∷ nests) at x few kept =
-    let inner = at_below places nests at x (omega (arith, few)) kept.1 in
+-- A write above the nests leaves their indexes.
+at_below : (indexes : List (Option ℕ)) (nests : List Nest) (at : ℕ) (x : Option ℕ) → length nests ≤ at
+    → AreAt indexes nests → AreAt (set indexes at x) nests
+at_below indexes [] at x few kept = tt
+at_below indexes (nest ∷ nests) at x few kept =
+    let inner = at_below indexes nests at x (omega (arith, few)) kept.1 in
     grind (arith, get_or-set_other, inner)
 
--- A write at the end of the nests keeps one more place.
-at_more : (places : List Within) (nests : List Nest) (nest : Nest) (at : ℕ) (x : Within) → at ≡ length nests
-    → at < length places → x ≡ place_in nest.header nest.count → AreAt places nests
-    → AreAt (set places at x) (nest ∷ nests)
-at_more places nests nest at x end room is kept =
-    grind (arith, nat_tests, places, get_or-set_same, is, at_below)
+-- A write at the end of the nests keeps one more index.
+at_more : (indexes : List (Option ℕ)) (nests : List Nest) (nest : Nest) (at : ℕ) (x : Option ℕ) → at ≡ length nests
+    → at < length indexes → x ≡ index_in nest.header nest.count → AreAt indexes nests
+    → AreAt (set indexes at x) (nest ∷ nests)
+at_more indexes nests nest at x end room is kept =
+    grind (arith, nat_tests, indexes, get_or-set_same, is, at_below)
 
 -- ---- the innermost nest
 
@@ -119,22 +124,40 @@ goes_on strict depth whole levels nest outer bytes item inner level is_item more
     (inside inner.within inner.level inner.is_title inner.taken more
     (items_item strict inner.levels nest.count inner.items item inner.are_items item'))
 
+-- A nest is a key that a dump does not name.
+nest_key : (x : Header) (count : ℕ) (rest : List ℕ) → TakesMore x count → IsKeyOf x rest keys.Other
+nest_key x count rest more = grind arith
+
+empty_key : (x : Header) (count : ℕ) (rest : List ℕ) (remaining : Remaining) → IsRemaining x count remaining
+    → IsKeyOf x rest keys.Other
+empty_key x count rest remaining is = grind arith
+
 -- If its items complete a nest, an item ends one level further out.
 ends_nest : (strict : Bool) (depth whole : ℕ) (nest : Nest) (outer : List Nest) (bytes more rest : List ℕ) (walk : Walk)
     (inner : Inner strict depth whole nest outer bytes) → rest ≡ inner.items ++ more
     → Completes strict (suc inner.levels) nest.header rest → KeepsNests depth walk outer
-    → IsBehindItem strict depth whole walk (bytes ++ more)
+    → IsBehindItem strict depth whole walk keys.Other (bytes ++ more)
 ends_nest strict depth whole nest outer bytes more rest walk inner e completes keeps = record {
   before = inner.before;
   item = inner.title ++ rest;
   levels = suc inner.levels;
-  due = record { nests = outer; within = inner.within; keeps = keeps };
+  nests = outer;
+  within = inner.within;
+  keeps = keeps;
   left = inner.level;
   is_item = item_of strict (suc inner.levels) inner.title rest nest.header inner.is_title inner.taken completes;
   is =
       ap (λ (z : List ℕ). z ++ more) inner.is ∙ (append_assoc inner.before (inner.title ++ inner.items) more
       ∙ (ap (λ (z : List ℕ). inner.before ++ z) (append_assoc inner.title inner.items more)
       ∙ ap (λ (z : List ℕ). inner.before ++ (inner.title ++ z)) (sym e)));
+  names = record {
+    header = nest.header;
+    title = inner.title;
+    rest = rest;
+    is_title = inner.is_title;
+    is = refl;
+    named = nest_key nest.header nest.count rest inner.takes_more;
+  };
 }
 
 -- ---- the walk
@@ -161,7 +184,7 @@ due_outside : (strict : Bool) (depth whole : ℕ) (walk : Walk) (bytes : List �
 due_outside strict depth whole walk bytes none due = grind (arith, nat_tests)
 
 pub due_first : (strict : Bool) (depth : ℕ) (walk : Walk) → walk.used ≡ 0 → walk.depth ≡ depth
-    → length walk.levels ≡ 256 → length walk.places ≡ 256
+    → length walk.levels ≡ 256 → length walk.indexes ≡ 256
     → IsDue strict depth 0 walk []
 due_first strict depth walk used same room wide = grind (arith, outside, no_items)
 
@@ -175,7 +198,7 @@ pub enters_empty : (strict : Bool) (depth whole : ℕ) (walk : Walk) (before tit
     (x : Remaining)
     → IsDue strict depth whole walk before → IsTitle title header → IsTakenTitle strict title header
     → walk.used ≤ walk.depth → (walk.used ≡ walk.depth → ⊥)
-    → IsRemaining header 0 x → is_done x ≡ true → IsBehindItem strict depth whole walk (before ++ title)
+    → IsRemaining header 0 x → is_done x ≡ true → IsBehindItem strict depth whole walk keys.Other (before ++ title)
 enters_empty strict depth whole walk before title header x due p g within room is done =
     let levels = depth - suc (length due.nests) in
     let used = due.keeps.used in
@@ -184,20 +207,30 @@ enters_empty strict depth whole walk before title header x due p g within room i
       before = before;
       item = title;
       levels = suc levels;
-      due = due;
+      nests = due.nests;
+      within = due.within;
+      keeps = due.keeps;
       left = omega (arith, used, same, within, room);
       is_item = subst (λ (z : List ℕ). IsItem strict (suc levels) z) (append-nil title)
           (item_of strict (suc levels) title [] header p g (all_read strict header levels 0 [] x is done no_items));
       is = refl;
+      names = record {
+        header = header;
+        title = title;
+        rest = [];
+        is_title = p;
+        is = sym (append-nil title);
+        named = empty_key header 0 [] x is;
+      };
     }
 
 -- The title of a nest with items due opens one more level.
 pub enters_within : (strict : Bool) (depth whole : ℕ) (walk new : Walk) (before title : List ℕ) (header : Header)
-    (x : Remaining) (y : Within)
+    (x : Remaining) (y : Option ℕ)
     → IsDue strict depth whole walk before → IsTitle title header → IsTakenTitle strict title header
     → walk.used ≤ walk.depth → walk.depth ≤ 256
-    → (walk.used ≡ walk.depth → ⊥) → IsRemaining header 0 x → is_done x ≡ false → y ≡ place_in header 0
-    → new.levels ≡ set walk.levels walk.used x → new.places ≡ set walk.places walk.used y
+    → (walk.used ≡ walk.depth → ⊥) → IsRemaining header 0 x → is_done x ≡ false → y ≡ index_in header 0
+    → new.levels ≡ set walk.levels walk.used x → new.indexes ≡ set walk.indexes walk.used y
     → new.used ≡ walk.used + 1 → new.depth ≡ walk.depth
     → IsDueBehind strict depth whole new (before ++ title)
 enters_within strict depth whole walk new before title header x y due p g within shallow room is some first written
@@ -222,11 +255,12 @@ enters_within strict depth whole walk new before title header x y due p g within
         used = omega (arith, one, used);
         same_depth = deep ∙ same;
         room = ap length written ∙ (length-set walk.levels walk.used x ∙ long);
-        placed = subst (λ (z : List Within). AreAt z (nest ∷ due.nests)) (sym placed)
-            (at_more walk.places due.nests nest walk.used y used
+        placed = subst (λ (z : List (Option ℕ)). AreAt z (nest ∷ due.nests)) (sym placed)
+            (at_more walk.indexes due.nests nest walk.used y used
             (omega (arith, used, same, within, room, shallow, wide)) first due.keeps.placed);
-        wide = ap length placed ∙ (length-set walk.places walk.used y ∙ wide);
+        wide = ap length placed ∙ (length-set walk.indexes walk.used y ∙ wide);
       };
+      keyed = λ earlier none. absurd cc;
     })
 
 -- ---- a break
@@ -272,8 +306,8 @@ break_refused strict depth whole walk before due some refused =
 closed_behind : (strict : Bool) (depth whole : ℕ) (walk new : Walk) (before : List ℕ) (nests : List Nest)
     → StandsBehind strict depth whole nests before
     → KeepsNests depth walk nests → (walk.used ≡ 0 → ⊥) → closes (remaining_at walk.levels (walk.used - 1)) ≡ true
-    → new.levels ≡ walk.levels → new.places ≡ walk.places → new.used ≡ walk.used - 1 → new.depth ≡ walk.depth
-    → IsBehindItem strict depth whole new (before ++ 0xff ∷ [])
+    → new.levels ≡ walk.levels → new.indexes ≡ walk.indexes → new.used ≡ walk.used - 1 → new.depth ≡ walk.depth
+    → IsBehindItem strict depth whole new keys.Other (before ++ 0xff ∷ [])
 closed_behind strict depth whole walk new before [] within keeps some may same still less deep =
     absurd (some keeps.used)
 closed_behind strict depth whole walk new before (nest ∷ nests) within keeps some may same still less deep =
@@ -291,7 +325,7 @@ closed_behind strict depth whole walk new before (nest ∷ nests) within keeps s
       used = less ∙ at;
       same_depth = deep ∙ keeps.same_depth;
       room = ap length same ∙ keeps.room;
-      placed = subst (λ (z : List Within). AreAt z nests) (sym still) keeps.placed.1;
+      placed = subst (λ (z : List (Option ℕ)). AreAt z nests) (sym still) keeps.placed.1;
       wide = ap length still ∙ keeps.wide;
     })
 
@@ -299,7 +333,7 @@ pub break_closes : (strict : Bool) (depth whole : ℕ) (walk new : Walk) (before
     → IsDue strict depth whole walk before
     → (walk.used ≡ 0 → ⊥)
     → closes (remaining_at walk.levels (walk.used - 1)) ≡ true
-    → new.levels ≡ walk.levels → new.places ≡ walk.places → new.used ≡ walk.used - 1 → new.depth ≡ walk.depth
+    → new.levels ≡ walk.levels → new.indexes ≡ walk.indexes → new.used ≡ walk.used - 1 → new.depth ≡ walk.depth
     → Breaks strict depth whole true new before
 break_closes strict depth whole walk new before due some may same still less deep =
     let closing = closes_as_kept depth walk due.nests due.keeps some ∙ may in
@@ -322,51 +356,71 @@ outside_more : (strict : Bool) (depth whole levels : ℕ) (nests : List Nest) (b
     (before ++ item)
 outside_more strict depth whole levels nests before item stands none same is_item = grind (arith, outside, items_item)
 
-pub end_outside : (strict : Bool) (depth whole : ℕ) (walk : Walk) (bytes : List ℕ)
-    → IsBehindItem strict depth whole walk bytes → walk.used ≡ 0
+pub end_outside : (strict : Bool) (depth whole : ℕ) (walk : Walk) (key : Key) (bytes : List ℕ)
+    → IsBehindItem strict depth whole walk key bytes → walk.used ≡ 0
     → IsDueBehind strict depth whole walk bytes
-end_outside strict depth whole walk bytes behind none =
-    let due = behind.due in
-    let used = due.keeps.used in
+end_outside strict depth whole walk key bytes behind none =
+    let used = behind.keeps.used in
     let left = behind.left in
-    let empty : length due.nests ≡ 0 = omega (arith, used, none) in
+    let empty : length behind.nests ≡ 0 = omega (arith, used, none) in
     let same : behind.levels ≡ depth = omega (arith, left, empty) in
     due_outside strict depth whole walk bytes none (record {
       nests = [];
       within = subst (λ (z : List ℕ). StandsBehind strict depth (suc whole) [] z) (sym behind.is)
-          (outside_more strict depth whole behind.levels due.nests behind.before behind.item due.within empty same
+          (outside_more strict depth whole behind.levels behind.nests behind.before behind.item behind.within empty same
           behind.is_item);
       keeps = record {
         kept = tt;
         used = none;
-        same_depth = due.keeps.same_depth;
-        room = due.keeps.room;
+        same_depth = behind.keeps.same_depth;
+        room = behind.keeps.room;
         placed = tt;
-        wide = due.keeps.wide;
+        wide = behind.keeps.wide;
       };
+      keyed = tt;
     })
 
 -- The end of an item changes how many items remain in the innermost nest.
-pub record Steps (walk new : Walk) (after : Remaining) (next : Within) : Type 0 where
+pub record Steps (walk new : Walk) (after : Remaining) (next : Option ℕ) : Type 0 where
   pub counts : (x : Header) (count : ℕ) → IsRemaining x count (remaining_at walk.levels (walk.used - 1))
       → IsRemaining x (suc count) after
   pub some : walk.used ≡ 0 → ⊥
   pub within : walk.used ≤ 256
   pub written : new.levels ≡ set walk.levels (walk.used - 1) after
-  pub places : (x : Header) (count : ℕ) → place_at walk.places (walk.used - 1) ≡ place_in x count
-      → next ≡ place_in x (suc count)
-  pub placed : new.places ≡ set walk.places (walk.used - 1) next
+  pub indexes : (x : Header) (count : ℕ) → index_at walk.indexes (walk.used - 1) ≡ index_in x count
+      → next ≡ index_in x (suc count)
+  pub placed : new.indexes ≡ set walk.indexes (walk.used - 1) next
   pub deep : new.depth ≡ walk.depth
 
-more_due : (strict : Bool) (depth whole : ℕ) (walk new : Walk) (after : Remaining) (step : Within)
+-- The last item within a nest is the one that came.
+key_kept : (strict : Bool) (depth whole levels : ℕ) (nest : Nest) (outer : List Nest) (before item : List ℕ) (key : Key)
+    → StandsBehind strict depth whole (nest ∷ outer) before → suc (length outer) + levels ≡ depth
+    → IsItem strict levels item → NamesItem item key → (earlier : ℕ) → suc nest.count ≡ suc earlier
+    → IsBehindKey depth nest.header earlier outer (before ++ item) key
+key_kept strict depth whole levels nest outer before item key stands left is_item names earlier same =
+    let count : nest.count ≡ earlier = omega (arith, same) in
+    record {
+      before = before;
+      item = item;
+      levels = levels;
+      due = subst (λ (n : ℕ). StandsWithin depth (record { header = nest.header; count = n } ∷ outer) before) count
+          (whole, stands_any strict depth whole (nest ∷ outer) before stands);
+      left = left;
+      is_item = items_looser false strict (λ no. absurd cc) levels 1 item is_item;
+      is = refl;
+      names = names;
+    }
+
+more_due : (strict : Bool) (depth whole : ℕ) (walk new : Walk) (after : Remaining) (step : Option ℕ)
     → Steps walk new after step
     → (nests : List Nest) (before item : List ℕ) (levels : ℕ) → StandsBehind strict depth whole nests before
     → KeepsNests depth walk nests → length nests + levels ≡ depth → IsItem strict levels item
-    → is_done after ≡ false → new.used ≡ walk.used → IsDue strict depth whole new (before ++ item)
-more_due strict depth whole walk new after step s [] before item levels stands keeps left is_item rest same =
+    → NamesItem item new.key → is_done after ≡ false → new.used ≡ walk.used
+    → IsDue strict depth whole new (before ++ item)
+more_due strict depth whole walk new after step s [] before item levels stands keeps left is_item names rest same =
     absurd (s.some keeps.used)
-more_due strict depth whole walk new after step s (nest ∷ nests) before item levels stands keeps left is_item rest
-    same =
+more_due strict depth whole walk new after step s (nest ∷ nests) before item levels stands keeps left is_item names
+    rest same =
     let used = keeps.used in
     let few = s.within in
     let at : walk.used - 1 ≡ length nests = omega (arith, used) in
@@ -374,9 +428,9 @@ more_due strict depth whole walk new after step s (nest ∷ nests) before item l
     let long = keeps.room in
     let wide = keeps.wide in
     let count = nest.count in
-    let place : step ≡ place_in nest.header (suc count) =
-    s.places nest.header count
-    (subst (λ (k : ℕ). place_at walk.places k ≡ place_in nest.header count) (sym at) keeps.placed.0) in
+    let place : step ≡ index_in nest.header (suc count) =
+    s.indexes nest.header count
+    (subst (λ (k : ℕ). index_at walk.indexes k ≡ index_in nest.header count) (sym at) keeps.placed.0) in
     let is : IsRemaining nest.header (suc count) after =
     s.counts nest.header count
     (subst (λ (k : ℕ). IsRemaining nest.header count (remaining_at walk.levels k)) (sym at) kept.0) in
@@ -393,32 +447,32 @@ more_due strict depth whole walk new after step s (nest ∷ nests) before item l
         used = same ∙ used;
         same_depth = s.deep ∙ keeps.same_depth;
         room = ap length s.written ∙ (length-set walk.levels (walk.used - 1) after ∙ long);
-        placed = subst (λ (z : List Within). AreAt z (next ∷ nests)) (sym s.placed)
-            (at_more walk.places nests next (walk.used - 1) step at (omega (arith, used, wide, few)) place
+        placed = subst (λ (z : List (Option ℕ)). AreAt z (next ∷ nests)) (sym s.placed)
+            (at_more walk.indexes nests next (walk.used - 1) step at (omega (arith, used, wide, few)) place
             keeps.placed.1);
-        wide = ap length s.placed ∙ (length-set walk.places (walk.used - 1) step ∙ wide);
+        wide = ap length s.placed ∙ (length-set walk.indexes (walk.used - 1) step ∙ wide);
       };
+      keyed = key_kept strict depth whole levels nest nests before item new.key stands left is_item names;
     }
 
-pub end_goes_on : (strict : Bool) (depth whole : ℕ) (walk new : Walk) (after : Remaining) (step : Within)
+pub end_goes_on : (strict : Bool) (depth whole : ℕ) (walk new : Walk) (after : Remaining) (step : Option ℕ)
     → Steps walk new after step
     → (bytes : List ℕ)
-    → IsBehindItem strict depth whole walk bytes → is_done after ≡ false → new.used ≡ walk.used
+    → IsBehindItem strict depth whole walk new.key bytes → is_done after ≡ false → new.used ≡ walk.used
     → IsDueBehind strict depth whole new bytes
 end_goes_on strict depth whole walk new after step s bytes behind rest same =
-    let due = behind.due in
     let some = s.some in
     within_nest strict depth whole new.used new bytes refl (omega (arith, same, some))
     (subst (λ (z : List ℕ). IsDue strict depth whole new z) (sym behind.is)
-    (more_due strict depth whole walk new after step s due.nests behind.before behind.item behind.levels due.within
-    due.keeps behind.left behind.is_item rest
-    same))
+    (more_due strict depth whole walk new after step s behind.nests behind.before behind.item behind.levels
+    behind.within behind.keeps behind.left behind.is_item behind.names rest same))
 
-level_ends : (strict : Bool) (depth whole : ℕ) (walk new : Walk) (after : Remaining) (step : Within)
+level_ends : (strict : Bool) (depth whole : ℕ) (walk new : Walk) (after : Remaining) (step : Option ℕ)
     → Steps walk new after step
     → (nests : List Nest) (before item : List ℕ) (levels : ℕ) → StandsBehind strict depth whole nests before
     → KeepsNests depth walk nests → length nests + levels ≡ depth → IsItem strict levels item
-    → is_done after ≡ true → new.used ≡ walk.used - 1 → IsBehindItem strict depth whole new (before ++ item)
+    → is_done after ≡ true → new.used ≡ walk.used - 1
+    → IsBehindItem strict depth whole new keys.Other (before ++ item)
 level_ends strict depth whole walk new after step s [] before item levels stands keeps left is_item done less =
     absurd (s.some keeps.used)
 level_ends strict depth whole walk new after step s (nest ∷ nests) before item levels stands keeps left is_item done
@@ -443,42 +497,116 @@ level_ends strict depth whole walk new after step s (nest ∷ nests) before item
       used = less ∙ at;
       same_depth = s.deep ∙ keeps.same_depth;
       room = ap length s.written ∙ (length-set walk.levels (walk.used - 1) after ∙ keeps.room);
-      placed = subst (λ (z : List Within). AreAt z nests) (sym s.placed)
-          (at_below walk.places nests (walk.used - 1) step (omega (arith, at)) keeps.placed.1);
-      wide = ap length s.placed ∙ (length-set walk.places (walk.used - 1) step ∙ keeps.wide);
+      placed = subst (λ (z : List (Option ℕ)). AreAt z nests) (sym s.placed)
+          (at_below walk.indexes nests (walk.used - 1) step (omega (arith, at)) keeps.placed.1);
+      wide = ap length s.placed ∙ (length-set walk.indexes (walk.used - 1) step ∙ keeps.wide);
     })
 
-pub end_of_level : (strict : Bool) (depth whole : ℕ) (walk new : Walk) (after : Remaining) (step : Within)
+pub end_of_level : (strict : Bool) (depth whole : ℕ) (walk new : Walk) (after : Remaining) (step : Option ℕ)
     → Steps walk new after step
-    → (bytes : List ℕ)
-    → IsBehindItem strict depth whole walk bytes → is_done after ≡ true
-    → new.used ≡ walk.used - 1 → IsBehindItem strict depth whole new bytes
-end_of_level strict depth whole walk new after step s bytes behind done less =
-    let due = behind.due in
-    subst (λ (z : List ℕ). IsBehindItem strict depth whole new z) (sym behind.is)
-    (level_ends strict depth whole walk new after step s due.nests behind.before behind.item behind.levels due.within
-    due.keeps
-    behind.left behind.is_item
-    done less)
+    → (key : Key) (bytes : List ℕ)
+    → IsBehindItem strict depth whole walk key bytes → is_done after ≡ true
+    → new.used ≡ walk.used - 1 → IsBehindItem strict depth whole new keys.Other bytes
+end_of_level strict depth whole walk new after step s key bytes behind done less =
+    subst (λ (z : List ℕ). IsBehindItem strict depth whole new keys.Other z) (sym behind.is)
+    (level_ends strict depth whole walk new after step s behind.nests behind.before behind.item behind.levels
+    behind.within behind.keeps behind.left behind.is_item done less)
 
 -- ---- the place of the item that is due
 
-no_place : (nests : List Nest) → length nests ≡ 0 → within_nests nests ≡ w.Nothing
-no_place nests none = grind arith
-
-kept_place : (places : List Within) (used : ℕ) (nests : List Nest) → AreAt places nests → used ≡ length nests
-    → (used ≡ 0 → ⊥) → place_at places (used - 1) ≡ within_nests nests
-kept_place places used [] placed same some = absurd (some same)
-kept_place places used (nest ∷ nests) placed same some =
-    let at : used - 1 ≡ length nests = omega (arith, same) in
-    rw at placed.0
+-- Outside of all nests the item that is due has no place.
+no_place : (depth : ℕ) (nests : List Nest) (before : List ℕ) → length nests ≡ 0 → IsPlace depth nests before w.Nothing
+no_place depth nests before none = grind arith
 
 pub place_outside : (strict : Bool) (depth whole : ℕ) (walk : Walk) (before : List ℕ)
-    (due : IsDue strict depth whole walk before) → walk.used ≡ 0 → within_nests due.nests ≡ w.Nothing
-place_outside strict depth whole walk before due none = no_place due.nests (sym due.keeps.used ∙ none)
+    (due : IsDue strict depth whole walk before) → walk.used ≡ 0 → IsPlace depth due.nests before w.Nothing
+place_outside strict depth whole walk before due none =
+    no_place depth due.nests before (sym due.keeps.used ∙ none)
 
-pub place_inside : (strict : Bool) (depth whole : ℕ) (walk : Walk) (before : List ℕ)
+-- A value is due after an odd number of items.
+odd_pairs : (count more len half : ℕ) → count + 2 * more + 1 ≡ 2 * len → count ≡ 2 * half → ⊥
+odd_pairs count more len half e f = omega (arith, e, f)
+
+-- A key is due after an even number of items.
+even_pairs : (count more len half : ℕ) → count + 2 * more ≡ 2 * len → count ≡ suc (2 * half) → ⊥
+even_pairs count more len half e f = omega (arith, e, f)
+
+odd_open : (count more half : ℕ) → count ≡ 2 * more + 1 → count ≡ 2 * half → ⊥
+odd_open count more half e f = omega (arith, e, f)
+
+even_open : (count more half : ℕ) → count ≡ 2 * more → count ≡ suc (2 * half) → ⊥
+even_open count more half e f = omega (arith, e, f)
+
+-- If a value remains, the nest is a map, and no key is due.
+value_remains : (x : Header) (count : ℕ) (remaining : Remaining) → IsRemaining x count remaining
+    → is_value remaining ≡ true
+    → (len : Option ℕ) × (x ≡ h.Map len) × ((half : ℕ) → count ≡ 2 * half → ⊥)
+value_remains (h.Map (Some len)) count (r.Value more) is due =
+    (Some len, refl, λ half even. odd_pairs count more len half is even)
+value_remains (h.Map None) count r.OpenValue is due =
+    (None, refl, λ half even. odd_open count is.0 half is.1 even)
+value_remains x count remaining is due = absurd (grind arith)
+
+-- If no value remains, no value of a map is due.
+no_value : (x : Header) (count : ℕ) (remaining : Remaining) → IsRemaining x count remaining
+    → is_value remaining ≡ false → (len : Option ℕ) → x ≡ h.Map len → (half : ℕ) → count ≡ suc (2 * half) → ⊥
+no_value x count remaining is none len same half odd = grind (arith, even_pairs, even_open)
+
+-- A value has the place that its key names.
+value_place : (depth : ℕ) (x : Header) (count : ℕ) (nests : List Nest) (before : List ℕ) (key : Key)
+    (remaining : Remaining) → IsRemaining x count remaining → is_value remaining ≡ true
+    → ((earlier : ℕ) → count ≡ suc earlier → IsBehindKey depth x earlier nests before key)
+    → IsPlaceIn depth x count nests before (w.Key key)
+value_place depth x count nests before key remaining is due keyed =
+    let map = value_remains x count remaining is due in
+    let place : IsPairPlace depth x count nests before (w.Key key) = record {
+      key_due = λ half even. absurd (map.2 half even);
+      value_due = λ half odd. (key, refl, keyed (2 * half) odd);
+    } in
+    subst (λ (y : Header). IsPlaceIn depth y count nests before (w.Key key)) (sym map.1)
+    (subst (λ (y : Header). IsPairPlace depth y count nests before (w.Key key)) map.1 place)
+
+-- The place of an item that is no value is its index, if it has one.
+index_place : (depth : ℕ) (x : Header) (count : ℕ) (nests : List Nest) (before : List ℕ) (within : Within)
+    (remaining : Remaining) → IsRemaining x count remaining → is_value remaining ≡ false
+    → within ≡ place_of (index_in x count) → IsPlaceIn depth x count nests before within
+index_place depth (h.Map len) count nests before within remaining is none same = record {
+  key_due = λ half even. same;
+  value_due = λ half odd. absurd (no_value (h.Map len) count remaining is none len refl half odd);
+}
+index_place depth x count nests before within remaining is none same = grind arith
+
+value_kept : (depth : ℕ) (walk : Walk) (nests : List Nest) (before : List ℕ) → KeepsNests depth walk nests
+    → IsKeyKept depth nests before walk.key → (walk.used ≡ 0 → ⊥)
+    → is_value (remaining_at walk.levels (walk.used - 1)) ≡ true → IsPlace depth nests before (w.Key walk.key)
+value_kept depth walk [] before keeps keyed some due = absurd (some keeps.used)
+value_kept depth walk (nest ∷ nests) before keeps keyed some due =
+    let used = keeps.used in
+    let at : walk.used - 1 ≡ length nests = omega (arith, used) in
+    value_place depth nest.header nest.count nests before walk.key (remaining_at walk.levels (length nests))
+    keeps.kept.0 (subst (λ (n : ℕ). is_value (remaining_at walk.levels n) ≡ true) at due) keyed
+
+pub place_value : (strict : Bool) (depth whole : ℕ) (walk : Walk) (before : List ℕ)
     (due : IsDue strict depth whole walk before) → (walk.used ≡ 0 → ⊥)
-    → place_at walk.places (walk.used - 1) ≡ within_nests due.nests
-place_inside strict depth whole walk before due some =
-    kept_place walk.places walk.used due.nests due.keeps.placed due.keeps.used some
+    → is_value (remaining_at walk.levels (walk.used - 1)) ≡ true → IsPlace depth due.nests before (w.Key walk.key)
+place_value strict depth whole walk before due some value =
+    value_kept depth walk due.nests before due.keeps due.keyed some value
+
+index_kept : (depth : ℕ) (walk : Walk) (nests : List Nest) (before : List ℕ) (within : Within)
+    → KeepsNests depth walk nests → (walk.used ≡ 0 → ⊥)
+    → is_value (remaining_at walk.levels (walk.used - 1)) ≡ false
+    → within ≡ place_of (index_at walk.indexes (walk.used - 1)) → IsPlace depth nests before within
+index_kept depth walk [] before within keeps some none same = absurd (some keeps.used)
+index_kept depth walk (nest ∷ nests) before within keeps some none same =
+    let used = keeps.used in
+    let at : walk.used - 1 ≡ length nests = omega (arith, used) in
+    index_place depth nest.header nest.count nests before within (remaining_at walk.levels (length nests))
+    keeps.kept.0 (subst (λ (n : ℕ). is_value (remaining_at walk.levels n) ≡ false) at none)
+    (same ∙ ap place_of (ap (index_at walk.indexes) at ∙ keeps.placed.0))
+
+pub place_index : (strict : Bool) (depth whole : ℕ) (walk : Walk) (before : List ℕ) (within : Within)
+    (due : IsDue strict depth whole walk before) → (walk.used ≡ 0 → ⊥)
+    → is_value (remaining_at walk.levels (walk.used - 1)) ≡ false
+    → within ≡ place_of (index_at walk.indexes (walk.used - 1)) → IsPlace depth due.nests before within
+place_index strict depth whole walk before within due some none same =
+    index_kept depth walk due.nests before within due.keeps some none same

@@ -1,6 +1,6 @@
 -- The level of each line of a dump: how many tags, arrays, maps and opens are around it.
-use Rattle.std.specs.Prelude.{◌≡◌, ℕ, zero, suc, ◌+◌, ◌-◌, ◌<◌, ◌≤◌, ◌⊎◌, Bool, true, false, List, [], ◌∷◌, ◌++◌}
-use Rattle.std.specs.Prelude.{length, min, ◌^◌, Some, None, if◌then◌else◌}
+use Rattle.std.specs.Prelude.{◌≡◌, ℕ, zero, suc, ◌+◌, ◌-◌, ◌*◌, ◌<◌, ◌≤◌, ◌⊎◌, Bool, true, false, List, [], ◌∷◌, ◌++◌}
+use Rattle.std.specs.Prelude.{length, min, ◌^◌, Option, Some, None, if◌then◌else◌}
 use Rattle.ciborium_ll.specs.Types.Header.{Header}
 use Rattle.ciborium_ll.specs.Types.Header.TheVariants as h
 use Rattle.ciborium_ll.specs.Title.{IsTitle}
@@ -8,12 +8,14 @@ use Rattle.ciborium_ll.specs.Strings.{Kind, Bytes, Text, kind_header, AreStrings
 use Rattle.ciborium_ll.specs.Elements.{AreWritable}
 use Rattle.ciborium_ll.specs.Faults.{IsRefusedIn}
 use Rattle.ciborium_ll.specs.Finishing.{IsNoText}
-use Rattle.ciborium_ll.specs.Items.{AreItems, IsTakenTitle}
+use Rattle.ciborium_ll.specs.Items.{AreItems, IsItem, IsTakenTitle}
 use Rattle.cbor_skip.specs.Due.{TakesMore, may_close}
 use Rattle.cbor_dump.specs.declared.rows.Meaning.{Meaning}
 use Rattle.cbor_dump.specs.declared.rows.Meaning.TheVariants as m
 use Rattle.cbor_dump.specs.declared.rows.Within.{Within}
 use Rattle.cbor_dump.specs.declared.rows.Within.TheVariants as w
+use Rattle.cbor_dump.specs.declared.key.Key.{Key}
+use Rattle.cbor_dump.specs.Keys.{NamesItem}
 use Rattle.cbor_dump.specs.Takings.{IsFirstByte, AnswersTitle, most_bytes}
 use Rattle.cbor_dump.specs.Parts.{IsFullPart, IsCutText}
 
@@ -79,28 +81,57 @@ title_level header nests opens = length nests + opens
 abbrev pub most_index : ℕ
 most_index = 2 ^ 64 - 1
 
+-- The index of the item that is due after `count` items of a nest of this header, if the nest is an array. After
+-- `83 01` it is 1, and after `a1` there is none.
+abbrev pub index_in : Header → ℕ → Option ℕ
+index_in (h.Array len) count = Some (min count most_index)
+index_in header count = None
+
+-- The value of a pair is due: after `count` items of a nest of this header, and then one item, which the key names. In
+-- `a1 01` the item is `01`, and the key is `Positive(1)`.
+pub record IsBehindKey (depth : ℕ) (header : Header) (count : ℕ) (nests : List Nest) (bytes : List ℕ) (key : Key)
+    : Type 0 where
+  pub before : List ℕ
+  pub item : List ℕ
+  pub levels : ℕ
+  pub due : StandsWithin depth (record { header = header; count = count } ∷ nests) before
+  pub left : suc (length nests) + levels ≡ depth
+  pub is_item : IsItem false levels item
+  pub is : bytes ≡ before ++ item
+  pub names : NamesItem item key
+
+-- The place of the item that is due within a map after `count` of its items (RFC 8949, 3.1). A key has none, and a value
+-- has the key of its pair. After `a1 01` it is the key 1.
+pub record IsPairPlace (depth : ℕ) (header : Header) (count : ℕ) (nests : List Nest) (bytes : List ℕ) (within : Within)
+    : Type 0 where
+  pub key_due : (pairs : ℕ) → count ≡ 2 * pairs → within ≡ w.Nothing
+  pub value_due : (pairs : ℕ) → count ≡ suc (2 * pairs)
+      → (key : Key) × (within ≡ w.Key key) × IsBehindKey depth header (2 * pairs) nests bytes key
+
 -- The place of the item that is due within a nest of this header after `count` of its items. In an array it is the
--- index, counted from 0: after `83 01` it is 1. A tag and a map have no places.
-abbrev pub place_in : Header → ℕ → Within
-place_in (h.Array len) count = w.Index (min count most_index)
-place_in header count = w.Nothing
+-- index, counted from 0: after `83 01` it is 1. In a map it is the key of a value, and in a tag there is none.
+abbrev pub IsPlaceIn : ℕ → Header → ℕ → List Nest → List ℕ → Within → Type 0
+IsPlaceIn depth (h.Array len) count nests bytes within = within ≡ w.Index (min count most_index)
+IsPlaceIn depth (h.Map len) count nests bytes within = IsPairPlace depth (h.Map len) count nests bytes within
+IsPlaceIn depth header count nests bytes within = within ≡ w.Nothing
 
--- The place of the item that is due within these nests, the innermost first. Outside of all nests it has none.
-abbrev pub within_nests : List Nest → Within
-within_nests [] = w.Nothing
-within_nests (nest ∷ nests) = place_in nest.header nest.count
+-- The place of the item that is due after the bytes within these nests, the innermost first. Outside of all nests it
+-- has none.
+abbrev pub IsPlace : ℕ → List Nest → List ℕ → Within → Type 0
+IsPlace depth [] bytes within = within ≡ w.Nothing
+IsPlace depth (nest ∷ nests) bytes within = IsPlaceIn depth nest.header nest.count nests bytes within
 
--- The place of a title within these nests, and in a string within this many opens. A break and the title of a piece of
--- a string have none. In `82 01 02` the title `02` has the index 1.
-abbrev pub title_within : Header → List Nest → ℕ → Within
-title_within h.Break nests opens = w.Nothing
-title_within header nests (suc opens) = w.Nothing
-title_within header nests zero = within_nests nests
+-- The place of a title after the bytes, within these nests, and in a string within this many opens. A break and the
+-- title of a piece of a string have none. In `82 01 02` the title `02` has the index 1, and in `a1 01 02` the key 1.
+abbrev pub IsTitlePlace : ℕ → Header → List Nest → ℕ → List ℕ → Within → Type 0
+IsTitlePlace depth h.Break nests opens bytes within = within ≡ w.Nothing
+IsTitlePlace depth header nests (suc opens) bytes within = within ≡ w.Nothing
+IsTitlePlace depth header nests zero bytes within = IsPlace depth nests bytes within
 
 -- ---- lines
 
--- A line of a dump: its level, its offset, its bytes, what they mean, and its place within an array. In a dump of
--- `81 01` the line of `01` has the level 1, the offset 1 and the index 0.
+-- A line of a dump: its level, its offset, its bytes, what they mean, and its place within an array or a map. In a dump
+-- of `81 01` the line of `01` has the level 1, the offset 1 and the index 0.
 pub record Line : Type 0 where
   pub level : ℕ
   pub offset : ℕ
@@ -121,7 +152,7 @@ pub record HasTitle (depth : ℕ) (before : List ℕ) (header : Header) (line : 
   pub due : TitleDue depth nests opens before
   pub is_title : IsTitle line.bytes header
   pub level : line.level ≡ title_level header nests opens
-  pub within : line.within ≡ title_within header nests opens
+  pub within : IsTitlePlace depth header nests opens before line.within
 
 -- After these bytes the line has a part of a string's body, one level deeper than the string's title. The part has as
 -- many bytes as a row has, or all that is left. After `81 41` the line of `61` has the level 2.

@@ -1,6 +1,7 @@
 pub mod Sequences
 pub mod Counted
 pub mod Singles
+pub mod Keys
 pub mod Levels
 pub mod RowTexts
 pub mod Endings
@@ -12,3 +13,4 @@ pub mod TitleRows
 pub mod Walks
 pub mod Checking
 pub mod Tags
+pub mod Bodies

@@ -1,7 +1,7 @@
 -- The text of a row of a dump: its bytes as digits, indented by its level, and after a `#` their meaning, as RFC 8949
 -- shows its examples (section 3).
-use Rattle.std.specs.Prelude.{◌≡◌, ℕ, zero, suc, ◌-◌, ◌*◌, ◌==◌, min, List, [], ◌∷◌, ◌++◌, length, nat_le}
-use Rattle.std.specs.Prelude.{◌≢◌, ◌<◌, ◌≤◌, slice_index, IsOk, Result}
+use Rattle.std.specs.Prelude.{◌≡◌, ℕ, zero, suc, ◌-◌, ◌*◌, ◌==◌, min, List, [], ◌∷◌, ◌++◌, length, nat_le, nat_lt}
+use Rattle.std.specs.Prelude.{◌≢◌, ◌<◌, ◌≤◌, ◌^◌, ◌||◌, slice_index, IsOk, Result}
 use Rattle.std.specs.Prelude.{codes, decimal, negsuc, Option, Some, None, if◌then◌else◌}
 use Rattle.std.specs.Fmt.{HasWritten, IsPlainFormatter, signed_decimal}
 use Rattle.std.specs.declared.fmt.Error.{Error}
@@ -15,6 +15,9 @@ use Rattle.ciborium_ll.specs.Types.Header.{Header}
 use Rattle.ciborium_ll.specs.Types.Header.TheVariants as h
 use Rattle.cbor_floats.specs.Floats.{IsNumberText, float_value}
 use Rattle.cbor_dump.specs.Tags.{tag_name}
+use Rattle.cbor_dump.specs.Keys.{body_bytes}
+use Rattle.cbor_dump.specs.declared.key.Key.{Key}
+use Rattle.cbor_dump.specs.declared.key.Key.TheVariants as k
 use Rattle.cbor_dump.specs.declared.rows.Meaning.{Meaning}
 use Rattle.cbor_dump.specs.declared.rows.Meaning.TheVariants as m
 use Rattle.cbor_dump.specs.declared.rows.Row.{Row}
@@ -151,16 +154,57 @@ commented_text level bytes =
 abbrev pub level_text : ℕ → List ℕ
 level_text level = if nat_le level most_indent then [] else codes "level " ++ (decimal level ++ codes " ")
 
--- The place of a title within an array: the index 3 gives `[3] `.
-abbrev pub within_text : Within → List ℕ
-within_text w.Nothing = []
-within_text (w.Index index) = codes "[" ++ (decimal index ++ codes "] ")
+-- How many columns fewer a key has if the value's title has this header: a float takes more columns than other headers.
+-- For `fb` they are 5, and for `61` none.
+abbrev pub float_columns : Header → ℕ
+float_columns (h.Float float) = 5
+float_columns header = 0
+
+-- The most columns of a string that is shown as a key, without its quotes, before a title of this header. They are
+-- fewer if the level stands before the key. Before `61` they are 22 at the level 2, and 12 at the level 9.
+abbrev pub key_columns : ℕ → Header → ℕ
+key_columns level header = (if nat_le level most_indent then 22 else 12) - float_columns header
+
+-- A key that is not shown: an item that has no name, or one that its row has no room for.
+abbrev pub no_key : List ℕ
+no_key = codes ".."
+
+-- An integer as a key, if the columns have room for it. In 22 columns each number has room, and in 7 columns those of 7
+-- digits do.
+abbrev pub number_key : ℕ → ℕ → List ℕ → List ℕ
+number_key most number text = if nat_lt 19 most || nat_lt number (10 ^ most) then text else no_key
+
+-- A text as a key, if its characters between quotes have at most `most` bytes: `61 6c 67` gives `"alg"`.
+abbrev pub text_key : ℕ → List ℕ → List ℕ
+text_key most bytes =
+    if nat_le (length (characters_text (chars (shown_text bytes)))) most then quoted_text bytes else no_key
+
+-- A byte string as a key, if the columns have room for three of each byte: `01 02` gives `h'01 02'`.
+abbrev pub bytes_key : ℕ → List ℕ → List ℕ
+bytes_key most bytes =
+    if nat_le (3 * length bytes) most then codes "h'" ++ (digits_text bytes ++ codes "'") else no_key
+
+-- A key in this many columns: its integer or its string, or two points. `Positive(1)` gives `1`.
+abbrev pub key_text : ℕ → Key → List ℕ
+key_text most (k.Positive number) = number_key most number (decimal number)
+key_text most (k.Negative number) = number_key most number (signed_decimal (negsuc number))
+key_text most (k.Text body) = text_key most (body_bytes body)
+key_text most (k.Bytes body) = bytes_key most (body_bytes body)
+key_text most k.Other = no_key
+
+-- The place of a title within an array or a map, with a key in this many columns: the index 3 gives `[3] `, and the key
+-- 3 gives `{3} `.
+abbrev pub within_text : ℕ → Within → List ℕ
+within_text most w.Nothing = []
+within_text most (w.Index index) = codes "[" ++ (decimal index ++ codes "] ")
+within_text most (w.Key key) = codes "{" ++ (key_text most key ++ codes "} ")
 
 -- The text of a row of this meaning, without the value of a float. Bytes of a byte string and bytes at fault have no
 -- comment. At the level 0 the text row of `61` gives `61`, 33 spaces and ` # "a"`.
 abbrev pub text_of : Meaning → ℕ → Within → List ℕ → List ℕ
 text_of (m.Header header) level within bytes =
-    commented_text level bytes ++ (level_text level ++ (within_text within ++ header_text header))
+    commented_text level bytes
+    ++ (level_text level ++ (within_text (key_columns level header) within ++ header_text header))
 text_of m.Text level within bytes = commented_text level bytes ++ quoted_text bytes
 text_of m.Bytes level within bytes = bare_text level bytes
 text_of m.Fault level within bytes = bare_text level bytes

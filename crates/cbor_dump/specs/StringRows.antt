@@ -22,6 +22,8 @@ use Rattle.cbor_dump.specs.declared.strings.Part.{Part}
 use Rattle.cbor_dump.specs.declared.strings.Part.TheVariants as p
 use Rattle.cbor_dump.specs.declared.rows.Meaning.{Meaning}
 use Rattle.cbor_dump.specs.declared.rows.Meaning.TheVariants as m
+use Rattle.cbor_dump.specs.declared.key.KeyBody.{KeyBody}
+use Rattle.cbor_dump.specs.Keys.{IsKept}
 use Rattle.cbor_dump.specs.Levels.{Line}
 use Rattle.cbor_dump.specs.Dumps.{Shows}
 use Rattle.cbor_dump.specs.Endings.{ending}
@@ -91,3 +93,12 @@ module _ {R E W : Type 0} (source : Ghosts R E) where
     pub whole : OnOk result (IsRest strict kind len bytes)
     pub passed : IsInMode strict old → OnOk result (ReadsPast source old bytes new)
     pub stops : IsInMode strict old → StopsBehindTitle kind len place old result new
+
+  -- As `ShowsBehindTitle`, and what was kept is the body, if the string is short and of definite length. After `42` it
+  -- is `01 02`.
+  pub record ShowsKept (depth start : ℕ) (drawn then_drawn : Option (List Line)) (before : List ℕ) (kind : Kind)
+      (len : Option ℕ) (strict : Bool) (place : ℕ) (result : Result (Unit {0}) (DumpError E W)) (kept : KeyBody)
+      (old new : Decoder R) : Type 0 where
+    pub behind :
+        ShowsBehindTitle depth start drawn then_drawn before kind len strict place result old new
+    pub keeps : OnOk result (IsKept len behind.bytes kept)

@@ -1,5 +1,6 @@
 -- The tags, arrays and maps that a walk keeps, which are not closed, and the items that are due within each.
 use Rattle.std.specs.Prelude.{◌≡◌, ℕ, zero, suc, ◌+◌, Bool, true, false, List, [], ◌∷◌, ◌++◌, length, slice_index_or}
+use Rattle.std.specs.Prelude.{Option, Some, None}
 use Rattle.ciborium_ll.specs.Types.Header.{Header}
 use Rattle.ciborium_ll.specs.Types.Header.TheVariants as h
 use Rattle.ciborium_ll.specs.Items.{IsItem}
@@ -8,10 +9,13 @@ use Rattle.cbor_skip.specs.declared.remaining.Remaining.TheVariants as r
 use Rattle.cbor_skip.specs.Remaining.{IsRemaining, is_done}
 use Rattle.cbor_dump.specs.declared.walk.Walk.{Walk}
 use Rattle.cbor_dump.specs.declared.walk.Entered.{Entered}
-use Rattle.cbor_dump.specs.declared.walk.Entered.TheVariants as w
+use Rattle.cbor_dump.specs.declared.walk.Entered.TheVariants as e
 use Rattle.cbor_dump.specs.declared.rows.Within.{Within}
-use Rattle.cbor_dump.specs.declared.rows.Within.TheVariants as p
-use Rattle.cbor_dump.specs.Levels.{Nest, StandsBehind, closes_one, place_in, title_level}
+use Rattle.cbor_dump.specs.declared.rows.Within.TheVariants as w
+use Rattle.cbor_dump.specs.declared.key.Key.{Key}
+use Rattle.cbor_dump.specs.declared.key.Key.TheVariants as k
+use Rattle.cbor_dump.specs.Keys.{NamesItem}
+use Rattle.cbor_dump.specs.Levels.{IsBehindKey, Nest, StandsBehind, closes_one, index_in, title_level}
 
 -- A header that is an item by itself (RFC 7049, 2.1 and 2.3), as those of `01`, `20`, `f4` and `f9 3c 00` are.
 abbrev pub IsItemAlone : Header → Type 0
@@ -32,15 +36,26 @@ AreKept levels [] = Unit {0}
 AreKept levels (nest ∷ nests) = IsRemaining nest.header nest.count (remaining_at levels (length nests))
     × (is_done (remaining_at levels (length nests)) ≡ false) × AreKept levels nests
 
--- The place that the walk keeps at the level of this number. After `83 01` it is the index 1 at the number 0.
-abbrev pub place_at : List Within → ℕ → Within
-place_at places at = slice_index_or places at p.Nothing
+-- The index that the walk keeps at the level of this number. After `83 01` it is 1 at the number 0.
+abbrev pub index_at : List (Option ℕ) → ℕ → Option ℕ
+index_at indexes at = slice_index_or indexes at None
 
--- The walk keeps the place of the next item within each nest. After `82 81` it keeps the index 0 at 0 and at 1.
-abbrev pub AreAt : List Within → List Nest → Type 0
-AreAt places [] = Unit {0}
-AreAt places (nest ∷ nests) =
-    (place_at places (length nests) ≡ place_in nest.header nest.count) × AreAt places nests
+-- The place of an item that is no value: its index, if it has one. For the index 1 it is `Index(1)`.
+abbrev pub place_of : Option ℕ → Within
+place_of (Some index) = w.Index index
+place_of None = w.Nothing
+
+-- The walk keeps the index of the next item within each nest. After `82 81` it keeps the index 0 at 0 and at 1.
+abbrev pub AreAt : List (Option ℕ) → List Nest → Type 0
+AreAt indexes [] = Unit {0}
+AreAt indexes (nest ∷ nests) =
+    (index_at indexes (length nests) ≡ index_in nest.header nest.count) × AreAt indexes nests
+
+-- The key names the last item within the innermost nest, if that has an item. After `a1 01` it is `Positive(1)`.
+abbrev pub IsKeyKept : ℕ → List Nest → List ℕ → Key → Type 0
+IsKeyKept depth [] bytes key = Unit {0}
+IsKeyKept depth (nest ∷ nests) bytes key =
+    (earlier : ℕ) → nest.count ≡ suc earlier → IsBehindKey depth nest.header earlier nests bytes key
 
 -- The walk keeps exactly these nests. After `81 c1` they are the tag and the array, and it uses 2 levels.
 pub record KeepsNests (depth : ℕ) (walk : Walk) (nests : List Nest) : Type 0 where
@@ -48,8 +63,8 @@ pub record KeepsNests (depth : ℕ) (walk : Walk) (nests : List Nest) : Type 0 w
   pub used : walk.used ≡ length nests
   pub same_depth : walk.depth ≡ depth
   pub room : length walk.levels ≡ 256
-  pub placed : AreAt walk.places nests
-  pub wide : length walk.places ≡ 256
+  pub placed : AreAt walk.indexes nests
+  pub wide : length walk.indexes ≡ 256
 
 -- After the bytes, which have `whole` whole items, an item is due within the nests that the walk keeps. All stand in
 -- any spelling, or all in the shortest one. After `01 82` one item is whole, and the walk keeps one nest.
@@ -57,16 +72,21 @@ pub record IsDue (strict : Bool) (depth whole : ℕ) (walk : Walk) (bytes : List
   pub nests : List Nest
   pub within : StandsBehind strict depth whole nests bytes
   pub keeps : KeepsNests depth walk nests
+  pub keyed : IsKeyKept depth nests bytes walk.key
 
--- The bytes end with an item that was due within the nests that the walk keeps. In `82 01` it is `01`, within one nest.
-pub record IsBehindItem (strict : Bool) (depth whole : ℕ) (walk : Walk) (bytes : List ℕ) : Type 0 where
+-- The bytes end with an item that was due within the nests that the walk keeps, and the key names it. In `82 01` it is
+-- `01`, within one nest.
+pub record IsBehindItem (strict : Bool) (depth whole : ℕ) (walk : Walk) (key : Key) (bytes : List ℕ) : Type 0 where
   pub before : List ℕ
   pub item : List ℕ
   pub levels : ℕ
-  pub due : IsDue strict depth whole walk before
-  pub left : length due.nests + levels ≡ depth
+  pub nests : List Nest
+  pub within : StandsBehind strict depth whole nests before
+  pub keeps : KeepsNests depth walk nests
+  pub left : length nests + levels ≡ depth
   pub is_item : IsItem strict levels item
   pub is : bytes ≡ before ++ item
+  pub names : NamesItem item key
 
 -- How many items are whole after the end of an item, if this many levels are open: outside of all levels one more. With
 -- no level open 2 becomes 3, and with one level open it stays 2.
@@ -87,9 +107,9 @@ pub record IsDeepest (strict : Bool) (depth whole : ℕ) (bytes : List ℕ) : Ty
 
 -- The effect of a nest's title after the bytes: `80` is an item, and `81` opens a level.
 abbrev pub Enters : Bool → ℕ → ℕ → Entered → Walk → List ℕ → List ℕ → Type 0
-Enters strict depth whole w.Deep walk before title = IsDeepest strict depth whole before
-Enters strict depth whole w.Empty walk before title = IsBehindItem strict depth whole walk (before ++ title)
-Enters strict depth whole w.Within walk before title = IsDueBehind strict depth whole walk (before ++ title)
+Enters strict depth whole e.Deep walk before title = IsDeepest strict depth whole before
+Enters strict depth whole e.Empty walk before title = IsBehindItem strict depth whole walk k.Other (before ++ title)
+Enters strict depth whole e.Within walk before title = IsDueBehind strict depth whole walk (before ++ title)
 
 -- The effect of a break after the bytes, and its level. After `9f 01` it closes the array.
 pub record Breaks (strict : Bool) (depth whole : ℕ) (closed : Bool) (walk : Walk) (before : List ℕ) : Type 0 where
@@ -97,10 +117,10 @@ pub record Breaks (strict : Bool) (depth whole : ℕ) (closed : Bool) (walk : Wa
   pub within : StandsBehind strict depth whole nests before
   pub level : walk.used ≡ title_level h.Break nests 0
   pub may : closes_one nests 0 ≡ closed
-  pub behind : closed ≡ true → IsBehindItem strict depth whole walk (before ++ 0xff ∷ [])
+  pub behind : closed ≡ true → IsBehindItem strict depth whole walk k.Other (before ++ 0xff ∷ [])
 
--- The effect of an item's end: its level goes on, or ends too. In `82 01 02` the array goes on after `01`, and ends
--- after `02`.
+-- The effect of the end of an item, which the key names: its level goes on, or ends too. In `82 01 02` the array goes on
+-- after `01`, and ends after `02`.
 abbrev pub Ends : Bool → ℕ → ℕ → Bool → Walk → List ℕ → Type 0
-Ends strict depth whole true walk bytes = IsBehindItem strict depth whole walk bytes
+Ends strict depth whole true walk bytes = IsBehindItem strict depth whole walk k.Other bytes
 Ends strict depth whole false walk bytes = IsDueBehind strict depth whole walk bytes

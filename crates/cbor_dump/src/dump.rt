@@ -18,12 +18,15 @@ ghost use Rattle.cbor_dump.specs.Sequences.{IsSequence};
 ghost use Rattle.cbor_dump.specs.Takings.{IsInMode, most_bytes, taken_bytes};
 ghost use Rattle.ciborium_ll.specs.Strings.{kind_header};
 ghost use Rattle.cbor_dump.specs.Levels.{Nest, StandsWithin};
-ghost use Rattle.cbor_dump.specs.StringRows.{ShowsBehindTitle, kind_of};
+ghost use Rattle.cbor_dump.specs.Keys.{body_bytes};
+ghost use Rattle.cbor_dump.specs.StringRows.{ShowsKept, kind_of};
 ghost use Rattle.cbor_dump.specs.TitleRows.{DrawsTitle, ShowsAll, ShowsTitle};
 ghost use Rattle.cbor_dump.specs.Walks.{IsDue, IsItemAlone};
 ghost use Rattle.ciborium_ll_grammar.specs.declared.limits.TheConstants.{MOST_LEVELS};
 
+use crate::key::{Key, KeyBody};
 use crate::left::fault_row;
+use crate::named::{key_alone, key_string};
 use crate::rows::{Meaning, Row, Rows, Within};
 use crate::strings::{Kind, body, pieces};
 use crate::taken::Taken;
@@ -50,7 +53,8 @@ pub enum DumpError<E, W> {
 ///
 /// Unless a row was refused, after a fault too:
 ///
-/// - A row has 1 to 16 bytes, at the level that [`Row`] says. A title that begins an element of an array has its index.
+/// - A row has 1 to 16 bytes, at the level that [`Row`] says. A title that begins an element of an array has its index,
+///   and one that begins the value of a pair has the pair's key ([`Within`]).
 /// - A part of a byte string has 16 bytes, or all that is left. A part of a text has 8 bytes and the rest of their last
 ///   character, or all that is left.
 /// - If the reader is steady and no header waits, the rows have exactly the consumed bytes. On `Ok` these are a
@@ -262,7 +266,7 @@ fn value<E, S: Rows>(
     let level = walk.level();
     let within = walk.within();
     shown(taken, Meaning::Header(header), within, place, level, rows)?;
-    walk.item_done();
+    walk.item_done(key_alone(header));
     Ok(())
 }
 
@@ -291,7 +295,7 @@ fn break_title<E, S: Rows>(
     if !closed {
         return Err(DumpError::Item(SkipError::Break(place)));
     }
-    walk.item_done();
+    walk.item_done(Key::Other);
     Ok(())
 }
 
@@ -322,7 +326,7 @@ fn nest<E, S: Rows>(
         Entered::Deep => Err(DumpError::Item(SkipError::Deep(place))),
         Entered::Within => Ok(()),
         Entered::Empty => {
-            walk.item_done();
+            walk.item_done(Key::Other);
             Ok(())
         }
     }
@@ -361,29 +365,33 @@ where
     let level = walk.level();
     let within = walk.within();
     shown(taken, Meaning::Header(header), within, place, level, rows)?;
-    rest(decoder, kind, len, strict, level, rows)?;
-    walk.item_done();
+    let mut kept = KeyBody::new();
+    rest(decoder, kind, len, strict, level, &mut kept, rows)?;
+    walk.item_done(key_string(kind, len, kept));
     Ok(())
 }
 
-/// Shows the rest of a string after its title.
+/// Shows the rest of a string after its title. The body of a string of definite length is kept, up to the most bytes
+/// of a key.
 fn rest<R: Read, S: Rows>(
     decoder: &mut Decoder<R>,
     kind: Kind,
     len: Option<usize>,
     strict: bool,
     level: usize,
+    kept: &mut KeyBody,
     rows: &mut S,
 ) -> Result<(), DumpError<R::Error, S::Error>>
 where
     R::Error: Drop,
     requires few { level ≤ MOST_LEVELS }
+    requires none { body_bytes kept.old ≡ [] }
     requires behind { level < offset_of decoder.old }
     ensures shows { (depth start : ℕ) (nests : List Nest) (items title : List ℕ) → StandsWithin depth nests items
         → IsTitle title (kind_header (kind_of kind) len) → level ≡ length nests
         → offset_of decoder.old ≡ start + length (items ++ title) → AreRowsTaken result
-        → ShowsBehindTitle R.Read depth start (S.drawn rows.old) (S.drawn rows.new) (items ++ title) (kind_of kind) len
-        strict (offset_of decoder.old - title_len (kind_header (kind_of kind) len)) result decoder.old decoder.new }
+        → ShowsKept R.Read depth start (S.drawn rows.old) (S.drawn rows.new) (items ++ title) (kind_of kind) len strict
+        (offset_of decoder.old - title_len (kind_header (kind_of kind) len)) result kept.new decoder.old decoder.new }
     ensures refused { (depth start : ℕ) (nests : List Nest) (items title : List ℕ) → StandsWithin depth nests items
         → IsTitle title (kind_header (kind_of kind) len) → level ≡ length nests
         → offset_of decoder.old ≡ start + length (items ++ title) → IsRefused result
@@ -396,7 +404,7 @@ where
             let place = decoder
                 .offset()
                 .saturating_sub(kind.header(Some(len)).title_len());
-            body(decoder, kind, len, place, level + 1, rows)
+            body(decoder, kind, len, place, level + 1, kept, rows)
         }
         None => pieces(decoder, kind, strict, level, rows),
     }

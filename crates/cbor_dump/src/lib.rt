@@ -6,8 +6,11 @@
 
 pub mod counted;
 pub mod dump;
+pub mod embedded;
 mod fronts;
+pub mod key;
 pub mod left;
+mod named;
 mod numbers;
 pub mod rows;
 pub mod sequence;

@@ -1,6 +1,6 @@
 //! The rows of a dump, and their text.
 
-ghost use Rattle.std.specs.Prelude.{◌≡◌, List, OnErr, OnOk, [], ◌∷◌, None, negsuc, true};
+ghost use Rattle.std.specs.Prelude.{◌≡◌, ◌≤◌, ◌^◌, ◌||◌, List, OnErr, OnOk, [], ◌∷◌, None, length, nat_le, nat_lt, negsuc, true};
 ghost use Rattle.std.specs.Fmt.{DisplaysOnOk, DisplaysStyledOnOk, WritesOnOk, signed_decimal};
 ghost use Rattle.std.specs.Str.{chars};
 ghost use Rattle.std.specs.declared.option.Option.{Option};
@@ -11,11 +11,13 @@ ghost use Rattle.cbor_dump.specs.RowTexts.{ArePlain, blank, character_text, char
 ghost use Rattle.cbor_dump.specs.RowTexts.{IsHeaderValue, IsRowText, IsValue, WritesOneOnOk, bare_text};
 ghost use Rattle.cbor_dump.specs.RowTexts.{commented_text, header_text, indent, known_text, level_text, quoted_text};
 ghost use Rattle.cbor_dump.specs.RowTexts.{row_text, simple_text, tag_text, width_text};
-ghost use Rattle.cbor_dump.specs.RowTexts.{within_text};
+ghost use Rattle.cbor_dump.specs.RowTexts.{within_text, bytes_key, key_columns, key_text};
+ghost use Rattle.cbor_dump.specs.RowTexts.{text_key};
 
+use crate::key::Key;
 use crate::numbers::number;
 use crate::tags::name_of;
-use cbor_escapes::write_shown;
+use cbor_escapes::{is_acted_on, write_shown};
 use cbor_floats::float_value;
 use ciborium_ll::{Float, Header, simple};
 use std::fmt;
@@ -25,6 +27,15 @@ const COMMENT: usize = 36;
 
 /// How many levels an indent shows at most.
 const MOST_INDENT: usize = 8;
+
+/// How many columns a string that is shown as a key has at most, without its quotes.
+const KEY_COLUMNS: usize = 22;
+
+/// The same at a level that no indent shows.
+const DEEP_COLUMNS: usize = 12;
+
+/// How many columns fewer it has if its value is a float.
+const FLOAT_COLUMNS: usize = 5;
 
 /// A space and two digits for each byte, from 00 to ff.
 const DIGITS: &str = " \
@@ -61,13 +72,15 @@ pub enum Meaning {
     Fault,
 }
 
-/// The place of a title within the array that contains its item.
+/// The place of a title within the array or the map that contains its item.
 #[derive(Debug, Clone, Copy)]
 pub enum Within {
-    /// No place: the title begins no element of an array, or the row has no title.
+    /// No place: the title begins neither an element of an array nor the value of a pair, or the row has no title.
     Nothing,
     /// The title begins the element of this index, counted from 0. An index that is no `usize` is `usize::MAX`.
     Index(usize),
+    /// The title begins the value of the pair that has this key.
+    Key(Key),
 }
 
 /// One row of a dump.
@@ -82,7 +95,7 @@ pub struct Row<'a> {
     pub bytes: &'a [u8],
     /// The meaning of the bytes.
     pub meaning: Meaning,
-    /// The place of the bytes, if they are a title of an element of an array.
+    /// The place of the bytes, if they are a title of an element of an array or of a pair's value.
     pub within: Within,
 }
 
@@ -311,13 +324,102 @@ fn deep<W: fmt::Write>(f: &mut fmt::Formatter<W>, level: usize) -> fmt::Result
     write!(f, "level {level} ")
 }
 
+/// Returns how many columns a string that is shown as a key has at most, without its quotes.
+fn key_columns(level: usize, header: Header) -> usize
+    ensures most { result ≤ 22 }
+    ensures value { result ≡ key_columns level header }
+{
+    let columns = if level > MOST_INDENT {
+        DEEP_COLUMNS
+    } else {
+        KEY_COLUMNS
+    };
+    match header {
+        Header::Float(_) => columns - FLOAT_COLUMNS,
+        _ => columns,
+    }
+}
+
+/// Returns how many bytes a character between quotes has.
+fn character_len(c: char) -> usize
+    ensures { result ≡ length (character_text c) }
+{
+    match c {
+        '"' | '\\' | '\n' | '\r' | '\t' => 2,
+        _ if is_acted_on(u32::from(c)) => 6,
+        _ => c.len_utf8(),
+    }
+}
+
+/// Returns whether the characters of a text have at most `most` bytes between quotes.
+fn has_columns(text: &str, most: usize) -> bool
+    requires few { most ≤ 22 }
+    ensures { result ≡ nat_le (length (characters_text (chars text.now))) most }
+{
+    let mut len = 0usize;
+    'characters: for c in text.chars() {
+        len = len.saturating_add(character_len(c));
+    }
+    len <= most
+}
+
+/// Writes the text of a key, if the columns have room for it.
+fn text_key<W: fmt::Write>(f: &mut fmt::Formatter<W>, bytes: &[u8], most: usize) -> fmt::Result
+    requires few { most ≤ 22 }
+    ensures { WritesOnOk W.Write.write_str_gives f.old result (text_key most bytes.now) f.new }
+{
+    if !has_columns(str::from_utf8(bytes).unwrap_or(""), most) {
+        return f.write_str("..");
+    }
+    quoted(f, bytes)
+}
+
+/// Writes the digits of a key, if the columns have room for them.
+fn bytes_key<W: fmt::Write>(f: &mut fmt::Formatter<W>, bytes: &[u8], most: usize) -> fmt::Result
+    ensures { WritesOnOk W.Write.write_str_gives f.old result (bytes_key most bytes.now) f.new }
+{
+    if bytes.len() > most / 3 {
+        return f.write_str("..");
+    }
+    f.write_str("h'")?;
+    digits(f, bytes)?;
+    f.write_str("'")
+}
+
+/// Returns whether the columns have room for an integer of this number.
+fn has_number(number: u64, most: usize) -> bool
+    ensures { result ≡ (nat_lt 19 most || nat_lt number (10 ^ most)) }
+{
+    most > 19 || number < 10u64.pow(most as u32)
+}
+
+/// Writes a key, or two points if the columns have no room for it.
+fn named<W: fmt::Write>(f: &mut fmt::Formatter<W>, key: &Key, most: usize) -> fmt::Result
+    requires few { most ≤ 22 }
+    ensures { WritesOnOk W.Write.write_str_gives f.old result (key_text most key.now) f.new }
+{
+    match key {
+        Key::Positive(number) if has_number(*number, most) => write!(f, "{number}"),
+        Key::Negative(number) if has_number(*number, most) => negative(f, *number),
+        Key::Text(body) => text_key(f, body.bytes(), most),
+        Key::Bytes(body) => bytes_key(f, body.bytes(), most),
+        Key::Positive(_) | Key::Negative(_) | Key::Other => f.write_str(".."),
+    }
+}
+
 /// Writes the place of a title, if it has one.
-fn place<W: fmt::Write>(f: &mut fmt::Formatter<W>, within: Within) -> fmt::Result
-    ensures { WritesOnOk W.Write.write_str_gives f.old result (within_text within) f.new }
+fn place<W: fmt::Write>(f: &mut fmt::Formatter<W>, within: &Within, most: usize) -> fmt::Result
+    requires few { most ≤ 22 }
+    ensures { WritesOnOk W.Write.write_str_gives f.old result (within_text most within.now) f.new }
 {
     match within {
         Within::Nothing => Ok(()),
         Within::Index(index) => write!(f, "[{index}] "),
+        Within::Key(key) => {
+            f.write_str("{")?;
+            named(f, key, most)?;
+            f.write_str("} ")
+        }
     }
 }
 
@@ -329,7 +431,7 @@ fn front<W: fmt::Write>(f: &mut fmt::Formatter<W>, row: &Row<'_>) -> fmt::Result
         Meaning::Header(title) => {
             commented(f, row.level, row.bytes)?;
             deep(f, row.level)?;
-            place(f, row.within)?;
+            place(f, &row.within, key_columns(row.level, title))?;
             header(f, title)
         }
         Meaning::Text => {
@@ -367,7 +469,12 @@ impl fmt::Display for Row<'_> {
     /// bytes at fault have no `#`.
     ///
     /// The `#` stands in column 36. An indent shows at most 8 levels, and a title that is deeper has its level after the
-    /// `#`. Tests alone say that a row of a dump has at most 100 columns.
+    /// `#`. The place of a title follows: `[0]` for an index, and `{"alg"}`, `{h'01 02'}` or `{1}` for a key. Tests
+    /// alone say that a row of a dump has at most 91 columns.
+    ///
+    /// A key is `{..}` if it is another item, or if the row has no room for it. There is room for every integer and for
+    /// a text of at most 22 columns between its quotes. The row of a float has room for 5 columns less, and a deeper
+    /// title for 10 less. Then an integer of at most as many digits is shown. A byte string takes 3 columns a byte.
     fn fmt<W: fmt::Write>(&self, f: &mut fmt::Formatter<W>) -> fmt::Result
         ensures writes { DisplaysOnOk W.Write.write_str_gives f.old result (known_text self.now) f.new }
         ensures styled { DisplaysStyledOnOk W.Write.write_str_gives f.old result None f.new }

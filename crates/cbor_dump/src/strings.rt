@@ -9,10 +9,12 @@ ghost use Rattle.cbor_dump.specs.Dumps.{AreRowsTaken, IsRefused, LeavesPart, Sho
 ghost use Rattle.cbor_dump.specs.Levels.{Nest, StandsWithin, TitleDue, title_level};
 ghost use Rattle.cbor_dump.specs.Parts.{IsFullPart, IsPartRow, ReadsPart};
 ghost use Rattle.cbor_dump.specs.Takings.{IsSteadyNoneWaiting, Keeps, LeavesBehind, ReadsBy, taken_bytes};
-ghost use Rattle.cbor_dump.specs.StringRows.{IsPart, ShowsBehindTitle, kind_of, meaning_of};
+ghost use Rattle.cbor_dump.specs.Keys.{body_bytes};
+ghost use Rattle.cbor_dump.specs.StringRows.{IsPart, ShowsBehindTitle, ShowsKept, kind_of, meaning_of};
 ghost use Rattle.ciborium_ll_grammar.specs.declared.limits.TheConstants.{MOST_LEVELS};
 
 use crate::dump::{DumpError, fault, shown};
+use crate::key::KeyBody;
 use crate::rows::{Meaning, Rows, Within};
 use crate::taken::{MOST_BYTES, Taken};
 use ciborium_ll::io::Read;
@@ -49,23 +51,26 @@ impl Kind {
     }
 }
 
-/// Shows a body of `len` bytes. If it is no text, the error `Syntax` has the offset `place`.
+/// Shows a body of `len` bytes, and keeps it up to the most bytes of a key. If it is no text, the error `Syntax` has the
+/// offset `place`.
 pub(crate) fn body<R: Read, S: Rows>(
     decoder: &mut Decoder<R>,
     kind: Kind,
     len: usize,
     place: usize,
     level: usize,
+    kept: &mut KeyBody,
     rows: &mut S,
 ) -> Result<(), DumpError<R::Error, S::Error>>
 where
     R::Error: Drop,
+    requires none { body_bytes kept.old ≡ [] }
     ensures shows { (depth start opens : ℕ) (nests : List Nest) (outer title : List ℕ) (strict : Bool)
         → TitleDue depth nests opens outer → IsTitle title (kind_header (kind_of kind) (Some len))
         → level ≡ length nests + opens + 1
         → offset_of decoder.old ≡ start + length (outer ++ title) → AreRowsTaken result
-        → ShowsBehindTitle R.Read depth start (S.drawn rows.old) (S.drawn rows.new) (outer ++ title) (kind_of kind)
-        (Some len) strict place result decoder.old decoder.new }
+        → ShowsKept R.Read depth start (S.drawn rows.old) (S.drawn rows.new) (outer ++ title) (kind_of kind) (Some len)
+        strict place result kept.new decoder.old decoder.new }
     ensures rises { offset_of decoder.old ≤ offset_of decoder.new }
     ensures refused { (depth start opens : ℕ) (nests : List Nest) (outer title : List ℕ)
         → TitleDue depth nests opens outer → IsTitle title (kind_header (kind_of kind) (Some len))
@@ -83,6 +88,7 @@ where
             return Err(fault(&taken, error, offset, level, rows));
         }
         shown(&taken, kind.meaning(), Within::Nothing, offset, level, rows)?;
+        kept.push(taken.bytes());
         left -= taken.len();
     }
     Ok(())
@@ -211,7 +217,10 @@ where
             rows,
         )?;
         match part {
-            Part::Piece(len) => body(decoder, kind, len, place, inner + 1, rows)?,
+            Part::Piece(len) => {
+                let mut unused = KeyBody::new();
+                body(decoder, kind, len, place, inner + 1, &mut unused, rows)?
+            }
             Part::Open => inner += 1,
             // A break: every other title was refused.
             _ => {

@@ -2,9 +2,10 @@
 
 ghost use Rattle.std.specs.Prelude.{◌≡◌, ◌≤◌, ◌<◌, ◌++◌, [], ℕ, suc, Bool, List, IsTrue};
 ghost use Rattle.ciborium_ll.specs.Types.Header.{Header as AnyHeader};
-ghost use Rattle.cbor_dump.specs.Levels.{place_in, within_nests};
+ghost use Rattle.cbor_dump.specs.Levels.{IsPlace, index_in};
 ghost use Rattle.ciborium_ll_grammar.specs.declared.limits.TheConstants.{MOST_LEVELS};
 
+use crate::key::Key;
 use crate::rows::Within;
 use cbor_skip::Remaining;
 use ciborium_ll::Header;
@@ -20,24 +21,24 @@ pub(crate) enum Entered {
     Within,
 }
 
-/// Returns the place of the first item within a tag, an array or a map.
-fn first_within(header: Header) -> Within
-    ensures { result ≡ place_in header 0 }
+/// Returns the index of the first item within a tag, an array or a map, if it has one.
+fn first_index(header: Header) -> Option<usize>
+    ensures { result ≡ index_in header 0 }
 {
     match header {
-        Header::Array(_) => Within::Index(0),
-        _ => Within::Nothing,
+        Header::Array(_) => Some(0),
+        _ => None,
     }
 }
 
-/// Returns the place of the item after the item of this place.
-fn next_within(within: Within) -> Within
-    ensures { (header : AnyHeader) (count : ℕ) → within ≡ place_in header count
-        → result ≡ place_in header (suc count) }
+/// Returns the index of the item after the item of this index.
+fn next_index(index: Option<usize>) -> Option<usize>
+    ensures { (header : AnyHeader) (count : ℕ) → index ≡ index_in header count
+        → result ≡ index_in header (suc count) }
 {
-    match within {
-        Within::Nothing => Within::Nothing,
-        Within::Index(index) => Within::Index(index.saturating_add(1)),
+    match index {
+        None => None,
+        Some(index) => Some(index.saturating_add(1)),
     }
 }
 
@@ -45,8 +46,10 @@ fn next_within(within: Within) -> Within
 #[derive(Drop)]
 pub(crate) struct Walk {
     levels: [Remaining; MOST_LEVELS],
-    /// The place of the next item within each level.
-    places: [Within; MOST_LEVELS],
+    /// The index of the next item within each level, if the level is an array.
+    indexes: [Option<usize>; MOST_LEVELS],
+    /// The last item of the innermost level, if that has an item.
+    key: Key,
     used: usize,
     depth: usize,
     ghost shallow: { depth ≤ MOST_LEVELS },
@@ -67,7 +70,8 @@ impl Walk {
     {
         Walk {
             levels: [Remaining::Items(0); MOST_LEVELS],
-            places: [Within::Nothing; MOST_LEVELS],
+            indexes: [None; MOST_LEVELS],
+            key: Key::Other,
             used: 0,
             depth,
         }
@@ -84,12 +88,18 @@ impl Walk {
     /// Returns the place of the item that is due.
     pub(crate) fn within(&self) -> Within
         ensures { (strict : Bool) (depth whole : ℕ) (before : List ℕ) (due : IsDue strict depth whole self.now before)
-            → result ≡ within_nests due.nests }
+            → IsPlace depth due.nests before result }
     {
         if self.used == 0 {
             return Within::Nothing;
         }
-        self.places[self.used - 1]
+        if self.levels[self.used - 1].is_value() {
+            return Within::Key(self.key);
+        }
+        match self.indexes[self.used - 1] {
+            Some(index) => Within::Index(index),
+            None => Within::Nothing,
+        }
     }
 
     /// Takes the title of a tag, an array or a map.
@@ -107,7 +117,7 @@ impl Walk {
             return Entered::Empty;
         }
         self.levels[self.used] = remaining;
-        self.places[self.used] = first_within(header);
+        self.indexes[self.used] = first_index(header);
         self.used += 1;
         Entered::Within
     }
@@ -127,18 +137,21 @@ impl Walk {
         true
     }
 
-    /// Takes the end of an item, and closes each level that ends with it.
-    pub(crate) fn item_done(&mut self)
-        ensures { (strict : Bool) (depth whole : ℕ) (bytes : List ℕ) → IsBehindItem strict depth whole self.old bytes
-            → IsDueBehind strict depth whole self.new bytes }
+    /// Takes the end of an item, which the key names, and closes each level that ends with it.
+    pub(crate) fn item_done(&mut self, key: Key)
+        ensures { (strict : Bool) (depth whole : ℕ) (bytes : List ℕ)
+            → IsBehindItem strict depth whole self.old key bytes → IsDueBehind strict depth whole self.new bytes }
     {
-        'levels: while self.ends_level() {}
+        let mut named = key;
+        'levels: while self.ends_level(named) {
+            named = Key::Other;
+        }
     }
 
     /// Takes the end of an item, and returns whether the last level ends with it. The call then closes that level.
-    fn ends_level(&mut self) -> bool
+    fn ends_level(&mut self, key: Key) -> bool
         ensures ends { (strict : Bool) (depth whole : ℕ) (bytes : List ℕ)
-            → IsBehindItem strict depth whole self.old bytes → Ends strict depth whole result self.new bytes }
+            → IsBehindItem strict depth whole self.old key bytes → Ends strict depth whole result self.new bytes }
         ensures fewer { IsTrue result → self.new.used < self.old.used }
     {
         if self.used == 0 {
@@ -151,7 +164,8 @@ impl Walk {
         }
         let after = remaining.after_item();
         self.levels[at] = after;
-        self.places[at] = next_within(self.places[at]);
+        self.indexes[at] = next_index(self.indexes[at]);
+        self.key = key;
         if !after.is_done() {
             return false;
         }

@@ -82,7 +82,7 @@ fb7ff0000000000001 float'7ff0000000000001'
 fbfff8000000000000 float'fff8000000000000'";
 
 // Exact notation in this layout.
-fn exact(layout: Layout) -> Style {
+pub fn exact(layout: Layout) -> Style {
     Style {
         layout,
         is_exact: true,

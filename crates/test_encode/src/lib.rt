@@ -1,8 +1,10 @@
 // SPDX-License-Identifier: Apache-2.0
-//! Tests of `cbor_encode`: the rows of RFC 8949, appendix A, in both directions, exact notation, the examples of its section 8 and of
-//! RFC 8610, appendix G, each literal once, and faults by their places.
+//! Tests of `cbor_encode`: the rows of RFC 8949, appendix A, in both directions, exact notation, items within byte
+//! strings, the examples of its section 8 and of RFC 8610, appendix G, each literal once, and faults by their places.
 #![tactic(auto)]
 
+#[cfg(test)]
+mod embedded;
 #[cfg(test)]
 mod exact;
 #[cfg(test)]

@@ -1,4 +1,5 @@
-use Rattle.std.proofs.Common.{◌≡◌, ◌-◌, suc, Bool, false, Err, sym, subst, refl, arith}
+use Rattle.ciborium_ll.specs.Strings.{Bytes}
+use Rattle.std.proofs.Common.{◌≡◌, ◌-◌, suc, length, Some, Bool, false, Err, sym, subst, refl, arith}
 use Rattle.ciborium_ll.proofs.DecodingLaws.{exit_is, MovesOn-none, MovesOn-then, nearer}
 use Rattle.ciborium_ll_decoder.proofs.NestLaws.{title_some}
 use Rattle.cbor_skip.specs.declared.SkipError.TheVariants as s
@@ -7,12 +8,13 @@ use Rattle.cbor_skip.specs.Skipping.{SkipsWithin}
 use Rattle.cbor_skip.proofs.ItemSteps.{none_read, one_more, stops_here, pull_stops, stops_within, ended, closed}
 use Rattle.cbor_diag.specs.Showing.{ReadsFrom}
 use Rattle.cbor_diag.proofs.ShowLaws.{break_said, reading_stops, reading_unread}
-use Rattle.cbor_diag.proofs.ItemLaws.{ItemRead, nest_deep, nest_of, nest_read, nest_stops}
+use Rattle.cbor_diag.proofs.ItemLaws.{ItemRead, nest_deep, nest_of, nest_read, nest_stops, string_read}
 use Rattle.ciborium_ll.specs.Decoding.{DecoderPullAnswer}
 use Rattle.cbor_diag.specs.ItemStops.{deep}
 use Rattle.cbor_diag.proofs.ItemTextLaws.{break_shown, item_stops, items_begin, items_closed, items_done, items_more}
 use Rattle.cbor_diag.proofs.ItemTextLaws.{lead_stops, nest_shown, opening_stops, plain_shown, said_failed, said_wrote}
 use Rattle.cbor_diag.proofs.ItemTextLaws.{title_stops, within_stops}
+use Rattle.cbor_diag.proofs.PlaceLaws.{within_place}
 use Rattle.cbor_diag.proofs.nests.+items.Goals as goal
 
 -- ---- an item
@@ -48,12 +50,17 @@ show_item-returns-in_err-said-in-Tag-clause-reads g t c = λ before outer at pul
     rw (exit_is _ _ c.from_residual.ensures.1) (reading_unread (Unit {0})
     (ItemRead g.R.Read outer c.args.depth before c.args.decoder.now) _ c.in_err-said-in-Tag.ensures.writing)
 
+pub show_item-returns-in-Some-clause-reads : goal.show_item-returns-in-Some-clause-reads
+show_item-returns-in-Some-clause-reads g t c = λ before outer at pulled steady.
+    string_read g.R.Read outer c.args.depth before c.args.decoder.now steady Bytes (Some c.in-Some.len)
+    c.show_held.new.decoder c.show_held.result (rw c.in-Some.ensures.0 at pulled) c.show_held.ensures.reads
+
 -- ---- the items within a nest
 
 pub show_within-items-init : goal.show_within-items-init
 show_within-items-init g t c = record {
   so_far = none_read g.R.Read c.behind-remaining.ensures;
-  items = items_begin g.R.Read g.W.Write _ _ c.args.nest.header c.args.nest.mark _ _ c.behind-remaining.ensures;
+  items = items_begin g.R.Read g.W.Write _ c.args.nest.header c.args.nest.mark _ _ c.behind-remaining.ensures;
   moves_on = MovesOn-none g.R.Read c.args.decoder.now;
 }
 
@@ -104,7 +111,7 @@ show_within-items-preserved g t c =
     record {
       so_far = one_more g.R.Read c.items.invariant.so_far (c.after_item-remaining.ensures c.args.nest.header) item;
       items = items_more c.items.invariant.items c.is_value.ensures pulled led
-          (c.after_item-remaining.ensures c.args.nest.header) first.steady (rw marked.mark at c.in_ok-show_item.ensures.shown);
+          (c.after_item-remaining.ensures c.args.nest.header) first.steady (rw (marked.mark, c.items.auto.memory) at c.in_ok-show_item.ensures.shown);
       moves_on = MovesOn-then g.R.Read _ _ _ c.items.invariant.moves_on
           (MovesOn-then g.R.Read _ _ _ first c.show_item.ensures.moves_on);
     }
@@ -133,12 +140,12 @@ show_within-returns-in_err-said-clause-reads g t c =
 pub show_within-returns-clause-moves_on : goal.show_within-returns-clause-moves_on
 show_within-returns-clause-moves_on g t c = c.items.invariant.moves_on
 
-pub show_item-returns-in_default-clause-reads : goal.show_item-returns-in_default-clause-reads
-show_item-returns-in_default-clause-reads g t c = λ before outer at pulled steady.
+pub show_item-returns-in_default-header-clause-reads : goal.show_item-returns-in_default-header-clause-reads
+show_item-returns-in_default-header-clause-reads g t c = λ before outer at pulled steady.
     c.show_plain.ensures.reads before outer c.args.depth pulled steady
 
-pub show_item-returns-in_default-clause-moves_on : goal.show_item-returns-in_default-clause-moves_on
-show_item-returns-in_default-clause-moves_on g t c = c.show_plain.ensures.moves_on
+pub show_item-returns-in_default-header-clause-moves_on : goal.show_item-returns-in_default-header-clause-moves_on
+show_item-returns-in_default-header-clause-moves_on g t c = c.show_plain.ensures.moves_on
 
 -- ---- the written texts
 
@@ -147,25 +154,25 @@ show_item-returns-then-depth-eq0-clause-shown g t c = deep
 
 pub show_item-returns-in_err-said-in-Tag-clause-shown : goal.show_item-returns-in_err-said-in-Tag-clause-shown
 show_item-returns-in_err-said-in-Tag-clause-shown g t c =
-    rw (exit_is _ _ c.from_residual.ensures.1) (opening_stops g.R.Read g.W.Write (said_failed g.W.Write c.open.result
+    rw (exit_is _ _ c.from_residual.ensures.1) (opening_stops g.R.Read g.W.Write _ (said_failed g.W.Write c.open.result
     c.said.ensures.same c.in_err-said-in-Tag.was c.open.ensures))
 
 pub show_item-returns-in_err-is_empty-in-Tag-clause-shown : goal.show_item-returns-in_err-is_empty-in-Tag-clause-shown
 show_item-returns-in_err-is_empty-in-Tag-clause-shown g t c =
-    rw (exit_is _ _ c.from_residual-in_err-is_empty-in-Tag.ensures.1) (within_stops _ c.within-inner.ensures.style
-    c.within-inner.ensures.level (said_wrote g.W.Write c.open.result c.said.ensures.same c.in_ok-said-in-Tag.was
+    rw (exit_is _ _ c.from_residual-in_err-is_empty-in-Tag.ensures.1) (within_stops _ _ (within_place c.args.marked.header c.args.line
+    c.within-inner.result g.B.Bodies.strings c.args.depth (length c.args.memory.now) c.within-inner.ensures) (said_wrote g.W.Write c.open.result c.said.ensures.same c.in_ok-said-in-Tag.was
     c.open.ensures) c.in_err-is_empty-in-Tag.ensures.shown)
 
 pub show_item-returns-in_ok-is_empty-in-Tag-clause-shown : goal.show_item-returns-in_ok-is_empty-in-Tag-clause-shown
 show_item-returns-in_ok-is_empty-in-Tag-clause-shown g t c =
-    nest_shown _ c.within-inner.ensures.style c.within-inner.ensures.level
-    (said_wrote g.W.Write c.open.result c.said.ensures.same c.in_ok-said-in-Tag.was c.open.ensures) _ c.close.result
+    nest_shown _ _ (within_place c.args.marked.header c.args.line c.within-inner.result g.B.Bodies.strings c.args.depth
+    (length c.args.memory.now) c.within-inner.ensures) (said_wrote g.W.Write c.open.result c.said.ensures.same c.in_ok-said-in-Tag.was c.open.ensures) _ c.close.result
     c.said-in-Tag.result c.in_ok-is_empty-in-Tag.ensures.shown c.said-in-Tag.ensures.same c.close.ensures
 
-pub show_item-returns-in_default-clause-shown : goal.show_item-returns-in_default-clause-shown
-show_item-returns-in_default-clause-shown g t c =
-    plain_shown g.R.Read g.W.Write c.args.line.style _ c.args.marked.header c.args.marked.mark _ _ c.show_plain.result
-    c.show_plain.ensures.text (c.show_plain.ensures.shown c.args.line.style c.args.line.level refl)
+pub show_item-returns-in_default-header-clause-shown : goal.show_item-returns-in_default-header-clause-shown
+show_item-returns-in_default-header-clause-shown g t c =
+    plain_shown g.R.Read g.W.Write _ _ c.args.marked.header c.args.marked.mark _ _ c.show_plain.result c.in_default.ensures
+    c.show_plain.ensures.text (c.show_plain.ensures.shown _ refl c.in_default.ensures)
 
 pub show_within-returns-in_err-next-clause-shown : goal.show_within-returns-in_err-next-clause-shown
 show_within-returns-in_err-next-clause-shown g t c =
@@ -177,7 +184,7 @@ show_within-returns-in_err-next-clause-shown g t c =
 pub show_within-returns-in-Break-clause-shown : goal.show_within-returns-in-Break-clause-shown
 show_within-returns-in-Break-clause-shown g t c =
     let pulled = rw (c.offset-place.ensures.same, c.in-Break.is) at c.in_ok-next.ensures.pulls.pulled in
-    break_shown c.items.invariant.items (closes c.items.remaining) _ c.at_break.result c.offset-place.result pulled
+    break_shown c.items.invariant.items _ (closes c.items.remaining) _ c.at_break.result c.offset-place.result pulled
     c.at_break.ensures (λ may. items_closed c.items.invariant.items _ may pulled
     (rw c.offset-place.ensures.same at c.in_ok-next.ensures.moves_on.steady))
 
@@ -192,7 +199,7 @@ show_within-returns-in_err-show_item-clause-shown g t c =
     let marked = rw c.offset-place.ensures.same at c.in_ok-next.ensures.pulls in
     rw (exit_is _ _ c.from_residual-in_err-show_item.ensures.1) (item_stops c.items.invariant.items c.is_value.ensures
     marked.pulled (said_wrote g.W.Write c.before-in-items.result c.said.ensures.same c.in_ok-said.was
-    c.before-in-items.ensures) (rw marked.mark at c.in_err-show_item.ensures.shown))
+    c.before-in-items.ensures) (rw (marked.mark, c.items.auto.memory) at c.in_err-show_item.ensures.shown))
 
 pub show_within-returns-clause-shown : goal.show_within-returns-clause-shown
 show_within-returns-clause-shown g t c = items_done c.items.invariant.items (sym c.items-test.ensures)

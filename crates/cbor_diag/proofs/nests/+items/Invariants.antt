@@ -1,7 +1,8 @@
-use Rattle.std.proofs.Common.{◌+◌, ◌-◌, ◌*◌, ◌^◌}
+use Rattle.std.proofs.Common.{◌+◌, ◌-◌, ◌*◌, ◌^◌, length}
 use Rattle.ciborium_ll.specs.Decoding.{MovesOn}
 use Rattle.cbor_skip.proofs.ItemSteps.{SoFar}
 use Rattle.ciborium_ll.specs.Sides.{sides}
+use Rattle.cbor_diag.specs.Places.{place_of}
 use Rattle.cbor_diag.proofs.ItemTextLaws.{ItemsFar}
 use Rattle.cbor_diag.proofs.nests.+items.Given as goal
 
@@ -14,7 +15,8 @@ decreases-show_within g l = 2 * l.depth + 1
 abbrev pub invariant-show_within-items : goal.invariant-show_within-items
 invariant-show_within-items g l = record {
   so_far : SoFar g.R.Read l.fn.nest.header l.depth l.fn.decoder l.decoder l.remaining;
-  items : ItemsFar g.R.Read g.W.Write l.fn.line.style l.fn.line.level l.fn.nest.header l.fn.nest.mark
+  items : ItemsFar g.R.Read g.W.Write (place_of l.fn.line g.B.Bodies.strings l.fn.depth (length l.fn.memory))
+      l.fn.nest.header l.fn.nest.mark
       (sides l.fn.decoder l.fn.writer) l.remaining l.is_first (sides l.decoder l.writer);
   moves_on : MovesOn g.R.Read l.fn.decoder l.decoder;
 }

@@ -26,8 +26,8 @@ pub returns-in-Positive-clause-moves_on : goal.returns-in-Positive-clause-moves_
 returns-in-Positive-clause-moves_on g c = MovesOn-none g.R.Read c.args.decoder.now
 
 pub returns-in-Positive-clause-shown : goal.returns-in-Positive-clause-shown
-returns-in-Positive-clause-shown g c = λ style level same.
-    plain_said g.R.Read g.W.Write style level c.args.marked.header c.args.marked.mark _ _ _ _ c.show_positive.result c.said.result
+returns-in-Positive-clause-shown g c = λ place same free.
+    plain_said g.R.Read g.W.Write place c.args.marked.header c.args.marked.mark _ _ _ _ c.show_positive.result c.said.result
     (scalar (ap (λ (z : Header). header_notation z c.args.marked.mark) c.in-Positive.is)) c.said.ensures.same c.show_positive.ensures
 
 pub returns-in-Negative-clause-reads : goal.returns-in-Negative-clause-reads
@@ -46,8 +46,8 @@ pub returns-in-Negative-clause-moves_on : goal.returns-in-Negative-clause-moves_
 returns-in-Negative-clause-moves_on g c = MovesOn-none g.R.Read c.args.decoder.now
 
 pub returns-in-Negative-clause-shown : goal.returns-in-Negative-clause-shown
-returns-in-Negative-clause-shown g c = λ style level same.
-    plain_said g.R.Read g.W.Write style level c.args.marked.header c.args.marked.mark _ _ _ _ c.show_negative.result c.said-in-Negative.result
+returns-in-Negative-clause-shown g c = λ place same free.
+    plain_said g.R.Read g.W.Write place c.args.marked.header c.args.marked.mark _ _ _ _ c.show_negative.result c.said-in-Negative.result
     (scalar (ap (λ (z : Header). header_notation z c.args.marked.mark) c.in-Negative.is)) c.said-in-Negative.ensures.same c.show_negative.ensures
 
 pub returns-in-Simple-clause-reads : goal.returns-in-Simple-clause-reads
@@ -66,8 +66,8 @@ pub returns-in-Simple-clause-moves_on : goal.returns-in-Simple-clause-moves_on
 returns-in-Simple-clause-moves_on g c = MovesOn-none g.R.Read c.args.decoder.now
 
 pub returns-in-Simple-clause-shown : goal.returns-in-Simple-clause-shown
-returns-in-Simple-clause-shown g c = λ style level same.
-    plain_said g.R.Read g.W.Write style level c.args.marked.header c.args.marked.mark _ _ _ _ c.show_simple.result c.said-in-Simple.result
+returns-in-Simple-clause-shown g c = λ place same free.
+    plain_said g.R.Read g.W.Write place c.args.marked.header c.args.marked.mark _ _ _ _ c.show_simple.result c.said-in-Simple.result
     (scalar (ap (λ (z : Header). header_notation z c.args.marked.mark) c.in-Simple.is)) c.said-in-Simple.ensures.same c.show_simple.ensures
 
 pub returns-in-Float-clause-reads : goal.returns-in-Float-clause-reads
@@ -84,8 +84,8 @@ pub returns-in-Float-clause-moves_on : goal.returns-in-Float-clause-moves_on
 returns-in-Float-clause-moves_on g c = MovesOn-none g.R.Read c.args.decoder.now
 
 pub returns-in-Float-clause-shown : goal.returns-in-Float-clause-shown
-returns-in-Float-clause-shown g c = λ style level same.
-    rw c.in-Float.is (plain_said g.R.Read g.W.Write style level _ c.args.marked.mark _ _ _ _ c.show_float.result
+returns-in-Float-clause-shown g c = λ place same free.
+    rw c.in-Float.is (plain_said g.R.Read g.W.Write place _ c.args.marked.mark _ _ _ _ c.show_float.result
     c.said-in-Float.result (float_text (rw same c.show_float.ensures.is_text)) c.said-in-Float.ensures.same c.show_float.ensures.written)
 
 pub returns-in-Bytes-clause-reads : goal.returns-in-Bytes-clause-reads
@@ -100,9 +100,9 @@ pub returns-in-Bytes-clause-moves_on : goal.returns-in-Bytes-clause-moves_on
 returns-in-Bytes-clause-moves_on g c = c.show_bytes.ensures.moves_on
 
 pub returns-in-Bytes-clause-shown : goal.returns-in-Bytes-clause-shown
-returns-in-Bytes-clause-shown g c = λ style level same.
-    rw c.in-Bytes.is (string_shown g.R.Read g.W.Write style level c.args.is_exact Bytes c.in-Bytes.len c.args.marked.mark 64 _ _
-    c.show_bytes.result same c.show_bytes.ensures.text)
+returns-in-Bytes-clause-shown g c = λ place same free.
+    rw c.in-Bytes.is (string_shown g.R.Read g.W.Write place c.args.is_exact Bytes c.in-Bytes.len c.args.marked.mark 64 _ _
+    c.show_bytes.result same (rw c.in-Bytes.is at free) c.show_bytes.ensures.text)
 
 pub returns-in-Text-clause-reads : goal.returns-in-Text-clause-reads
 returns-in-Text-clause-reads g c = λ before outer depth pulled steady.
@@ -116,6 +116,6 @@ pub returns-in-Text-clause-moves_on : goal.returns-in-Text-clause-moves_on
 returns-in-Text-clause-moves_on g c = c.show_text.ensures.moves_on
 
 pub returns-in-Text-clause-shown : goal.returns-in-Text-clause-shown
-returns-in-Text-clause-shown g c = λ style level same.
-    rw c.in-Text.is (string_shown g.R.Read g.W.Write style level c.args.is_exact Text c.in-Text.len c.args.marked.mark 64 _ _
-    c.show_text.result same c.show_text.ensures.text)
+returns-in-Text-clause-shown g c = λ place same free.
+    rw c.in-Text.is (string_shown g.R.Read g.W.Write place c.args.is_exact Text c.in-Text.len c.args.marked.mark 64 _ _
+    c.show_text.result same (rw c.in-Text.is at free) c.show_text.ensures.text)

@@ -1,6 +1,7 @@
 use Rattle.std.proofs.Common.{◌++◌, List, ℕ, subst, sym, refl, ◌∙◌}
 use Rattle.ciborium_ll.proofs.DecodingLaws.{exit_is}
 use Rattle.cbor_dump.specs.Takings.{taken_bytes}
+use Rattle.cbor_dump.specs.declared.key.Key.TheVariants as k
 use Rattle.cbor_dump.specs.Walks.{IsBehindItem}
 use Rattle.cbor_dump.proofs.TitleLaws.{break_line, break_bytes}
 use Rattle.cbor_dump.proofs.DumpLaws.{not_taken}
@@ -53,7 +54,7 @@ returns g c = record {
             c.close-closed.new.self breaks p c.level-level.ensures.value at
             (c.in_ok-shown.ensures.draws tt);
         due = c.item_done.ensures strict depth whole _
-            (subst (λ (z : List ℕ). IsBehindItem strict depth whole c.close-closed.new.self (before ++ z))
+            (subst (λ (z : List ℕ). IsBehindItem strict depth whole c.close-closed.new.self k.Other (before ++ z))
             (sym (break_bytes title p)) (breaks.behind c.if-not-closed.false));
         stops = tt;
       };

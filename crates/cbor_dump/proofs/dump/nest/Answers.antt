@@ -19,7 +19,7 @@ returns-in_err-shown g c =
             lines = walk_line strict depth whole start _ _ before _ c.args.header c.level-level.result c.args.place
                 c.within-within.result
                 c.args.walk.now due p (nest_level c.args.header due.nests 0 c.requires.nest)
-                (nest_place c.args.header due.nests c.requires.nest)
+                (nest_place depth c.args.header due.nests before _ c.requires.nest)
                 c.level-level.ensures.value c.within-within.ensures at but.draws;
           };
       alone = refusal_alone error c.in_err-shown.ensures.refusal;
@@ -33,7 +33,7 @@ returns-in-Deep g c = record {
         c.args.walk.now
         due p
         (nest_level c.args.header due.nests 0 c.requires.nest)
-        (nest_place c.args.header due.nests c.requires.nest) c.level-level.ensures.value c.within-within.ensures at
+        (nest_place depth c.args.header due.nests before _ c.requires.nest) c.level-level.ensures.value c.within-within.ensures at
         (c.in_ok-shown.ensures.draws tt);
     due = tt;
     stops = (c.in-Deep.ensures strict depth whole before _ due p taken, c.requires.nest, refl);
@@ -50,7 +50,7 @@ returns-in-Within g c = record {
         c.args.walk.now
         due p
         (nest_level c.args.header due.nests 0 c.requires.nest)
-        (nest_place c.args.header due.nests c.requires.nest) c.level-level.ensures.value c.within-within.ensures at
+        (nest_place depth c.args.header due.nests before _ c.requires.nest) c.level-level.ensures.value c.within-within.ensures at
         (c.in_ok-shown.ensures.draws tt);
     due = c.in-Within.ensures strict depth whole before _ due p taken;
     stops = tt;
@@ -67,7 +67,7 @@ returns-in-Empty g c = record {
         c.args.walk.now
         due p
         (nest_level c.args.header due.nests 0 c.requires.nest)
-        (nest_place c.args.header due.nests c.requires.nest) c.level-level.ensures.value c.within-within.ensures at
+        (nest_place depth c.args.header due.nests before _ c.requires.nest) c.level-level.ensures.value c.within-within.ensures at
         (c.in_ok-shown.ensures.draws tt);
     due = c.item_done.ensures strict depth whole _ (c.in-Empty.ensures strict depth whole before _ due p taken);
     stops = tt;

@@ -2,7 +2,7 @@ use Rattle.std.proofs.Common.{arith, ◌-◌, ◌≡◌, ◌∙◌, ap, Some, No
 use Rattle.ciborium_ll.specs.Title.{title_len}
 use Rattle.ciborium_ll.specs.Strings.{kind_header}
 use Rattle.cbor_dump.specs.StringRows.{kind_of}
-use Rattle.cbor_dump.proofs.StringLaws.{any_place}
+use Rattle.cbor_dump.proofs.StringLaws.{any_kept, any_place}
 use Rattle.cbor_dump.proofs.TitleLaws.{due_here}
 use Rattle.cbor_dump.proofs.dump.rest.Goals as goal
 
@@ -31,13 +31,16 @@ returns-in-None g c = record {
       let titled = rw c.in-None.is at p in
       let shows = c.pieces.ensures.shows depth start nests items title stands titled level at all in
       rw c.in-None.is (record {
-        bytes = shows.bytes;
-        shows = shows.shows;
-        whole = shows.whole;
-        passed = shows.passed;
-        stops = λ alike. any_place g.R.Read (kind_of c.args.kind) 0
-            (c.args.decoder.now.offset - title_len (kind_header (kind_of c.args.kind) None)) _ _ c.pieces.result
-            (shows.stops alike);
+        behind = record {
+          bytes = shows.bytes;
+          shows = shows.shows;
+          whole = shows.whole;
+          passed = shows.passed;
+          stops = λ alike. any_place g.R.Read (kind_of c.args.kind) 0
+              (c.args.decoder.now.offset - title_len (kind_header (kind_of c.args.kind) None)) _ _ c.pieces.result
+              (shows.stops alike);
+        };
+        keeps = any_kept c.pieces.result shows.bytes c.args.kept.now;
       });
   refused = λ depth start nests items title stands p level at all.
       c.pieces.ensures.refused depth start nests items title stands (rw c.in-None.is at p) level at all;

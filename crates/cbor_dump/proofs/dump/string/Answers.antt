@@ -1,4 +1,4 @@
-use Rattle.std.proofs.Common.{◌++◌, arith, length-append, ◌∙◌, refl}
+use Rattle.std.proofs.Common.{arith, length-append, ◌∙◌, refl}
 use Rattle.ciborium_ll.proofs.DecodingLaws.{exit_is}
 use Rattle.cbor_dump.specs.Takings.{taken_bytes}
 use Rattle.cbor_dump.specs.StringRows.{kind_of}
@@ -27,7 +27,7 @@ returns-in_err-shown g c =
             row = but.row;
             lines = walk_line c.args.strict depth whole start _ _ before row (kind_header k c.args.len)
                 c.level-level.result c.args.place c.within-within.result c.args.walk.now due p
-                (string_level k c.args.len due.nests 0) (string_place k c.args.len due.nests)
+                (string_level k c.args.len due.nests 0) (string_place depth k c.args.len due.nests before _)
                 c.level-level.ensures.value c.within-within.ensures place (rw c.header-header.ensures at but.draws);
           });
       moves = refused_stops g.R.Read error _ _ c.in_err-shown.ensures.refusal
@@ -50,11 +50,12 @@ returns-in_err-rest g c =
           let used = due.keeps.used in
           let line = walk_line c.args.strict depth whole start _ _ before row
           (kind_header k c.args.len) c.level-level.result c.args.place c.within-within.result
-          c.args.walk.now due p (string_level k c.args.len due.nests 0) (string_place k c.args.len due.nests)
+          c.args.walk.now due p (string_level k c.args.len due.nests 0) (string_place depth k c.args.len due.nests before _)
           c.level-level.ensures.value c.within-within.ensures place drawn in
-          let rest = c.in_err-rest.ensures.shows depth start due.nests before row
+          let shown = c.in_err-rest.ensures.shows depth start due.nests before row
           (whole, stands_any c.args.strict depth whole due.nests before due.within) p
           (c.level-level.ensures.value ∙ used) (omega (arith, place, offset, length-append before row)) all in
+          let rest = shown.behind in
           record {
             bytes = rest.bytes;
             shows = title_then g.R.Read depth start _ _ _ before row rest.bytes _ _ line rest.shows;
@@ -69,7 +70,7 @@ returns-in_err-rest g c =
           let used = due.keeps.used in
           let line = walk_line c.args.strict depth whole start _ _ before row
           (kind_header k c.args.len) c.level-level.result c.args.place c.within-within.result
-          c.args.walk.now due p (string_level k c.args.len due.nests 0) (string_place k c.args.len due.nests)
+          c.args.walk.now due p (string_level k c.args.len due.nests 0) (string_place depth k c.args.len due.nests before _)
           c.level-level.ensures.value c.within-within.ensures place
           (rw c.header-header.ensures at (c.in_ok-shown.ensures.draws tt)) in
           let rest = c.in_err-rest.ensures.refused depth start due.nests before row
@@ -93,17 +94,18 @@ returns g c = record {
       let used = due.keeps.used in
       let line = walk_line c.args.strict depth whole start _ _ before row
       (kind_header k c.args.len) c.level-level.result c.args.place c.within-within.result
-      c.args.walk.now due p (string_level k c.args.len due.nests 0) (string_place k c.args.len due.nests)
+      c.args.walk.now due p (string_level k c.args.len due.nests 0) (string_place depth k c.args.len due.nests before _)
       c.level-level.ensures.value c.within-within.ensures place drawn in
-      let rest = c.in_ok-rest.ensures.shows depth start due.nests before row
+      let shown = c.in_ok-rest.ensures.shows depth start due.nests before row
       (whole, stands_any c.args.strict depth whole due.nests before due.within) p
       (c.level-level.ensures.value ∙ used) (omega (arith, place, offset, length-append before row)) tt in
+      let rest = shown.behind in
       record {
         bytes = rest.bytes;
         shows = title_then g.R.Read depth start _ _ _ before row rest.bytes _ _ line rest.shows;
         due = c.item_done.ensures c.args.strict depth whole _
-            (behind_item c.args.strict depth whole c.args.walk.now before (row ++ rest.bytes) due
-            (omega arith)
+            (behind_item c.args.strict depth whole c.args.walk.now (kind_header k c.args.len) _ before row rest.bytes
+            due (omega arith) p (c.key_string.ensures rest.bytes shown.keeps)
             (string_item c.args.strict k c.args.len row rest.bytes p taken rest.whole));
         passed = rest.passed;
         stops = λ alike. tt;

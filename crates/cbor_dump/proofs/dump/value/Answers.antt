@@ -1,7 +1,7 @@
 use Rattle.std.proofs.Common.{arith}
 use Rattle.ciborium_ll.proofs.DecodingLaws.{exit_is}
 use Rattle.cbor_dump.specs.Takings.{taken_bytes}
-use Rattle.cbor_dump.proofs.TitleLaws.{walk_line, value_level, value_place, value_item, behind_item}
+use Rattle.cbor_dump.proofs.TitleLaws.{walk_line, value_level, value_place, value_item, behind_alone}
 use Rattle.cbor_dump.proofs.DumpLaws.{not_taken}
 use Rattle.cbor_dump.proofs.LeaveLaws.{refusal_alone}
 use Rattle.cbor_dump.proofs.dump.value.Goals as goal
@@ -20,7 +20,7 @@ returns-in_err-shown g c =
             lines = walk_line strict depth whole start _ _ before _ c.args.header c.level-level.result c.args.place
                 c.within-within.result
                 c.args.walk.now due p (value_level c.args.header due.nests 0 c.requires.value)
-                (value_place c.args.header due.nests c.requires.value)
+                (value_place depth c.args.header due.nests before _ c.requires.value)
                 c.level-level.ensures.value c.within-within.ensures at but.draws;
           };
       alone = refusal_alone error c.in_err-shown.ensures.refusal;
@@ -34,11 +34,10 @@ returns g c = record {
         c.args.walk.now
         due p
         (value_level c.args.header due.nests 0 c.requires.value)
-        (value_place c.args.header due.nests c.requires.value) c.level-level.ensures.value c.within-within.ensures at
+        (value_place depth c.args.header due.nests before _ c.requires.value) c.level-level.ensures.value c.within-within.ensures at
         (c.in_ok-shown.ensures.draws tt);
-    due = c.item_done.ensures strict depth whole _ (behind_item strict depth whole c.args.walk.now before (taken_bytes
-        c.args.taken.now) due
-        (omega arith) (value_item strict c.args.header (taken_bytes c.args.taken.now) c.requires.value p taken));
+    due = c.item_done.ensures strict depth whole _ (behind_alone strict depth whole c.args.walk.now
+        c.args.header _ before (taken_bytes c.args.taken.now) due (omega arith) p c.key_alone.ensures (value_item strict c.args.header (taken_bytes c.args.taken.now) c.requires.value p taken));
     stops = tt;
   };
   refused = λ strict depth whole start before due p at never. absurd never;

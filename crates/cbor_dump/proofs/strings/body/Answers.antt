@@ -1,9 +1,11 @@
-use Rattle.std.proofs.Common.{[], ◌++◌, false, arith}
+use Rattle.std.proofs.Common.{◌≡◌, ◌+◌, ◌≤◌, ℕ, List, [], ◌++◌, length, false, arith, subst, sym, ◌∙◌}
+use Rattle.cbor_dump.specs.Keys.{body_bytes, most_key}
 use Rattle.cbor_dump.specs.Takings.{taken_bytes}
 use Rattle.cbor_dump.specs.StringRows.{kind_of}
 use Rattle.cbor_dump.proofs.DumpLaws.{not_taken, shows_none, shows_says}
 use Rattle.ciborium_ll.proofs.DecodingLaws.{exit_is, ReadsPast-none}
-use Rattle.cbor_dump.proofs.StringLaws.{taken_all, part_fails, part_shown, writable_none, body_stops}
+use Rattle.cbor_dump.proofs.StringLaws.{taken_all, part_fails, part_shown, push_kept, writable_none}
+use Rattle.cbor_dump.proofs.StringLaws.{body_stops}
 use Rattle.cbor_dump.specs.Endings.{ending_of}
 use Rattle.cbor_dump.specs.Levels.{Meant}
 use Rattle.cbor_dump.proofs.LeaveLaws.{reads_on, reads_then, refused_stops, says_stops, stops_then}
@@ -15,11 +17,14 @@ use Rattle.cbor_dump.proofs.strings.body.Goals as goal
 pub rows-init : goal.rows-init
 rows-init g c = record {
   so_far = λ depth start opens nests outer title due p level at. record {
-    front = [];
-    shows = shows_none g.R.Read depth start _ (outer ++ title) _;
-    counted = omega arith;
-    written = writable_none (kind_of c.args.kind);
-    passed = λ none. ReadsPast-none g.R.Read c.args.decoder.now;
+    shown = record {
+      front = [];
+      shows = shows_none g.R.Read depth start _ (outer ++ title) _;
+      counted = omega arith;
+      written = writable_none (kind_of c.args.kind);
+      passed = λ none. ReadsPast-none g.R.Read c.args.decoder.now;
+    };
+    keeps = λ short. c.requires.none;
   };
   rises = omega arith;
   moves = reads_on g.R.Read c.args.decoder.now;
@@ -28,32 +33,35 @@ rows-init g c = record {
 pub returns-in-Err : goal.returns-in-Err
 returns-in-Err g c = record {
   shows = λ depth start opens nests outer title strict due p level at all.
-      let so_far = c.rows.invariant.so_far depth start opens nests outer title due p level at in
+      let so_far = (c.rows.invariant.so_far depth start opens nests outer title due p level at).shown in
       let row = taken_bytes c.read_part.new.taken in
       let keeps = rw c.offset-offset.ensures.same at c.read_part.ensures.keeps in
       let takes = taken_all g.R.Read _ row _ _ c.new-taken.ensures keeps in
       record {
-        bytes = so_far.front ++ row;
-        shows = shows_says g.R.Read strict c.in-Err.error c.fault.result depth start _ _ (outer ++ title)
-            (so_far.front ++ row) _ _ c.fault.ensures.says all
-            (part_fails g.R.Read strict c.in-Err.error depth start opens nests outer title (kind_of c.args.kind)
-            c.args.len c.rows.left c.args.level c.offset-offset.result _ _ _ row _ _ _
-            (record { due = due; is_title = p; below = level }) at so_far takes c.read_part.ensures.most
-            c.offset-offset.ensures.value (c.fault.ensures.draws all)
-            ((rw c.in-Err.is at c.read_part.ensures.row) c.rows-test.true) (row_few c.read_part.new.taken)
-            c.rows-test.true
-            ((rw (c.offset-offset.ensures.same, c.in-Err.is) at c.read_part.ensures.left) c.rows-test.true));
-        whole = tt;
-        passed = λ alike. tt;
-        stops = λ alike.
-            let idle = alike.none_waits in
-            let passed = so_far.passed idle in
-            let between = passes_idle g.R.Read _ _ so_far.front passed idle in
-            let error = rw (c.offset-offset.ensures.same, c.in-Err.is) at c.read_part.ensures.reads in
-            body_stops g.R.Read (kind_of c.args.kind) c.args.len c.args.place _ _ c.in-Err.error c.fault.result
-            c.fault.ensures.says
-            (part_behind g.R.Read (kind_of c.args.kind) c.args.len c.rows.left c.args.place so_far.front _ _ _
-            c.in-Err.error passed so_far.written so_far.counted (error c.rows-test.true between));
+        behind = record {
+          bytes = so_far.front ++ row;
+          shows = shows_says g.R.Read strict c.in-Err.error c.fault.result depth start _ _ (outer ++ title)
+              (so_far.front ++ row) _ _ c.fault.ensures.says all
+              (part_fails g.R.Read strict c.in-Err.error depth start opens nests outer title (kind_of c.args.kind)
+              c.args.len c.rows.left c.args.level c.offset-offset.result _ _ _ row _ _ _
+              (record { due = due; is_title = p; below = level }) at so_far takes c.read_part.ensures.most
+              c.offset-offset.ensures.value (c.fault.ensures.draws all)
+              ((rw c.in-Err.is at c.read_part.ensures.row) c.rows-test.true) (row_few c.read_part.new.taken)
+              c.rows-test.true
+              ((rw (c.offset-offset.ensures.same, c.in-Err.is) at c.read_part.ensures.left) c.rows-test.true));
+          whole = tt;
+          passed = λ alike. tt;
+          stops = λ alike.
+              let idle = alike.none_waits in
+              let passed = so_far.passed idle in
+              let between = passes_idle g.R.Read _ _ so_far.front passed idle in
+              let error = rw (c.offset-offset.ensures.same, c.in-Err.is) at c.read_part.ensures.reads in
+              body_stops g.R.Read (kind_of c.args.kind) c.args.len c.args.place _ _ c.in-Err.error c.fault.result
+              c.fault.ensures.says
+              (part_behind g.R.Read (kind_of c.args.kind) c.args.len c.rows.left c.args.place so_far.front _ _ _
+              c.in-Err.error passed so_far.written so_far.counted (error c.rows-test.true between));
+        };
+        keeps = tt;
       };
   rises =
       let keeps = rw c.offset-offset.ensures.same at c.read_part.ensures.keeps in
@@ -61,7 +69,7 @@ returns-in-Err g c = record {
       let so_far = c.rows.invariant.rises in
       omega (arith, moved, so_far);
   refused = λ depth start opens nests outer title due p level at all.
-      let so_far = c.rows.invariant.so_far depth start opens nests outer title due p level at in
+      let so_far = (c.rows.invariant.so_far depth start opens nests outer title due p level at).shown in
       let row = taken_bytes c.read_part.new.taken in
       let keeps = rw c.offset-offset.ensures.same at c.read_part.ensures.keeps in
       let takes = taken_all g.R.Read _ row _ _ c.new-taken.ensures keeps in
@@ -96,7 +104,7 @@ returns-in_err-shown g c =
           let so_far = c.rows.invariant.rises in
           omega (arith, moved, so_far);
       refused = λ depth start opens nests outer title due p level at all.
-          let so_far = c.rows.invariant.so_far depth start opens nests outer title due p level at in
+          let so_far = (c.rows.invariant.so_far depth start opens nests outer title due p level at).shown in
           let row = taken_bytes c.read_part.new.taken in
           let keeps = rw c.offset-offset.ensures.same at c.read_part.ensures.keeps in
           let takes = taken_all g.R.Read _ row _ _ c.new-taken.ensures keeps in
@@ -110,7 +118,7 @@ returns-in_err-shown g c =
           so_far takes c.read_part.ensures.most c.offset-offset.ensures.value ok full went
           (rw c.meaning.ensures at but.draws)
           ((rw c.in_default.is at c.read_part.ensures.some) c.rows-test.true, row_few c.read_part.new.taken) in
-          record { row = but.row; how = Meant; bytes = shown.front; shows = shown.shows };
+          record { row = but.row; how = Meant; bytes = shown.0.front; shows = shown.0.shows };
       moves = refused_stops g.R.Read error _ _ c.in_err-shown.ensures.refusal
           (reads_then g.R.Read _ _ _ c.rows.invariant.moves
           (rw (c.offset-offset.ensures.same, c.in_default.is) at c.read_part.ensures.moves));
@@ -119,7 +127,8 @@ returns-in_err-shown g c =
 pub rows-preserved : goal.rows-preserved
 rows-preserved g c = record {
   so_far = λ depth start opens nests outer title due p level at.
-      let so_far = c.rows.invariant.so_far depth start opens nests outer title due p level at in
+      let up = c.rows.invariant.so_far depth start opens nests outer title due p level at in
+      let so_far = up.shown in
       let row = taken_bytes c.read_part.new.taken in
       let keeps = rw c.offset-offset.ensures.same at c.read_part.ensures.keeps in
       let takes = taken_all g.R.Read _ row _ _ c.new-taken.ensures keeps in
@@ -132,7 +141,13 @@ rows-preserved g c = record {
       c.read_part.ensures.most c.offset-offset.ensures.value ok full went
       (rw c.meaning.ensures at (c.in_ok-shown.ensures.draws tt))
       ((rw c.in_default.is at c.read_part.ensures.some) c.rows-test.true, row_few c.read_part.new.taken) in
-      rw c.len-left.ensures.value shown;
+      rw c.len-left.ensures.value (record {
+        shown = shown.0;
+        keeps = λ short. push_kept c.args.len c.rows.left so_far.front row c.rows.kept c.push.new.self so_far.counted
+            c.read_part.ensures.most (up.keeps short)
+            (subst (λ (z : List ℕ). length (body_bytes c.rows.kept) + length z ≤ most_key
+            → body_bytes c.push.new.self ≡ body_bytes c.rows.kept ++ z) c.bytes.ensures c.push.ensures) short ∙ sym shown.1;
+      });
   rises =
       let keeps = rw c.offset-offset.ensures.same at c.read_part.ensures.keeps in
       let moved = keeps.takes.offset in
@@ -145,14 +160,18 @@ rows-preserved g c = record {
 pub returns : goal.returns
 returns g c = record {
   shows = λ depth start opens nests outer title strict due p level at all.
-      let so_far = c.rows.invariant.so_far depth start opens nests outer title due p level at in
+      let up = c.rows.invariant.so_far depth start opens nests outer title due p level at in
+      let so_far = up.shown in
       let counted = so_far.counted in
       record {
-        bytes = so_far.front;
-        shows = so_far.shows;
-        whole = (omega (arith, counted), so_far.written);
-        passed = λ alike. so_far.passed alike.none_waits;
-        stops = λ alike. tt;
+        behind = record {
+          bytes = so_far.front;
+          shows = so_far.shows;
+          whole = (omega (arith, counted), so_far.written);
+          passed = λ alike. so_far.passed alike.none_waits;
+          stops = λ alike. tt;
+        };
+        keeps = up.keeps;
       };
   rises = c.rows.invariant.rises;
   refused = λ depth start opens nests outer title due p level at never. absurd never;

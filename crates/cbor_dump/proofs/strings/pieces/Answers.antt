@@ -165,9 +165,9 @@ returns-in_err-body-in-Piece g c =
           let title_row = subst (λ (x : Header). IsTitle row x) is titled in
           let inner = so_far.level in
           let due = piece_due g.R.Read stands so_far at in
-          let rest = c.in_err-body-in-Piece.ensures.shows depth start (suc so_far.opens) nests (items ++ so_far.parts) row
+          let rest = (c.in_err-body-in-Piece.ensures.shows depth start (suc so_far.opens) nests (items ++ so_far.parts) row
           c.args.strict due
-          title_row (ap (λ (n : ℕ). n + 1) inner) (piece_offset g.R.Read stands so_far at row _ takes) all in
+          title_row (ap (λ (n : ℕ). n + 1) inner) (piece_offset g.R.Read stands so_far at row _ takes) all).behind in
           let first = within_title g.R.Read stands so_far at
           _ row c.in-Ok.header c.offset-place.result c.title_level-at.result _ takes place titled
           (c.title_level-at.ensures nests so_far.opens inner) (c.in_ok-shown.ensures.draws tt) in
@@ -224,9 +224,9 @@ parts-preserved-in-Continue-branch-2 g c = record {
       let taken_row = subst (λ (x : Header). IsTakenTitle c.args.strict row x) is taken in
       let inner = so_far.level in
       let due = piece_due g.R.Read stands so_far at in
-      let rest = c.in_ok-body-in-Piece.ensures.shows depth start (suc so_far.opens) nests
+      let rest = (c.in_ok-body-in-Piece.ensures.shows depth start (suc so_far.opens) nests
       (items ++ so_far.parts) row c.read_title.new.decoder.strict due title_row (ap (λ (n : ℕ). n + 1) inner) (piece_offset
-      g.R.Read stands so_far at row _ takes) tt in
+      g.R.Read stands so_far at row _ takes) tt).behind in
       let went = rw c.offset-place.ensures.same at c.in-Ok.ensures.passes in
       let first = within_title g.R.Read stands so_far at
       _ row c.in-Ok.header c.offset-place.result c.title_level-at.result _ takes place titled

@@ -15,7 +15,7 @@ returns-then-is_done c = λ strict depth whole before title due p g.
 pub returns : goal.returns
 returns c = λ strict depth whole before title due p g.
     enters_within strict depth whole c.args.self.now _ before title c.args.header c.behind-remaining.result
-    c.first_within.result due p g
+    c.first_index.result due p g
     (omega arith)
     (omega arith) c.if-self.false c.behind-remaining.ensures (sym c.is_done.ensures ∙ c.if-is_done.false)
-    c.first_within.ensures refl refl refl refl
+    c.first_index.ensures refl refl refl refl

@@ -4,7 +4,7 @@ use Rattle.cbor_dump.proofs.walk.Walk.item_done.Given as goal
 
 abbrev pub invariant-levels : goal.invariant-levels
 invariant-levels l = (strict : Bool) (depth whole : ℕ) (bytes : List ℕ)
-    → IsBehindItem strict depth whole l.fn.self bytes → IsBehindItem strict depth whole l.self bytes
+    → IsBehindItem strict depth whole l.fn.self l.fn.key bytes → IsBehindItem strict depth whole l.self l.named bytes
 
 -- Each level that ends leaves one level less.
 abbrev pub decreases-levels : goal.decreases-levels

@@ -7,7 +7,7 @@ use Rattle.cbor_skip.proofs.ItemSteps.{pull_stops, stops_here}
 use Rattle.cbor_diag.specs.ItemStops.{no_item}
 use Rattle.cbor_diag.proofs.ItemTextLaws.{item_shown, none_came}
 use Rattle.cbor_diag.proofs.MoveLaws.{item_failures}
-use Rattle.cbor_diag.proofs.diagnose.Goals as goal
+use Rattle.cbor_diag.proofs.nests.show_one.Goals as goal
 
 pub returns-in_err-marked-clause-reads : goal.returns-in_err-marked-clause-reads
 returns-in_err-marked-clause-reads g c =
@@ -20,7 +20,7 @@ returns-in_err-marked-clause-reads g c =
 
 pub returns-in_err-marked-clause-shown : goal.returns-in_err-marked-clause-shown
 returns-in_err-marked-clause-shown g c =
-    rw (exit_is _ _ c.from_residual.ensures.1) (none_came g.R.Read g.W.Write {error = c.in_err-marked.field-0.0}
+    rw (exit_is _ _ c.from_residual.ensures.1) (none_came g.R.Read g.W.Write _ {error = c.in_err-marked.field-0.0}
     c.offset-place.ensures.same c.in_err-marked.ensures.pulls)
 
 pub returns-in-Break-clause-reads : goal.returns-in-Break-clause-reads
@@ -44,7 +44,7 @@ returns-in-Break-clause-shown g c =
 pub returns-clause-shown : goal.returns-clause-shown
 returns-clause-shown g c =
     let marked = rw c.offset-place.ensures.same at c.in_ok-marked.ensures.pulls in
-    item_shown g.R.Read g.W.Write c.args.style _ _ c.show_item.result marked.pulled
+    item_shown g.R.Read g.W.Write _ _ _ _ c.show_item.result marked.pulled
     (rw c.offset-place.ensures.same at c.in_ok-marked.ensures.moves_on.steady)
     (rw marked.mark at c.show_item.ensures.shown)
 
@@ -55,7 +55,7 @@ returns-clause-reads g c =
     let reads = c.show_item.ensures.reads c.args.decoder.now false c.offset-place.ensures.value pulled first.steady in
     record {
       reads = reads;
-      failures = item_failures g.R.Read g.W.Write c.args.style c.args.depth
+      failures = item_failures g.R.Read g.W.Write _ _ c.args.depth
           (sides c.args.decoder.now c.args.writer.now) (sides c.show_item.new.decoder c.show_item.new.writer)
           c.show_item.result reads (returns-clause-shown g c);
       moves_on = MovesOn-then g.R.Read _ _ _ first c.show_item.ensures.moves_on;
