@@ -2,7 +2,6 @@ mod ContentLaws
 mod ContentQuotes
 mod ItemReadLaws
 mod ItemWriteLaws
-mod LineLaws
 mod MoveLaws
 mod ReadingLaws
 mod ScalarLaws

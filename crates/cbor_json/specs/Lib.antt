@@ -1,7 +1,6 @@
 pub mod ItemStops
 pub mod ItemTexts
 pub mod JsonTexts
-pub mod Lines
 pub mod Reading
 pub mod Roles
 pub mod Scalars

@@ -9,7 +9,6 @@ ghost use Rattle.cbor_json.specs.Reading.{ReadsWritten};
 ghost use Rattle.cbor_json.specs.Roles.{first_role};
 ghost use Rattle.ciborium_ll_grammar.specs.declared.limits.TheConstants.{MOST_LEVELS};
 
-mod lines;
 mod messages;
 mod nests;
 mod plain;
@@ -18,7 +17,6 @@ mod role;
 mod scalars;
 mod strings;
 
-pub use self::lines::write_lines;
 use self::nests::write_item;
 pub use self::role::Mode;
 use self::role::Role;

@@ -3,13 +3,13 @@ use std::alloc::Global;
 use std::io;
 use test_support::streams::{PartReader, PartWriter};
 use tool_files::arguments::Options;
-use tool_files::diag::diag_input;
 use tool_files::digits::Digits;
+use tool_files::items::diag_input;
 use tool_verdicts::verdict::Verdict;
 
 // Options, digits, and the text that is written. If there is a fault, the text before it ends its line. In the last row
 // the 64th byte of the body begins a character that is escaped.
-static TEXTS: [(&str, &str, &str); 21] = [
+static TEXTS: [(&str, &str, &str); 29] = [
     ("diag", "", ""),
     ("diag", "82 1903e8 6161", "[1000, \"a\"]\n"),
     ("diag", "01 f6 8102", "1\nnull\n[2]\n"),
@@ -29,6 +29,22 @@ static TEXTS: [(&str, &str, &str); 21] = [
     ("diag --skip 2", "00 1c", ""),
     ("diag --items 0", "1c", ""),
     ("diag --exact", "9802 1801 5800", "[_0 1_0, h''_0]\n"),
+    ("diag", "d81843820102", "24(h'820102')\n"),
+    ("diag --embedded", "d81843820102", "24(<<[1, 2]>>)\n"),
+    ("diag --embedded=tagged", "d81843820102", "24(<<[1, 2]>>)\n"),
+    (
+        "diag --embedded",
+        "43820102 420102",
+        "<<[1, 2]>>\nh'0102'\n",
+    ),
+    ("diag --embedded=tagged", "43820102", "h'820102'\n"),
+    ("diag --embedded=tagged --embedded", "4100", "<<0>>\n"),
+    (
+        "diag --exact --embedded",
+        "5801 00 41ff",
+        "<<0>>_0\nh'ff'\n",
+    ),
+    ("diag --embedded", "8142 8201", "[h'8201']\n"),
     ("diag", "8201", "[1\n"),
     ("diag", "00 1c", "0\n"),
     ("diag", "00 19", "0\n"),

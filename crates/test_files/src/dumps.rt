@@ -52,7 +52,7 @@ static DUMPS: &str = "\
 = bf 01 5f42010240ff ff a0
 bf                                  # map *
    01                               # 1
-   5f                               # bytes *
+   5f                               # {1} bytes *
       42                            # bytes 2
          01 02
       40                            # bytes 0
@@ -174,6 +174,99 @@ fn texts_of_dumps(rt: HostRuntime) {
     each_dumped(&rt, rt.alloc(), Options::new(), DUMPS, 10);
 }
 
+// Maps. A value has the key of its pair: an integer, a text of one row and one of two, a byte string, and the widest
+// text. A text of 23 bytes, one of 17 bytes before a float, one of 25 bytes, and other items are not shown. The text in
+// pieces is no key that is shown, and an item within a key does not take its place.
+static KEYED: &str = "\
+= a2 01 02 20 8103
+a2                                  # map 2
+   01                               # 1
+   02                               # {1} 2
+   20                               # -1
+   81                               # {-1} array 1
+      03                            # [0] 3
+= bf 63616c67 a1 00 f6 71656c656d656e744964656e746966696572 f4 ff
+bf                                  # map *
+   63                               # text 3
+      61 6c 67                      # \"alg\"
+   a1                               # {\"alg\"} map 1
+      00                            # 0
+      f6                            # {0} null
+   71                               # text 17
+      65 6c 65 6d 65 6e 74 49       # \"elementI\"
+      64 65 6e 74 69 66 69 65       # \"dentifie\"
+      72                            # \"r\"
+   f4                               # {\"elementIdentifier\"} false
+ff                                  # break
+= a4 420aff 01 630a2262 02 3bffffffffffffffff 03 40 c14100
+a4                                  # map 4
+   42                               # bytes 2
+      0a ff
+   01                               # {h'0a ff'} 1
+   63                               # text 3
+      0a 22 62                      # \"\\n\\\"b\"
+   02                               # {\"\\n\\\"b\"} 2
+   3b ff ff ff ff ff ff ff ff       # -18446744073709551616
+   03                               # {-18446744073709551616} 3
+   40                               # bytes 0
+   c1                               # {h''} tag 1 (epoch time)
+      41                            # bytes 1
+         00
+= a5 811863 01 7f6161ff 02 f93c00 03 7661616161616161616161616161616161616161616161 04 776161616161616161616161616161616161616161616161 05
+a5                                  # map 5
+   81                               # array 1
+      18 63                         # [0] 99
+   01                               # {..} 1
+   7f                               # text *
+      61                            # text 1
+         61                         # \"a\"
+   ff                               # break
+   02                               # {..} 2
+   f9 3c 00                         # half 1.0
+   03                               # {..} 3
+   76                               # text 22
+      61 61 61 61 61 61 61 61       # \"aaaaaaaa\"
+      61 61 61 61 61 61 61 61       # \"aaaaaaaa\"
+      61 61 61 61 61 61             # \"aaaaaa\"
+   04                               # {\"aaaaaaaaaaaaaaaaaaaaaa\"} 4
+   77                               # text 23
+      61 61 61 61 61 61 61 61       # \"aaaaaaaa\"
+      61 61 61 61 61 61 61 61       # \"aaaaaaaa\"
+      61 61 61 61 61 61 61          # \"aaaaaaa\"
+   05                               # {..} 5
+= a4 47000102030405ff 00 480001020304050607 01 716161616161616161616161616161616161 f90000 72616161616161616161616161616161616161 f90000
+a4                                  # map 4
+   47                               # bytes 7
+      00 01 02 03 04 05 ff
+   00                               # {h'00 01 02 03 04 05 ff'} 0
+   48                               # bytes 8
+      00 01 02 03 04 05 06 07
+   01                               # {..} 1
+   71                               # text 17
+      61 61 61 61 61 61 61 61       # \"aaaaaaaa\"
+      61 61 61 61 61 61 61 61       # \"aaaaaaaa\"
+      61                            # \"a\"
+   f9 00 00                         # {\"aaaaaaaaaaaaaaaaa\"} half 0.0
+   72                               # text 18
+      61 61 61 61 61 61 61 61       # \"aaaaaaaa\"
+      61 61 61 61 61 61 61 61       # \"aaaaaaaa\"
+      61 61                         # \"aa\"
+   f9 00 00                         # {..} half 0.0
+= a1 781961616161616161616161616161616161616161616161616161 00
+a1                                  # map 1
+   78 19                            # text 25
+      61 61 61 61 61 61 61 61       # \"aaaaaaaa\"
+      61 61 61 61 61 61 61 61       # \"aaaaaaaa\"
+      61 61 61 61 61 61 61 61       # \"aaaaaaaa\"
+      61                            # \"a\"
+   00                               # {..} 0
+";
+
+#[test]
+fn keys_of_dumps(rt: HostRuntime) {
+    each_dumped(&rt, rt.alloc(), Options::new(), KEYED, 6);
+}
+
 // Texts with escaped characters: a line feed, U+007F, U+009B, and the characters at the bounds of the escaped ranges,
 // those of the bidirectional controls among them (Unicode, PropList.txt). Characters beyond these bounds, such as a
 // space, `~` and U+00A0, stand for themselves.
@@ -258,7 +351,27 @@ static WIDE: [u8; 19] = [
     0x82, 0x68, 0, 1, 2, 3, 4, 5, 6, 7, 0xfb, 0x80, 0x10, 0, 0, 0, 0, 0, 0,
 ];
 
-// The same array within 255 arrays, which are as many as may stand around it.
+// A map of doubles with the most digits. The keys are the greatest number of 7 digits and one of 8 digits, their
+// negative numbers, and texts of 7 and of 8 bytes, and of 17 and of 18 bytes.
+static WIDE_KEYS: &str = "\
+a8 1a0098967f fb8010000000000000 1a00989680 fb8010000000000000 \
+3a0098967f fb8010000000000000 3a00989680 fb8010000000000000 \
+6761616161616161 fb8010000000000000 686161616161616161 fb8010000000000000 \
+716161616161616161616161616161616161 fb8010000000000000 \
+72616161616161616161616161616161616161 fb8010000000000000";
+
+// Returns whether the lines are narrow if the bytes that some digits spell stand within this many arrays.
+fn is_narrow_within(alloc: Global, digits: &str, levels: usize, options: Options) -> bool {
+    let mut bytes = Vec::new(alloc);
+    for _ in 0..levels {
+        if bytes.push(0x81).is_err() {
+            return false;
+        }
+    }
+    add_bytes_of(&mut bytes, digits.as_bytes()) && is_narrow(alloc, bytes.as_slice(), options)
+}
+
+// The same array within 255 arrays, which are as many as may stand around it, and the map within fewer too.
 #[test]
 fn widths_of_dumps(rt: HostRuntime) {
     let mut deep = [0x81u8; 274];
@@ -267,6 +380,11 @@ fn widths_of_dumps(rt: HostRuntime) {
     holds(&rt, is_narrow(rt.alloc(), &WIDE, offsets), "narrow", "wide");
     let offsets = options_of(&rt, rt.alloc(), "dump --offsets");
     holds(&rt, is_narrow(rt.alloc(), &deep, offsets), "narrow", "deep");
+    for levels in [0, 7, 8, 255] {
+        let offsets = options_of(&rt, rt.alloc(), "dump --offsets");
+        let narrow = is_narrow_within(rt.alloc(), WIDE_KEYS, levels, offsets);
+        holds_at(&rt, narrow, "keys", levels);
+    }
 }
 
 // Dumps with offsets.

@@ -5,9 +5,9 @@ use crate::dumps::are_digits;
 use std::alloc::Global;
 use std::process::Abort;
 use tool_files::arguments::Options;
-use tool_files::diag::diag_input;
 use tool_files::digits::Digits;
 use tool_files::dump::dump_input;
+use tool_files::items::diag_input;
 use tool_verdicts::verdict::Verdict;
 
 // Returns whether the fault is the same, and, except for the end of the bytes, at the same place.

@@ -1,6 +1,6 @@
 // SPDX-License-Identifier: Apache-2.0
-//! Tests of the program that looks at files: its answers to the words `check`, `dump`, `diag`, `encode`, `canon` and
-//! `recode`, and its arguments.
+//! Tests of the program that looks at files: its answers to the words `check`, `dump`, `diag`, `json`, `encode`, `canon`
+//! and `recode`, and its arguments.
 #![tactic(auto)]
 
 #[cfg(test)]
@@ -19,6 +19,8 @@ mod encodes;
 mod ends;
 #[cfg(test)]
 mod indexes;
+#[cfg(test)]
+mod jsons;
 #[cfg(test)]
 mod pictures;
 #[cfg(test)]

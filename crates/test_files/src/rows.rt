@@ -344,7 +344,7 @@ pub static SPELLED: [(&str, &str, &str); 81] = [
 ];
 
 // Words, and the files that they name, if they ask for a look at files.
-pub static WORDS: [(&str, Option<&str>); 113] = [
+pub static WORDS: [(&str, Option<&str>); 142] = [
     ("check", Some("")),
     ("check -", Some("-")),
     ("check a b", Some("a b")),
@@ -367,6 +367,27 @@ pub static WORDS: [(&str, Option<&str>); 113] = [
     ("diag", Some("")),
     ("diag --pretty --strict --hex --depth 3 a", Some("a")),
     ("encode", Some("")),
+    ("json", Some("")),
+    ("json --lossy --strict --hex --depth 3 a --one", Some("a")),
+    ("json --skip 1 a --items=2 -", Some("a -")),
+    ("json --one --skip 1", Some("")),
+    ("json --one --items 1", None),
+    ("json --lossy=1", None),
+    ("json --pretty", None),
+    ("json --exact", None),
+    ("json --index", None),
+    ("json --names", None),
+    ("json --max 1", None),
+    ("json --offsets", None),
+    ("json --color never", None),
+    ("json --order bytewise", None),
+    ("json --deterministic", None),
+    ("check --lossy", None),
+    ("dump --lossy", None),
+    ("diag --lossy", None),
+    ("encode --lossy", None),
+    ("canon --lossy", None),
+    ("recode --lossy", None),
     ("encode --one --depth 3 f", Some("f")),
     ("check --deterministic --order length-first a", Some("a")),
     ("check a --order=bytewise b --deterministic", Some("a b")),
@@ -465,10 +486,18 @@ pub static WORDS: [(&str, Option<&str>); 113] = [
     ("diag --exact --pretty a", Some("a")),
     ("diag --exact=1", None),
     ("dump --exact", None),
+    ("diag --embedded a --embedded=tagged --exact", Some("a")),
+    ("diag --embedded tagged", Some("tagged")),
+    ("diag --embedded=all", None),
+    ("diag --embedded=", None),
+    ("diag --tagged", None),
+    ("dump --embedded", None),
+    ("json --embedded=tagged", None),
+    ("check --embedded", None),
 ];
 
 // Words, and the start of the text that they ask for.
-pub static HELPS: [(&str, &str); 17] = [
+pub static HELPS: [(&str, &str); 19] = [
     ("help", "usage: cbor WORD"),
     ("--help", "usage: cbor WORD"),
     ("-h", "usage: cbor WORD"),
@@ -476,12 +505,14 @@ pub static HELPS: [(&str, &str); 17] = [
     ("help check", "usage: cbor check"),
     ("help dump", "usage: cbor dump"),
     ("--help diag", "usage: cbor diag"),
+    ("help json", "usage: cbor json"),
     ("help encode", "usage: cbor encode"),
     ("help canon", "usage: cbor canon"),
     ("help recode", "usage: cbor recode"),
     ("check --help", "usage: cbor check"),
     ("dump a -h --bogus", "usage: cbor dump"),
     ("diag --pretty --help", "usage: cbor diag"),
+    ("json a --lossy -h", "usage: cbor json"),
     ("encode a --one -h", "usage: cbor encode"),
     ("canon a --order=bytewise -h", "usage: cbor canon"),
     ("check --order bytewise --help", "usage: cbor check"),
@@ -489,22 +520,22 @@ pub static HELPS: [(&str, &str); 17] = [
 ];
 
 // Words that ask for nothing, and what is said of them.
-pub static REFUSALS: [(&str, &str); 30] = [
+pub static REFUSALS: [(&str, &str); 35] = [
     (
         "chek",
-        "no word \"chek\"; did you mean \"check\"?\ncbor: the words are check, dump, diag, encode, canon, recode, help",
+        "no word \"chek\"; did you mean \"check\"?\ncbor: the words are check, dump, diag, json, encode, canon, recode, help",
     ),
     (
         "bogus",
-        "no word \"bogus\"\ncbor: the words are check, dump, diag, encode, canon, recode, help",
+        "no word \"bogus\"\ncbor: the words are check, dump, diag, json, encode, canon, recode, help",
     ),
     (
         "recod 1",
-        "no word \"recod\"; did you mean \"recode\"?\ncbor: the words are check, dump, diag, encode, canon, recode, help",
+        "no word \"recod\"; did you mean \"recode\"?\ncbor: the words are check, dump, diag, json, encode, canon, recode, help",
     ),
     (
         "help chek",
-        "no word \"chek\"; did you mean \"check\"?\ncbor: the words are check, dump, diag, encode, canon, recode, help",
+        "no word \"chek\"; did you mean \"check\"?\ncbor: the words are check, dump, diag, json, encode, canon, recode, help",
     ),
     ("help check dump", "\"dump\" is one word too many"),
     ("--version 1", "\"1\" is one word too many"),
@@ -519,6 +550,18 @@ pub static REFUSALS: [(&str, &str); 30] = [
     (
         "encode --strict",
         "encode has no option \"--strict\"\ncbor: the options of encode are --depth, --one, --help",
+    ),
+    (
+        "jsn",
+        "no word \"jsn\"; did you mean \"json\"?\ncbor: the words are check, dump, diag, json, encode, canon, recode, help",
+    ),
+    (
+        "json --loosy",
+        "json has no option \"--loosy\"; did you mean \"--lossy\"?\ncbor: the options of json are --strict, --lossy, --depth, --one, --skip, --items, --hex, --help",
+    ),
+    (
+        "json --one --items 2",
+        "--one and --items exclude each other",
     ),
     ("encode --one=1", "--one takes no value"),
     (
@@ -551,6 +594,11 @@ pub static REFUSALS: [(&str, &str); 30] = [
         "--depth wants a value: a number of at most 256",
     ),
     ("check --one=1", "--one takes no value"),
+    ("diag --embedded=all", "--embedded all: tagged, or no value"),
+    (
+        "json --embedded=tagged",
+        "json has no option \"--embedded\"\ncbor: the options of json are --strict, --lossy, --depth, --one, --skip, --items, --hex, --help",
+    ),
     ("dump --color red", "--color red: always, never or auto"),
     ("check --skip 01", "--skip 01: a number below 2^64"),
     (

@@ -44,7 +44,7 @@ fn read_answer(error: SkipError<EndOfFile>, offset: usize) -> Answer {
 }
 
 // Returns the answer to the outcome of a write. The decoder is at this offset then.
-pub fn answer_of(outcome: Result<(), JsonError<EndOfFile, OutOfSpace>>, offset: usize) -> Answer {
+fn answer_of(outcome: Result<(), JsonError<EndOfFile, OutOfSpace>>, offset: usize) -> Answer {
     match outcome {
         Ok(()) => Answer::Item(offset),
         Err(JsonError::NoJson(place)) => Answer::NoJson(place),

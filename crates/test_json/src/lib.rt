@@ -7,6 +7,4 @@ mod answers;
 #[cfg(test)]
 mod faults;
 #[cfg(test)]
-mod lines;
-#[cfg(test)]
 mod rows;

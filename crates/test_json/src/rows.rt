@@ -3,93 +3,7 @@
 use crate::answers::{Answer, MOST, MOST_TEXT, decoded, holds, written};
 use cbor_json::Mode;
 use std::process::Abort;
-
-// Rows of an item's bytes and its JSON: RFC 8949, appendix A, but the rows of the next tables.
-static VECTORS: &str = "\
-00 0
-01 1
-0a 10
-17 23
-1818 24
-1819 25
-1864 100
-1903e8 1000
-1a000f4240 1000000
-1b000000e8d4a51000 1000000000000
-1bffffffffffffffff 18446744073709551615
-3bffffffffffffffff -18446744073709551616
-20 -1
-29 -10
-3863 -100
-3903e7 -1000
-f90000 0.0
-f98000 -0.0
-f93c00 1.0
-fb3ff199999999999a 1.1
-f93e00 1.5
-f97bff 65504.0
-fa47c35000 100000.0
-fa7f7fffff 3.4028234663852886e+38
-fb7e37e43c8800759c 1.0e+300
-f90001 5.960464477539063e-8
-f90400 0.00006103515625
-f9c400 -4.0
-fbc010666666666666 -4.1
-f4 false
-f5 true
-f6 null
-60 \"\"
-6161 \"a\"
-6449455446 \"IETF\"
-62225c \"\\\"\\\\\"
-62c3bc \"ü\"
-63e6b0b4 \"水\"
-64f0908591 \"𐅑\"
-80 []
-83010203 [1,2,3]
-8301820203820405 [1,[2,3],[4,5]]
-98190102030405060708090a0b0c0d0e0f101112131415161718181819 [1,2,3,4,5,6,7,8,9,10,11,12,13,14,15,16,17,18,19,20,21,22,23,24,25]
-a0 {}
-a26161016162820203 {\"a\":1,\"b\":[2,3]}
-826161a161626163 [\"a\",{\"b\":\"c\"}]
-a56161614161626142616361436164614461656145 {\"a\":\"A\",\"b\":\"B\",\"c\":\"C\",\"d\":\"D\",\"e\":\"E\"}
-7f657374726561646d696e67ff \"streaming\"
-9fff []
-9f018202039f0405ffff [1,[2,3],[4,5]]
-9f01820203820405ff [1,[2,3],[4,5]]
-83018202039f0405ff [1,[2,3],[4,5]]
-83019f0203ff820405 [1,[2,3],[4,5]]
-9f0102030405060708090a0b0c0d0e0f101112131415161718181819ff [1,2,3,4,5,6,7,8,9,10,11,12,13,14,15,16,17,18,19,20,21,22,23,24,25]
-bf61610161629f0203ffff {\"a\":1,\"b\":[2,3]}
-826161bf61626163ff [\"a\",{\"b\":\"c\"}]
-bf6346756ef563416d7421ff {\"Fun\":true,\"Amt\":-2}";
-
-// Rows of that appendix that have JSON only in lossy mode (RFC 8949, 6.1).
-static REPLACED: &str = "\
-f97c00 null
-f97e00 null
-f9fc00 null
-fa7f800000 null
-fa7fc00000 null
-faff800000 null
-fb7ff0000000000000 null
-fb7ff8000000000000 null
-fbfff0000000000000 null
-f7 null
-f0 null
-f8ff null
-c249010000000000000000 \"AQAAAAAAAAAA\"
-c349010000000000000000 \"~AQAAAAAAAAAA\"
-c074323031332d30332d32315432303a30343a30305a \"2013-03-21T20:04:00Z\"
-c11a514b67b0 1363896240
-c1fb41d452d9ec200000 1363896240.5
-d74401020304 \"01020304\"
-d818456449455446 \"ZElFVEY\"
-d82076687474703a2f2f7777772e6578616d706c652e636f6d \"http://www.example.com\"
-40 \"\"
-4401020304 \"AQIDBA\"
-a201020304 {\"1\":2,\"3\":4}
-5f42010243030405ff \"AQIDBAU\"";
+use test_support::json::{EXACT, REPLACED};
 
 // The vectors of RFC 4648, section 10, under the tags 22, 21 and 23, and under none; then digits beyond the letters.
 static BASES: &str = "\
@@ -226,12 +140,12 @@ fn are_written(rt: &impl Abort, mode: Mode, rows: &str) {
 
 #[test]
 fn vectors(rt: HostRuntime) {
-    are_written(&rt, Mode::Strict, VECTORS);
+    are_written(&rt, Mode::Strict, EXACT);
 }
 
 #[test]
 fn the_same_in_lossy_mode(rt: HostRuntime) {
-    are_written(&rt, Mode::Lossy, VECTORS);
+    are_written(&rt, Mode::Lossy, EXACT);
 }
 
 #[test]

@@ -3,6 +3,7 @@
 #![tactic(auto)]
 
 pub mod devices;
+pub mod json;
 pub mod plain;
 pub mod samples;
 pub mod streams;

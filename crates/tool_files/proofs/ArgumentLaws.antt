@@ -96,6 +96,9 @@ shallow_valued s.Hex value spelled = absurd spelled
 shallow_valued s.Offsets value spelled = absurd spelled
 shallow_valued s.Pretty value spelled = absurd spelled
 shallow_valued s.Exact value spelled = absurd spelled
+shallow_valued s.Embedded value spelled = absurd spelled
+shallow_valued s.Tagged value spelled = absurd spelled
+shallow_valued s.Lossy value spelled = absurd spelled
 
 takes : (a : Setting) (name value : List ℕ) → name ≡ setting_name a → SpellsValue a value → TakesValue name
 takes (s.Depth depth) name value is spelled = inl is
@@ -113,6 +116,9 @@ takes s.Hex name value is spelled = absurd spelled
 takes s.Offsets name value is spelled = absurd spelled
 takes s.Pretty name value is spelled = absurd spelled
 takes s.Exact name value is spelled = absurd spelled
+takes s.Embedded name value is spelled = absurd spelled
+takes s.Tagged name value is spelled = absurd spelled
+takes s.Lossy name value is spelled = absurd spelled
 
 -- If a name is that of no option, it spells no option.
 pub spells_none : (name : List ℕ) (words : List (String Global)) → (TakesValue name → ⊥)
@@ -325,12 +331,14 @@ about_no_word : (word : Word) (first : List ℕ) (words : List (String Global)) 
 about_no_word w.Check first words wanted named (version is none same) = grind (arith, named, is)
 about_no_word (w.Show v.Titles) first words wanted named (version is none same) = grind (arith, named, is)
 about_no_word (w.Show v.Notation) first words wanted named (version is none same) = grind (arith, named, is)
+about_no_word (w.Show v.Json) first words wanted named (version is none same) = grind (arith, named, is)
 about_no_word w.Encode first words wanted named (version is none same) = grind (arith, named, is)
 about_no_word w.Canon first words wanted named (version is none same) = grind (arith, named, is)
 about_no_word w.Recode first words wanted named (version is none same) = grind (arith, named, is)
 about_no_word w.Check first words wanted named (topic which is names same) = grind (arith, named, is)
 about_no_word (w.Show v.Titles) first words wanted named (topic which is names same) = grind (arith, named, is)
 about_no_word (w.Show v.Notation) first words wanted named (topic which is names same) = grind (arith, named, is)
+about_no_word (w.Show v.Json) first words wanted named (topic which is names same) = grind (arith, named, is)
 about_no_word w.Encode first words wanted named (topic which is names same) = grind (arith, named, is)
 about_no_word w.Canon first words wanted named (topic which is names same) = grind (arith, named, is)
 about_no_word w.Recode first words wanted named (topic which is names same) = grind (arith, named, is)

@@ -9,6 +9,8 @@ use Rattle.ciborium_ll_text.proofs.Lists.{length_zero}
 use Rattle.cbor_checker.specs.declared.phase.Fault.{Fault}
 use Rattle.cbor_checker.specs.declared.phase.Phase.{Phase}
 use Rattle.cbor_checker.specs.declared.phase.Phase.TheVariants as p
+use Rattle.cbor_checker.specs.declared.checker.Checker.{Checker}
+use Rattle.cbor_checker.specs.Checking.{HasRead, spot_of}
 use Rattle.cbor_checker.specs.Spots.{Spot}
 use Rattle.cbor_checker.specs.Steps.{IsFed, StepIn, fresh, more}
 use Rattle.cbor_checker.specs.Telling.{EndedIn}
@@ -112,6 +114,12 @@ none_after depth fed spot (more {bytes = a} {spot = old} byte small fed' step) i
           )
     ]
 
+none_read : (depth : ℕ) (fed : List ℕ) (checker : Checker) → HasRead false depth fed checker → (item rest : List ℕ)
+    → fed ≡ item ++ rest → IsItem false depth item → rest ≡ []
+unfolding HasRead
+none_read depth fed checker has_read item rest is one =
+    none_after depth fed (spot_of checker) has_read item rest is one
+
 -- Two beginnings of the same bytes: one is a beginning of the other.
 one_longer : (a b c d : List ℕ) → a ++ b ≡ c ++ d
     → ((e : List ℕ) × (a ≡ c ++ e)) ⊎ ((e : List ℕ) × (c ≡ a ++ e))
@@ -141,13 +149,13 @@ fault_begins_none depth k before outputs fed front fault are told names behind c
         length-append told.1.before (told.1.last ∷ []),
       ))
       | inr first ↦ elim (one_longer first.item first.others fed behind (sym first.is)) [
-        | inl longer ↦ absurd (told.0 longer.0 (subst (λ (z : List ℕ). IsItem false depth z) longer.1 first.is_item))
+        | inl longer ↦ absurd (told.0 (longer.0, subst (λ (z : List ℕ). IsItem false depth z) longer.1 first.is_item))
         | inr shorter ↦ (
-            let none = none_after depth fed names.spot names.is_fed first.item shorter.0 shorter.1 first.is_item in
+            let none = none_read depth fed names.checker names.has_read first.item shorter.0 shorter.1 first.is_item in
             let whole : first.item ≡ fed ++ [] =
             sym (shorter.1 ∙ ap (λ (z : List ℕ). first.item ++ z) none ∙ append-nil first.item)
             ∙ sym (append-nil fed) in
-            absurd (told.0 [] (subst (λ (z : List ℕ). IsItem false depth z) whole first.is_item))
+            absurd (told.0 ([], subst (λ (z : List ℕ). IsItem false depth z) whole first.is_item))
             )
       ]
     ]
@@ -159,22 +167,23 @@ cut_is_none depth bytes output within some count items =
     let o = without_items depth within.count count within.before within.outputs within.part within.are
     (subst (λ (z : List ℕ). AreItems false depth count z) within.is items) in
     let due = within.told.0 in
+    let begins = due.0.begins in
     elim (first_of depth o.0 within.part o.1) [
       | inl none ↦ absurd (omega (arith, some, ap (length {A = ℕ}) none))
       | inr first ↦ (
-          let parts : first.item ++ (first.others ++ due.1.0) ≡ (within.part ++ due.1.0) ++ [] =
-          sym (append_assoc first.item first.others due.1.0)
-          ∙ ap (λ (z : List ℕ). z ++ due.1.0) (sym first.is) ∙ sym (append-nil (within.part ++ due.1.0)) in
-          let same = (one_item false false depth depth first.item (within.part ++ due.1.0)
-          (first.others ++ due.1.0) [] first.is_item due.1.1 parts).0 in
+          let parts : first.item ++ (first.others ++ begins.0) ≡ (within.part ++ begins.0) ++ [] =
+          sym (append_assoc first.item first.others begins.0)
+          ∙ ap (λ (z : List ℕ). z ++ begins.0) (sym first.is) ∙ sym (append-nil (within.part ++ begins.0)) in
+          let same = (one_item false false depth depth first.item (within.part ++ begins.0)
+          (first.others ++ begins.0) [] first.is_item begins.1 parts).0 in
           omega (
             arith,
-            due.0,
-            due.2 due.1.0 due.1.1,
+            due.1,
+            due.2 begins.0 begins.1,
             ap (length {A = ℕ}) same,
             ap (length {A = ℕ}) first.is,
             length-append first.item first.others,
-            length-append within.part due.1.0,
+            length-append within.part begins.0,
           )
           )
     ]

@@ -12,6 +12,7 @@ use Rattle.cbor_checker.specs.declared.phase.Phase.{Phase}
 use Rattle.cbor_checker.specs.declared.phase.Phase.TheVariants as p
 use Rattle.cbor_checker.specs.declared.progress.Progress.{Progress as Checked}
 use Rattle.cbor_checker.specs.declared.progress.Progress.TheVariants as c
+use Rattle.cbor_checker.specs.Checking.{Answers, HasRead}
 use Rattle.cbor_checker.specs.Spots.{Spot}
 use Rattle.cbor_checker.specs.Steps as checks
 use Rattle.cbor_checker.specs.Telling as checker
@@ -29,7 +30,7 @@ use Rattle.tool_files.specs.Recodes.{AreRespelled, EndWithin, Names, StopAt, Sta
 use Rattle.tool_files.specs.Recodes.{CopiesFront, Feeds, IsLeft, TellsSome, fault_said, more}
 use Rattle.tool_verdicts.specs.declared.verdict.Verdict.{Verdict}
 use Rattle.tool_files.proofs.RecodeItems.{fault_begins_none}
-use Rattle.tool_files.proofs.RecodePlaces.{place_within}
+use Rattle.tool_files.proofs.RecodePlaces.{place_read}
 
 -- ---- before the first byte
 
@@ -167,17 +168,18 @@ module _ (depth : ℕ) (most left : Option ℕ) (start : ℕ) (fed given : List 
   some_taken len is =
       let told = subst (Tells false depth (stands.within.part ++ bytes) (stands.within.front ++ out)) is tells in
       let due = stands.within.told.0 in
-      omega (arith, due.0, due.2 bytes told.0.0)
+      omega (arith, due.1, due.2 bytes told.0.0)
 
   -- The checker names the fault.
   pub names : (fault : Fault) → progress ≡ r.Fault fault → Names depth (stands.within.part ++ bytes) fault
+  unfolding HasRead Answers
   names fault is =
       let answer : r.Fault fault ≡ progress_of (pending new) (item_spot new) =
       subst (λ (z : Progress). IsAnswer z (pending new) (item_spot new)) is answers in
       record {
-        spot = item_spot new;
-        is_fed = copied.checked;
-        answers = named (pending new) (item_spot new) fault answer;
+        checker = new.checker;
+        has_read = copied.checked;
+        answers = sym (named (pending new) (item_spot new) fault answer);
       }
 
   -- The place of the fault is within the bytes so far.
@@ -186,7 +188,7 @@ module _ (depth : ℕ) (most left : Option ℕ) (start : ℕ) (fed given : List 
       let found = names fault is in
       omega (
         arith,
-        place_within false depth (stands.within.part ++ bytes) found.spot fault found.is_fed found.answers,
+        place_read false depth (stands.within.part ++ bytes) found.checker fault found.has_read found.answers,
         stands.start_is,
         ap (length {A = ℕ}) all_fed,
         length-append stands.within.before (stands.within.part ++ bytes),
@@ -235,7 +237,7 @@ module _ (depth : ℕ) (most left : Option ℕ) (start : ℕ) (fed given : List 
         many = omega (
           arith,
           some,
-          long.0,
+          long.0.1,
           ap (length {A = ℕ}) whole,
           length-append (fed ++ bytes) rest,
           ap (length {A = ℕ}) all_fed,

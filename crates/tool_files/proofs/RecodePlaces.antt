@@ -12,6 +12,8 @@ use Rattle.cbor_checker.specs.declared.phase.Phase.TheVariants as p
 use Rattle.cbor_checker.specs.declared.phase.Within.{Within}
 use Rattle.cbor_checker.specs.declared.progress.Progress.TheVariants as r
 use Rattle.cbor_checker.specs.Levels.{contents}
+use Rattle.cbor_checker.specs.declared.checker.Checker.{Checker}
+use Rattle.cbor_checker.specs.Checking.{Answers, HasRead, spot_of}
 use Rattle.cbor_checker.specs.Spots.{Spot, settled, string_done, bytes_due, entered}
 use Rattle.cbor_checker.specs.Steps.{IsFed, StepIn, TitleStep, counted, fresh, more, text_left, titled, with_byte}
 use Rattle.cbor_checker.specs.Steps.{cut, early, whole, none}
@@ -105,10 +107,16 @@ fault_is (p.Bytes left) spot fault is = absurd cc
 fault_is (p.Text left state) spot fault is = absurd cc
 fault_is p.Ended spot fault is = absurd cc
 
--- A checker names a place that is at most the number of the bytes that came.
-pub place_within : (s : Bool) (d : ℕ) (fed : List ℕ) (spot : Spot) (fault : Fault) → IsFed s d fed spot
+place_within : (s : Bool) (d : ℕ) (fed : List ℕ) (spot : Spot) (fault : Fault) → IsFed s d fed spot
     → progress_of spot ≡ r.Fault fault → fault_place fault ≤ length fed
 place_within s d fed spot fault is names =
     let placed = subst (λ (z : Phase). FaultIn z spot.offset) (fault_is spot.phase spot fault names)
     (fed_placed s d fed spot is).1 in
     omega (arith, placed, fed_counts s d fed spot is)
+
+-- A checker names a place that is at most the number of the bytes that came.
+pub place_read : (s : Bool) (d : ℕ) (read : List ℕ) (checker : Checker) (fault : Fault) → HasRead s d read checker
+    → Answers checker (r.Fault fault) → fault_place fault ≤ length read
+unfolding HasRead Answers
+place_read s d read checker fault has_read answers =
+    place_within s d read (spot_of checker) fault has_read (sym answers)

@@ -11,6 +11,10 @@ use Rattle.tool_files.specs.declared.options.Colors.{Colors}
 use Rattle.tool_files.specs.declared.options.Colors.TheVariants as c
 use Rattle.cbor_diag.specs.declared.layout.Layout.{Layout}
 use Rattle.cbor_diag.specs.declared.layout.Layout.TheVariants as l
+use Rattle.cbor_embedded.specs.declared.Embedded.{Embedded}
+use Rattle.cbor_embedded.specs.declared.Embedded.TheVariants as b
+use Rattle.cbor_json.specs.declared.role.Mode.{Mode}
+use Rattle.cbor_json.specs.declared.role.Mode.TheVariants as m
 use Rattle.tool_files.specs.declared.options.Options.{Options}
 use Rattle.tool_files.specs.declared.arguments.Setting.{Setting}
 use Rattle.tool_files.specs.declared.arguments.Setting.TheVariants as s
@@ -27,11 +31,12 @@ abbrev pub word_name : Word → List ℕ
 word_name w.Check = codes "check"
 word_name (w.Show v.Titles) = codes "dump"
 word_name (w.Show v.Notation) = codes "diag"
+word_name (w.Show v.Json) = codes "json"
 word_name w.Encode = codes "encode"
 word_name w.Canon = codes "canon"
 word_name w.Recode = codes "recode"
 
--- The name of an option, without its value: `--depth` for a depth of 3.
+-- The name of an option, without its value: `--depth` for a depth of 3. `--embedded=tagged` is a name as a whole.
 abbrev pub setting_name : Setting → List ℕ
 setting_name s.Strict = codes "--strict"
 setting_name s.Deterministic = codes "--deterministic"
@@ -47,6 +52,9 @@ setting_name s.Offsets = codes "--offsets"
 setting_name (s.Colors colors) = codes "--color"
 setting_name s.Pretty = codes "--pretty"
 setting_name s.Exact = codes "--exact"
+setting_name s.Embedded = codes "--embedded"
+setting_name s.Tagged = codes "--embedded=tagged"
+setting_name s.Lossy = codes "--lossy"
 setting_name (s.Depth depth) = codes "--depth"
 
 -- Whether the option takes a value. A depth, as `--depth 3`, takes one, and `--strict` takes none.
@@ -66,6 +74,9 @@ has_value s.Hex = false
 has_value s.Offsets = false
 has_value s.Pretty = false
 has_value s.Exact = false
+has_value s.Embedded = false
+has_value s.Tagged = false
+has_value s.Lossy = false
 
 -- The names of the options that take a value. `--depth` is one, and `--depth=3` is none.
 abbrev pub TakesValue : List ℕ → Type 0
@@ -96,7 +107,9 @@ IsKnown w.Encode s.Hex = ⊥
 IsKnown w.Canon s.Hex = ⊥
 IsKnown w.Recode s.Hex = ⊥
 IsKnown w.Check s.One = Unit {0}
-IsKnown (w.Show view) s.One = ⊥
+IsKnown (w.Show v.Titles) s.One = ⊥
+IsKnown (w.Show v.Notation) s.One = ⊥
+IsKnown (w.Show v.Json) s.One = Unit {0}
 IsKnown w.Encode s.One = Unit {0}
 IsKnown w.Canon s.One = ⊥
 IsKnown w.Recode s.One = ⊥
@@ -118,6 +131,7 @@ IsKnown w.Recode s.Index = ⊥
 IsKnown w.Check (s.Max rows) = ⊥
 IsKnown (w.Show v.Titles) (s.Max rows) = Unit {0}
 IsKnown (w.Show v.Notation) (s.Max rows) = ⊥
+IsKnown (w.Show v.Json) (s.Max rows) = ⊥
 IsKnown w.Encode (s.Max rows) = ⊥
 IsKnown w.Canon (s.Max rows) = ⊥
 IsKnown w.Recode (s.Max rows) = ⊥
@@ -129,27 +143,52 @@ IsKnown w.Recode s.Names = ⊥
 IsKnown w.Check s.Offsets = ⊥
 IsKnown (w.Show v.Titles) s.Offsets = Unit {0}
 IsKnown (w.Show v.Notation) s.Offsets = ⊥
+IsKnown (w.Show v.Json) s.Offsets = ⊥
 IsKnown w.Encode s.Offsets = ⊥
 IsKnown w.Canon s.Offsets = ⊥
 IsKnown w.Recode s.Offsets = ⊥
 IsKnown w.Check (s.Colors colors) = ⊥
 IsKnown (w.Show v.Titles) (s.Colors colors) = Unit {0}
 IsKnown (w.Show v.Notation) (s.Colors colors) = ⊥
+IsKnown (w.Show v.Json) (s.Colors colors) = ⊥
 IsKnown w.Encode (s.Colors colors) = ⊥
 IsKnown w.Canon (s.Colors colors) = ⊥
 IsKnown w.Recode (s.Colors colors) = ⊥
 IsKnown w.Check s.Pretty = ⊥
 IsKnown (w.Show v.Titles) s.Pretty = ⊥
 IsKnown (w.Show v.Notation) s.Pretty = Unit {0}
+IsKnown (w.Show v.Json) s.Pretty = ⊥
 IsKnown w.Encode s.Pretty = ⊥
 IsKnown w.Canon s.Pretty = ⊥
 IsKnown w.Recode s.Pretty = ⊥
 IsKnown w.Check s.Exact = ⊥
 IsKnown (w.Show v.Titles) s.Exact = ⊥
 IsKnown (w.Show v.Notation) s.Exact = Unit {0}
+IsKnown (w.Show v.Json) s.Exact = ⊥
 IsKnown w.Encode s.Exact = ⊥
 IsKnown w.Canon s.Exact = ⊥
 IsKnown w.Recode s.Exact = ⊥
+IsKnown w.Check s.Embedded = ⊥
+IsKnown (w.Show v.Titles) s.Embedded = ⊥
+IsKnown (w.Show v.Notation) s.Embedded = Unit {0}
+IsKnown (w.Show v.Json) s.Embedded = ⊥
+IsKnown w.Encode s.Embedded = ⊥
+IsKnown w.Canon s.Embedded = ⊥
+IsKnown w.Recode s.Embedded = ⊥
+IsKnown w.Check s.Tagged = ⊥
+IsKnown (w.Show v.Titles) s.Tagged = ⊥
+IsKnown (w.Show v.Notation) s.Tagged = Unit {0}
+IsKnown (w.Show v.Json) s.Tagged = ⊥
+IsKnown w.Encode s.Tagged = ⊥
+IsKnown w.Canon s.Tagged = ⊥
+IsKnown w.Recode s.Tagged = ⊥
+IsKnown w.Check s.Lossy = ⊥
+IsKnown (w.Show v.Titles) s.Lossy = ⊥
+IsKnown (w.Show v.Notation) s.Lossy = ⊥
+IsKnown (w.Show v.Json) s.Lossy = Unit {0}
+IsKnown w.Encode s.Lossy = ⊥
+IsKnown w.Canon s.Lossy = ⊥
+IsKnown w.Recode s.Lossy = ⊥
 
 -- If the option is a depth, it is at most the greatest depth that the program takes. 256 is, and 257 is not.
 abbrev pub IsShallow : Setting → Type 0
@@ -218,9 +257,11 @@ pub record Choices : Type 0 where
   pub colors : Colors
   pub layout : Layout
   pub exact : Bool
+  pub embedded : Embedded
+  pub mode : Mode
   pub depth : ℕ
 
--- The choices without options: each item on one line, and a depth of 256.
+-- The choices without options: each item on one line, an item without JSON is a fault, and a depth of 256.
 abbrev pub default_choices : Choices
 default_choices = record {
   strict = false;
@@ -237,6 +278,8 @@ default_choices = record {
   colors = c.Auto;
   layout = l.OneLine;
   exact = false;
+  embedded = b.Nowhere;
+  mode = m.Strict;
   depth = most_depth;
 }
 
@@ -256,6 +299,9 @@ with_setting s.Offsets choices = record choices { offsets = true }
 with_setting (s.Colors colors) choices = record choices { colors = colors }
 with_setting s.Pretty choices = record choices { layout = l.Indented }
 with_setting s.Exact choices = record choices { exact = true }
+with_setting s.Embedded choices = record choices { embedded = b.Everywhere }
+with_setting s.Tagged choices = record choices { embedded = b.Tagged }
+with_setting s.Lossy choices = record choices { mode = m.Lossy }
 with_setting (s.Depth depth) choices = record choices { depth = depth }
 
 -- The choices that the options hold, as the depth 3 that `--depth 3` set.
@@ -275,6 +321,8 @@ choices_of options = record {
   colors = options.colors;
   layout = options.layout;
   exact = options.exact;
+  embedded = options.embedded;
+  mode = options.mode;
   depth = options.depth;
 }
 

@@ -5,9 +5,8 @@ use Rattle.ciborium_ll_grammar.specs.Items.{AreItems, IsItem}
 use Rattle.cbor_checker.specs.declared.phase.Fault.{Fault}
 use Rattle.cbor_checker.specs.declared.phase.Fault.TheVariants as f
 use Rattle.cbor_checker.specs.declared.progress.Progress.TheVariants as c
-use Rattle.cbor_checker.specs.Spots.{Spot}
-use Rattle.cbor_checker.specs.Steps.{IsFed}
-use Rattle.cbor_checker.specs.Telling.{progress_of}
+use Rattle.cbor_checker.specs.declared.checker.Checker.{Checker}
+use Rattle.cbor_checker.specs.Checking.{Answers, HasRead}
 use Rattle.cbor_item_copier.specs.declared.copier.ItemCopier.{ItemCopier}
 use Rattle.cbor_item_copier.specs.declared.progress.Progress.TheVariants as r
 use Rattle.cbor_item_copier.specs.Copying.{IsItemCopied, pending}
@@ -56,11 +55,11 @@ fault_said start (f.Deep place) = v.Deep (start + place)
 abbrev pub end_said : ℕ → ℕ → Result (Unit {0}) Verdict
 end_said start len = if start == len then Ok tt else Err (v.Short len)
 
--- A checker of one item that was fed these bytes answers this fault: `Break` at 0 for `ff`.
+-- A checker of one item that has read these bytes answers this fault: `Break` at 0 for `ff`.
 pub record Names (depth : ℕ) (fed : List ℕ) (fault : Fault) : Type 0 where
-  pub spot : Spot
-  pub is_fed : IsFed false depth fed spot
-  pub answers : progress_of spot ≡ c.Fault fault
+  pub checker : Checker
+  pub has_read : HasRead false depth fed checker
+  pub answers : Answers checker (c.Fault fault)
 
 -- Whatever follows these bytes, they are no beginning of a list of items. `01 ff` is none, and `01 82` is one, if the
 -- depth is 1 or more.

@@ -11,15 +11,17 @@ use Rattle.ciborium_ll.specs.Sides.{sides}
 use Rattle.ciborium_ll_streams.specs.Buffers.{buffered_read_fault}
 use Rattle.cbor_skip.specs.declared.SkipError.{SkipError}
 use Rattle.cbor_skip.specs.Skipping.{StopsCounted}
-use Rattle.cbor_diag.specs.declared.DiagError.{DiagError}
-use Rattle.cbor_diag.specs.declared.layout.Style.{Style}
 use Rattle.cbor_dump.specs.Checking.{ReadsAsCheck}
 use Rattle.cbor_dump.specs.Dumps.{AreRowsTaken}
 use Rattle.cbor_dump.specs.declared.dump.DumpError.{DumpError}
-use Rattle.tool_verdicts.specs.Checking.{diag_said, dump_said, fault_said, unless_failed}
+use Rattle.cbor_json.specs.declared.JsonError.{JsonError}
+use Rattle.tool_verdicts.specs.Checking.{dump_said, fault_said, items_said, unless_failed}
+use Rattle.tool_verdicts.specs.Lines.{WritesPart}
 use Rattle.tool_verdicts.specs.Parts.{PassesOver}
-use Rattle.tool_verdicts.specs.Showing.{ShowsPart}
 use Rattle.tool_verdicts.specs.declared.check.TheConstants.{BUFFER_SIZE}
+use Rattle.tool_verdicts.specs.declared.items.Ending.{Ending}
+use Rattle.tool_verdicts.specs.declared.items.Form.{Form}
+use Rattle.tool_verdicts.specs.declared.items.Form.TheVariants as f
 use Rattle.tool_verdicts.specs.declared.verdict.Verdict.{Verdict}
 use Rattle.tool_files.specs.Fences.{IsFenced, fence_depth, fence_source}
 use Rattle.tool_files.specs.Inputs.{BeginsInput}
@@ -28,23 +30,30 @@ use Rattle.tool_files.specs.declared.fence.Fence.{Fence}
 use Rattle.tool_files.specs.declared.options.Options.{Options}
 use Rattle.tool_files.specs.declared.patient.Patient.{Patient}
 
--- The style of the notation that the options choose. `--pretty` sets the indented layout, and `--exact` the exact
--- notation.
-abbrev pub chosen_style : Options → Style
-chosen_style options = record { layout = options.layout; is_exact = options.exact }
+-- The form of items in notation, as the options choose it. `--pretty` sets the indented layout, `--exact` the exact
+-- notation, and `--embedded` the byte strings that are shown as items.
+abbrev pub chosen_notation : Options → Form
+chosen_notation options =
+    f.Notation (record { layout = options.layout; is_exact = options.exact }) options.embedded
 
-module _ {T E W F : Type 0} (reads : Ghosts (BufferedReader T) E) (sink : Sink W F) where
-  -- Items were shown from the start of the input, each in a line or in lines of its own. With a `skip` or a limit they
-  -- are a part of the items. The result has the verdict after them. For `01 f5` the lines are `1` and `true`.
-  pub record ShowsInput (strict : Bool) (skip : ℕ) (most : Option ℕ) (depth : ℕ) (style : Style) (reader : T)
-      (writer : W) (result : Result (Result (Unit {0}) Verdict) F) (then_writer : W) : Type 0 where
+-- The form of items as JSON, as the options choose it. `--lossy` sets the mode `Lossy`.
+abbrev pub chosen_json : Options → Form
+chosen_json options = f.Json options.mode
+
+module _ {I G T E W F : Type 0} (memory : Ghosts I G) (reads : Ghosts (BufferedReader T) E) (sink : Sink W F) where
+  -- Items were written from the start of the input, each in a line or in lines of its own. With a `skip` or a limit they
+  -- are a part of the items. With `one` it is one item, and nothing may follow it. The result has the verdict after
+  -- them. For `01 f5` the lines are `1` and `true`.
+  pub record WritesInput (strict : Bool) (skip : ℕ) (most : Option ℕ) (one : Bool) (depth : ℕ) (form : Form)
+      (reader : T) (writer : W) (result : Result (Result (Unit {0}) Verdict) F) (then_writer : W) : Type 0 where
     pub old : Decoder (BufferedReader T)
     pub new : Decoder (BufferedReader T)
-    pub outcome : Result (Option E) (DiagError E F)
+    pub outcome : Result (Ending E) (JsonError E F)
     pub begins : BeginsInput strict reader old
-    pub shown :
-        ShowsPart reads sink style skip most depth BUFFER_SIZE (sides old writer) outcome (sides new then_writer)
-    pub said : result ≡ diag_said outcome (buffered_read_fault new.reader) new.offset
+    pub written :
+        WritesPart memory reads sink form depth skip most one BUFFER_SIZE (sides old writer) outcome
+        (sides new then_writer)
+    pub said : result ≡ items_said outcome (buffered_read_fault new.reader) new.offset
 
 module _ {R E : Type 0} (reads : Ghosts R E) where
   -- The rows of the items from the state of the decoder on were printed, up to this offset. If one was refused, nothing

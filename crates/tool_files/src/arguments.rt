@@ -14,6 +14,8 @@ pub use crate::options::{Colors, Options, View, Word};
 pub use crate::request::{Refusal, Request, Topic};
 use cbor_deterministic::Order;
 use cbor_diag::Layout;
+use cbor_embedded::Embedded;
+use cbor_json::Mode;
 use tool_requests::number::{MOST_DEPTH, number_up_to};
 
 impl Word {
@@ -28,6 +30,7 @@ impl Word {
             "check" => Some(Word::Check),
             "dump" => Some(Word::Show(View::Titles)),
             "diag" => Some(Word::Show(View::Notation)),
+            "json" => Some(Word::Show(View::Json)),
             "encode" => Some(Word::Encode),
             "canon" => Some(Word::Canon),
             "recode" => Some(Word::Recode),
@@ -112,6 +115,12 @@ enum Setting {
     Pretty,
     /// `--exact`
     Exact,
+    /// `--embedded`
+    Embedded,
+    /// `--embedded=tagged`
+    Tagged,
+    /// `--lossy`
+    Lossy,
     /// `--depth N`
     Depth(usize),
 }
@@ -128,7 +137,7 @@ impl Setting {
         match (self, word) {
             (Setting::Depth(_), _) => true,
             (Setting::Strict | Setting::Hex, Word::Check | Word::Show(_)) => true,
-            (Setting::One, Word::Check | Word::Encode) => true,
+            (Setting::One, Word::Check | Word::Encode | Word::Show(View::Json)) => true,
             (Setting::Names | Setting::Deterministic | Setting::Index, Word::Check) => true,
             (Setting::Skip(_) | Setting::Items(_), Word::Check | Word::Show(_) | Word::Recode) => {
                 true
@@ -137,6 +146,8 @@ impl Setting {
             (Setting::Offsets | Setting::Colors(_) | Setting::Max(_), Word::Show(View::Titles)) =>
                 true,
             (Setting::Pretty | Setting::Exact, Word::Show(View::Notation)) => true,
+            (Setting::Embedded | Setting::Tagged, Word::Show(View::Notation)) => true,
+            (Setting::Lossy, Word::Show(View::Json)) => true,
             _ => false,
         }
     }
@@ -157,6 +168,9 @@ impl Setting {
             "--offsets" => Some(Setting::Offsets),
             "--pretty" => Some(Setting::Pretty),
             "--exact" => Some(Setting::Exact),
+            "--embedded" => Some(Setting::Embedded),
+            "--embedded=tagged" => Some(Setting::Tagged),
+            "--lossy" => Some(Setting::Lossy),
             _ => None,
         }
     }
@@ -270,6 +284,8 @@ impl Options {
             colors: Colors::Auto,
             layout: Layout::OneLine,
             exact: false,
+            embedded: Embedded::Nowhere,
+            mode: Mode::Strict,
             depth: MOST_DEPTH as usize,
         }
     }
@@ -294,6 +310,9 @@ impl Options {
             Setting::Colors(colors) => self.colors = colors,
             Setting::Pretty => self.layout = Layout::Indented,
             Setting::Exact => self.exact = true,
+            Setting::Embedded => self.embedded = Embedded::Everywhere,
+            Setting::Tagged => self.embedded = Embedded::Tagged,
+            Setting::Lossy => self.mode = Mode::Lossy,
             Setting::Depth(depth) => self.depth = depth,
         }
     }
@@ -383,7 +402,7 @@ fn refusal_at<'w>(word: Word, name: &'w str, words: &'w [String]) -> Refusal<'w>
     if !is_option_of(word, key) {
         return Refusal::UnknownOption { word, option: key };
     }
-    if !takes_value(key) {
+    if !takes_value(key) && key != "--embedded" {
         return Refusal::NeedlessValue(key);
     }
     match (value, words.first()) {

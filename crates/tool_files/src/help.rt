@@ -9,7 +9,9 @@ cbor 0.1.0
 ";
 
 /// The words of the program.
-pub const WORDS: [&str; 7] = ["check", "dump", "diag", "encode", "canon", "recode", "help"];
+pub const WORDS: [&str; 8] = [
+    "check", "dump", "diag", "json", "encode", "canon", "recode", "help",
+];
 
 /// Returns the text of a topic.
 pub fn help_text(topic: Topic) -> &'static str {
@@ -19,6 +21,7 @@ pub fn help_text(topic: Topic) -> &'static str {
         Topic::Word(Word::Check) => CHECK,
         Topic::Word(Word::Show(View::Titles)) => DUMP,
         Topic::Word(Word::Show(View::Notation)) => DIAG,
+        Topic::Word(Word::Show(View::Json)) => JSON,
         Topic::Word(Word::Encode) => ENCODE,
         Topic::Word(Word::Canon) => CANON,
     }
@@ -32,6 +35,7 @@ usage: cbor WORD [OPTION..] [FILE..]
     check       says whether files are well-formed CBOR
     dump        shows files title by title
     diag        writes files in diagnostic notation
+    json        writes files as JSON, one item a line
     encode      writes the bytes that diagnostic notation spells
     canon       writes files in the deterministic encoding
     recode      copies elements, or the items of files, as raw bytes in their shortest spelling
@@ -143,6 +147,8 @@ Writes the items of the files in diagnostic notation, each on a line.
     --skip N    passes over the first N items, which must be well-formed. Offsets stay those of the whole file
     --items N   writes at most N items, and reads nothing after them as an item
     --exact     writes notation that loses nothing of the bytes: encode makes the same bytes of it
+    --embedded  writes byte strings whose bytes are one item as <<ITEM>>: those of a definite length and at most 65536
+                bytes. With --embedded=tagged only the content of tag 24 is written so
     --pretty    writes each item that an array or a map contains on a line of its own, indented by its level
     --hex       reads hexadecimal digits, as docs/PROGRAM.md says
     --help      prints this text, as -h does
@@ -154,9 +160,44 @@ Writes the items of the files in diagnostic notation, each on a line.
     {
       \"a\": true
     }
+    $ printf 'd818 43820102' | ./cbor diag --embedded --hex
+    24(<<[1, 2]>>)
 
 The status is 0 if each file is well-formed, 1 if a file is not, 2 after other arguments, 3 if a file can't be read or
 the output can't be written, and 141 if the reader of the output has gone away.
+";
+
+/// How `json` is used.
+pub const JSON: &str = "\
+usage: cbor json [OPTION..] [FILE..]
+
+Writes the items of the files as JSON (RFC 8949, section 6.1), each on a line. An item that JSON has no form for is
+no-json N, with the offset N of the item: a byte string, a tag, a NaN or an infinity, a simple value other than false,
+true and null, or a key that is no text. A fault is named on standard error, after the text before it.
+
+    --strict    takes the shortest spelling alone
+    --lossy     replaces what JSON has no form for: a byte string by a text of its bytes in base64url, a tag by its
+                content, and a float or a simple value by null. The tags 21, 22 and 23 choose base64url, base64 or
+                base16 for the byte strings in them. ~ begins the text of a negative bignum. An integer as a key is put
+                between quotes. Any other key that is no text and no byte string is still no-json
+    --depth N   takes tags, arrays and maps nested at most N levels deep. N is at most 256, which also holds without it
+    --one       wants exactly one item
+    --skip N    passes over the first N items, which must be well-formed. Offsets stay those of the whole file
+    --items N   writes at most N items, and reads nothing after them as an item
+    --hex       reads hexadecimal digits, as docs/PROGRAM.md says
+    --help      prints this text, as -h does
+
+    $ printf '\\x82\\x01\\x02\\xf6' | ./cbor json
+    [1,2]
+    null
+    $ printf 'a1 01 42 0102' | ./cbor json --lossy --hex
+    {\"1\":\"AQI\"}
+    $ printf '01 42 0102' | ./cbor json --hex 2>&1 || true
+    1
+    cbor: -: no-json 1
+
+The status is 0 if each item has JSON, 1 if one has not or a file is not well-formed, 2 after other arguments, 3 if a
+file can't be read or the output can't be written, and 141 if the reader of the output has gone away.
 ";
 
 /// How `encode` is used.

@@ -2,16 +2,16 @@
 //! Looks at files of CBOR, over any reader and writer of std.
 //!
 //! `check` says whether bytes are well-formed, `dump` shows them title by title, `diag` writes them in diagnostic
-//! notation, and `encode` reads that notation. `canon` writes the deterministic encoding of bytes, and `recode` their
-//! shortest spelling. Each function is safe and returns. Contracts say which request the words of the command line
-//! spell, and that each input is read from its start with the options that they set. Tests try the printed texts.
+//! notation, `json` writes them as JSON, and `encode` reads notation. `canon` writes the deterministic encoding of
+//! bytes, and `recode` their shortest spelling. Each function is safe and returns. Contracts say which request the
+//! words of the command line spell, and that each input is read from its start with the options that they set. Tests
+//! try the printed texts.
 #![tactic(auto)]
 
 pub mod arguments;
 pub mod canon;
 pub mod check;
 pub mod deterministic;
-pub mod diag;
 pub mod digits;
 pub mod dump;
 pub mod encode;
@@ -19,6 +19,7 @@ mod fence;
 pub mod help;
 pub mod index;
 pub mod input;
+pub mod items;
 mod options;
 mod patient;
 pub mod progress;

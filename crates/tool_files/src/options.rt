@@ -5,6 +5,9 @@ ghost use Rattle.ciborium_ll.specs.Limits.{MOST_LEVELS};
 
 use cbor_deterministic::Order;
 use cbor_diag::{Layout, Style};
+use cbor_embedded::Embedded;
+use cbor_json::Mode;
+use tool_verdicts::items::Form;
 
 /// A word for a look at files.
 #[derive(Clone, Copy)]
@@ -28,6 +31,8 @@ pub enum View {
     Titles,
     /// Its items, in diagnostic notation.
     Notation,
+    /// Its items, as JSON.
+    Json,
 }
 
 /// When a dump has colors.
@@ -72,6 +77,10 @@ pub struct Options {
     pub layout: Layout,
     /// Whether the notation loses nothing of the bytes.
     pub exact: bool,
+    /// Which byte strings are shown as the item that they contain.
+    pub embedded: Embedded,
+    /// What is written for items that JSON has no form for.
+    pub mode: Mode,
     /// How many levels deep tags, arrays and maps may be nested.
     pub depth: usize,
     ghost shallow: { depth ≤ MOST_LEVELS },
@@ -79,16 +88,24 @@ pub struct Options {
 
 impl Options {
     ghost use Rattle.tool_files.specs.Orders.{chosen_order};
-    ghost use Rattle.tool_files.specs.Shows.{chosen_style};
+    ghost use Rattle.tool_files.specs.Shows.{chosen_json, chosen_notation};
 
-    /// Returns the style of diagnostic notation.
-    pub fn style(self) -> Style
-        ensures { result ≡ chosen_style self }
+    /// Returns the form of items in diagnostic notation.
+    pub fn notation(self) -> Form
+        ensures { result ≡ chosen_notation self }
     {
-        Style {
+        let style = Style {
             layout: self.layout,
             is_exact: self.exact,
-        }
+        };
+        Form::Notation(style, self.embedded)
+    }
+
+    /// Returns the form of items as JSON.
+    pub fn json(self) -> Form
+        ensures { result ≡ chosen_json self }
+    {
+        Form::Json(self.mode)
     }
 
     /// Returns the order of keys: the one that was given, or the bytewise order.

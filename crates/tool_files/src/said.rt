@@ -72,6 +72,7 @@ fn name_of(word: Word) -> &'static str {
         Word::Check => "check",
         Word::Show(View::Titles) => "dump",
         Word::Show(View::Notation) => "diag",
+        Word::Show(View::Json) => "json",
         Word::Encode => "encode",
         Word::Canon => "canon",
         Word::Recode => "recode",
@@ -106,7 +107,18 @@ pub fn options_of(word: Word) -> &'static [&'static str] {
             "--help",
         ],
         Word::Show(View::Notation) => &[
-            "--strict", "--depth", "--skip", "--items", "--pretty", "--exact", "--hex", "--help",
+            "--strict",
+            "--depth",
+            "--skip",
+            "--items",
+            "--pretty",
+            "--exact",
+            "--embedded",
+            "--hex",
+            "--help",
+        ],
+        Word::Show(View::Json) => &[
+            "--strict", "--lossy", "--depth", "--one", "--skip", "--items", "--hex", "--help",
         ],
         Word::Encode => &["--depth", "--one", "--help"],
         Word::Canon => &["--order", "--depth", "--help"],
@@ -120,6 +132,7 @@ fn values_of(option: &str) -> &'static str {
         "--depth" => "a number of at most 256",
         "--order" => "bytewise or length-first",
         "--skip" | "--items" | "--max" => "a number below 2^64",
+        "--embedded" => "tagged, or no value",
         _ => "always, never or auto",
     }
 }

@@ -2,8 +2,8 @@
 //! A program that looks at files of CBOR.
 //!
 //! It joins the words on its command line with the calls of the libraries. `check` says whether the bytes are
-//! well-formed, `dump` shows them title by title, `diag` writes them in diagnostic notation, and `encode` reads that
-//! notation. `canon` writes the deterministic encoding of bytes, and `recode` copies them in their shortest spelling.
+//! well-formed, `dump` shows them title by title, `diag` writes them in diagnostic notation, `json` writes them as JSON,
+//! and `encode` reads notation. `canon` writes the deterministic encoding of bytes, and `recode` copies them in their shortest spelling.
 #![tactic(auto)]
 
 use cbor_encode::{Expected, NotationError};
@@ -16,12 +16,12 @@ use tool_files::arguments::{Colors, Options, Request, View, Word, asked_by};
 use tool_files::canon::{CanonFault, canon_input};
 use tool_files::check::check_input;
 use tool_files::deterministic::check_deterministic;
-use tool_files::diag::diag_input;
 use tool_files::dump::dump_input;
 use tool_files::encode::{EncodeFault, encode_input};
 use tool_files::help::{VERSION, help_text};
 use tool_files::index::index_input;
 use tool_files::input::Input;
+use tool_files::items::{diag_input, json_input};
 use tool_files::progress::Watched;
 use tool_files::recode::copy_part;
 use tool_files::said::Said;
@@ -280,7 +280,7 @@ fn has_colors(rt: &HostRuntime, colors: Colors) -> bool {
     }
 }
 
-/// Shows the bytes of a reader. If the task says so, a line with the file's name precedes them.
+/// Shows the bytes of a reader. If the task says so, a line with the file's name precedes them, unless they are JSON.
 fn show_stream<R: io::Read + Drop>(
     rt: &HostRuntime,
     task: Task,
@@ -288,7 +288,7 @@ fn show_stream<R: io::Read + Drop>(
     view: View,
     reader: R,
 ) -> Result<(), Verdict> {
-    if task.is_named {
+    if task.is_named && !matches!(view, View::Json) {
         println!(rt; "# {}", Shown(file)).map_err(Verdict::Output)?;
     }
     write_view(rt, reader, view, task.options)
@@ -350,6 +350,7 @@ fn write_view<R: io::Read + Drop>(
     let mut input = Input::new(reader, options);
     let outcome = match view {
         View::Notation => diag_input(&mut input, writer, options),
+        View::Json => json_input(&mut input, writer, options),
         View::Titles => {
             let colors = has_colors(rt, options.colors);
             dump_input(rt.alloc(), &mut input, writer, options, colors)

@@ -1,4 +1,4 @@
 pub mod DeterministicLaws
 pub mod FoundLaws
-pub mod ShowLaws
+pub mod LineLaws
 pub mod PartLaws

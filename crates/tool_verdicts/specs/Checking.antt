@@ -12,8 +12,6 @@ use Rattle.ciborium_ll.specs.Faults.{Short, Syntax}
 use Rattle.cbor_skip.specs.declared.SkipError.{SkipError}
 use Rattle.cbor_skip.specs.declared.SkipError.TheVariants as s
 use Rattle.cbor_skip.specs.ItemFaults.{HasDeepNest, HasEarlyBreak, HasItemFault, BeginsWithItem}
-use Rattle.cbor_diag.specs.declared.DiagError.{DiagError}
-use Rattle.cbor_diag.specs.declared.DiagError.TheVariants as d
 use Rattle.cbor_dump.specs.declared.dump.DumpError.{DumpError}
 use Rattle.cbor_dump.specs.declared.dump.DumpError.TheVariants as u
 use Rattle.cbor_dump.specs.declared.sequence.Sequence.{Sequence}
@@ -22,6 +20,10 @@ use Rattle.cbor_dump.specs.declared.single.NotOne.{NotOne}
 use Rattle.cbor_dump.specs.declared.single.NotOne.TheVariants as n
 use Rattle.cbor_dump.specs.Sequences.{IsSequence, ChecksItems}
 use Rattle.cbor_dump.specs.Singles.{ChecksOne}
+use Rattle.cbor_json.specs.declared.JsonError.{JsonError}
+use Rattle.cbor_json.specs.declared.JsonError.TheVariants as j
+use Rattle.tool_verdicts.specs.declared.items.Ending.{Ending}
+use Rattle.tool_verdicts.specs.declared.items.Ending.TheVariants as g
 use Rattle.tool_verdicts.specs.declared.verdict.Verdict.{Verdict}
 use Rattle.tool_verdicts.specs.declared.verdict.Verdict.TheVariants as v
 
@@ -73,7 +75,7 @@ unless_failed None verdict = verdict
 unless_failed (Some r.End) verdict = verdict
 unless_failed (Some (r.Failed error)) verdict = v.Failed error
 
--- The answer of `dump` and `diag` after whole items: the end, or a read that failed for another reason. `End` gives
+-- The answer of `dump`, `diag` and `json` after whole items: the end, or a read that failed for another reason. `End` gives
 -- `Ok`, and `Failed` gives an error.
 abbrev pub end_said : Option ReadFault → Result (Unit {0}) Verdict
 end_said None = Ok tt
@@ -93,13 +95,16 @@ dump_said (Ok ended) fault offset = end_said fault
 dump_said (Err (u.Item error)) fault offset = Err (unless_failed fault (fault_said error offset))
 dump_said (Err (u.Rows error)) fault offset = Err (v.Output error)
 
--- The verdict for the answer of `diag`, or the error of its writer: `Deep(1)` for `Read` of `Deep(1)`, if no read
--- failed.
-abbrev pub diag_said : {E F : Type 0} → Result (Option E) (DiagError E F) → Option ReadFault → ℕ
+-- The verdict for the answer of `diag` or `json`, or the error of the writer: `Deep(1)` for `Read` of `Deep(1)`, if no
+-- read failed.
+abbrev pub items_said : {E F : Type 0} → Result (Ending E) (JsonError E F) → Option ReadFault → ℕ
     → Result (Result (Unit {0}) Verdict) F
-diag_said (Ok ended) fault offset = Ok (end_said fault)
-diag_said (Err (d.Read error)) fault offset = Ok (Err (unless_failed fault (fault_said error offset)))
-diag_said (Err (d.Write error)) fault offset = Err error
+items_said (Ok g.Enough) fault offset = Ok (end_said fault)
+items_said (Ok (g.End error)) fault offset = Ok (end_said fault)
+items_said (Ok (g.More place)) fault offset = Ok (Err (unless_failed fault (v.More place)))
+items_said (Err (j.Read error)) fault offset = Ok (Err (unless_failed fault (fault_said error offset)))
+items_said (Err (j.NoJson place)) fault offset = Ok (Err (unless_failed fault (v.NoJson place)))
+items_said (Err (j.Write error)) fault offset = Err error
 
 -- ---- verdicts on bytes that are told
 

@@ -1,5 +1,5 @@
 pub mod Verdicts
 pub mod Checking
 pub mod Deterministic
-pub mod Showing
+pub mod Lines
 pub mod Parts

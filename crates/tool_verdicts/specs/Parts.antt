@@ -86,8 +86,8 @@ module _ {R E : Type 0} (source : Ghosts R E) where
   SaysRest None one depth room old verdict new = SaysVerdict source one depth room old verdict new
   SaysRest (Some most) one depth room old verdict new = SaysSome depth room (Some most) old verdict new
 
-  -- The verdict on the items after the first `skip` items, or on the fault among these. For `01 02`, of which one item
-  -- is passed over, it is `Well` with 1 item.
+  -- The verdict on the items after the first `skip` items, or on the fault among these. If one item of `01 02` is passed
+  -- over, it is `Well` with 1 item.
   pub data SaysPart (skip : ℕ) (most : Option ℕ) (one : Bool) (depth room : ℕ) (old : Decoder R) (verdict : Verdict)
       (new : Decoder R) : Type 0 where
     few : (error : SkipError E) → StopsCounted source skip depth room old error new
@@ -122,7 +122,7 @@ module _ {R E : Type 0} (source : Ghosts R E) where
   IndexesItems most depth room taken then_taken old (Err error) new = RefusesSpan depth taken then_taken old new
 
   -- An index of the items after the first `skip` items, or the verdict on the fault among these, which has no place.
-  -- For `01 02`, of which one item is passed over, the place 1 is taken.
+  -- If one item of `01 02` is passed over, the place 1 is taken.
   pub data IndexesPart {F : Type 0} (skip : ℕ) (most : Option ℕ) (depth room : ℕ) (taken then_taken : Option (List Span))
       (old : Decoder R) (result : Result Verdict F) (new : Decoder R) : Type 0 where
     none_behind : (error : SkipError E) → StopsCounted source skip depth room old error new

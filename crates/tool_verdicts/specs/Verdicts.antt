@@ -25,7 +25,7 @@ abbrev pub output_status : ErrorKind → Status
 output_status k.BrokenPipe = s.Gone
 output_status kind = s.Failed
 
--- How the program ends. Malformed input is malformed by its own bytes. After a failure this is not known. For
+-- How the program ends. Input that is not as wanted is so by its own bytes. After a failure this is not known. For
 -- `Short(2)` this is `Malformed`, and for `TooLong` it is `Failed`.
 abbrev pub verdict_status : Verdict → Status
 verdict_status (v.Well items bytes) = s.Well
@@ -34,6 +34,7 @@ verdict_status (v.Short place) = s.Malformed
 verdict_status (v.Break place) = s.Malformed
 verdict_status (v.Deep place) = s.Malformed
 verdict_status (v.More place) = s.Malformed
+verdict_status (v.NoJson place) = s.Malformed
 verdict_status (v.Refused refusal) = s.Malformed
 verdict_status v.TooLong = s.Failed
 verdict_status (v.Failed error) = s.Failed
@@ -52,6 +53,7 @@ verdict_moved start (v.Short place) = v.Short (place_moved start place)
 verdict_moved start (v.Break place) = v.Break (place_moved start place)
 verdict_moved start (v.Deep place) = v.Deep (place_moved start place)
 verdict_moved start (v.More place) = v.More (place_moved start place)
+verdict_moved start (v.NoJson place) = v.NoJson (place_moved start place)
 verdict_moved start (v.Refused refusal) =
     v.Refused (record { why = refusal.why; place = place_moved start refusal.place })
 verdict_moved start verdict = verdict
@@ -77,6 +79,7 @@ verdict_text (v.Short place) = Some (codes "short " ++ decimal place)
 verdict_text (v.Break place) = Some (codes "break " ++ decimal place)
 verdict_text (v.Deep place) = Some (codes "deep " ++ decimal place)
 verdict_text (v.More place) = Some (codes "more " ++ decimal place)
+verdict_text (v.NoJson place) = Some (codes "no-json " ++ decimal place)
 verdict_text (v.Refused refusal) =
     Some (codes "refused " ++ (decimal refusal.place ++ (codes ": " ++ why_text refusal.why)))
 verdict_text (v.Text fault) = Some (text_fault_text fault)

@@ -6,7 +6,7 @@
 
 pub mod check;
 pub mod deterministic;
-pub mod diag;
 pub mod dump;
+pub mod items;
 pub mod part;
 pub mod verdict;

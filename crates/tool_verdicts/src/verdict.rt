@@ -9,9 +9,9 @@ use std::{fmt, io};
 /// How the program ends.
 #[derive(Clone, Copy)]
 pub enum Status {
-    /// All input is well-formed.
+    /// All input is as wanted.
     Well,
-    /// Some input is not well-formed.
+    /// Some input is not as wanted: it is not well-formed, for example.
     Malformed,
     /// The arguments ask for nothing that the program does.
     Usage,
@@ -128,6 +128,8 @@ pub enum Verdict {
     Deep(usize),
     /// More than one item was found. The second item would begin at this offset.
     More(usize),
+    /// The item at this offset has no JSON.
+    NoJson(usize),
     /// No item in the deterministic encoding stands there (RFC 8949, 4.2). The refusal has the reason and the offset.
     Refused(Refusal),
     /// The text that spells the input has a fault.
@@ -154,6 +156,7 @@ impl Verdict {
             Verdict::Break(place) => Verdict::Break(start.saturating_add(place)),
             Verdict::Deep(place) => Verdict::Deep(start.saturating_add(place)),
             Verdict::More(place) => Verdict::More(start.saturating_add(place)),
+            Verdict::NoJson(place) => Verdict::NoJson(start.saturating_add(place)),
             Verdict::Refused(refusal) => Verdict::Refused(Refusal {
                 why: refusal.why,
                 place: start.saturating_add(refusal.place),
@@ -173,6 +176,7 @@ impl Verdict {
             | Verdict::Break(_)
             | Verdict::Deep(_)
             | Verdict::More(_)
+            | Verdict::NoJson(_)
             | Verdict::Refused(_)
             | Verdict::Text(_) => Status::Malformed,
             Verdict::TooLong | Verdict::Failed(_) => Status::Failed,
@@ -192,6 +196,7 @@ impl fmt::Display for Verdict {
             Verdict::Break(place) => write!(f, "break {place}"),
             Verdict::Deep(place) => write!(f, "deep {place}"),
             Verdict::More(place) => write!(f, "more {place}"),
+            Verdict::NoJson(place) => write!(f, "no-json {place}"),
             Verdict::Refused(refusal) => { write!(f, "refused {}: {}", refusal.place, refusal.why) }
             Verdict::Text(fault) => write!(f, "{fault}"),
             Verdict::TooLong => f.write_str("too long"),

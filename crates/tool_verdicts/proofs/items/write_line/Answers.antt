@@ -1,0 +1,7 @@
+use Rattle.std.proofs.Common.{refl}
+use Rattle.tool_verdicts.specs.Lines.{at_end}
+use Rattle.tool_verdicts.proofs.items.write_line.Goals as goal
+
+pub returns-in-Err-line_ended-clause-writes : goal.returns-in-Err-line_ended-clause-writes
+returns-in-Err-line_ended-clause-writes g c =
+    at_end _ _ c.in_default.ensures.written c.in-Err-line_ended.ensures refl
