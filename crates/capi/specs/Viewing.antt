@@ -8,7 +8,8 @@ use Rattle.ciborium_ll_grammar.specs.Title.{IsTitle}
 use Rattle.ciborium_ll_grammar.specs.Items.{IsItem}
 use Rattle.cbor_skip.specs.ItemFaults.{BeginsWithItem}
 use Rattle.cbor_view.specs.Pairs.{HasFirst, HasNone}
-use Rattle.cbor_view.specs.Views.{IsSplit, closed}
+use Rattle.ciborium_ll_grammar.specs.Title.{HasFirstTitle}
+use Rattle.cbor_view.specs.Views.{closed}
 use Rattle.capi.specs.declared.answer.CllAnswer.{CllAnswer}
 use Rattle.capi.specs.declared.answer.CllAnswer.TheVariants as a
 use Rattle.capi.specs.declared.header.CllHeader.{CllHeader}
@@ -78,7 +79,7 @@ AreWithin header depth contents items levels = ⊥
 pub record HasWithin (depth : ℕ) (bytes items : List ℕ) (levels : ℕ) : Type 0 where
   pub header : Header
   pub contents : List ℕ
-  pub split : IsSplit bytes header contents
+  pub split : HasFirstTitle bytes header contents
   pub within : AreWithin header depth contents items levels
 
 -- The result of `cll_item_items`, by its answer: the items in an item. If it may have none, as `01` or `42 01 02`,

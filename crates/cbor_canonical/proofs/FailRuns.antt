@@ -6,7 +6,7 @@ use Rattle.std.proofs.Common.{length-append}
 use Rattle.std.proofs.lemmas.Bool.Decides.{nat_tests}
 use Rattle.ciborium_ll_grammar.specs.declared.hdr.Header.{Header}
 use Rattle.ciborium_ll_grammar.specs.declared.hdr.Header.TheVariants as h
-use Rattle.ciborium_ll_grammar.specs.Title.{IsTitle, IsSmallSimple}
+use Rattle.ciborium_ll_grammar.specs.Title.{HasFirstTitle, HasNoTitle, IsTitle, IsSmallSimple}
 use Rattle.ciborium_ll_grammar.specs.Strings.{Kind, Bytes as OfBytes, Text as OfText, kind_header}
 use Rattle.ciborium_ll_grammar.specs.Elements.{AreWritable}
 use Rattle.ciborium_ll_grammar.specs.Items.{Completes as CompletesAny, AreItems, IsItem, no_items as none_any}
@@ -32,7 +32,6 @@ use Rattle.cbor_deterministic.specs.Spellings.{EncodePairs, encode_none, encode_
 use Rattle.cbor_deterministic.specs.Spellings.{follows_array, follows_open_array, follows_map, follows_open_map}
 use Rattle.cbor_deterministic.proofs.OneValue.{one_value}
 use Rattle.cbor_canonical.specs.Canonical.{IsRewritten, IsFittingSpelling}
-use Rattle.cbor_canonical.specs.Reading.{HasNoTitle}
 use Rattle.cbor_canonical.specs.Strings.{IsContent, told, until_break, FailsString}
 use Rattle.cbor_canonical.specs.Runs.{Turns}
 use Rattle.cbor_canonical.specs.Runs.{AreRewritten, none_rewritten, more_rewritten, EndsNest, counted, at_break}
@@ -46,7 +45,7 @@ use Rattle.cbor_canonical.specs.Meeting.{MeetsFault}
 use Rattle.cbor_canonical.specs.Runs.{FailsAfter, FailsItems, FailsPairs, FailsPair}
 use Rattle.cbor_canonical.proofs.MeetRuns.{fault_nest, fault_more, fault_tag, fault_key, fault_value, fault_pairs}
 use Rattle.cbor_canonical.proofs.MeetRuns.{takes_item, small_met}
-use Rattle.cbor_canonical.proofs.TitleRuns.{none_there}
+use Rattle.ciborium_ll_grammar.proofs.FrontLaws.{no_title_there}
 
 -- ---- items that were read
 
@@ -374,16 +373,16 @@ pub no_title_stops : (d : ℕ) (bytes : List ℕ) → HasNoTitle bytes → Fails
 no_title_stops d bytes q = (
   λ rest f.
       let i = item_parts d 1 f.front f.is refl in
-      none_there bytes i.title (i.rest ++ rest) i.header q i.is_title
+      no_title_there bytes i.title (i.rest ++ rest) i.header q i.is_title
       (f.whole ∙ ap (λ (v : List ℕ). v ++ rest) i.whole ∙ append_assoc i.title i.rest rest),
   tt,
 )
 
-pub item_stops : (d : ℕ) (stop : Stop) (x : Header) (bytes rest : List ℕ) → InFront (λ t. IsTitle t x) bytes rest
+pub item_stops : (d : ℕ) (stop : Stop) (x : Header) (bytes rest : List ℕ) → HasFirstTitle bytes x rest
     → FailsAfter d x rest (length bytes) stop → FailsItem d bytes stop
 item_stops d stop x bytes rest f fails =
     subst (λ (v : List ℕ). NoneInFront (IsMissed d stop) v × MeetsFault d stop v) (sym f.whole)
-    (fails f.front f.is (ap (length {A = ℕ}) f.whole))
+    (fails f.title f.is_title (ap (length {A = ℕ}) f.whole))
 
 -- What fails after each title of a nest fails after one that stands at an offset.
 pub after_stops : (e d left : ℕ) (stop : Stop) (y x : Header) (bytes : List ℕ) → y ≡ x → suc d ≡ e

@@ -5,7 +5,7 @@ use Rattle.ciborium_ll_text.specs.Text.{joined}
 use Rattle.ciborium_ll_grammar.specs.declared.hdr.Header.{Header}
 use Rattle.ciborium_ll_grammar.specs.declared.hdr.Header.TheVariants as h
 use Rattle.ciborium_ll_grammar.specs.declared.hdr.Float.{Float as AnyFloat}
-use Rattle.ciborium_ll_grammar.specs.Title.{IsTitle, shortest_title, IsInRange, IsSmallSimple}
+use Rattle.ciborium_ll_grammar.specs.Title.{HasFirstTitle, IsTitle, shortest_title, IsInRange, IsSmallSimple}
 use Rattle.ciborium_ll_grammar.specs.Strings.{Kind, Bytes as OfBytes, Text as OfText, kind_header}
 use Rattle.ciborium_ll_grammar.specs.Elements.{body_spelling}
 use Rattle.ciborium_ll_grammar.specs.Items.{Completes as CompletesAny, AreItems, IsItem, no_items as none_any}
@@ -178,13 +178,13 @@ string_turned {ord = o} d k len y bytes rest old new e t = rw e (record {
 -- ---- one item
 
 pub item_turned : {ord : Order} (d : ℕ) (x : Header) (bytes rest more old new : List ℕ)
-    → InFront (λ t. IsTitle t x) bytes rest → Turns (IsCompleted ord d x) rest more old new
+    → HasFirstTitle bytes x rest → Turns (IsCompleted ord d x) rest more old new
     → Turns (IsRewritten ord d) bytes more old new
 item_turned d x bytes rest more old new f g = record {
-  front = f.front ++ g.front;
+  front = f.title ++ g.front;
   written = g.written;
-  is = g.is f.front f.is;
-  whole = f.whole ∙ ap (λ (z : List ℕ). f.front ++ z) g.whole ∙ sym (append_assoc f.front g.front more);
+  is = g.is f.title f.is_title;
+  whole = f.whole ∙ ap (λ (z : List ℕ). f.title ++ z) g.whole ∙ sym (append_assoc f.title g.front more);
   wrote = g.wrote;
 }
 

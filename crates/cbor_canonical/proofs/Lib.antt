@@ -1,6 +1,5 @@
 pub mod Narrowing
 pub mod NarrowRuns
-pub mod TitleRuns
 pub mod WriteRuns
 pub mod StringRuns
 pub mod SortRuns

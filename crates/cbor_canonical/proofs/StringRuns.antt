@@ -7,7 +7,7 @@ use Rattle.ciborium_ll_text.proofs.Lists.{same_front}
 use Rattle.ciborium_ll_text.proofs.TextLaws.{IsCharacters-append, IsCharacters-nil}
 use Rattle.ciborium_ll_grammar.specs.declared.hdr.Header.{Header}
 use Rattle.ciborium_ll_grammar.specs.declared.hdr.Header.TheVariants as h
-use Rattle.ciborium_ll_grammar.specs.Title.{IsTitle, IsInRange, shortest_title}
+use Rattle.ciborium_ll_grammar.specs.Title.{HasFirstTitle, HasNoTitle, IsTitle, IsInRange, shortest_title}
 use Rattle.ciborium_ll_grammar.specs.Strings.{Kind, Bytes, Text, kind_header, IsString, definite, indefinite}
 use Rattle.ciborium_ll_grammar.specs.Strings.{AreStrings}
 use Rattle.ciborium_ll_grammar.specs.Strings.{none, more, IsWritable}
@@ -18,13 +18,12 @@ use Rattle.ciborium_ll_grammar.proofs.StringLaws.{break_title, not_break, same_s
 use Rattle.cbor_deterministic.specs.Fronts.{InFront}
 use Rattle.cbor_canonical.specs.declared.Stop.{Stop}
 use Rattle.cbor_canonical.specs.declared.Stop.TheVariants as st
-use Rattle.cbor_canonical.specs.Reading.{HasNoTitle}
 use Rattle.cbor_canonical.specs.Runs.{Turns}
 use Rattle.cbor_canonical.specs.Strings.{IsBody, HasNoBody, IsChunk, Closes, all_closed, by_break, by_chunk, by_open}
 use Rattle.cbor_canonical.specs.Strings.{FailsGather, FailsString}
 use Rattle.cbor_canonical.specs.Strings.{HasNoStep, Gathers, IsContent, told, until_break, IsStringTurned}
 use Rattle.cbor_canonical.specs.Writing.{Adds, Extends, Inserts}
-use Rattle.cbor_canonical.proofs.TitleRuns.{none_there}
+use Rattle.ciborium_ll_grammar.proofs.FrontLaws.{no_title_there}
 use Rattle.cbor_canonical.proofs.WriteRuns.{adds_reach}
 use Rattle.std.proofs.lemmas.List.{length-take-le}
 
@@ -44,33 +43,33 @@ few_bytes k len bytes l other others b = omega (arith, b.is, ap (length {A = ℕ
 -- ---- one step
 
 pub chunk_there : (k : Kind) (len : ℕ) (o : Option ℕ) (x : Header) (bytes rest body after : List ℕ)
-    → InFront (λ t. IsTitle t x) bytes rest → x ≡ kind_header k o → o ≡ Some len → IsBody k len rest body after
+    → HasFirstTitle bytes x rest → x ≡ kind_header k o → o ≡ Some len → IsBody k len rest body after
     → InFront (IsChunk k body) bytes after
 chunk_there k len o x bytes rest body after f e l b = record {
-  front = f.front ++ body;
+  front = f.title ++ body;
   is = record {
-    title = f.front;
-    is_title = subst (λ (y : Header). IsTitle f.front y)
-        (e ∙ ap (kind_header k) (l ∙ ap Some (sym b.is))) f.is;
+    title = f.title;
+    is_title = subst (λ (y : Header). IsTitle f.title y)
+        (e ∙ ap (kind_header k) (l ∙ ap Some (sym b.is))) f.is_title;
     writable = b.writable;
     whole = refl;
   };
-  whole = f.whole ∙ ap (λ (z : List ℕ). f.front ++ z) b.whole ∙ sym (append_assoc f.front body after);
+  whole = f.whole ∙ ap (λ (z : List ℕ). f.title ++ z) b.whole ∙ sym (append_assoc f.title body after);
 }
 
 -- A break is the byte `ff`.
-pub break_there : (x : Header) (bytes rest : List ℕ) → InFront (λ t. IsTitle t x) bytes rest → x ≡ h.Break
+pub break_there : (x : Header) (bytes rest : List ℕ) → HasFirstTitle bytes x rest → x ≡ h.Break
     → bytes ≡ 0xff ∷ rest
 break_there x bytes rest f e =
-    let one : f.front ≡ 0xff ∷ [] =
-    alone_bytes f.front h.Break (subst (λ (y : Header). IsTitle f.front y) e f.is) refl in
+    let one : f.title ≡ 0xff ∷ [] =
+    alone_bytes f.title h.Break (subst (λ (y : Header). IsTitle f.title y) e f.is_title) refl in
     f.whole ∙ ap (λ (z : List ℕ). z ++ rest) one
 
-pub open_there : (k : Kind) (o : Option ℕ) (x : Header) (bytes rest : List ℕ) → InFront (λ t. IsTitle t x) bytes rest
+pub open_there : (k : Kind) (o : Option ℕ) (x : Header) (bytes rest : List ℕ) → HasFirstTitle bytes x rest
     → x ≡ kind_header k o → o ≡ None → InFront (λ t. IsTitle t (kind_header k None)) bytes rest
 open_there k o x bytes rest f e n = record {
-  front = f.front;
-  is = subst (λ (y : Header). IsTitle f.front y) (e ∙ ap (kind_header k) n) f.is;
+  front = f.title;
+  is = subst (λ (y : Header). IsTitle f.title y) (e ∙ ap (kind_header k) n) f.is_title;
   whole = f.whole;
 }
 
@@ -95,14 +94,14 @@ stepped k n x t b rest (by_open {title = t'} {rest = r} p' c) p z =
 
 -- Bytes that begin with no title have no step of an open string.
 pub no_title_step : (k : Kind) (b : List ℕ) → HasNoTitle b → HasNoStep k b
-no_title_step k b q n (by_break {rest = r} c) = none_there b (0xff ∷ []) r h.Break q break_title refl
-no_title_step k b q n (by_chunk {title = t} {rest = r} y p w c) = none_there b t (y ++ r) _ q p refl
-no_title_step k b q n (by_open {title = t} {rest = r} p c) = none_there b t r _ q p refl
+no_title_step k b q n (by_break {rest = r} c) = no_title_there b (0xff ∷ []) r h.Break q break_title refl
+no_title_step k b q n (by_chunk {title = t} {rest = r} y p w c) = no_title_there b t (y ++ r) _ q p refl
+no_title_step k b q n (by_open {title = t} {rest = r} p c) = no_title_there b t r _ q p refl
 
 -- Bytes have no step if their title is no break and no string of the kind.
-pub other_step : (k : Kind) (x : Header) (b rest : List ℕ) → InFront (λ t. IsTitle t x) b rest
+pub other_step : (k : Kind) (x : Header) (b rest : List ℕ) → HasFirstTitle b x rest
     → ((o : Option ℕ) → x ≡ kind_header k o → ⊥) → (x ≡ h.Break → ⊥) → HasNoStep k b
-other_step k x b rest f other not n c = go (stepped k n x f.front b rest c f.is f.whole)
+other_step k x b rest f other not n c = go (stepped k n x f.title b rest c f.is_title f.whole)
   where
     go : Stepped k n x rest → ⊥
     go (at_break e d) = not e
@@ -110,9 +109,9 @@ other_step k x b rest f other not n c = go (stepped k n x f.front b rest c f.is 
     go (at_open e d) = other None e
 
 -- Bytes have no step if they have no body of the length in their title.
-pub body_step : (k : Kind) (len : ℕ) (x : Header) (b rest : List ℕ) → InFront (λ t. IsTitle t x) b rest
+pub body_step : (k : Kind) (len : ℕ) (x : Header) (b rest : List ℕ) → HasFirstTitle b x rest
     → x ≡ kind_header k (Some len) → HasNoBody k len rest → HasNoStep k b
-body_step k len x b rest f e empty n c = go (stepped k n x f.front b rest c f.is f.whole)
+body_step k len x b rest f e empty n c = go (stepped k n x f.title b rest c f.is_title f.whole)
   where
     go : Stepped k n x rest → ⊥
     go (at_break g d) = not_break k (Some len) (sym e ∙ g)

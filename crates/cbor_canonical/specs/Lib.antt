@@ -2,7 +2,6 @@ pub mod Canonical
 pub mod Meeting
 pub mod Narrowing
 pub mod Places
-pub mod Reading
 pub mod Refusals
 pub mod Room
 pub mod Runs

@@ -15,9 +15,10 @@ use crate::kept::flat_len;
 use crate::narrow::narrowest;
 use crate::pairs::{Span, order_pairs, put_span};
 use crate::strings::{StringKind, rewrite_string};
-use crate::title::{insert_title, next_title, put_bytes, put_title};
+use crate::title::{insert_title, put_bytes, put_title};
 use cbor_deterministic::Order;
 use ciborium_ll_grammar::hdr::Header;
+use ciborium_ll_grammar::titles::next_title;
 
 /// Returns the rest after the break, if there is no count and a break begins the bytes.
 fn past_end(count: Option<usize>, bytes: &[u8]) -> Option<&[u8]>

@@ -14,8 +14,9 @@ ghost use Rattle.cbor_canonical.specs.Strings.{FailsGather, FailsString};
 ghost use Rattle.cbor_canonical.specs.Writing.{Adds, Extends};
 
 use crate::Stop;
-use crate::title::{insert_title, next_title, put_bytes, put_title};
+use crate::title::{insert_title, put_bytes, put_title};
 use ciborium_ll_grammar::hdr::Header;
+use ciborium_ll_grammar::titles::next_title;
 use ciborium_ll_text::state::{State, text_front};
 
 /// The two kinds of string.

@@ -1,52 +1,12 @@
-//! Reads titles of any width, and writes the shortest titles into memory that a caller lends.
+//! Writes the shortest titles into memory that a caller lends.
 
-ghost use Rattle.std.specs.Prelude.{◌≡◌, ◌+◌, ◌<◌, ◌≤◌, ◌%◌, ◌++◌, List, ℕ, IfErr, IfOk, MatchOption, MatchResult};
-ghost use Rattle.std.specs.Prelude.{length, slice_index};
-ghost use Rattle.ciborium_ll_grammar.specs.Title.{BeginsRefused, IsInRange, IsTitle, affix_len, shortest_title};
-ghost use Rattle.ciborium_ll_grammar.specs.Title.{title_len};
-ghost use Rattle.cbor_deterministic.specs.Fronts.{InFront};
+ghost use Rattle.std.specs.Prelude.{◌≡◌, ◌+◌, ◌<◌, ◌≤◌, IfErr, IfOk, MatchResult, length};
+ghost use Rattle.ciborium_ll_grammar.specs.Title.{IsInRange, shortest_title, title_len};
 ghost use Rattle.cbor_canonical.specs.declared.Stop.TheVariants.{Room as NoRoom};
-ghost use Rattle.cbor_canonical.specs.Reading.{HasNoTitle};
 ghost use Rattle.cbor_canonical.specs.Writing.{Adds, Inserts};
 
 use crate::Stop;
-use ciborium_ll_grammar::hdr::table::row_of;
 use ciborium_ll_grammar::hdr::{Header, Minor, shortest};
-use ciborium_ll_grammar::titles::title_of;
-
-/// Returns the header of the title at the beginning, and the rest.
-#[inline(always)]
-pub(crate) fn next_title(bytes: &[u8]) -> Option<(Header, &[u8])>
-    ensures { MatchOption result (HasNoTitle bytes.now)
-        (λ found. InFront (λ title. IsTitle title found.0) bytes.now found.1.now) }
-{
-    if bytes.is_empty() {
-        return None;
-    }
-    let len = 1 + row_of(bytes[0]).affix.len();
-    let Some((title, rest)) = bytes.split_at_checked(len) else {
-        return None;
-    };
-    match header_of(title) {
-        Some(header) => Some((header, rest)),
-        None => None,
-    }
-}
-
-/// Returns the header of a title. All bytes that the first byte announces are there.
-#[inline(always)]
-fn header_of(bytes: &[u8]) -> Option<Header>
-    requires { length bytes.now ≡ 1 + affix_len (slice_index bytes.now 0 % 32) }
-    ensures { MatchOption result ((rest : List ℕ) → BeginsRefused (bytes.now ++ rest)) (IsTitle bytes.now) }
-{
-    let Some((title, kind)) = title_of(bytes) else {
-        return None;
-    };
-    match title.header(kind) {
-        Some(header) => Some(header),
-        None => None,
-    }
-}
 
 /// Writes the bytes at this offset of the output, and returns the offset after them.
 pub(crate) fn put_bytes(bytes: &[u8], out: &mut [u8], at: usize) -> Result<usize, Stop>

@@ -66,9 +66,9 @@ impl Level {
         ensures few { IfSome result (λ left. left < usize.MAX) }
     {
         match self {
-            Level::Items(count) if count < usize::MAX / 4 => Some(count),
-            Level::Pairs(count) if count < usize::MAX / 4 => Some(2 * count),
-            Level::Value(count) if count < usize::MAX / 4 => Some(2 * count + 1),
+            Level::Items(count) if count < usize::MAX / 2 => Some(count),
+            Level::Pairs(count) if count < usize::MAX / 2 => Some(2 * count),
+            Level::Value(count) if count < usize::MAX / 2 => Some(2 * count + 1),
             _ => None,
         }
     }

@@ -5,7 +5,6 @@
 #![tactic(auto)]
 
 mod checker;
-mod front;
 pub mod laws;
 mod level;
 mod levels;

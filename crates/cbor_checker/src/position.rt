@@ -7,13 +7,13 @@ ghost use Rattle.cbor_checker.specs.Snapshots.{levels_in};
 ghost use Rattle.cbor_checker.specs.Telling.{has_left};
 ghost use Rattle.ciborium_ll_grammar.specs.declared.limits.TheConstants.{MOST_LEVELS};
 
-use crate::front::Front;
 use crate::levels::{Levels, are_levels};
 use crate::phase::{Phase, Within};
 use crate::progress::{Feed, Progress};
 use crate::snapshot::{Snapshot, is_state, strict_of};
 use crate::tell::answer;
 use crate::walk::Walk;
+use ciborium_ll_grammar::few::Few;
 use ciborium_ll_grammar::limits::MOST_LEVELS;
 
 /// A checker's state without the numbers of its nests: how many nests there are, and all the rest.
@@ -21,7 +21,7 @@ use ciborium_ll_grammar::limits::MOST_LEVELS;
 pub(crate) struct Position {
     pub(crate) strict: bool,
     pub(crate) phase: Phase,
-    pub(crate) front: Front,
+    pub(crate) front: Few,
     pub(crate) within: Within,
     pub(crate) depth: usize,
     pub(crate) nests: usize,
@@ -54,7 +54,7 @@ impl Position {
         Position {
             strict,
             phase: Phase::Title,
-            front: Front::new(),
+            front: Few::new(),
             within: Within::Nothing,
             depth,
             nests: 0,
@@ -74,7 +74,7 @@ impl Position {
         let (strings, more) = self.within.numbers();
         snapshot.strings = strings;
         snapshot.more = more as u64;
-        snapshot.title_len = self.front.save(&mut snapshot.title) as u8;
+        snapshot.title_len = self.front.save_into(&mut snapshot.title) as u8;
         snapshot.strict = u8::from(self.strict);
         snapshot.nests = self.nests as u16;
         snapshot.depth = self.depth as u64;

@@ -5,13 +5,13 @@ ghost use Rattle.ciborium_ll_grammar.specs.Title.{affix_len};
 ghost use Rattle.cbor_checker.specs.Spots.{Spot};
 ghost use Rattle.cbor_checker.specs.Telling.{progress_of, title_due};
 
-use crate::front::Front;
 use crate::phase::Phase;
 use crate::progress::Progress;
+use ciborium_ll_grammar::few::Few;
 use ciborium_ll_grammar::hdr::table::row_of;
 
 /// Returns how many bytes a title lacks at least, if these came.
-fn title_due(front: &Front) -> usize
+fn title_due(front: &Few) -> usize
     requires { length front.now ≤ affix_len (slice_index front.now 0 % 32) }
     ensures { result ≡ title_due front.now }
 {
@@ -23,7 +23,7 @@ fn title_due(front: &Front) -> usize
 }
 
 /// Returns how far the item has come, by its phase.
-pub(crate) fn answer(phase: Phase, front: &Front, offset: usize) -> Progress
+pub(crate) fn answer(phase: Phase, front: &Few, offset: usize) -> Progress
     requires { length front.now ≤ affix_len (slice_index front.now 0 % 32) }
     ensures { (spot : Spot) → spot.phase ≡ phase → spot.front ≡ front.now → spot.offset ≡ offset
         → result ≡ progress_of spot }

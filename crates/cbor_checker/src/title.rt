@@ -17,7 +17,7 @@ use ciborium_ll_grammar::titles::title_of;
 /// The call refuses a title without a meaning, and a longer title if `strict`. All bytes that the first byte announces
 /// are there.
 #[inline(always)]
-pub(crate) fn header_of(bytes: &[u8], strict: bool) -> Option<Header>
+pub(crate) fn taken_header(bytes: &[u8], strict: bool) -> Option<Header>
     requires { length bytes.now ≡ 1 + affix_len (slice_index bytes.now 0 % 32) }
     ensures title { IfSome result (IsTitle bytes.now) }
     ensures taken { IfSome result (IsTakenTitle strict bytes.now) }

@@ -10,12 +10,12 @@ ghost use Rattle.ciborium_ll_grammar.specs.declared.limits.TheConstants.{MOST_LE
 
 mod nests;
 
-use crate::front::Front;
 use crate::level::Level;
 use crate::levels::Levels;
 use crate::phase::{Fault, Phase, Within};
 use crate::plain::is_short_ascii;
-use crate::title::{begins_none, blocked, header_of, is_single};
+use crate::title::{begins_none, blocked, is_single, taken_header};
+use ciborium_ll_grammar::few::Few;
 use ciborium_ll_grammar::hdr::Header;
 use ciborium_ll_grammar::hdr::table::{Affix, TitleKind, row_of};
 use ciborium_ll_text::state::{State, text_front};
@@ -25,7 +25,7 @@ use ciborium_ll_text::state::{State, text_front};
 pub(crate) struct Walk<'a> {
     pub(crate) strict: bool,
     pub(crate) phase: Phase,
-    pub(crate) front: Front,
+    pub(crate) front: Few,
     pub(crate) within: Within,
     pub(crate) depth: usize,
     pub(crate) levels: Levels<'a>,
@@ -356,7 +356,7 @@ impl Walk<'_> {
             }
             return;
         }
-        let header = header_of(bytes, self.strict);
+        let header = taken_header(bytes, self.strict);
         self.front.clear();
         match header {
             Some(header) => self.enter(header),
@@ -395,7 +395,7 @@ impl Walk<'_> {
         if len > 1 && blocked(self.within, self.depth, self.offset, kind).is_some() {
             return false;
         }
-        match header_of(&bytes[..len], self.strict) {
+        match taken_header(&bytes[..len], self.strict) {
             Some(header) => {
                 self.place = self.offset;
                 self.offset += len;
@@ -493,7 +493,7 @@ impl Walk<'_> {
         ensures clear { result.1 ≡ true → length self.new.front ≡ 0 }
         ensures lent { AreLent self.old.levels self.new.levels }
     {
-        match header_of(&bytes[..1], self.strict) {
+        match taken_header(&bytes[..1], self.strict) {
             Some(header) => self.short_taken(bytes, header),
             None => (self.title_byte(bytes), false),
         }

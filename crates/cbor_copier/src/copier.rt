@@ -6,15 +6,15 @@ ghost use Rattle.cbor_copier.specs.Blocked.{is_blocked};
 ghost use Rattle.cbor_copier.specs.Spots.{IsPutOut};
 ghost use Rattle.ciborium_ll_text.specs.States.{may_end};
 
-use crate::few::Few;
 use crate::pending::Pending;
 use crate::phase::{Phase, StringKind, Within};
 use crate::plain::{Run, kept_run};
 use crate::progress::{Copied, End, Progress};
 use crate::snapshot::{Snapshot, is_state};
-use crate::title::header_of;
+use ciborium_ll_grammar::few::Few;
 use ciborium_ll_grammar::hdr::Header;
 use ciborium_ll_grammar::hdr::table::{TitleKind, row_of};
+use ciborium_ll_grammar::titles::header_of;
 use ciborium_ll_text::state::{State, text_front};
 
 /// Returns whether a title of this kind may not stand here, before all of its bytes came.

@@ -5,14 +5,12 @@
 #![tactic(auto)]
 
 mod copier;
-mod few;
 pub mod laws;
 mod pending;
 mod phase;
 mod plain;
 mod progress;
 mod snapshot;
-mod title;
 
 pub use self::copier::Copier;
 pub use self::progress::{Copied, End, Progress};

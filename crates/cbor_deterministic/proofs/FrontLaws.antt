@@ -1,8 +1,5 @@
 -- A front of bytes, and the place of a fault, by the rest of the bytes.
 use Rattle.std.proofs.Common.{◌≡◌, ℕ, List, ◌-◌, ◌∙◌, ap, arith, length, length-append, take}
-use Rattle.std.proofs.Common.{◌++◌, refl, sym}
-use Rattle.std.specs.List.{IsSplitAt}
-use Rattle.std.proofs.lemmas.List.{take-append-drop}
 use Rattle.std.proofs.Math.Seq.{take-append_seam}
 use Rattle.cbor_deterministic.specs.declared.Why.{Why}
 use Rattle.cbor_deterministic.specs.Fronts.{InFront, NoneInFront}
@@ -34,7 +31,3 @@ front_is P rest behind f =
     omega (arith, ap length f.whole, length-append f.front behind) in
     ap (λ (n : ℕ). take n rest) l ∙ ap (λ (z : List ℕ). take (length f.front) z) f.whole
     ∙ take-append_seam f.front behind
-
--- Bytes are the two parts of a split, joined.
-pub split_whole : (xs front back : List ℕ) (mid : ℕ) → IsSplitAt xs mid front back → xs ≡ front ++ back
-split_whole xs front back mid s = sym (take-append-drop mid xs) ∙ sym (rw (s.1, s.2) refl)

@@ -197,14 +197,3 @@ module _ (t : Title) (b rest : List ℕ) (q : IsParts t) (is : title_bytes t ≡
         definite = d;
         narrow = w;
       })
-
--- ---- bytes that are too few
-
-pub none_cut : (b : List ℕ) → length b ≡ 0 → IsCutTitle b
-none_cut [] e = tt
-none_cut (x ∷ b) e = absurd (omega arith)
-
-pub few_cut : (b : List ℕ) (len : ℕ) → 0 < length b → len ≡ affix_len (slice_index b 0 % 32) → length b < 1 + len
-    → IsCutTitle b
-few_cut [] len s e l = tt
-few_cut (x ∷ b) len s e l = subst (λ (n : ℕ). length b < n) e (omega arith)

@@ -11,7 +11,7 @@ ghost use Rattle.cbor_deterministic.specs.Refusals.{FailsItem, FailsWithin, Fail
 ghost use Rattle.cbor_deterministic.specs.Fronts.{InFront, IsOfLength, IsTextOfLength};
 
 use crate::flat::{flat_len, flat_run, is_text};
-use crate::title::next_title;
+use crate::title::next_preferred;
 use crate::{Order, Stop, Why};
 use ciborium_ll_grammar::hdr::Header;
 use std::cmp::Ordering;
@@ -105,7 +105,7 @@ fn skip_titled(bytes: &[u8], depth: usize, order: Order) -> Result<&[u8], Stop>
     ensures { MatchResult result (λ rest. InFront (IsDeterministic order depth) bytes.now rest.now)
         (λ stop. FailsItem order depth bytes.now stop.why stop.left) }
 {
-    match next_title(bytes) {
+    match next_preferred(bytes) {
         Ok((header, rest)) => skip_rest(header, rest, depth, order, bytes.len()),
         Err(why) => Err(Stop {
             why,

@@ -9,23 +9,18 @@ ghost use Rattle.cbor_deterministic.specs.Refusals.{FailsTitle};
 use crate::Why;
 use crate::floats::is_wide_float;
 use ciborium_ll_grammar::hdr::Header;
-use ciborium_ll_grammar::hdr::table::row_of;
-use ciborium_ll_grammar::titles::title_of;
+use ciborium_ll_grammar::titles::{split_title, title_of};
 
 /// Returns the header of the title at the start, and the rest.
 #[inline(always)]
-pub(crate) fn next_title(bytes: &[u8]) -> Result<(Header, &[u8]), Why>
+pub(crate) fn next_preferred(bytes: &[u8]) -> Result<(Header, &[u8]), Why>
     ensures { MatchResult result (λ found. InFront (λ title. IsPreferredTitle title found.0) bytes.now found.1.now)
         (λ why. FailsTitle bytes.now why) }
 {
-    if bytes.is_empty() {
-        return Err(Why::Cut);
-    }
-    let len = 1 + row_of(bytes[0]).affix.len();
-    let Some((title, rest)) = bytes.split_at_checked(len) else {
+    let Some((title, rest)) = split_title(bytes) else {
         return Err(Why::Cut);
     };
-    match header_of(title) {
+    match preferred_header(title) {
         Ok(header) => Ok((header, rest)),
         Err(why) => Err(why),
     }
@@ -33,7 +28,7 @@ pub(crate) fn next_title(bytes: &[u8]) -> Result<(Header, &[u8]), Why>
 
 /// Returns the header of a preferred title. All bytes that the first byte announces are there.
 #[inline(always)]
-fn header_of(bytes: &[u8]) -> Result<Header, Why>
+fn preferred_header(bytes: &[u8]) -> Result<Header, Why>
     requires { length bytes.now ≡ 1 + affix_len (slice_index bytes.now 0 % 32) }
     ensures { MatchResult result (IsPreferredTitle bytes.now)
         (λ why. (rest : List ℕ) → FailsTitle (bytes.now ++ rest) why) }

@@ -12,7 +12,7 @@ ghost use Rattle.cbor_deterministic.specs.Views.{Opens, HasPairs, HasKey, HasNoK
 ghost use Rattle.cbor_deterministic.specs.Views.{IsOpenedBy};
 
 use crate::items::{compare_keys, skip_item};
-use crate::title::next_title;
+use crate::title::next_preferred;
 use crate::{MAX_DEPTH, Order, Refusal, Stop};
 use ciborium_ll_grammar::hdr::{Float, Header};
 use ciborium_ll_text::state::text_of;
@@ -130,7 +130,7 @@ impl<'a> Item<'a> {
     pub fn open(&self) -> (Header, &'a [u8])
         ensures { Opens (item_order self.now) (item_depth self.now) (item_bytes self.now) result.0 result.1.now }
     {
-        match next_title(self.bytes) {
+        match next_preferred(self.bytes) {
             Ok(found) => found,
             Err(_) => unreachable!(),
         }

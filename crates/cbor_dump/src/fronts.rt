@@ -13,7 +13,7 @@ use ciborium_ll::{Decoder, Header, Spelling};
 use ciborium_ll_text::state::{State, text_front};
 
 /// Returns the header of a title, which has the first byte and as many bytes as that announces.
-pub(crate) fn header_of(title: &[u8], strict: bool) -> Option<Header>
+pub(crate) fn title_header(title: &[u8], strict: bool) -> Option<Header>
     ensures { (first : ℕ) (affix : List ℕ) → title.now ≡ first ∷ affix → length affix ≡ affix_len (first % 32)
         → AnswersTitle strict title.now result }
 {

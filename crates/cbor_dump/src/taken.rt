@@ -5,7 +5,7 @@ ghost use Rattle.std.specs.Prelude.{IsTrue, None, Ok, Err};
 ghost use Rattle.ciborium_ll.specs.Title.{affix_len};
 ghost use Rattle.ciborium_ll.specs.Decoding.{offset_of, view, waiting_of, IsWaiting, ReadsPast};
 
-use crate::fronts::{header_of, is_cut, is_text};
+use crate::fronts::{is_cut, is_text, title_header};
 use ciborium_ll::io::Read;
 use ciborium_ll::{Decoder, Error, Header};
 use ciborium_ll_grammar::hdr::table::row_of;
@@ -137,7 +137,7 @@ impl Taken {
     {
         self.read(decoder, 1)?;
         self.read_affix(decoder, affix_len(self.bytes()[0]))?;
-        match header_of(self.bytes(), strict) {
+        match title_header(self.bytes(), strict) {
             Some(header) => Ok(header),
             None => Err(Error::Syntax(place)),
         }

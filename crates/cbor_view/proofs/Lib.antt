@@ -3,4 +3,3 @@ pub mod OpenLaws
 pub mod ParseLaws
 pub mod SearchLaws
 pub mod SegmentLaws
-pub mod TitleLaws

@@ -8,25 +8,30 @@ use Rattle.std.proofs.Math.Logic.{∥∥₁_map}
 use Rattle.ciborium_ll_grammar.specs.declared.hdr.Header.{Header}
 use Rattle.ciborium_ll_grammar.specs.declared.hdr.Header.TheVariants as h
 use Rattle.ciborium_ll_grammar.specs.declared.hdr.Float.{Float}
-use Rattle.ciborium_ll_grammar.specs.Title.{IsTitle}
+use Rattle.ciborium_ll_grammar.specs.Title.{HasFirstTitle, HasNoTitle, IsTitle}
 use Rattle.ciborium_ll_grammar.specs.Items.{Completes, positive, negative, float, simple, text_string, tag}
 use Rattle.ciborium_ll_grammar.specs.Items.{AreItems, no_items, more_items, IsItem}
 use Rattle.ciborium_ll_grammar.specs.Strings.{Bytes, Text}
 use Rattle.ciborium_ll_grammar.proofs.ItemJoins.{body_length, none_joined}
+use Rattle.ciborium_ll_grammar.proofs.FrontLaws.{no_title_there}
 use Rattle.ciborium_ll_grammar.proofs.TitleLaws.{one_title}
 use Rattle.ciborium_ll_text.specs.Text.{IsCharacters}
 use Rattle.ciborium_ll_text.proofs.Lists.{length_zero}
 use Rattle.ciborium_ll_text.proofs.Utf8Laws.{text_or_none}
-use Rattle.cbor_view.specs.Views.{IsSplit, Opens, IsOpenedBy, IsBytesOf, IsTextOf}
+use Rattle.cbor_view.specs.Views.{Opens, IsOpenedBy, IsBytesOf, IsTextOf}
 
 titled_go : (e n : ℕ) (w : List ℕ) → AreItems false e n w → 0 < n → ((x : Header) → IsOpenedBy w x → ⊥) → ⊥
 titled_go e n w no_items l f = absurd (omega arith)
 titled_go e n w (more_items {title = t} {rest = r} {others = a} {header = x} p k c i) l f =
     f x (record { title = t; contents = r ++ a; is_title = p; whole = refl })
 
+-- Bytes that begin with no title are opened by none.
+pub none_opened : (w : List ℕ) → HasNoTitle w → (x : Header) → IsOpenedBy w x → ⊥
+none_opened w none x o = no_title_there w o.title o.contents x none o.is_title o.whole
+
 -- An item begins with a title.
-pub checked_title : (e : ℕ) (w : List ℕ) → ∥ IsItem false e w ∥₁ → ((x : Header) → IsOpenedBy w x → ⊥) → ⊥
-checked_title e w t f = not_there t (λ i. titled_go e (suc zero) w i (omega arith) f)
+pub checked_title : (e : ℕ) (w : List ℕ) → ∥ IsItem false e w ∥₁ → HasNoTitle w → ⊥
+checked_title e w t none = not_there t (λ i. titled_go e (suc zero) w i (omega arith) (none_opened w none))
 
 completes_go : (e n : ℕ) (w t rest : List ℕ) (x : Header) → AreItems false e n w → n ≡ 1 → IsTitle t x
     → w ≡ t ++ rest → Completes false e x rest
@@ -37,7 +42,7 @@ completes_go e n w t rest x (more_items {count = m} {title = o} {rest = r} {othe
     let is : r ≡ rest = sym (append-nil r) ∙ ap (λ (v : List ℕ). r ++ v) (sym none) ∙ same.2 in
     subst (λ (v : List ℕ). Completes false e x v) is (subst (λ (k : Header). Completes false e k r) same.1 c)
 
-pub opened : (e : ℕ) (w rest : List ℕ) (x : Header) → ∥ IsItem false e w ∥₁ → IsSplit w x rest → Opens e w x rest
+pub opened : (e : ℕ) (w rest : List ℕ) (x : Header) → ∥ IsItem false e w ∥₁ → HasFirstTitle w x rest → Opens e w x rest
 opened e w rest x t f = record {
   title = f.title;
   is_title = f.is_title;

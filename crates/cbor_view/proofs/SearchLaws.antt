@@ -9,6 +9,7 @@ use Rattle.ciborium_ll_grammar.specs.Title.{IsTitle}
 use Rattle.ciborium_ll_grammar.specs.Items.{IsItem}
 use Rattle.ciborium_ll_grammar.specs.Strings.{Kind, Text, IsString}
 use Rattle.ciborium_ll_grammar.proofs.ItemLaws.{one_item}
+use Rattle.ciborium_ll_grammar.proofs.FrontLaws.{split_whole}
 use Rattle.ciborium_ll_grammar.proofs.TitleLaws.{one_title}
 use Rattle.ciborium_ll_text.proofs.Lists.{same_front}
 use Rattle.cbor_view.specs.declared.item.Item.{Item}
@@ -16,7 +17,6 @@ use Rattle.cbor_view.specs.Views.{IsTextOf, Opens, closed}
 use Rattle.cbor_view.specs.Segments.{AreSegments, IsFirstSegment, IsSegmented, SpellsText}
 use Rattle.cbor_view.specs.Pairs.{IsPairOf, first_pair, later_pair, IsFirstPair, here, later, HasFirst, HasNone}
 use Rattle.cbor_view.proofs.NestLaws.{items_some, false_true, one_map}
-use Rattle.cbor_view.proofs.TitleLaws.{split_whole}
 
 -- ---- pairs one by one
 

@@ -7,7 +7,7 @@ use Rattle.std.proofs.Math.Logic.{∥∥₁_map, ∥∥₁_elim}
 use Rattle.std.proofs.Props.{props}
 use Rattle.ciborium_ll_grammar.specs.declared.hdr.Header.{Header}
 use Rattle.ciborium_ll_grammar.specs.declared.hdr.Header.TheVariants as h
-use Rattle.ciborium_ll_grammar.specs.Title.{IsTitle}
+use Rattle.ciborium_ll_grammar.specs.Title.{HasFirstTitle, HasNoTitle, IsTitle}
 use Rattle.ciborium_ll_grammar.specs.Strings.{Kind, Bytes, Text, kind_header, IsString, definite, indefinite}
 use Rattle.ciborium_ll_grammar.specs.Strings.{AreStrings, none, more}
 use Rattle.ciborium_ll_grammar.specs.Elements.{AreWritable}
@@ -18,7 +18,8 @@ use Rattle.ciborium_ll_grammar.proofs.StringLaws.{break_title, not_break, same_s
 use Rattle.ciborium_ll_text.specs.Text.{IsCharacters}
 use Rattle.ciborium_ll_text.proofs.Lists.{same_front}
 use Rattle.ciborium_ll_text.proofs.Utf8Laws.{text_or_none}
-use Rattle.cbor_view.specs.Views.{IsSplit, IsOpenedBy, Opens}
+use Rattle.cbor_view.specs.Views.{IsOpenedBy, Opens}
+use Rattle.cbor_view.proofs.OpenLaws.{none_opened}
 use Rattle.cbor_view.specs.Segments.{AreSegments, ended, segment, opened, closed, HasSegments, HasTexts}
 use Rattle.cbor_view.specs.Segments.{IsFirstSegment, IsStringItem, IsSegmented}
 
@@ -83,8 +84,8 @@ title_go k w bodies (closed {rest = r} s) l f =
     f h.Break (record { title = 0xff ∷ []; contents = r; is_title = break_title; whole = refl })
 
 -- Segments begin with a title.
-pub title_there : (w : List ℕ) → ∥ HasSegments w ∥₁ → 0 < length w → ((x : Header) → IsOpenedBy w x → ⊥) → ⊥
-title_there w t l f = not_there t (λ i. title_go i.kind w i.bodies i.are l f)
+pub title_there : (w : List ℕ) → ∥ HasSegments w ∥₁ → 0 < length w → HasNoTitle w → ⊥
+title_there w t l q = not_there t (λ i. title_go i.kind w i.bodies i.are l (none_opened w q))
 
 pub none_left : (k : Kind) (w : List ℕ) (bodies : List (List ℕ)) → AreSegments k w bodies → length w ≡ 0 → bodies ≡ []
 none_left k w bodies ended z = refl
@@ -113,7 +114,7 @@ fits_go k x after bodies len i (at_open e s) = absurd (no_open k i.0 x len e i.1
 fits_go k x after bodies len i (at_break e s) = absurd (not_break i.0 (Some len) (sym i.1 ∙ e))
 
 -- The whole body of a segment follows its title.
-pub segment_fits : (w after : List ℕ) (x : Header) (len : ℕ) → ∥ HasSegments w ∥₁ → IsSplit w x after
+pub segment_fits : (w after : List ℕ) (x : Header) (len : ℕ) → ∥ HasSegments w ∥₁ → HasFirstTitle w x after
     → IsSegmentHeader x len → len ≤ length after
 segment_fits w after x len t f i =
     ∥∥₁_elim t (hlevel props) (λ s.
@@ -135,12 +136,12 @@ first_go k x after body last bodies len i split l (at_break e s) = absurd (not_b
 
 -- The bytes after the title of a segment are its body and the rest.
 pub first_segment : (k : Kind) (w after body last : List ℕ) (x : Header) (bodies : List (List ℕ)) (len : ℕ)
-    → AreSegments k w bodies → IsSplit w x after → IsSegmentHeader x len → after ≡ body ++ last → length body ≡ len
+    → AreSegments k w bodies → HasFirstTitle w x after → IsSegmentHeader x len → after ≡ body ++ last → length body ≡ len
     → IsFirstSegment k bodies body last
 first_segment k w after body last x bodies len s f i split l =
     first_go k x after body last bodies len i split l (step k w f.title after x bodies s f.is_title f.whole)
 
-pub first_left : (w after body last : List ℕ) (x : Header) (len : ℕ) → ∥ HasSegments w ∥₁ → IsSplit w x after
+pub first_left : (w after body last : List ℕ) (x : Header) (len : ℕ) → ∥ HasSegments w ∥₁ → HasFirstTitle w x after
     → IsSegmentHeader x len → after ≡ body ++ last → length body ≡ len → ∥ HasSegments last ∥₁
 first_left w after body last x len t f i split l =
     ∥∥₁_map t (λ s.
@@ -156,10 +157,10 @@ passed_go k x after bodies n (at_open e s) = s
 passed_go k x after bodies n (at_break e s) = s
 
 pub passed : (k : Kind) (w after : List ℕ) (x : Header) (bodies : List (List ℕ)) → AreSegments k w bodies
-    → IsSplit w x after → ((kind : Kind) (len : ℕ) → x ≡ kind_header kind (Some len) → ⊥) → AreSegments k after bodies
+    → HasFirstTitle w x after → ((kind : Kind) (len : ℕ) → x ≡ kind_header kind (Some len) → ⊥) → AreSegments k after bodies
 passed k w after x bodies s f n = passed_go k x after bodies n (step k w f.title after x bodies s f.is_title f.whole)
 
-pub passed_left : (w after : List ℕ) (x : Header) → ∥ HasSegments w ∥₁ → IsSplit w x after
+pub passed_left : (w after : List ℕ) (x : Header) → ∥ HasSegments w ∥₁ → HasFirstTitle w x after
     → ((kind : Kind) (len : ℕ) → x ≡ kind_header kind (Some len) → ⊥) → ∥ HasSegments after ∥₁
 passed_left w after x t f n =
     ∥∥₁_map t (λ s.
@@ -167,7 +168,7 @@ passed_left w after x t f n =
     record { kind = s.kind; bodies = s.bodies; are = passed s.kind w after x s.bodies s.are f n } in has)
 
 -- A title has at least one byte.
-pub title_takes : (w after : List ℕ) (x : Header) → IsSplit w x after → length after < length w
+pub title_takes : (w after : List ℕ) (x : Header) → HasFirstTitle w x after → length after < length w
 title_takes w after x f =
     omega (arith, title_some f.title x f.is_title, ap length f.whole, length-append f.title after)
 

@@ -5,12 +5,6 @@ use Rattle.ciborium_ll_grammar.specs.declared.hdr.Header.TheVariants as h
 use Rattle.ciborium_ll_grammar.specs.Title.{IsTitle}
 use Rattle.ciborium_ll_grammar.specs.Items.{Completes, AreItems}
 
--- The bytes are a title of this header, and then these contents. `82 01 02` is the title `82` and the contents `01 02`.
-pub record IsSplit (bytes : List ℕ) (header : Header) (contents : List ℕ) : Type 0 where
-  pub title : List ℕ
-  pub is_title : IsTitle title header
-  pub whole : bytes ≡ title ++ contents
-
 -- The bytes are a title of this header, and then these contents, which complete the item (RFC 7049, 2.1 to 2.4).
 -- `9f 01 ff` is the title `9f` and the contents `01 ff`.
 pub record Opens (depth : ℕ) (bytes : List ℕ) (header : Header) (contents : List ℕ) : Type 0 where

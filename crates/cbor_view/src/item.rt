@@ -5,6 +5,7 @@ ghost use Rattle.std.specs.Prelude.{MatchOption, Option, Some};
 ghost use Rattle.ciborium_ll_grammar.specs.Title.{IsTitle};
 ghost use Rattle.ciborium_ll_grammar.specs.Items.{IsItem};
 ghost use Rattle.ciborium_ll_grammar.specs.declared.hdr.Float.{Float as AnyFloat};
+ghost use Rattle.ciborium_ll_grammar.specs.declared.limits.TheConstants.{MOST_LEVELS};
 ghost use Rattle.cbor_skip.specs.ItemFaults.{BeginsWithItem};
 ghost use Rattle.cbor_view.specs.Faults.{HasFault};
 ghost use Rattle.ciborium_ll_grammar.specs.Strings.{IsString, Bytes as ByteKind, Text as TextKind};
@@ -17,8 +18,8 @@ use crate::nests::{Elements, Entries, without_break};
 use crate::parse::{Fault, split_item};
 use crate::search::{Key, find};
 use crate::segments::{Segments, TextSegments, bytes_len, text_len};
-use crate::title::next_title;
 use ciborium_ll_grammar::hdr::{Float, Header};
+use ciborium_ll_grammar::titles::next_title;
 use ciborium_ll_text::state::text_of;
 
 /// A checked item of CBOR in memory. A copy of it takes no memory.
@@ -28,7 +29,7 @@ use ciborium_ll_text::state::text_of;
 pub struct Item<'a> {
     bytes: &'a [u8],
     depth: usize,
-    ghost shallow: { depth ≤ 256 },
+    ghost shallow: { depth ≤ MOST_LEVELS },
     ghost is: { ∥ IsItem false depth bytes.now ∥₁ },
 }
 

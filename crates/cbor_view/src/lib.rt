@@ -11,14 +11,13 @@ mod nests;
 mod parse;
 mod search;
 mod segments;
-mod title;
 
 pub use self::item::Item;
 pub use self::nests::{Elements, Entries};
 pub use self::parse::Fault;
 pub use self::segments::{Segments, TextSegments};
-pub use self::title::next_title;
 use ciborium_ll_grammar::limits::MOST_LEVELS;
+pub use ciborium_ll_grammar::titles::next_title;
 
 /// The greatest depth, in levels.
 pub const MAX_DEPTH: usize = MOST_LEVELS;

@@ -2,6 +2,7 @@
 
 ghost use Rattle.std.specs.Prelude.{◌≡◌, ◌<◌, ◌≤◌, ◌-◌, ◌++◌, [], ◌∷◌, IfSome, length, take};
 ghost use Rattle.std.specs.Iterator.{at_most};
+ghost use Rattle.ciborium_ll_grammar.specs.declared.limits.TheConstants.{MOST_LEVELS};
 ghost use Rattle.cbor_view.specs.Views.{HasItems, HasPairs, closed, one_less};
 
 use crate::item::{Item, next_item};
@@ -13,7 +14,7 @@ pub struct Elements<'a> {
     pub(crate) rest: &'a [u8],
     pub(crate) due: Option<usize>,
     pub(crate) depth: usize,
-    ghost shallow: { depth ≤ 256 },
+    ghost shallow: { depth ≤ MOST_LEVELS },
     ghost are: { ∥ HasItems depth due rest.now ∥₁ },
 }
 
@@ -23,7 +24,7 @@ pub struct Entries<'a> {
     pub(crate) rest: &'a [u8],
     pub(crate) due: Option<usize>,
     pub(crate) depth: usize,
-    ghost shallow: { depth ≤ 256 },
+    ghost shallow: { depth ≤ MOST_LEVELS },
     ghost are: { ∥ HasPairs depth due rest.now ∥₁ },
 }
 

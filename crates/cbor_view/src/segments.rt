@@ -5,8 +5,8 @@ ghost use Rattle.std.specs.Iterator.{at_most};
 ghost use Rattle.ciborium_ll_grammar.specs.Strings.{Kind, kind_header};
 ghost use Rattle.cbor_view.specs.Segments.{AreSegments, HasSegments, HasTexts, IsFirstSegment};
 
-use crate::title::next_title;
 use ciborium_ll_grammar::hdr::Header;
+use ciborium_ll_grammar::titles::next_title;
 use ciborium_ll_text::state::text_of;
 use std::iter::FusedIterator;
 

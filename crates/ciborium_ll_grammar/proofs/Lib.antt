@@ -2,6 +2,7 @@ pub mod AffixLaws
 pub mod AloneLaws
 pub mod ElementLaws
 pub mod FaultLaws
+pub mod FrontLaws
 pub mod HaltLaws
 pub mod ItemJoins
 pub mod ItemLaws

@@ -3,7 +3,7 @@
 -- the meaning of a title. A body may follow, which is no part of the title. Numbers here have no range. `IsInRange
 -- header` says that a header's numbers fit their Rust types.
 use Rattle.std.specs.Prelude.{◌≡◌, ℕ, ◌+◌, ◌*◌, ◌/◌, ◌%◌, ◌<◌, ◌≤◌, ◌^◌, ◌⊎◌, List, [], ◌∷◌, length, Option, Some}
-use Rattle.std.specs.Prelude.{None, IfSome, if◌then◌else◌, nat_lt, ◌==◌}
+use Rattle.std.specs.Prelude.{None, IfSome, if◌then◌else◌, nat_lt, ◌==◌, ◌++◌}
 use Rattle.std.specs.List.{AllByRecursion}
 use Rattle.std.specs.Int.{to_be_bytes, w8, w16, w32, w64}
 use Rattle.ciborium_ll_grammar.specs.declared.hdr.Header.{Header}
@@ -234,6 +234,18 @@ affix_len minor = if minor == 24 then 1 else (if minor == 25 then 2 else
 abbrev pub IsCutTitle : List ℕ → Type 0
 IsCutTitle [] = Unit {0}
 IsCutTitle (byte ∷ rest) = length rest < affix_len (byte % 32)
+
+-- The bytes begin with no title: they end before it or within it, or their first byte begins none (RFC 7049, 2.1).
+-- `19 01` and `1c` begin with no title.
+abbrev pub HasNoTitle : List ℕ → Type 0
+HasNoTitle bytes = IsCutTitle bytes ⊎ BeginsRefused bytes
+
+-- The bytes are a title of this header, and then this rest (RFC 7049, 2.1). `82 01 02` is the title `82` and the rest
+-- `01 02`.
+pub record HasFirstTitle (bytes : List ℕ) (header : Header) (rest : List ℕ) : Type 0 where
+  pub title : List ℕ
+  pub is_title : IsTitle title header
+  pub whole : bytes ≡ title ++ rest
 
 -- Each element of the list is a byte: 255 may be one, and 256 may not.
 abbrev pub AreBytes : List ℕ → Type 0

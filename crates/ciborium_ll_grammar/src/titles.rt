@@ -1,13 +1,15 @@
-//! Titles whose bytes are all in memory, for checkers and copiers.
+//! Titles whose bytes are all in memory, for checkers, copiers and views.
 
-ghost use Rattle.std.specs.Prelude.{◌≡◌, ◌+◌, ◌%◌, ◌<◌, ◌≤◌, IfSome, IfNone, length, slice_index, true, false};
+ghost use Rattle.std.specs.Prelude.{◌≡◌, ◌+◌, ◌++◌, ◌%◌, ◌<◌, ◌≤◌, IfSome, IfNone, MatchOption, length, slice_index};
+ghost use Rattle.std.specs.Prelude.{true, false};
 ghost use Rattle.std.specs.Int.{to_be_bytes, w16, w32, w64};
-ghost use Rattle.ciborium_ll_grammar.specs.Title.{BeginsRefused, IsReserved, affix_len};
+ghost use Rattle.ciborium_ll_grammar.specs.Title.{BeginsRefused, HasFirstTitle, HasNoTitle, IsCutTitle, IsReserved};
+ghost use Rattle.ciborium_ll_grammar.specs.Title.{IsTitle, affix_len};
 ghost use Rattle.ciborium_ll_grammar.specs.Parts.{IsMinor, IsParts, minor_affix, minor_code, title_bytes};
 ghost use Rattle.ciborium_ll_grammar.specs.TitleRows.{IsAffix, IsTitleKind};
 
 use crate::hdr::table::{Affix, TitleKind, row_of};
-use crate::hdr::{Minor, Title};
+use crate::hdr::{Header, Minor, Title};
 
 /// Tells if the bytes are too few for their title.
 #[inline(always)]
@@ -87,4 +89,45 @@ pub fn title_of(bytes: &[u8]) -> Option<(Title, TitleKind)>
         minor,
     };
     Some((title, row.kind))
+}
+
+/// Returns the header of a title, or `None` if no title begins with its first byte (RFC 7049, 2.1). All bytes that the
+/// first byte announces are there.
+///
+/// `19 01 00` is a title of 256, and `1c` begins none.
+#[inline(always)]
+pub fn header_of(bytes: &[u8]) -> Option<Header>
+    requires { length bytes.now ≡ 1 + affix_len (slice_index bytes.now 0 % 32) }
+    ensures some { IfSome result (IsTitle bytes.now) }
+    ensures none { IfNone result (BeginsRefused bytes.now) }
+{
+    let (title, kind) = title_of(bytes)?;
+    title.header(kind)
+}
+
+/// Splits bytes after their first one and the bytes that it announces, or returns `None` if they are fewer.
+///
+/// `19 01 00 20` is split into `19 01 00` and `20`. The call does not ask if a title begins so.
+#[inline(always)]
+pub fn split_title(bytes: &[u8]) -> Option<(&[u8], &[u8])>
+    ensures parts { IfSome result (λ found. bytes.now ≡ found.0.now ++ found.1.now) }
+    ensures title { IfSome result (λ found. length found.0.now ≡ 1 + affix_len (slice_index found.0.now 0 % 32)) }
+    ensures none { IfNone result (IsCutTitle bytes.now) }
+{
+    if bytes.is_empty() {
+        return None;
+    }
+    bytes.split_at_checked(1 + row_of(bytes[0]).affix.len())
+}
+
+/// Returns the header of the title at the beginning of the bytes, and the rest.
+///
+/// `82 01 02` begins with the title of an array of 2, and its rest is `01 02`.
+#[inline(always)]
+pub fn next_title(bytes: &[u8]) -> Option<(Header, &[u8])>
+    ensures { MatchOption result (HasNoTitle bytes.now) (λ found. HasFirstTitle bytes.now found.0 found.1.now) }
+{
+    let (title, rest) = split_title(bytes)?;
+    let header = header_of(title)?;
+    Some((header, rest))
 }

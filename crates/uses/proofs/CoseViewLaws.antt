@@ -10,7 +10,8 @@ use Rattle.cbor_view.specs.declared.item.Item.{Item}
 use Rattle.cbor_view.specs.declared.nests.Elements.{Elements}
 use Rattle.cbor_view.specs.Held.{elements_bytes, elements_depth, elements_due, item_bytes}
 use Rattle.cbor_view.specs.Nexts.{CountsDown, TakesItem}
-use Rattle.cbor_view.specs.Views.{HasItems, IsOpenedBy, IsSplit, Opens, closed}
+use Rattle.ciborium_ll_grammar.specs.Title.{HasFirstTitle}
+use Rattle.cbor_view.specs.Views.{HasItems, IsOpenedBy, Opens, closed}
 use Rattle.cbor_view.proofs.NestLaws.{items_due}
 use Rattle.uses.specs.declared.cose_view.Message.{Message}
 use Rattle.uses.specs.declared.cose_view.TheConstants.{MESSAGE_DEPTH}
@@ -19,8 +20,8 @@ use Rattle.uses.specs.CoseView.{BeginsMessage, BeginsToDepth, IsFour, IsNoSign1,
 -- ---- four items
 
 -- A tagged item has one item after its tag.
-pub one_split : (bytes inner other : List ℕ) (header : Header) → IsSplit bytes header inner
-    → IsSplit bytes header other → inner ≡ other
+pub one_split : (bytes inner other : List ℕ) (header : Header) → HasFirstTitle bytes header inner
+    → HasFirstTitle bytes header other → inner ≡ other
 one_split bytes inner other header a b =
     (one_title a.title b.title inner other header header a.is_title b.is_title (sym a.whole ∙ b.whole)).2
 
@@ -111,7 +112,7 @@ four_taken depth bytes old one two three last a b c d opens due first second thi
 
 -- An item with another tag has no tag 18.
 pub tag_other : (depth : ℕ) (bytes inner : List ℕ) (number : ℕ) → Opens depth bytes (h.Tag number) inner
-    → (number ≡ 18 → ⊥) → (other : List ℕ) → IsSplit bytes (h.Tag 18) other → ⊥
+    → (number ≡ 18 → ⊥) → (other : List ℕ) → HasFirstTitle bytes (h.Tag 18) other → ⊥
 tag_other depth bytes inner number opens differs other split =
     let one = one_title opens.title split.title inner other (h.Tag number) (h.Tag 18) opens.is_title split.is_title
     (sym opens.whole ∙ split.whole) in
@@ -122,14 +123,14 @@ tag_other depth bytes inner number opens differs other split =
 
 -- An item that is no tag has no tag 18.
 pub no_tag : (bytes : List ℕ) → ((number : ℕ) → IsOpenedBy bytes (h.Tag number) → ⊥) → (inner : List ℕ)
-    → IsSplit bytes (h.Tag 18) inner → ⊥
+    → HasFirstTitle bytes (h.Tag 18) inner → ⊥
 no_tag bytes none inner split =
     none 18 (record { title = split.title; contents = inner; is_title = split.is_title; whole = split.whole })
 
 -- ---- a message
 
 -- A message has one sequence of four items.
-pub message_items : (item inner a b c d : List ℕ) → IsSplit item (h.Tag 18) inner → IsFour inner a b c d
+pub message_items : (item inner a b c d : List ℕ) → HasFirstTitle item (h.Tag 18) inner → IsFour inner a b c d
     → (protected unprotected signature : List ℕ) (payload : Option (List ℕ))
     → (is : IsSign1 item protected unprotected signature payload)
     → (is.first ≡ a) × (unprotected ≡ b) × (is.third ≡ c) × (is.fourth ≡ d)

@@ -5,7 +5,8 @@ use Rattle.ciborium_ll.specs.Types.Header.TheVariants as h
 use Rattle.ciborium_ll.specs.Title.{IsTitle}
 use Rattle.ciborium_ll.specs.Items.{IsItem}
 use Rattle.cbor_view.specs.Held.{item_bytes}
-use Rattle.cbor_view.specs.Views.{IsBytesOf, IsOpenedBy, IsSplit}
+use Rattle.ciborium_ll_grammar.specs.Title.{HasFirstTitle}
+use Rattle.cbor_view.specs.Views.{IsBytesOf, IsOpenedBy}
 use Rattle.cbor_view.specs.Faults.{HasFault}
 use Rattle.uses.specs.declared.cose_view.Message.{Message}
 use Rattle.uses.specs.declared.cose_view.MessageError.{MessageError}
@@ -14,7 +15,7 @@ use Rattle.uses.specs.declared.cose_view.TheConstants.{MESSAGE_DEPTH}
 
 -- The item is this item with the tag of a COSE_Sign1, 18 (RFC 9052, 2): `d2 80` is `80` with this tag.
 abbrev pub IsTagged : List ℕ → List ℕ → Type 0
-IsTagged item inner = IsSplit item (h.Tag 18) inner
+IsTagged item inner = HasFirstTitle item (h.Tag 18) inner
 
 -- The bytes are an array of four items of a definite length (RFC 7049, 2.1): `84 01 02 03 04`, for example.
 pub record IsFour (bytes first second third fourth : List ℕ) : Type 0 where

@@ -1,4 +1,4 @@
-use Rattle.cbor_deterministic.proofs.FrontLaws.{split_whole}
+use Rattle.ciborium_ll_grammar.proofs.FrontLaws.{split_whole}
 use Rattle.cbor_deterministic.proofs.TitleRuns.{untold, told}
 use Rattle.cbor_canonical.proofs.StringRuns.{no_body, few_bytes}
 use Rattle.cbor_canonical.proofs.strings.take_body.Goals as goal

@@ -6,7 +6,7 @@ pub returns-clause-holds : goal.returns-clause-holds
 returns-clause-holds c = λ known. record {
   phase = c.numbers-phase.ensures;
   strict = search rules;
-  title = c.save.ensures.saved;
+  title = c.save_into.ensures.saved;
   within = c.numbers-strings.ensures;
   depth = refl;
   levels = some_levels _ known;

@@ -36,8 +36,8 @@ pub returns-in-None-clause-spot : goal.returns-in-None-clause-spot
 returns-in-None-clause-spot c =
     step_none (with_byte c.args.byte (spot_at c.args.self.now)) _ (search rules) (search rules)
 
-pub header_of-header-requires : goal.header_of-header-requires
-header_of-header-requires c =
+pub taken_header-header-requires : goal.taken_header-header-requires
+taken_header-header-requires c =
     let is = c.bytes-bytes.ensures ∙ c.push.ensures in
     let long = c.len.ensures _ c.row_of-row.ensures.affix in
     let all : affix_len (slice_index c.bytes-bytes.result.now 0 % 32) < length c.bytes-bytes.result.now =

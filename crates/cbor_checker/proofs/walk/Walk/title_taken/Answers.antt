@@ -18,5 +18,5 @@ returns-in-Some-clause-yes c = λ yes.
       | else-len-gt1-via-else-len-gt1 w ↦ absurd (omega (arith, more, w.if-len-gt1.false))
     ]))
 
-pub header_of-requires : goal.header_of-requires
-header_of-requires c = front_whole c.args.bytes.now c.args.len c.requires.within c.requires.long
+pub taken_header-requires : goal.taken_header-requires
+taken_header-requires c = front_whole c.args.bytes.now c.args.len c.requires.within c.requires.long

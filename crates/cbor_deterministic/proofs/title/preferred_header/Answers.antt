@@ -2,7 +2,7 @@ use Rattle.std.proofs.Common.{sym, ◌∙◌}
 use Rattle.cbor_deterministic.proofs.TitleRuns.{told, untold, refused_fails, never_fails, small_fails, loose_fails}
 use Rattle.cbor_deterministic.proofs.TitleRuns.{wide_fails}
 use Rattle.cbor_deterministic.proofs.TitleRuns.{indefinite_fails, preferred_parts}
-use Rattle.cbor_deterministic.proofs.title.header_of.Goals as goal
+use Rattle.cbor_deterministic.proofs.title.preferred_header.Goals as goal
 
 pub returns-in_default : goal.returns-in_default
 returns-in_default c = λ rest. refused_fails c.args.bytes.now rest c.in_default.ensures.none

@@ -1,8 +1,8 @@
 use Rattle.std.proofs.Common.{rules}
 use Rattle.cbor_checker.proofs.LongerBegun.{parts_none, refused_none, some_taken, none_means}
-use Rattle.cbor_checker.proofs.title.header_of.Goals as goal
-use Rattle.cbor_checker.proofs.title.header_of.Goals.{else-strict-via-then-strict+else-is_refused_when_strict}
-use Rattle.cbor_checker.proofs.title.header_of.Goals.{else-strict-via-else-strict}
+use Rattle.cbor_checker.proofs.title.taken_header.Goals as goal
+use Rattle.cbor_checker.proofs.title.taken_header.Goals.{else-strict-via-then-strict+else-is_refused_when_strict}
+use Rattle.cbor_checker.proofs.title.taken_header.Goals.{else-strict-via-else-strict}
 
 pub returns-then-is_refused_when_strict-clause-none : goal.returns-then-is_refused_when_strict-clause-none
 returns-then-is_refused_when_strict-clause-none c =

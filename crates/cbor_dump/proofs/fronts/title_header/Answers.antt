@@ -1,6 +1,6 @@
 use Rattle.std.proofs.Common.{Bool, refl, subst, ◌∙◌}
 use Rattle.cbor_dump.specs.Takings.{AnswersTitle}
-use Rattle.cbor_dump.proofs.fronts.header_of.Goals as goal
+use Rattle.cbor_dump.proofs.fronts.title_header.Goals as goal
 
 pub returns : goal.returns
 returns c = λ first affix parts long.
