@@ -4,6 +4,7 @@ ghost use Rattle.std.specs.Prelude.{◌≡◌, ◌≤◌, ℕ, ◌<◌, ◌⊎�
 ghost use Rattle.std.specs.List.{Contains};
 ghost use Rattle.std.specs.List.Sorted.{IsStrictlyIncreasing};
 ghost use Rattle.ciborium_ll_grammar.specs.declared.hdr.Header.{Header};
+ghost use Rattle.ciborium_ll_grammar.specs.declared.limits.TheConstants.{LONGEST_TITLE};
 ghost use Rattle.ciborium_ll_grammar.specs.Title.{IsTitle, shortest_title, IsInRange, IsRefused};
 ghost use Rattle.ciborium_ll_grammar.specs.Title.{IsCutTitle, AreBytes, refused_bytes};
 
@@ -25,9 +26,10 @@ pub fn title_header()
     ensures { (title : List ℕ) (header : Header) → IsTitle title header → IsInRange header }
 {}
 
-/// A title has from 1 to 9 bytes.
+/// A title has at least one byte, and at most `LONGEST_TITLE`, which is 9.
 pub fn title_length()
-    ensures { (title : List ℕ) (header : Header) → IsTitle title header → (1 ≤ length title) × (length title ≤ 9) }
+    ensures { (title : List ℕ) (header : Header) → IsTitle title header
+        → (1 ≤ length title) × (length title ≤ LONGEST_TITLE) }
 {}
 
 /// Exactly 27 of the 256 bytes begin no title.

@@ -4,6 +4,7 @@ ghost use Rattle.std.specs.Prelude.{◌≡◌, ◌+◌, ◌≤◌, ◌<◌, ◌+
 ghost use Rattle.std.specs.Prelude.{IsSome, IsTrue, OnErr, OnOk};
 ghost use Rattle.std.specs.Io.KnownBytes.{Consumes, IsAtEnd, Keeps};
 ghost use Rattle.std.proofs.Common.{rules};
+ghost use Rattle.tool_files.specs.declared.check.TheConstants.{ROOM};
 
 use crate::check::ROOM;
 use ciborium_ll::io::{Failures, Read, ReadFault};
@@ -20,7 +21,7 @@ struct Window {
     start: usize,
     end: usize,
     ghost order: { start ≤ end },
-    ghost within: { end ≤ 8192 },
+    ghost within: { end ≤ ROOM },
 }
 
 impl Window {
@@ -69,7 +70,7 @@ impl Window {
     fn fill<R: io::Read>(&mut self, source: &mut R) -> io::Result<usize>
         ensures more { IfOk result (λ count. (bytes : List ℕ) × (window_held self.new ≡ window_held self.old ++ bytes)
             × (length bytes ≡ count) × Consumes (R.remaining source.old) (R.remaining source.new) bytes) }
-        ensures none { IfOk result (λ count. count ≡ 0 → self.old.end < 8192 → IsAtEnd (R.remaining source.new)) }
+        ensures none { IfOk result (λ count. count ≡ 0 → self.old.end < ROOM → IsAtEnd (R.remaining source.new)) }
         ensures held { OnErr result (window_held self.new ≡ window_held self.old) }
         ensures keeps { OnErr result (Keeps (R.remaining source.old) (R.remaining source.new)) }
     {
