@@ -7,6 +7,7 @@ pub mod ElementDue
 pub mod ElementShapes
 pub mod ItemDue
 pub mod ItemPieceLaws
+pub mod FrontParts
 pub mod PieceLaws
 pub mod PullLaws
 pub mod SkipLaws

@@ -4,6 +4,7 @@ pub mod Copying
 pub mod Counting
 pub mod Determining
 pub mod Feeding
+pub mod Fronts
 pub mod Headers
 pub mod ItemPieces
 pub mod Lacking

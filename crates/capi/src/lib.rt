@@ -48,6 +48,7 @@ mod checker;
 mod copier;
 mod deterministic;
 mod due;
+mod front;
 mod header;
 mod item;
 mod item_copier;
@@ -63,6 +64,7 @@ pub use self::checker::CllChecker;
 pub use self::copier::CllCopier;
 use self::deterministic::{check_item, order_of};
 use self::due::{due_behind, item_len};
+use self::front::pull_front;
 pub use self::header::CllHeader;
 pub use self::item::{CllBody, CllItem};
 pub use self::item_copier::CllItemCopier;
@@ -95,6 +97,19 @@ pub fn cll_version() -> u32
 /// Reads the title with which the bytes begin.
 #[inline(always)]
 fn pull(bytes: &[u8], header: &mut CllHeader, consumed: &mut usize) -> CllAnswer
+    ensures { CllPull bytes.now result header.old header.new consumed.new }
+{
+    match pull_front(bytes, header) {
+        Some(len) => {
+            *consumed = len;
+            CllAnswer::Ok
+        }
+        None => pull_any(bytes, header, consumed),
+    }
+}
+
+/// Reads the title with which the bytes begin, if they are few or begin with none.
+fn pull_any(bytes: &[u8], header: &mut CllHeader, consumed: &mut usize) -> CllAnswer
     ensures { CllPull bytes.now result header.old header.new consumed.new }
 {
     let mut decoder = Decoder::from(SliceReader::new(bytes));

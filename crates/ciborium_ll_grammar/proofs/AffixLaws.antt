@@ -65,13 +65,13 @@ major_with (suc (suc (suc (suc (suc (suc (suc zero))))))) p = (Other, refl)
 major_with (suc (suc (suc (suc (suc (suc (suc (suc k)))))))) p = absurd (omega arith)
 
 -- Each index into a list of bytes gives a number below 256.
-byte_at : (bytes : List ℕ) → AreBytes bytes → (i : ℕ) → slice_index bytes i < 256
+pub byte_at : (bytes : List ℕ) → AreBytes bytes → (i : ℕ) → slice_index bytes i < 256
 byte_at [] f i = omega arith
 byte_at (b ∷ bytes) f zero = f.0
 byte_at (b ∷ bytes) f (suc i) = byte_at bytes f.1 i
 
 -- A list of one byte is a number in one byte.
-one_byte : (bytes : List ℕ) → length bytes ≡ 1 → slice_index bytes 0 < 256
+pub one_byte : (bytes : List ℕ) → length bytes ≡ 1 → slice_index bytes 0 < 256
     → to_be_bytes w8 (slice_index bytes 0) ≡ bytes
 one_byte [] l p = absurd (omega arith)
 one_byte (b ∷ []) l p = let e : b % 256 ≡ b = omega arith in cc
@@ -99,10 +99,10 @@ open_or_refused b m (Some x) some e c =
     inr (x, rw same at (alone m x some))
 
 -- The cases of a minor: a number, 24 to 27, reserved, or 31.
-abbrev MinorCases : ℕ → Type 0
+abbrev pub MinorCases : ℕ → Type 0
 MinorCases a = (a < 24) ⊎ (a ≡ 24) ⊎ (a ≡ 25) ⊎ (a ≡ 26) ⊎ (a ≡ 27) ⊎ (28 ≤ a) × (a ≤ 30) ⊎ (a ≡ 31)
 
-minor_cases : (a : ℕ) → a < 32 → MinorCases a
+pub minor_cases : (a : ℕ) → a < 32 → MinorCases a
 minor_cases a p = grind arith
 
 no_affix : (a : ℕ) → (a < 24) ⊎ (27 < a) → affix_len a ≡ 0

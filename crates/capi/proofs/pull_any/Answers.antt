@@ -1,5 +1,5 @@
 use Rattle.capi.proofs.PullLaws.{pulled_front}
-use Rattle.capi.proofs.pull.Goals as goal
+use Rattle.capi.proofs.pull_any.Goals as goal
 
 pub returns-in-Ok : goal.returns-in-Ok
 returns-in-Ok c =
