@@ -33,7 +33,7 @@ rewrite_refused order depth offset place places bytes out why answer report refu
     (is_refused why refusal (reports_as report offset 0 (refusal_place why offset) offset 0 place reports refl refl named))
 
 -- The memory is too small for an output of the same length.
-pub rewrite_lacks : (depth places : ℕ) (bytes old new : List ℕ) → length new ≡ length old
-    → LacksMemory depth bytes (length old) places → LacksMemory depth bytes (length new) places
-rewrite_lacks depth places bytes old new same lacks =
-    subst (λ (n : ℕ). LacksMemory depth bytes n places) (sym same) lacks
+pub rewrite_lacks : (order : Order) (depth places : ℕ) (bytes old new : List ℕ) → length new ≡ length old
+    → LacksMemory order depth bytes (length old) places → LacksMemory order depth bytes (length new) places
+rewrite_lacks order depth places bytes old new same lacks =
+    subst (λ (n : ℕ). LacksMemory order depth bytes n places) (sym same) lacks

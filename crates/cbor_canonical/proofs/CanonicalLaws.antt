@@ -19,6 +19,7 @@ use Rattle.cbor_skip.specs.ItemFaults.{BeginsWithItem}
 use Rattle.cbor_skip.specs.SkippingTold.{IsReadyToSkip, SkipsTold}
 use Rattle.cbor_skip.proofs.DueLaws.{no_item_fault, no_early_break, no_deep_nest}
 use Rattle.cbor_deterministic.specs.declared.Order.{Order}
+use Rattle.cbor_deterministic.specs.Deterministic.{HasDeterministic}
 use Rattle.cbor_deterministic.specs.Deterministic.{IsDeterministic}
 use Rattle.cbor_deterministic.specs.Spellings.{Encodes}
 use Rattle.cbor_deterministic.specs.Values.{Value, Same}
@@ -232,11 +233,13 @@ pub is_canonical : (ord : Order) (d : ℕ) (bytes item rest written : List ℕ) 
 is_canonical ord d bytes item rest written z r = record { item = item; whole = z; is = r }
 
 -- Memory that is too small for an item is too small for the bytes that it begins.
-pub lacks_memory : (d room places : ℕ) (bytes item rest : List ℕ) → IsItem false d item → bytes ≡ item ++ rest
-    → IsTooSmall (length item) room places → LacksMemory d bytes room places
-lacks_memory d room places bytes item rest i z small = record {
+pub lacks_memory : (order : Order) (d room places : ℕ) (bytes item rest : List ℕ) → IsItem false d item
+    → bytes ≡ item ++ rest → IsTooSmall (length item) room places
+    → ((len : ℕ) → HasDeterministic order d bytes len → room < len) → LacksMemory order d bytes room places
+lacks_memory order d room places bytes item rest i z small kept = record {
   front = record { item = item; rest = rest; is_item = i; is = z };
   small = small;
+  kept = kept;
 }
 
 -- A simple value that a call meets is one in the item, at the place that many bytes before the end.

@@ -1,6 +1,8 @@
 -- How much memory the encoding of an item takes.
 use Rattle.std.specs.Prelude.{◌≡◌, ℕ, ◌+◌, ◌*◌, ◌/◌, ◌<◌, ◌≤◌, ◌⊎◌, List, length, Option, Some, None, false}
 use Rattle.cbor_skip.specs.ItemFaults.{BeginsWithItem}
+use Rattle.cbor_deterministic.specs.declared.Order.{Order}
+use Rattle.cbor_deterministic.specs.Deterministic.{HasDeterministic}
 use Rattle.cbor_canonical.specs.declared.Stop.{Stop}
 use Rattle.cbor_canonical.specs.declared.Stop.TheVariants as st
 
@@ -20,11 +22,13 @@ places_of len = room_of len / 2
 abbrev pub IsTooSmall : ℕ → ℕ → ℕ → Type 0
 IsTooSmall len room places = (room < room_of len) ⊎ (places < places_of len)
 
--- An item begins the bytes, and an output of this length or this number of places may be too few for it. The item of
--- `82 01 02 05` has 3 bytes, so 2 bytes of output are too few.
-pub record LacksMemory (depth : ℕ) (bytes : List ℕ) (room places : ℕ) : Type 0 where
+-- An item begins the bytes, and an output of this length or this number of places may be too few for it. If the item is
+-- in the encoding already, the output is shorter than the item. The item of `82 01 02 05` has 3 bytes, so 2 bytes of
+-- output are too few, and 3 are enough with no place.
+pub record LacksMemory (order : Order) (depth : ℕ) (bytes : List ℕ) (room places : ℕ) : Type 0 where
   pub front : BeginsWithItem false depth bytes
   pub small : IsTooSmall (length front.item) room places
+  pub kept : (len : ℕ) → HasDeterministic order depth bytes len → room < len
 
 -- ---- while a call rewrites
 

@@ -1,6 +1,6 @@
 //! Items that are in the deterministic encoding already.
 
-ghost use Rattle.std.specs.Prelude.{◌≡◌, ◌≤◌, IfSome, MatchOption, length, take};
+ghost use Rattle.std.specs.Prelude.{◌≡◌, ◌<◌, ◌≤◌, ℕ, IfNone, IfSome, MatchOption, length, take};
 ghost use Rattle.cbor_deterministic.specs.Deterministic.{HasDeterministic};
 
 use cbor_deterministic::{MAX_DEPTH, Order, deterministic_len};
@@ -24,8 +24,10 @@ pub(crate) fn flat_len(bytes: &[u8], order: Order) -> Option<usize>
 /// enough. Returns its length.
 pub(crate) fn copy_item(bytes: &[u8], depth: usize, order: Order, out: &mut [u8]) -> Option<usize>
     requires shallow { depth ≤ MAX_DEPTH }
-    ensures { MatchOption result (length out.new ≡ length out.old) (λ len. HasDeterministic order depth bytes.now len
-        × (len ≤ length out.new) × (take len out.new ≡ take len bytes.now)) }
+    ensures copied { MatchOption result (length out.new ≡ length out.old)
+        (λ len. HasDeterministic order depth bytes.now len × (len ≤ length out.new)
+        × (take len out.new ≡ take len bytes.now)) }
+    ensures none { IfNone result ((len : ℕ) → HasDeterministic order depth bytes.now len → length out.old < len) }
 {
     match deterministic_len(bytes, depth, order) {
         Ok(len) if len <= out.len() => {

@@ -131,8 +131,8 @@ impl From<Refusal> for CanonicalError {
 /// # Time and memory
 ///
 /// For an item of `n` bytes, `n + n / 256` bytes of `out` and half as many spans are enough. The contents of `spans` are
-/// unknown after the call. The call copies an item that is in the encoding already. It reads the bytes at most twice, or
-/// four times before an error. It sorts the pairs of a map whose keys do not ascend, in `n * log n` comparisons of keys.
+/// unknown after the call. The call copies an item that is in the encoding already: this takes as many bytes of `out` as
+/// the item has, and no spans. It reads the bytes at most twice, or four times before an error. It sorts the pairs of a map whose keys do not ascend, in `n * log n` comparisons of keys.
 /// It moves a byte at most twice for each such map, and once for each map or array of indefinite length, that contains
 /// the byte. On the stack each level takes the frames of six calls.
 pub fn canonical_into<'a>(
@@ -146,7 +146,7 @@ pub fn canonical_into<'a>(
     ensures written { MatchResult result
         (λ found. IsCanonical order depth bytes.now found.1.now (take found.0 out.new)) (IsUnwritten depth bytes.now) }
     ensures within { IfOk result (λ found. found.0 ≤ length out.new) }
-    ensures room { result ≡ Err NoMemory → LacksMemory depth bytes.now (length out.old) (length spans.old) }
+    ensures room { result ≡ Err NoMemory → LacksMemory order depth bytes.now (length out.old) (length spans.old) }
 {
     if let Some(len) = copy_item(bytes, depth, order, out) {
         return Ok((len, &bytes[len..]));

@@ -1,5 +1,6 @@
 use Rattle.std.proofs.lemmas.Result.{err_from_is_err_and}
-use Rattle.std.proofs.Common.{◌≡◌, ap, Err, length, refl, rules, take}
+use Rattle.std.proofs.Common.{◌≡◌, ◌<◌, ℕ, ap, Err, length, refl, rules, take}
+use Rattle.cbor_deterministic.specs.Deterministic.{HasDeterministic}
 use Rattle.cbor_canonical.specs.declared.CanonicalError.TheVariants.{Memory}
 use Rattle.std.proofs.lemmas.List.{take_rest}
 use Rattle.cbor_canonical.proofs.CanonicalLaws.{first_written, lacks_memory, unwritten_more}
@@ -18,13 +19,16 @@ returns-in_err-end-clause-room c = λ memory.
     let same : c.in_err-end.field-0.0 ≡ Memory = cc in
     let long : length c.rewrite_item.new.out ≡ length c.args.out.now = search rules in
     let many : length c.rewrite_item.new.spans ≡ length c.args.spans.now = search rules in
-    rw (long, many) at (lacks_memory c.args.depth _ _ c.args.bytes.now c.in_ok-item.item.now c.in_ok-item.rest.now
-    c.in_ok-item.ensures.0 c.in_ok-item.ensures.1 (c.in_err-end.ensures.room (ap Err same)))
+    let kept : (len : ℕ) → HasDeterministic c.args.order c.args.depth c.args.bytes.now len → length c.args.out.now < len =
+    search rules in
+    rw (long, many) at (lacks_memory c.args.order c.args.depth _ _ c.args.bytes.now c.in_ok-item.item.now
+    c.in_ok-item.rest.now c.in_ok-item.ensures.0 c.in_ok-item.ensures.1 (c.in_err-end.ensures.room (ap Err same))
+    (rw long kept))
 
 pub returns-in-Some-clause-written : goal.returns-in-Some-clause-written
 returns-in-Some-clause-written c =
     rw take_rest (copied c.args.order c.args.depth c.in-Some.len c.args.bytes.now (take c.in-Some.len c.copy_item.new.out)
-    c.in-Some.ensures.0 c.in-Some.ensures.2)
+    c.in-Some.ensures.copied.0 c.in-Some.ensures.copied.2)
 
 pub returns-in-Ok-clause-written : goal.returns-in-Ok-clause-written
 returns-in-Ok-clause-written c =

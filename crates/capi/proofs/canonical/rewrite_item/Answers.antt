@@ -20,5 +20,5 @@ returns-in-Err-Refused c =
 
 pub returns-in-Err-Memory : goal.returns-in-Err-Memory
 returns-in-Err-Memory c =
-    no_room (rewrite_lacks c.args.depth _ c.args.bytes.now c.args.out.now c.canonical_into.new.out (search rules)
-    (c.in-Err-Memory.ensures.room (ap Err c.in-Err-Memory.field-0-is))) c.say-in-Err-Memory.ensures
+    no_room (rewrite_lacks c.args.order c.args.depth _ c.args.bytes.now c.args.out.now c.canonical_into.new.out
+    (search rules) (c.in-Err-Memory.ensures.room (ap Err c.in-Err-Memory.field-0-is))) c.say-in-Err-Memory.ensures
