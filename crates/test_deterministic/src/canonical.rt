@@ -106,7 +106,7 @@ static MAPS: [(&str, &str, &str); 6] = [
 ];
 
 // What is refused: why, and where.
-static REFUSED: [(&str, Why, usize); 22] = [
+static REFUSED: [(&str, Why, usize); 25] = [
     ("", Why::Cut, 0),
     ("8201", Why::Cut, 2),
     ("9f01", Why::Cut, 2),
@@ -131,6 +131,10 @@ static REFUSED: [(&str, Why, usize); 22] = [
     ("a2a20100020000a20200010000", Why::DuplicateKey, 7),
     // The same pair twice.
     ("82a10000a200010001", Why::DuplicateKey, 7),
+    // The first of two faults.
+    ("82f818f819", Why::NoSimple, 1),
+    ("82f818a201000100", Why::NoSimple, 1),
+    ("82a201000100f818", Why::DuplicateKey, 4),
 ];
 
 // A place of no pair.
