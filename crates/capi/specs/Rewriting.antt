@@ -39,5 +39,5 @@ pub data Rewrites (order : Order) (depth : ℕ) (bytes : List ℕ) (places : ℕ
     is_refused : (why : Why) {offset : ℕ} {out : List ℕ} {report : CllReport} → HasRefusal depth bytes why offset
         → Reports report offset 0 (refusal_place why offset)
         → Rewrites order depth bytes places (refusal_answer why) out report
-    no_room : {out : List ℕ} {report : CllReport} → LacksMemory order depth bytes (length out) places → Reports report 0 0 0
-        → Rewrites order depth bytes places a.Room out report
+    no_room : {out : List ℕ} {report : CllReport} → LacksMemory order depth bytes (length out) places
+        → Reports report 0 0 0 → Rewrites order depth bytes places a.Room out report

@@ -131,10 +131,11 @@ impl From<Refusal> for CanonicalError {
 /// # Time and memory
 ///
 /// For an item of `n` bytes, `n + n / 256` bytes of `out` and half as many spans are enough. The contents of `spans` are
-/// unknown after the call. The call copies an item that is in the encoding already: this takes as many bytes of `out` as
-/// the item has, and no spans. It reads the bytes at most twice, or four times before an error. It sorts the pairs of a map whose keys do not ascend, in `n * log n` comparisons of keys.
-/// It moves a byte at most twice for each such map, and once for each map or array of indefinite length, that contains
-/// the byte. On the stack each level takes the frames of six calls.
+/// unknown after the call. The call copies an item that is in the encoding already: this takes as many bytes of `out`
+/// as the item has, and no spans. It reads the bytes at most twice, or four times before an error. It sorts the pairs of
+/// a map whose keys do not ascend, in `n * log n` comparisons of keys. It moves a byte at most twice for each such map,
+/// and once for each map or array of indefinite length, that contains the byte. On the stack each level takes the frames
+/// of six calls.
 pub fn canonical_into<'a>(
     bytes: &'a [u8],
     depth: usize,

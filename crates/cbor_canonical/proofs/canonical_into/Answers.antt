@@ -19,8 +19,8 @@ returns-in_err-end-clause-room c = λ memory.
     let same : c.in_err-end.field-0.0 ≡ Memory = cc in
     let long : length c.rewrite_item.new.out ≡ length c.args.out.now = search rules in
     let many : length c.rewrite_item.new.spans ≡ length c.args.spans.now = search rules in
-    let kept : (len : ℕ) → HasDeterministic c.args.order c.args.depth c.args.bytes.now len → length c.args.out.now < len =
-    search rules in
+    let kept : (len : ℕ) → HasDeterministic c.args.order c.args.depth c.args.bytes.now len
+    → length c.args.out.now < len = search rules in
     rw (long, many) at (lacks_memory c.args.order c.args.depth _ _ c.args.bytes.now c.in_ok-item.item.now
     c.in_ok-item.rest.now c.in_ok-item.ensures.0 c.in_ok-item.ensures.1 (c.in_err-end.ensures.room (ap Err same))
     (rw long kept))
