@@ -1,3 +1,4 @@
+pub mod DamageLaws
 pub mod HeadLaws
 pub mod ItemLaws
 pub mod LooseLaws

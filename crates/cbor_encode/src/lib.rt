@@ -2,7 +2,8 @@
 //! Encodes diagnostic notation as CBOR: the reverse of `cbor_diag`.
 #![tactic(auto)]
 
-ghost use Rattle.std.specs.Prelude.{◌≡◌, ◌≤◌, true, false, IfErr, IfOk};
+ghost use Rattle.std.specs.Prelude.{◌≡◌, ◌≤◌, true, false, IfErr, IfOk, OnOk};
+ghost use Rattle.ciborium_ll_text.specs.Text.{IsCharacters};
 ghost use Rattle.ciborium_ll_grammar.specs.Items.{IsItem};
 ghost use Rattle.ciborium_ll_grammar.specs.declared.limits.TheConstants.{MOST_LEVELS};
 ghost use Rattle.cbor_encode.specs.Places.{IsFaultIn};
@@ -22,7 +23,7 @@ mod words;
 
 use self::items::Rules;
 use self::places::located;
-use self::sequences::{read_one, read_sequence};
+use self::sequences::{check_text, read_one, read_sequence};
 use ciborium_ll_grammar::limits::MOST_LEVELS;
 use std::alloc::Global;
 
@@ -118,7 +119,8 @@ pub struct NotationError {
 ///
 /// # Errors
 ///
-/// Tests alone say which place an error has:
+/// The contract says the place of [`Expected::Text`] if the text is not UTF-8. Tests alone say the place of every other
+/// error:
 ///
 /// - [`Expected::Integer`], [`Expected::Float`], [`Expected::Mark`], [`Expected::Level`]: the start of the item.
 /// - [`Expected::Escape`], [`Expected::Comment`], [`Expected::Simple`], [`Expected::Bits`]: the start of the escape,
@@ -135,6 +137,7 @@ pub fn encode(alloc: Global, text: &[u8], depth: usize) -> Result<Vec<u8>, Notat
     requires shallow { depth ≤ MOST_LEVELS }
     ensures item { IfOk result (λ bytes. IsItem false depth bytes.items) }
     ensures shortest { has_underscore text.now ≡ false → IfOk result (λ bytes. IsItem true depth bytes.items) }
+    ensures text { OnOk result (IsCharacters text.now) }
     ensures fault { IfErr result (IsFaultIn text.now) }
 {
     // Each mark has an underscore. Without one all titles are the shortest.
@@ -150,6 +153,7 @@ pub fn encode(alloc: Global, text: &[u8], depth: usize) -> Result<Vec<u8>, Notat
 pub fn encode_shortest(alloc: Global, text: &[u8], depth: usize) -> Result<Vec<u8>, NotationError>
     requires shallow { depth ≤ MOST_LEVELS }
     ensures item { IfOk result (λ bytes. IsItem true depth bytes.items) }
+    ensures text { OnOk result (IsCharacters text.now) }
     ensures fault { IfErr result (IsFaultIn text.now) }
 {
     one_item(alloc, text, depth, true)
@@ -165,8 +169,12 @@ pub fn encode_all(alloc: Global, text: &[u8], depth: usize) -> Result<Vec<u8>, N
     requires shallow { depth ≤ MOST_LEVELS }
     ensures items { IfOk result (λ bytes. AreSequence false depth bytes.items) }
     ensures shortest { has_underscore text.now ≡ false → IfOk result (λ bytes. AreSequence true depth bytes.items) }
+    ensures text { OnOk result (IsCharacters text.now) }
     ensures fault { IfErr result (IsFaultIn text.now) }
 {
+    if let Err(stop) = check_text(text) {
+        return Err(located(text, stop));
+    }
     let rules = Rules {
         alloc,
         is_strict: !text.contains(&b'_'),
@@ -185,8 +193,12 @@ fn one_item(
     is_strict: bool,
 ) -> Result<Vec<u8>, NotationError>
     ensures item { IfOk result (λ bytes. IsItem is_strict depth bytes.items) }
+    ensures text { OnOk result (IsCharacters text.now) }
     ensures fault { IfErr result (IsFaultIn text.now) }
 {
+    if let Err(stop) = check_text(text) {
+        return Err(located(text, stop));
+    }
     match read_one(text, depth, Rules { alloc, is_strict }) {
         Ok(bytes) => Ok(bytes),
         Err(stop) => Err(located(text, stop)),

@@ -2,14 +2,16 @@
 
 ghost use Rattle.std.specs.Prelude.{◌≡◌, ◌<◌, ◌-◌, ◌^◌, length};
 ghost use Rattle.cbor_encode.specs.Left.{IsWithin};
-ghost use Rattle.cbor_encode.specs.Places.{IsFaultIn, column_after, line_after, next_column, next_line};
+ghost use Rattle.cbor_encode.specs.Places.{IsFaultIn, NamesDamage, column_after, line_after, next_column, next_line};
 
 use crate::NotationError;
 use crate::cursor::Stop;
 
 /// Returns the error of a stop, with its line and its column in the text.
+#[tactic(auto, using(crate::proofs::DamageLaws::fault_at))]
 pub(crate) fn located(text: &[u8], stop: Stop) -> NotationError
-    requires { IsWithin (length text.now) stop }
+    requires within { IsWithin (length text.now) stop }
+    requires damage { NamesDamage text.now stop }
     ensures { IsFaultIn text.now result }
 {
     let place = text.len() - stop.left;

@@ -1,8 +1,10 @@
 //! A text as a whole: one item, or a sequence of items.
 
-ghost use Rattle.std.specs.Prelude.{◌≤◌, length, IfErr, IfOk};
+ghost use Rattle.std.specs.Prelude.{◌≤◌, length, IfErr, IfOk, OnOk};
+ghost use Rattle.ciborium_ll_text.specs.Text.{IsCharacters};
 ghost use Rattle.ciborium_ll_grammar.specs.Items.{IsItem};
 ghost use Rattle.cbor_encode.specs.Left.{IsWithin, left_of};
+ghost use Rattle.cbor_encode.specs.Places.{NamesDamage};
 ghost use Rattle.cbor_encode.specs.Sequences.{AreSequence};
 
 use crate::Expected;
@@ -12,8 +14,11 @@ use crate::strings::text_len;
 use std::alloc::Global;
 
 /// Checks that the text is UTF-8.
-fn check_text(text: &[u8]) -> Result<(), Stop>
-    ensures { IfErr result (IsWithin (length text.now)) }
+#[tactic(auto, using(crate::proofs::DamageLaws::damage_named))]
+pub(crate) fn check_text(text: &[u8]) -> Result<(), Stop>
+    ensures text { OnOk result (IsCharacters text.now) }
+    ensures place { IfErr result (IsWithin (length text.now)) }
+    ensures damage { IfErr result (NamesDamage text.now) }
 {
     let len = text_len(text);
     if len == text.len() {
@@ -30,7 +35,6 @@ pub(crate) fn read_one(text: &[u8], depth: usize, rules: Rules) -> Result<Vec<u8
     ensures item { IfOk result (λ bytes. IsItem rules.is_strict depth bytes.items) }
     ensures place { IfErr result (IsWithin (length text.now)) }
 {
-    check_text(text)?;
     let mut bytes = Vec::new(rules.alloc);
     let mut cursor = Cursor { rest: text };
     cursor.skip_space()?;
@@ -47,7 +51,6 @@ pub(crate) fn read_sequence(text: &[u8], depth: usize, rules: Rules) -> Result<V
     ensures items { IfOk result (λ bytes. AreSequence rules.is_strict depth bytes.items) }
     ensures place { IfErr result (IsWithin (length text.now)) }
 {
-    check_text(text)?;
     let mut bytes = Vec::new(rules.alloc);
     let mut cursor = Cursor { rest: text };
     cursor.skip_space()?;

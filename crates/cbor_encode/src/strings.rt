@@ -1,7 +1,7 @@
 //! Strings.
 
-ghost use Rattle.std.specs.Prelude.{◌≡◌, ◌<◌, ◌≤◌, ◌+◌, ◌^◌, ℕ, true, IfErr, IfOk, OnOk, length};
-ghost use Rattle.ciborium_ll_text.specs.Text.{IsCharacters};
+ghost use Rattle.std.specs.Prelude.{◌≡◌, ◌<◌, ◌≤◌, ◌+◌, ◌^◌, ℕ, true, IfErr, IfOk, OnOk, List, length, drop};
+ghost use Rattle.ciborium_ll_text.specs.Text.{IsCharacters, IsFront};
 ghost use Rattle.ciborium_ll_grammar.specs.Strings.{kind_header};
 ghost use Rattle.ciborium_ll_grammar.specs.Items.{IsItem};
 ghost use Rattle.cbor_encode.specs.Adding.{Adds};
@@ -28,6 +28,8 @@ pub(crate) struct Body {
 pub(crate) fn text_len(bytes: &[u8]) -> usize
     ensures within { result ≤ length bytes.now }
     ensures whole { result ≡ length bytes.now → IsCharacters bytes.now }
+    ensures front { (front : List ℕ) × IsFront bytes.now front (drop (length front) bytes.now)
+        × (result ≡ length front) }
 {
     text_front(bytes, 0, State::Between).0.len()
 }

@@ -141,7 +141,14 @@ module _ (order : Order) (depth : ℕ) where
       }
   unwritten_there bytes before encodings ahead start (Refused r) Memory are whole some sum fits refused is = absurd is
   unwritten_there bytes before encodings ahead start Memory (Refused m) are whole some sum fits refused is = absurd is
-  unwritten_there bytes before encodings ahead start Memory Memory are whole some sum fits refused is = tt
+  unwritten_there bytes before encodings ahead start Memory Memory are whole some sum fits refused is = record {
+    before = before;
+    encodings = encodings;
+    ahead = ahead;
+    are = are;
+    is = whole;
+    front = refused;
+  }
 
   -- Some bytes begin with items whose encodings these are, and the rest follows.
   pub record Rewrites (bytes encodings rest : List ℕ) : Type 0 where

@@ -1,8 +1,9 @@
 -- The deterministic encoding of a sequence of items (RFC 8949, 4.2, and RFC 8742), and what `canon` writes.
-use Rattle.std.specs.Prelude.{◌≡◌, ℕ, ◌+◌, ◌-◌, ◌^◌, min, List, [], ◌++◌, length, Option, Result, Ok, Err}
+use Rattle.std.specs.Prelude.{◌≡◌, ℕ, ◌+◌, ◌-◌, ◌^◌, min, false, List, [], ◌++◌, length, Option, Result, Ok, Err}
 use Rattle.std.specs.Io.KnownBytes.{Appends, Keeps}
 use Rattle.std.specs.IoError.{error_kind}
 use Rattle.std.specs.declared.io.ErrorKind.TheVariants as k
+use Rattle.cbor_skip.specs.ItemFaults.{BeginsWithItem}
 use Rattle.cbor_deterministic.specs.declared.Order.{Order}
 use Rattle.cbor_deterministic.specs.declared.Why.TheVariants as d
 use Rattle.cbor_canonical.specs.Canonical.{IsRewritten}
@@ -38,10 +39,20 @@ pub record StopsRewriting (order : Order) (depth : ℕ) (bytes : List ℕ) (refu
   pub refused : HasRefusal depth ahead refusal.why at
   pub place : refusal.place ≡ length before + at
 
--- Why the items of the bytes are not rewritten: an item is refused, as the second one of `01 ff`, or no memory is left.
+-- After items that have encodings, a further item begins, as the first one does in `01 1c`. In `1c` none begins.
+pub record HasItemLeft (order : Order) (depth : ℕ) (bytes : List ℕ) : Type 0 where
+  pub before : List ℕ
+  pub encodings : List ℕ
+  pub ahead : List ℕ
+  pub are : AreRewritten order depth before encodings
+  pub is : bytes ≡ before ++ ahead
+  pub front : BeginsWithItem false depth ahead
+
+-- Why the items of the bytes are not rewritten: an item is refused, as the second one of `01 ff`, or no memory is left
+-- for an item.
 abbrev pub AreUnwritten : Order → ℕ → List ℕ → CanonicalError → Type 0
 AreUnwritten order depth bytes (Refused refusal) = StopsRewriting order depth bytes refusal
-AreUnwritten order depth bytes Memory = Unit {0}
+AreUnwritten order depth bytes Memory = HasItemLeft order depth bytes
 
 -- The error of an item that begins at this offset, from the start of all the bytes. A place past the greatest number is
 -- that number. `Break` at 0 of an item at 2 is `Break` at 2.

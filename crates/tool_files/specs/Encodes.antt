@@ -1,6 +1,7 @@
 -- What is written of notation.
 use Rattle.std.specs.Prelude.{◌≡◌, ℕ, Bool, false, true, List, Option, Result, Ok, Err}
 use Rattle.std.specs.Io.KnownBytes.{Appends, Keeps}
+use Rattle.ciborium_ll_text.specs.Text.{IsCharacters}
 use Rattle.cbor_encode.specs.Places.{IsFaultIn}
 use Rattle.cbor_encode.specs.Sequences.{has_underscore}
 use Rattle.tool_verdicts.specs.Checking.{IsWanted}
@@ -8,9 +9,10 @@ use Rattle.tool_files.specs.Given.{IsWhole}
 use Rattle.tool_files.specs.declared.encode.EncodeFault.{EncodeFault}
 use Rattle.tool_files.specs.declared.encode.EncodeFault.TheVariants as e
 
--- The bytes are as wanted: one item, or a sequence of items (RFC 8742, 2). If the text has no underscore, and so no
--- mark, all titles are the shortest. From `1` come `01`, and from `1_0` come `18 01`.
+-- The text is UTF-8, and the bytes are as wanted: one item, or a sequence of items (RFC 8742, 2). If the text has no
+-- underscore, and so no mark, all titles are the shortest. From `1` come `01`, and from `1_0` come `18 01`.
 pub record AreEncoded (one : Bool) (depth : ℕ) (text bytes : List ℕ) : Type 0 where
+  pub is_text : IsCharacters text
   pub wanted : IsWanted one false depth bytes
   pub shortest : has_underscore text ≡ false → IsWanted one true depth bytes
 
