@@ -1,21 +1,21 @@
 -- The answers of a copier of items, by their numbers.
-use Rattle.std.proofs.Common.{◌≡◌, ◌+◌, ◌<◌, ◌≤◌, Bool, ℕ, true, false, List, [], ◌++◌, length, take, refl, sym, ap, subst, ◌∙◌}
-use Rattle.cbor_copier.specs.Spots.{Spot as Elements}
+use Rattle.std.proofs.Common.{◌≡◌, ◌+◌, ◌<◌, ◌≤◌, Bool, ℕ, List, [], ◌++◌, length, take, refl, sym, ap, subst, ◌∙◌}
+use Rattle.cbor_item_copier.specs.declared.copier.ItemCopier.{ItemCopier}
+use Rattle.cbor_item_copier.specs.declared.progress.Copied.{Copied}
 use Rattle.cbor_item_copier.specs.declared.progress.Progress.{Progress}
 use Rattle.cbor_item_copier.specs.declared.progress.Progress.TheVariants as r
 use Rattle.cbor_item_copier.specs.declared.progress.End.{End}
 use Rattle.cbor_item_copier.specs.declared.progress.End.TheVariants as e
-use Rattle.cbor_item_copier.specs.Telling.{IsMore, IsRoom, Tells, TellsEnd, end_of}
-use Rattle.cbor_item_copier.specs.Telling.{IsAnswer as IsProgress}
+use Rattle.cbor_item_copier.specs.Copying.{Answers, AnswersEnd, AnswersPiece, HasCopied, pending}
+use Rattle.cbor_item_copier.specs.Reading.{Copies, IsLast, IsMore, IsRoom, Tells, TellsEnd}
+use Rattle.cbor_item_copier.proofs.ReadLaws.{answers_unless, one_pending, same_answer, same_end}
 use Rattle.cbor_checker.specs.declared.phase.Fault.TheVariants as f
-use Rattle.cbor_checker.specs.Spots.{Spot}
-use Rattle.cbor_checker.specs.Telling.{is_due}
 use Rattle.capi.specs.declared.answer.CllAnswer.{CllAnswer}
 use Rattle.capi.specs.declared.answer.CllAnswer.TheVariants as a
 use Rattle.capi.specs.declared.answer.CllReport.{CllReport}
 use Rattle.capi.specs.declared.item_copier.CllItemCopier.{CllItemCopier}
 use Rattle.capi.specs.Answers.{Reports}
-use Rattle.capi.specs.ItemPieces.{EndsItem, FeedsItem, IsItemAnswer, IsItemCopiedTo, IsItemCopier, SaysOfItem}
+use Rattle.capi.specs.ItemPieces.{EndsItem, FeedsItem, IsItemCopyKept, SaysOfItem}
 use Rattle.capi.specs.ItemPieces.{SaysOfItemEnd, item_answer, item_end_answer, item_end_number, item_number}
 
 -- ---- a piece
@@ -29,17 +29,6 @@ says (r.Fault (f.Syntax place)) s d whole output told = told
 says (r.Fault (f.Break place)) s d whole output told = told
 says (r.Fault (f.Deep place)) s d whole output told = told
 says r.TooLong s d whole output told = (told, refl)
-
-answers : (progress : Progress) (item : Spot) (elements : Elements) → IsProgress progress elements.put item
-    → (progress ≡ r.TooLong → is_due item.phase ≡ true)
-    → IsItemAnswer (item_answer progress) (item_number progress) item elements
-answers (r.Ended len) item elements is cut = (ap item_answer is, ap item_number is)
-answers (r.More due) item elements is cut = (ap item_answer is, ap item_number is)
-answers r.Room item elements is cut = (ap item_answer is, ap item_number is)
-answers (r.Fault (f.Syntax place)) item elements is cut = (ap item_answer is, ap item_number is)
-answers (r.Fault (f.Break place)) item elements is cut = (ap item_answer is, ap item_number is)
-answers (r.Fault (f.Deep place)) item elements is cut = (ap item_answer is, ap item_number is)
-answers r.TooLong item elements is cut = (is, cut refl)
 
 short_more : (progress : Progress) → item_answer progress ≡ a.Short → IsMore progress
 short_more (r.More due) is = tt
@@ -68,57 +57,61 @@ room_room (r.Fault (f.Break place)) is = absurd cc
 room_room (r.Fault (f.Deep place)) is = absurd cc
 room_room r.TooLong is = absurd cc
 
--- The relation of a feed follows from the progress and the report.
-pub feeds : (s : Bool) (d : ℕ) (fed given : List ℕ) (old : Spot) (before : Elements) (bytes out output : List ℕ)
-    (taken written number : ℕ) (progress : Progress) (answer : CllAnswer) (report : CllReport) (new : CllItemCopier)
-    (item : Spot) (elements : Elements)
-    → Tells s d (fed ++ take taken bytes) (given ++ take written output) progress
-    → IsProgress progress elements.put item → (IsMore progress → taken ≡ length bytes)
-    → (progress ≡ r.TooLong → taken < length bytes) → (progress ≡ r.TooLong → is_due item.phase ≡ true)
-    → (IsRoom progress → written ≡ length out)
-    → (before.put ≡ [] → length bytes + 8 ≤ length out → IsRoom progress → ⊥)
-    → (is_due old.phase ≡ false → before.put ≡ [] → (taken ≡ 0) × (written ≡ 0) × (item ≡ old) × (elements ≡ before))
-    → IsItemCopier new item elements
-    → IsItemCopiedTo s d (fed ++ take taken bytes) (given ++ take written output) item elements
-    → answer ≡ item_answer progress → number ≡ item_number progress → Reports report taken written number
-    → FeedsItem s d fed given old before bytes out answer output report new
-feeds s d fed given old before bytes out output taken written number progress answer report new item elements told is
-    all long cut full fits stays kept copied answer_is number_is reports =
-    let t = reports.consumed_is in
-    let w = reports.written_is in
-    let told' : Tells s d (fed ++ take report.consumed bytes) (given ++ take report.written output) progress =
-    subst (λ (n : ℕ). Tells s d (fed ++ take n bytes) (given ++ take report.written output) progress) (sym t)
-    (subst (λ (n : ℕ). Tells s d (fed ++ take taken bytes) (given ++ take n output) progress) (sym w) told) in
-    let whole = fed ++ take report.consumed bytes in
-    let made = given ++ take report.written output in
-    let at : report.place ≡ item_number progress = reports.place_is ∙ number_is in
-    record {
-      all = λ short. t ∙ all (short_more progress (sym answer_is ∙ short));
-      long = λ is. subst (λ (n : ℕ). n < length bytes) (sym t) (long (long_long progress (sym answer_is ∙ is)));
-      full = λ room. w ∙ full (room_room progress (sym answer_is ∙ room));
-      fits = λ none enough room. fits none enough (room_room progress (sym answer_is ∙ room));
-      reports = record {
-        consumed_is = refl;
-        written_is = refl;
-        place_is = refl;
-        none_counted = reports.none_counted;
-        none_whole = reports.none_whole;
-        none_spelled = reports.none_spelled;
-      };
-      says = subst (λ (z : CllAnswer). SaysOfItem s d whole made z report.place) (sym answer_is)
-          (subst (λ (n : ℕ). SaysOfItem s d whole made (item_answer progress) n) (sym at)
-          (says progress s d whole made told'));
-      item = item;
-      elements = elements;
-      is_copier = kept;
-      is_copied = subst (λ (n : ℕ). IsItemCopiedTo s d (fed ++ take n bytes) made item elements) (sym t)
-          (subst (λ (n : ℕ). IsItemCopiedTo s d (fed ++ take taken bytes) (given ++ take n output) item elements)
-          (sym w) copied);
-      answers = subst (λ (z : CllAnswer). IsItemAnswer z report.place item elements) (sym answer_is)
-          (subst (λ (n : ℕ). IsItemAnswer (item_answer progress) n item elements) (sym at)
-          (answers progress item elements is cut));
-      stays = λ off none. let same = stays off none in (t ∙ same.0, w ∙ same.1, same.2, same.3);
-    }
+-- The relation of a feed follows from the answer and the report of the copier.
+module _ (s : Bool) (d : ℕ) (read written bytes out output : List ℕ) (copied : Copied) (number : ℕ)
+    (answer : CllAnswer) (report : CllReport) (old now : ItemCopier) where
+  pub feeds : (new : CllItemCopier) → HasCopied s d read written old
+      → HasCopied s d (read ++ take copied.taken bytes) (written ++ take copied.written output) now
+      → Copies s d read written bytes (take copied.written output) copied → AnswersPiece now copied.progress
+      → (IsRoom copied.progress → copied.written ≡ length out)
+      → (pending old ≡ [] → length bytes + 8 ≤ length out → IsRoom copied.progress → ⊥)
+      → ((progress : Progress) → Answers old progress → IsLast progress
+      → (copied.taken ≡ 0) × (copied.written ≡ 0))
+      → IsItemCopyKept s d (read ++ take copied.taken bytes) (written ++ take copied.written output) new
+      → answer ≡ item_answer copied.progress → number ≡ item_number copied.progress
+      → Reports report copied.taken copied.written number
+      → FeedsItem s d read written bytes out answer output report new
+  feeds new was is so answers full fits stays kept answer_is number_is reports =
+      let t = reports.consumed_is in
+      let w = reports.written_is in
+      let progress = copied.progress in
+      let whole = read ++ take report.consumed bytes in
+      let made = written ++ take report.written output in
+      let told : Tells s d whole made progress = rw (t, w) so.tells in
+      let at : report.place ≡ item_number progress = reports.place_is ∙ number_is in
+      record {
+        goes = λ len less. so.goes len (subst (λ (n : ℕ). len < n) t less);
+        all = λ short. t ∙ so.all (short_more progress (sym answer_is ∙ short));
+        long = λ far. subst (λ (n : ℕ). n < length bytes) (sym t)
+            (so.long (long_long progress (sym answer_is ∙ far)));
+        full = λ room. w ∙ full (room_room progress (sym answer_is ∙ room));
+        reports = record {
+          consumed_is = refl;
+          written_is = refl;
+          place_is = refl;
+          none_counted = reports.none_counted;
+          none_whole = reports.none_whole;
+          none_spelled = reports.none_spelled;
+        };
+        says = subst (λ (z : CllAnswer). SaysOfItem s d whole made z report.place) (sym answer_is)
+            (subst (λ (n : ℕ). SaysOfItem s d whole made (item_answer progress) n) (sym at)
+            (says progress s d whole made told));
+        is_kept = rw (t, w) kept;
+        fits = λ copier same none enough room.
+            fits (one_pending s d read written old copier was same ∙ none) enough
+            (room_room progress (sym answer_is ∙ room));
+        answers = λ some copier same.
+            let says = answers_unless now progress answers (λ far. some (answer_is ∙ ap item_answer far)) in (
+              progress,
+              same_answer s d (read ++ take copied.taken bytes) (written ++ take copied.written output) now copier
+                  progress is (rw (t, w) at same) says,
+              answer_is,
+              at,
+            );
+        stays = λ copier progress same says last.
+            let none = stays progress (same_answer s d read written copier old progress same was says) last in
+            (t ∙ none.0, w ∙ none.1);
+      }
 
 -- ---- an end
 
@@ -132,18 +125,17 @@ says_end (e.Fault (f.Break place)) s d whole output told = told
 says_end (e.Fault (f.Deep place)) s d whole output told = told
 
 -- The relation of an end follows from the end and the report.
-pub ends : (s : Bool) (d : ℕ) (fed given : List ℕ) (item : Spot) (elements : Elements) (end : End) (number : ℕ)
-    (answer : CllAnswer) (report : CllReport) → end ≡ end_of elements.put item → TellsEnd s d fed given end
-    → answer ≡ item_end_answer end → number ≡ item_end_number end → Reports report 0 0 number
-    → EndsItem s d fed given item elements answer report
-ends s d fed given item elements end number answer report is told answer_is number_is reports =
+pub ends : (s : Bool) (d : ℕ) (read written : List ℕ) (end : End) (number : ℕ) (answer : CllAnswer)
+    (report : CllReport) (now : ItemCopier) → HasCopied s d read written now → AnswersEnd now end
+    → TellsEnd s d read written end → answer ≡ item_end_answer end → number ≡ item_end_number end
+    → Reports report 0 0 number → EndsItem s d read written answer report
+ends s d read written end number answer report now was is told answer_is number_is reports =
     let at : report.place ≡ item_end_number end = reports.place_is ∙ number_is in
     record {
-      says = subst (λ (z : CllAnswer). SaysOfItemEnd s d fed given z report.place) (sym answer_is)
-          (subst (λ (n : ℕ). SaysOfItemEnd s d fed given (item_end_answer end) n) (sym at)
-          (says_end end s d fed given told));
-      answers = answer_is ∙ ap item_end_answer is;
-      number = at ∙ ap item_end_number is;
+      says = subst (λ (z : CllAnswer). SaysOfItemEnd s d read written z report.place) (sym answer_is)
+          (subst (λ (n : ℕ). SaysOfItemEnd s d read written (item_end_answer end) n) (sym at)
+          (says_end end s d read written told));
+      answers = λ copier same. (end, same_end s d read written now copier end was same is, answer_is, at);
       reports = record {
         consumed_is = reports.consumed_is;
         written_is = reports.written_is;

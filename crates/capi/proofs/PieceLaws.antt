@@ -1,19 +1,24 @@
 -- The answers of a copier, by their numbers.
-use Rattle.std.proofs.Common.{◌≡◌, ◌+◌, ◌<◌, ◌≤◌, ℕ, ◌↔◌, false, List, [], ◌++◌, length, take, refl, sym, ap, subst, ◌∙◌}
+use Rattle.std.proofs.Common.{◌≡◌, ◌+◌, ◌<◌, ◌≤◌, ℕ, ◌↔◌, List, [], ◌++◌, length, take, refl, sym, ap, subst, ◌∙◌}
+use Rattle.std.proofs.Common.{Option, Some, None}
+use Rattle.std.specs.Prelude.{IfSome}
+use Rattle.cbor_copier.specs.declared.copier.Copier.{Copier}
+use Rattle.cbor_copier.specs.declared.progress.Copied.{Copied}
 use Rattle.cbor_copier.specs.declared.progress.Progress.{Progress}
 use Rattle.cbor_copier.specs.declared.progress.Progress.TheVariants as r
 use Rattle.cbor_copier.specs.declared.progress.End.{End}
 use Rattle.cbor_copier.specs.declared.progress.End.TheVariants as e
-use Rattle.cbor_copier.specs.Copying.{IsCopiedTo}
-use Rattle.cbor_copier.specs.Spots.{Spot}
-use Rattle.cbor_copier.specs.Telling.{AreSpelled, IsMore, IsRoom, Tells, TellsEnd, end_of, is_due}
-use Rattle.cbor_copier.specs.Telling.{IsAnswer as IsProgress}
+use Rattle.cbor_copier.specs.Copying.{Answers, AnswersEnd, AnswersPiece, HasCopied, Saves, pending}
+use Rattle.cbor_copier.specs.Reading.{AreSpelled, Copies, IsLast, IsMore, IsRoom, Tells, TellsEnd}
+use Rattle.cbor_copier.proofs.EndLaws.{same_end}
+use Rattle.cbor_copier.proofs.ReadLaws.{answers_unless, one_pending, same_answer}
+use Rattle.cbor_copier.proofs.SavedLaws.{saved_some}
 use Rattle.capi.specs.declared.answer.CllAnswer.{CllAnswer}
 use Rattle.capi.specs.declared.answer.CllAnswer.TheVariants as a
 use Rattle.capi.specs.declared.answer.CllReport.{CllReport}
 use Rattle.capi.specs.declared.copier.CllCopier.{CllCopier}
 use Rattle.capi.specs.Answers.{Reports}
-use Rattle.capi.specs.Pieces.{EndsCopied, FeedsCopied, IsAnswer, IsCopier, SaysOf, SaysOfEnd, end_answer}
+use Rattle.capi.specs.Pieces.{EndsCopied, FeedsCopied, IsCopier, IsCopyKept, SaysOf, SaysOfEnd, end_answer}
 use Rattle.capi.specs.Pieces.{end_place, progress_answer, progress_place}
 
 -- ---- a piece
@@ -25,14 +30,6 @@ says r.More count whole output told = (told, refl)
 says r.Room count whole output told = (told, refl)
 says (r.Syntax place) count whole output told = told
 says r.TooLong count whole output told = (told, refl)
-
-answers : (progress : Progress) (spot : Spot) → IsProgress progress spot.put spot.phase
-    → IsAnswer (progress_answer progress) (progress_place progress) spot
-answers r.Ended spot is = (ap progress_answer is, ap progress_place is)
-answers r.More spot is = (ap progress_answer is, ap progress_place is)
-answers r.Room spot is = (ap progress_answer is, ap progress_place is)
-answers (r.Syntax place) spot is = (ap progress_answer is, ap progress_place is)
-answers r.TooLong spot is = is
 
 short_more : (progress : Progress) → progress_answer progress ≡ a.Short → IsMore progress
 short_more r.More is = tt
@@ -55,51 +52,61 @@ room_room r.More is = absurd cc
 room_room (r.Syntax place) is = absurd cc
 room_room r.TooLong is = absurd cc
 
--- The relation of a feed follows from the progress and the report.
-pub feeds : (count : ℕ) (fed given : List ℕ) (old : Spot) (bytes out output : List ℕ) (taken written place : ℕ)
-    (progress : Progress) (answer : CllAnswer) (report : CllReport) (new : CllCopier) (spot : Spot)
-    → Tells count (fed ++ take taken bytes) (given ++ take written output) progress
-    → IsProgress progress spot.put spot.phase → (IsMore progress → taken ≡ length bytes)
-    → (progress ≡ r.TooLong → taken < length bytes) → (IsRoom progress → written ≡ length out)
-    → (old.put ≡ [] → length bytes + 8 ≤ length out → IsRoom progress → ⊥)
-    → (is_due old.phase ≡ false → old.put ≡ [] → (taken ≡ 0) × (written ≡ 0) × (spot ≡ old))
-    → IsCopier new spot → IsCopiedTo count (fed ++ take taken bytes) (given ++ take written output) spot
-    → answer ≡ progress_answer progress → place ≡ progress_place progress → Reports report taken written place
-    → FeedsCopied count fed given old bytes out answer output report new
-feeds count fed given old bytes out output taken written place progress answer report new spot told is all long full
-    fits stays kept copied answer_is place_is reports =
-    let t = reports.consumed_is in
-    let w = reports.written_is in
-    let told' : Tells count (fed ++ take report.consumed bytes) (given ++ take report.written output) progress =
-    subst (λ (n : ℕ). Tells count (fed ++ take n bytes) (given ++ take report.written output) progress) (sym t)
-    (subst (λ (n : ℕ). Tells count (fed ++ take taken bytes) (given ++ take n output) progress) (sym w) told) in
-    let whole = fed ++ take report.consumed bytes in
-    let made = given ++ take report.written output in
-    let at : report.place ≡ progress_place progress = reports.place_is ∙ place_is in
-    record {
-      all = λ short. t ∙ all (short_more progress (sym answer_is ∙ short));
-      long = λ is. subst (λ (n : ℕ). n < length bytes) (sym t) (long (long_long progress (sym answer_is ∙ is)));
-      full = λ room. w ∙ full (room_room progress (sym answer_is ∙ room));
-      fits = λ none enough room. fits none enough (room_room progress (sym answer_is ∙ room));
-      reports = record {
-        consumed_is = refl;
-        written_is = refl;
-        place_is = refl;
-        none_counted = reports.none_counted;
-        none_whole = reports.none_whole;
-        none_spelled = reports.none_spelled;
-      };
-      says = subst (λ (z : CllAnswer). SaysOf count whole made z report.place) (sym answer_is)
-          (subst (λ (n : ℕ). SaysOf count whole made (progress_answer progress) n) (sym at)
-          (says progress count whole made told'));
-      spot = spot;
-      is_copier = kept;
-      is_copied = subst (λ (n : ℕ). IsCopiedTo count (fed ++ take n bytes) made spot) (sym t)
-          (subst (λ (n : ℕ). IsCopiedTo count (fed ++ take taken bytes) (given ++ take n output) spot) (sym w) copied);
-      answers = subst (λ (z : CllAnswer). IsAnswer z report.place spot) (sym answer_is)
-          (subst (λ (n : ℕ). IsAnswer (progress_answer progress) n spot) (sym at) (answers progress spot is));
-      stays = λ off none. let s = stays off none in (t ∙ s.0, w ∙ s.1, s.2);
-    }
+-- The relation of a feed follows from the answer and the report of the copier.
+module _ (count : ℕ) (read written bytes out output : List ℕ) (copied : Copied) (place : ℕ) (answer : CllAnswer)
+    (report : CllReport) (old now : Copier) where
+  pub feeds : (new : CllCopier) → HasCopied count read written old
+      → HasCopied count (read ++ take copied.taken bytes) (written ++ take copied.written output) now
+      → Copies count read written bytes (take copied.written output) copied → AnswersPiece now copied.progress
+      → (IsRoom copied.progress → copied.written ≡ length out)
+      → (pending old ≡ [] → length bytes + 8 ≤ length out → IsRoom copied.progress → ⊥)
+      → ((progress : Progress) → Answers old progress → IsLast progress
+      → (copied.taken ≡ 0) × (copied.written ≡ 0))
+      → IsCopyKept count (read ++ take copied.taken bytes) (written ++ take copied.written output) new
+      → answer ≡ progress_answer copied.progress → place ≡ progress_place copied.progress
+      → Reports report copied.taken copied.written place
+      → FeedsCopied count read written bytes out answer output report new
+  feeds new was is so answers full fits stays kept answer_is place_is reports =
+      let t = reports.consumed_is in
+      let w = reports.written_is in
+      let progress = copied.progress in
+      let whole = read ++ take report.consumed bytes in
+      let made = written ++ take report.written output in
+      let told : Tells count whole made progress = rw (t, w) so.tells in
+      let at : report.place ≡ progress_place progress = reports.place_is ∙ place_is in
+      record {
+        goes = λ len less. so.goes len (subst (λ (n : ℕ). len < n) t less);
+        all = λ short. t ∙ so.all (short_more progress (sym answer_is ∙ short));
+        long = λ far. subst (λ (n : ℕ). n < length bytes) (sym t)
+            (so.long (long_long progress (sym answer_is ∙ far)));
+        full = λ room. w ∙ full (room_room progress (sym answer_is ∙ room));
+        reports = record {
+          consumed_is = refl;
+          written_is = refl;
+          place_is = refl;
+          none_counted = reports.none_counted;
+          none_whole = reports.none_whole;
+          none_spelled = reports.none_spelled;
+        };
+        says = subst (λ (z : CllAnswer). SaysOf count whole made z report.place) (sym answer_is)
+            (subst (λ (n : ℕ). SaysOf count whole made (progress_answer progress) n) (sym at)
+            (says progress count whole made told));
+        is_kept = rw (t, w) kept;
+        fits = λ copier same none enough room.
+            fits (one_pending count read written old copier was same ∙ none) enough
+            (room_room progress (sym answer_is ∙ room));
+        answers = λ some copier same.
+            let says = answers_unless now progress answers (λ far. some (answer_is ∙ ap progress_answer far)) in (
+              progress,
+              same_answer count (read ++ take copied.taken bytes) (written ++ take copied.written output) now copier
+                  progress is (rw (t, w) at same) says,
+              answer_is,
+              at,
+            );
+        stays = λ copier progress same says last.
+            let none = stays progress (same_answer count read written copier old progress same was says) last in
+            (t ∙ none.0, w ∙ none.1);
+      }
 
 -- ---- an end
 
@@ -117,23 +124,22 @@ ok_ended e.Room is = absurd cc
 ok_ended (e.Syntax place) is = absurd cc
 
 -- The relation of an end follows from the end and the report.
-pub ends : (count : ℕ) (fed given : List ℕ) (spot : Spot) (end : End) (place : ℕ) (answer : CllAnswer)
-    (report : CllReport) → end ≡ end_of spot.put spot.phase → TellsEnd count fed given end
-    → (end ≡ e.Ended) ↔ AreSpelled count fed given
+pub ends : (count : ℕ) (read written : List ℕ) (end : End) (place : ℕ) (answer : CllAnswer) (report : CllReport)
+    (now : Copier) → HasCopied count read written now → AnswersEnd now end → TellsEnd count read written end
+    → (end ≡ e.Ended) ↔ AreSpelled count read written
     → answer ≡ end_answer end → place ≡ end_place end → Reports report 0 0 place
-    → EndsCopied count fed given spot answer report
-ends count fed given spot end place answer report is told exact answer_is place_is reports =
+    → EndsCopied count read written answer report
+ends count read written end place answer report now was is told exact answer_is place_is reports =
     let at : report.place ≡ end_place end = reports.place_is ∙ place_is in
     record {
-      says = subst (λ (z : CllAnswer). SaysOfEnd count fed given z report.place) (sym answer_is)
-          (subst (λ (n : ℕ). SaysOfEnd count fed given (end_answer end) n) (sym at)
-          (says_end end count fed given told));
+      says = subst (λ (z : CllAnswer). SaysOfEnd count read written z report.place) (sym answer_is)
+          (subst (λ (n : ℕ). SaysOfEnd count read written (end_answer end) n) (sym at)
+          (says_end end count read written told));
       exactly = (
         λ ok. exact.0 (ok_ended end (sym answer_is ∙ ok)),
         λ spelled. answer_is ∙ ap end_answer (exact.1 spelled),
       );
-      answers = answer_is ∙ ap end_answer is;
-      place = at ∙ ap end_place is;
+      answers = λ copier same. (end, same_end count read written now copier end was same is, answer_is, at);
       reports = record {
         consumed_is = reports.consumed_is;
         written_is = reports.written_is;
@@ -143,3 +149,12 @@ ends count fed given spot end place answer report is told exact answer_is place_
         none_spelled = reports.none_spelled;
       };
     }
+
+-- ---- the memory
+
+-- Memory with the mark and the numbers of a copier holds it.
+pub is_copier : (memory : CllCopier) (found : Option Copier) → memory.mark ≡ 7308327815843050611
+    → IfSome found (λ copier. Saves copier memory.state) → IfSome found (λ copier. IsCopier memory)
+is_copier memory None mark saves = tt
+is_copier memory (Some copier) mark saves =
+    record { mark = mark; state = saved_some copier memory.state saves }

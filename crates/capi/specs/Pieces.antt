@@ -1,32 +1,38 @@
 -- The results of the calls of a copier. C keeps the copier in memory of its own.
-use Rattle.std.specs.Prelude.{◌≡◌, ◌+◌, ◌<◌, ◌≤◌, ◌↔◌, ℕ, false, List, [], ◌++◌, drop, length, take}
+use Rattle.std.specs.Prelude.{◌≡◌, ◌+◌, ◌<◌, ◌≤◌, ◌↔◌, ℕ, List, [], ◌++◌, drop, length, take}
+use Rattle.cbor_copier.specs.declared.copier.Copier.{Copier}
 use Rattle.cbor_copier.specs.declared.progress.Progress.{Progress}
 use Rattle.cbor_copier.specs.declared.progress.Progress.TheVariants as r
 use Rattle.cbor_copier.specs.declared.progress.End.{End}
 use Rattle.cbor_copier.specs.declared.progress.End.TheVariants as e
-use Rattle.cbor_copier.specs.Copying.{IsCopiedTo}
-use Rattle.cbor_copier.specs.Snapshots.{Holds}
-use Rattle.cbor_copier.specs.Spots.{Spot}
-use Rattle.cbor_copier.specs.Telling.{AreSpelled, Tells, TellsEnd, end_of, is_due, progress_of}
+use Rattle.cbor_copier.specs.Copying.{Answers, AnswersEnd, HasCopied, HoldsSome, Keeps, pending}
+use Rattle.cbor_copier.specs.Reading.{AreSpelled, GoesOn, IsLast, Tells, TellsEnd}
 use Rattle.capi.specs.declared.answer.CllAnswer.{CllAnswer}
 use Rattle.capi.specs.declared.answer.CllAnswer.TheVariants as a
 use Rattle.capi.specs.declared.answer.CllReport.{CllReport}
 use Rattle.capi.specs.declared.copier.CllCopier.{CllCopier}
 use Rattle.capi.specs.Answers.{Reports}
 
--- This memory holds a copier that has come to the spot. The mark is "elements" in ASCII.
-pub record IsCopier (copier : CllCopier) (spot : Spot) : Type 0 where
+-- This memory holds a copier of `count` elements, which has read and written exactly these bytes. The mark is
+-- "elements" in ASCII. After `cll_copier_feed` took `18 01` in a room of 1, it holds one that has read `18 01` and
+-- written `01`.
+pub record IsCopyKept (count : ℕ) (read written : List ℕ) (copier : CllCopier) : Type 0 where
   pub mark : copier.mark ≡ 7308327815843050611
-  pub state : Holds copier.state spot
+  pub state : Keeps count read written copier.state
+
+-- This memory holds a copier, even if no bytes lead to its state. With the mark 0 it does not.
+pub record IsCopier (copier : CllCopier) : Type 0 where
+  pub mark : copier.mark ≡ 7308327815843050611
+  pub state : HoldsSome copier.state
 
 -- This memory holds no copier. Memory with the mark 0 holds none.
 abbrev pub IsNoCopier : CllCopier → Type 0
-IsNoCopier copier = (spot : Spot) → IsCopier copier spot → ⊥
+IsNoCopier copier = IsCopier copier → ⊥
 
--- This memory holds a copier of `count` elements, to which nothing came and which wrote nothing. If `count` is 2, two
+-- This memory holds a copier of `count` elements, which has read no byte and written none. If `count` is 2, two
 -- elements are due.
 abbrev pub IsCopierOf : ℕ → CllCopier → Type 0
-IsCopierOf count copier = (spot : Spot) × IsCopier copier spot × IsCopiedTo count [] [] spot
+IsCopierOf count copier = IsCopyKept count [] [] copier
 
 -- The answer that stands for the progress that `feed` of `cbor_copier` returns. `More`, as for one element after `18`,
 -- has `Short`.
@@ -55,12 +61,16 @@ abbrev pub end_place : End → ℕ
 end_place (e.Syntax place) = place
 end_place end = 0
 
--- The answer with its place is that of the spot, unless no more bytes can be counted. After `1c` it is `Syntax` with 0.
-abbrev pub IsAnswer : CllAnswer → ℕ → Spot → Type 0
-IsAnswer a.TooLong place spot = progress_of spot.put spot.phase ≡ r.More
-IsAnswer answer place spot =
-    (answer ≡ progress_answer (progress_of spot.put spot.phase))
-    × (place ≡ progress_place (progress_of spot.put spot.phase))
+-- The answer with its place is that of the copier. After `1c` it is `Syntax` with 0.
+abbrev pub IsAnswer : CllAnswer → ℕ → Copier → Type 0
+IsAnswer answer place copier =
+    (progress : Progress) × Answers copier progress × (answer ≡ progress_answer progress)
+    × (place ≡ progress_place progress)
+
+-- The answer with its place is that of the copier if no more bytes come. After `18` it is `Short` with 0.
+abbrev pub IsEndAnswer : CllAnswer → ℕ → Copier → Type 0
+IsEndAnswer answer place copier =
+    (end : End) × AnswersEnd copier end × (answer ≡ end_answer end) × (place ≡ end_place end)
 
 -- The meaning of an answer and its place for all bytes so far and for all that was written. They are `count` elements,
 -- in their shortest spelling. Or more are due, and all that can be written is. Or there is more to write. Or the
@@ -81,26 +91,33 @@ pub record StaysWithin (bytes out output : List ℕ) (report : CllReport) : Type
   pub written : report.written ≤ length out
   pub kept : drop report.written output ≡ drop report.written out
 
--- The result of `cll_copier_feed` for a piece, and for a copier that has come to the old spot. The call takes all bytes
--- if more are due, and fewer if no more can be counted. It writes as much as there is room for, if there is more. If
--- nothing was pending, a room of eight bytes more than the piece has is enough. The answer holds for all bytes so far
--- and for all that was written, which have led to the spot of the new copier. After an end or a fault nothing is taken
--- or written (RFC 7049, 2.1 and 2.2). For one element, after `18`, the piece `17 01` in a room of 1 is `Ok`: one byte
--- is consumed, and `17` is written.
-pub record FeedsCopied (count : ℕ) (fed given : List ℕ) (old : Spot) (bytes out : List ℕ) (answer : CllAnswer)
-    (output : List ℕ) (report : CllReport) (new : CllCopier) : Type 0 where
+-- The result of `cll_copier_feed` for a piece, and for a copier that has read and written some bytes. `goes`: the call
+-- takes a byte only if the elements go on after all bytes before it. It takes all bytes if more are due, and fewer if
+-- no more can be counted. It writes as much as there is room for, if there is more. The answer holds for all bytes so
+-- far and for all that was written (RFC 7049, 2.1 and 2.2).
+--
+-- The other lines speak of any copier that has read and written the same bytes. `fits`: if nothing was pending, a room
+-- of eight bytes more than the piece has is enough. `answers`: unless no more can be counted, the answer and its place
+-- are the copier's. `stays`: after an end or a fault nothing is taken or written.
+--
+-- For one element, after `18`, the piece `17 01` in a room of 1 is `Ok`: one byte is consumed, and `17` is written.
+pub record FeedsCopied (count : ℕ) (read written bytes out : List ℕ) (answer : CllAnswer) (output : List ℕ)
+    (report : CllReport) (new : CllCopier) : Type 0 where
+  pub goes : (len : ℕ) → len < report.consumed → GoesOn count (read ++ take len bytes)
   pub all : answer ≡ a.Short → report.consumed ≡ length bytes
   pub long : answer ≡ a.TooLong → report.consumed < length bytes
   pub full : answer ≡ a.Room → report.written ≡ length out
-  pub fits : old.put ≡ [] → length bytes + 8 ≤ length out → answer ≡ a.Room → ⊥
   pub reports : Reports report report.consumed report.written report.place
-  pub says : SaysOf count (fed ++ take report.consumed bytes) (given ++ take report.written output) answer report.place
-  pub spot : Spot
-  pub is_copier : IsCopier new spot
-  pub is_copied : IsCopiedTo count (fed ++ take report.consumed bytes) (given ++ take report.written output) spot
-  pub answers : IsAnswer answer report.place spot
-  pub stays : is_due old.phase ≡ false → old.put ≡ []
-      → (report.consumed ≡ 0) × (report.written ≡ 0) × (spot ≡ old)
+  pub says : SaysOf count (read ++ take report.consumed bytes) (written ++ take report.written output) answer
+      report.place
+  pub is_kept : IsCopyKept count (read ++ take report.consumed bytes) (written ++ take report.written output) new
+  pub fits : (copier : Copier) → HasCopied count read written copier → pending copier ≡ []
+      → length bytes + 8 ≤ length out → answer ≡ a.Room → ⊥
+  pub answers : (answer ≡ a.TooLong → ⊥) → (copier : Copier)
+      → HasCopied count (read ++ take report.consumed bytes) (written ++ take report.written output) copier
+      → IsAnswer answer report.place copier
+  pub stays : (copier : Copier) (progress : Progress) → HasCopied count read written copier → Answers copier progress
+      → IsLast progress → (report.consumed ≡ 0) × (report.written ≡ 0)
 
 -- The meaning of an answer and its place if no more bytes come: they are `count` elements, they are cut off, there is
 -- more to write, or the elements never begin so. For one element `18` without output is `Short` with 0.
@@ -111,13 +128,12 @@ SaysOfEnd count whole output a.Room place = TellsEnd count whole output e.Room �
 SaysOfEnd count whole output a.Syntax place = TellsEnd count whole output (e.Syntax place)
 SaysOfEnd count whole output answer place = ⊥
 
--- The result of `cll_copier_end` at the spot. The answer and its place are those of the spot. The answer is `Ok`
--- exactly if the bytes are `count` elements and their shortest spelling is written (RFC 7049, 2.1 and 2.2). For one
--- element `19 00 01` it is `Ok` if `01` was given, and `Room` if nothing was.
-pub record EndsCopied (count : ℕ) (fed given : List ℕ) (spot : Spot) (answer : CllAnswer) (report : CllReport)
-    : Type 0 where
-  pub says : SaysOfEnd count fed given answer report.place
-  pub exactly : answer ≡ a.Ok ↔ AreSpelled count fed given
-  pub answers : answer ≡ end_answer (end_of spot.put spot.phase)
-  pub place : report.place ≡ end_place (end_of spot.put spot.phase)
+-- The result of `cll_copier_end`: the answer holds for all bytes and for all that was written. `answers`: the answer
+-- and its place are those of any copier that has read and written the same bytes. The answer is `Ok` exactly if the
+-- bytes are `count` elements and their shortest spelling is written (RFC 7049, 2.1 and 2.2). For one element `19 00 01`
+-- it is `Ok` if `01` was written, and `Room` if nothing was.
+pub record EndsCopied (count : ℕ) (read written : List ℕ) (answer : CllAnswer) (report : CllReport) : Type 0 where
+  pub says : SaysOfEnd count read written answer report.place
+  pub exactly : answer ≡ a.Ok ↔ AreSpelled count read written
+  pub answers : (copier : Copier) → HasCopied count read written copier → IsEndAnswer answer report.place copier
   pub reports : Reports report 0 0 report.place

@@ -1,11 +1,10 @@
 //! Copiers that a program in C keeps in memory of its own.
 
-ghost use Rattle.std.specs.Prelude.{◌≡◌, ◌≤◌, ℕ, List, IfSome};
-ghost use Rattle.cbor_copier.specs.Copying.{IsAt, IsCopiedTo, spot_of};
-ghost use Rattle.cbor_copier.specs.Spots.{Spot};
+ghost use Rattle.std.specs.Prelude.{◌≡◌, ◌≤◌, ℕ, List, IfSome, IsSomeAnd};
+ghost use Rattle.cbor_copier.specs.Copying.{HasCopied};
 ghost use Rattle.capi.specs.declared.answer.CllAnswer.TheVariants as a;
 ghost use Rattle.capi.specs.Answers.{Reports};
-ghost use Rattle.capi.specs.Pieces.{EndsCopied, FeedsCopied, IsCopier, IsCopierOf, IsNoCopier, StaysWithin};
+ghost use Rattle.capi.specs.Pieces.{EndsCopied, FeedsCopied, IsCopier, IsCopierOf, IsCopyKept, IsNoCopier, StaysWithin};
 ghost use Rattle.capi.specs.Pieces.{end_answer, end_place, progress_answer, progress_place};
 
 use crate::answer::{CllAnswer, CllReport};
@@ -30,8 +29,9 @@ impl CllCopier {
     /// Returns the copier that this memory holds, if it holds one.
     #[inline(always)]
     fn restored(&self) -> Option<Copier>
-        ensures some { IfSome result (λ copier. IsCopier self.now (spot_of copier)) }
-        ensures same { (spot : Spot) → IsCopier self.now spot → IsAt result spot }
+        ensures some { IfSome result (λ copier. IsCopier self.now) }
+        ensures kept { (count : ℕ) (read written : List ℕ) → IsCopyKept count read written self.now
+            → IsSomeAnd result (λ copier. HasCopied count read written copier) }
     {
         if self.mark == MARK {
             Copier::restore(&self.state)
@@ -83,9 +83,8 @@ pub(crate) fn feed(
     out: &mut [u8],
     report: &mut CllReport,
 ) -> CllAnswer
-    ensures fed { (count : ℕ) (fed given : List ℕ) (spot : Spot) → IsCopiedTo count fed given spot
-        → IsCopier copier.old spot
-        → FeedsCopied count fed given spot bytes.now out.old result out.new report.new copier.new }
+    ensures fed { (count : ℕ) (read written : List ℕ) → IsCopyKept count read written copier.old
+        → FeedsCopied count read written bytes.now out.old result out.new report.new copier.new }
     ensures within { StaysWithin bytes.now out.old out.new report.new }
     ensures argument { IsNoCopier copier.old
         → (result ≡ a.Argument) × (copier.new ≡ copier.old) × (out.new ≡ out.old) × Reports report.new 0 0 0 }
@@ -103,8 +102,8 @@ pub(crate) fn feed(
 
 /// Says what it means that no more bytes come to a copier.
 pub(crate) fn end(copier: &CllCopier, report: &mut CllReport) -> CllAnswer
-    ensures ended { (count : ℕ) (fed given : List ℕ) (spot : Spot) → IsCopiedTo count fed given spot
-        → IsCopier copier.now spot → EndsCopied count fed given spot result report.new }
+    ensures ended { (count : ℕ) (read written : List ℕ) → IsCopyKept count read written copier.now
+        → EndsCopied count read written result report.new }
     ensures argument { IsNoCopier copier.now → (result ≡ a.Argument) × Reports report.new 0 0 0 }
 {
     let Some(restored) = copier.restored() else {

@@ -1,13 +1,10 @@
 //! Copiers of items that a program in C keeps in memory of its own.
 
 ghost use Rattle.std.specs.Prelude.{◌≡◌, ◌≤◌, Bool, ℕ, List, true};
-ghost use Rattle.cbor_copier.specs.Spots.{Spot as Elements};
-ghost use Rattle.cbor_item_copier.specs.Copying.{item_spot};
-ghost use Rattle.cbor_item_copier.specs.Snapshots.{kept_spot};
-ghost use Rattle.cbor_checker.specs.Spots.{Spot};
+ghost use Rattle.cbor_item_copier.specs.Copying.{HasCopied};
 ghost use Rattle.capi.specs.declared.answer.CllAnswer.TheVariants as a;
 ghost use Rattle.capi.specs.Answers.{Reports};
-ghost use Rattle.capi.specs.ItemPieces.{EndsItem, FeedsItem, IsItemCopiedTo, IsItemCopier, IsItemSetUp};
+ghost use Rattle.capi.specs.ItemPieces.{EndsItem, FeedsItem, IsItemCopier, IsItemCopyKept, IsItemSetUp};
 ghost use Rattle.capi.specs.ItemPieces.{IsNoItemCopier, item_answer, item_end_answer, item_end_number};
 ghost use Rattle.capi.specs.ItemPieces.{item_number};
 ghost use Rattle.capi.specs.Pieces.{StaysWithin};
@@ -38,10 +35,10 @@ impl CllItemCopier {
     /// Makes `copier` the one that this memory holds, and says whether it holds one.
     #[inline(always)]
     fn load_into(&self, copier: &mut ItemCopier) -> bool
-        ensures some { result ≡ true → IsItemCopier self.now (item_spot copier.new) (kept_spot copier.new) }
-        ensures found { (item : Spot) (elements : Elements) → IsItemCopier self.now item elements → result ≡ true }
-        ensures same { (item : Spot) (elements : Elements) → IsItemCopier self.now item elements
-            → (item_spot copier.new ≡ item) × (kept_spot copier.new ≡ elements) }
+        ensures some { result ≡ true → IsItemCopier self.now }
+        ensures kept { (strict : Bool) (depth : ℕ) (read written : List ℕ)
+            → IsItemCopyKept strict depth read written self.now
+            → (result ≡ true) × HasCopied strict depth read written copier.new }
     {
         self.mark == MARK && copier.load(&self.state)
     }
@@ -90,9 +87,9 @@ pub(crate) fn feed(
     out: &mut [u8],
     report: &mut CllReport,
 ) -> CllAnswer
-    ensures fed { (strict : Bool) (depth : ℕ) (fed given : List ℕ) (item : Spot) (elements : Elements)
-        → IsItemCopiedTo strict depth fed given item elements → IsItemCopier copier.old item elements
-        → FeedsItem strict depth fed given item elements bytes.now out.old result out.new report.new copier.new }
+    ensures fed { (strict : Bool) (depth : ℕ) (read written : List ℕ)
+        → IsItemCopyKept strict depth read written copier.old
+        → FeedsItem strict depth read written bytes.now out.old result out.new report.new copier.new }
     ensures within { StaysWithin bytes.now out.old out.new report.new }
     ensures argument { IsNoItemCopier copier.old
         → (result ≡ a.Argument) × (copier.new ≡ copier.old) × (out.new ≡ out.old) × Reports report.new 0 0 0 }
@@ -111,9 +108,9 @@ pub(crate) fn feed(
 
 /// Says what it means that no more bytes come to a copier of an item.
 pub(crate) fn end(copier: &CllItemCopier, report: &mut CllReport) -> CllAnswer
-    ensures ended { (strict : Bool) (depth : ℕ) (fed given : List ℕ) (item : Spot) (elements : Elements)
-        → IsItemCopiedTo strict depth fed given item elements → IsItemCopier copier.now item elements
-        → EndsItem strict depth fed given item elements result report.new }
+    ensures ended { (strict : Bool) (depth : ℕ) (read written : List ℕ)
+        → IsItemCopyKept strict depth read written copier.now
+        → EndsItem strict depth read written result report.new }
     ensures argument { IsNoItemCopier copier.now → (result ≡ a.Argument) × Reports report.new 0 0 0 }
 {
     let mut restored = ItemCopier::new(0);

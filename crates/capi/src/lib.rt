@@ -3,13 +3,10 @@
 #![tactic(auto)]
 
 ghost use Rattle.std.specs.Prelude.{◌≡◌, ◌≢◌, ◌↔◌, ◌≤◌, ◌<◌, ◌⊎◌, List, ◌++◌, drop, length, Bool, true, false, ℕ};
-ghost use Rattle.cbor_copier.specs.Copying.{IsCopiedTo};
-ghost use Rattle.cbor_copier.specs.Spots.{Spot as CopySpot};
 ghost use Rattle.cbor_deterministic.specs.declared.Order.{Order as AnyOrder};
 ghost use Rattle.cbor_deterministic.specs.declared.Why.{Why as AnyWhy};
 ghost use Rattle.cbor_deterministic.specs.Deterministic.{HasDeterministic};
 ghost use Rattle.cbor_deterministic.specs.Refusals.{HasRefusal};
-ghost use Rattle.cbor_checker.specs.Spots.{Spot};
 ghost use Rattle.ciborium_ll.specs.Faults.{BeginsWithElements};
 ghost use Rattle.ciborium_ll.specs.Recoding.{CopiesElements};
 ghost use Rattle.ciborium_ll.specs.Sides.{sides};
@@ -28,10 +25,10 @@ ghost use Rattle.capi.specs.Copying.{CopiesInto, CopiesAnyhow, HasRoom, copy_ans
 ghost use Rattle.capi.specs.Counting.{CountsCopy, CountsElements, CountsStrictly};
 ghost use Rattle.capi.specs.Determining.{Determines, IsNoOrder, named_place, order_code, why_answer};
 ghost use Rattle.capi.specs.Feeding.{EndsFed, Feeds, IsKept, IsNoChecker, IsSetUp, TakesWithin};
-ghost use Rattle.capi.specs.ItemPieces.{EndsItem, FeedsItem, IsItemCopiedTo, IsItemCopier, IsItemSetUp};
+ghost use Rattle.capi.specs.ItemPieces.{EndsItem, FeedsItem, IsItemCopyKept, IsItemSetUp};
 ghost use Rattle.capi.specs.ItemPieces.{IsNoItemCopier};
 ghost use Rattle.capi.specs.Lacking.{ElementsLack, ItemLacks};
-ghost use Rattle.capi.specs.Pieces.{EndsCopied, FeedsCopied, IsCopier, IsCopierOf, IsNoCopier, StaysWithin};
+ghost use Rattle.capi.specs.Pieces.{EndsCopied, FeedsCopied, IsCopierOf, IsCopyKept, IsNoCopier, StaysWithin};
 ghost use Rattle.capi.specs.Pulling.{CllPull, BeginsWithTitle};
 ghost use Rattle.capi.specs.Pushing.{CllPush, Puts};
 ghost use Rattle.capi.specs.Rewriting.{Rewrites};
@@ -658,9 +655,9 @@ pub fn cll_copier_feed(
     out: &mut [u8],
     report: &mut CllReport,
 ) -> u32
-    ensures fed { (count : ℕ) (fed given : List ℕ) (spot : CopySpot) → IsCopiedTo count fed given spot
-        → IsCopier copier.old spot → (answer : CllAnswer) × (result ≡ code answer)
-        × FeedsCopied count fed given spot bytes.now out.old answer out.new report.new copier.new }
+    ensures fed { (count : ℕ) (read written : List ℕ) → IsCopyKept count read written copier.old
+        → (answer : CllAnswer) × (result ≡ code answer)
+        × FeedsCopied count read written bytes.now out.old answer out.new report.new copier.new }
     ensures answers { IsCode result }
     ensures within { StaysWithin bytes.now out.old out.new report.new }
     ensures argument { IsNoCopier copier.old → (result ≡ code a.Argument) × (copier.new ≡ copier.old)
@@ -671,9 +668,8 @@ pub fn cll_copier_feed(
 
 /// Says what it means that no more bytes come to a copier, and leaves it as it is.
 pub fn cll_copier_end(copier: &CllCopier, report: &mut CllReport) -> u32
-    ensures ended { (count : ℕ) (fed given : List ℕ) (spot : CopySpot) → IsCopiedTo count fed given spot
-        → IsCopier copier.now spot → (answer : CllAnswer) × (result ≡ code answer)
-        × EndsCopied count fed given spot answer report.new }
+    ensures ended { (count : ℕ) (read written : List ℕ) → IsCopyKept count read written copier.now
+        → (answer : CllAnswer) × (result ≡ code answer) × EndsCopied count read written answer report.new }
     ensures answers { IsCode result }
     ensures argument { IsNoCopier copier.now → (result ≡ code a.Argument) × Reports report.new 0 0 0 }
 {
@@ -712,10 +708,9 @@ pub fn cll_item_copier_feed(
     out: &mut [u8],
     report: &mut CllReport,
 ) -> u32
-    ensures fed { (strict : Bool) (depth : ℕ) (fed given : List ℕ) (item : Spot) (elements : CopySpot)
-        → IsItemCopiedTo strict depth fed given item elements → IsItemCopier copier.old item elements
-        → (answer : CllAnswer) × (result ≡ code answer)
-        × FeedsItem strict depth fed given item elements bytes.now out.old answer out.new report.new copier.new }
+    ensures fed { (strict : Bool) (depth : ℕ) (read written : List ℕ)
+        → IsItemCopyKept strict depth read written copier.old → (answer : CllAnswer) × (result ≡ code answer)
+        × FeedsItem strict depth read written bytes.now out.old answer out.new report.new copier.new }
     ensures answers { IsCode result }
     ensures within { StaysWithin bytes.now out.old out.new report.new }
     ensures argument { IsNoItemCopier copier.old → (result ≡ code a.Argument) × (copier.new ≡ copier.old)
@@ -726,10 +721,9 @@ pub fn cll_item_copier_feed(
 
 /// Says what it means that no more bytes come to a copier of an item, and leaves it as it is.
 pub fn cll_item_copier_end(copier: &CllItemCopier, report: &mut CllReport) -> u32
-    ensures ended { (strict : Bool) (depth : ℕ) (fed given : List ℕ) (item : Spot) (elements : CopySpot)
-        → IsItemCopiedTo strict depth fed given item elements → IsItemCopier copier.now item elements
-        → (answer : CllAnswer) × (result ≡ code answer)
-        × EndsItem strict depth fed given item elements answer report.new }
+    ensures ended { (strict : Bool) (depth : ℕ) (read written : List ℕ)
+        → IsItemCopyKept strict depth read written copier.now → (answer : CllAnswer) × (result ≡ code answer)
+        × EndsItem strict depth read written answer report.new }
     ensures answers { IsCode result }
     ensures argument { IsNoItemCopier copier.now → (result ≡ code a.Argument) × Reports report.new 0 0 0 }
 {

@@ -23,7 +23,7 @@ use Rattle.cbor_copier.specs.declared.phase.Within.{Within}
 use Rattle.cbor_copier.specs.declared.phase.Within.TheVariants as w
 use Rattle.cbor_copier.specs.Spots.{Spot, putting, elements_due, element_done, string_done, body_due, entered, refused}
 use Rattle.cbor_copier.specs.Spots.{string_open, string_closed}
-use Rattle.cbor_copier.specs.Telling.{ComesTo}
+use Rattle.cbor_copier.specs.Reading.{ComesTo}
 use Rattle.std.proofs.lemmas.List.{length-replicate}
 use Rattle.ciborium_ll_grammar.proofs.AffixLaws.{AreBytes-zeros, AreBytes-append}
 use Rattle.ciborium_ll_grammar.proofs.StrictFaultLaws.{no_fault}

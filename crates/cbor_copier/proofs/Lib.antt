@@ -1,10 +1,14 @@
+pub mod EndLaws
 pub mod EnterLaws
+pub mod ExactLaws
 pub mod FrontLaws
 pub mod KeptLaws
 pub mod LiveLaws
 pub mod PendingLaws
 pub mod Reached
 pub mod PlainLaws
+pub mod ReadLaws
 pub mod RunLaws
+pub mod SavedLaws
 pub mod StepLaws
 pub mod TellLaws

@@ -21,7 +21,7 @@ use Rattle.cbor_copier.specs.declared.phase.StringKind.TheVariants as k
 use Rattle.cbor_copier.specs.declared.phase.Within.{Within}
 use Rattle.cbor_copier.specs.declared.phase.Within.TheVariants as w
 use Rattle.cbor_copier.specs.Spots.{Spot, putting, entered}
-use Rattle.cbor_copier.specs.Telling.{SomeGoOn}
+use Rattle.cbor_copier.specs.Reading.{SomeGoOn}
 use Rattle.cbor_copier.proofs.EnterLaws.{one_more, closes, closes_last, Behind, string_behind, run_all, some_due}
 use Rattle.cbor_copier.proofs.EnterLaws.{title_leads}
 use Rattle.cbor_copier.proofs.KeptLaws.{enters}

@@ -15,7 +15,7 @@ use Rattle.cbor_copier.specs.declared.phase.StringKind.TheVariants as k
 use Rattle.cbor_copier.specs.declared.phase.Within.{Within}
 use Rattle.cbor_copier.specs.declared.phase.Within.TheVariants as w
 use Rattle.cbor_copier.specs.Spots.{Spot, putting}
-use Rattle.cbor_copier.specs.Telling.{AreSpelled, NoneGoOn, FaultsAt}
+use Rattle.cbor_copier.specs.Reading.{AreSpelled, NoneGoOn, FaultsAt}
 
 abbrev pub kind_of : StringKind → Kind
 kind_of k.Bytes = Bytes

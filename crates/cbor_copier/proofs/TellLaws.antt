@@ -27,8 +27,10 @@ use Rattle.cbor_copier.specs.Blocked.{is_blocked}
 use Rattle.cbor_copier.specs.Copying.{IsCopied, spot_of}
 use Rattle.cbor_copier.specs.Spots.{Spot, putting, refused}
 use Rattle.cbor_copier.specs.Steps.{IsFed, StepIn, TitleStep, whole, none, titled, with_byte, more as more_fed}
-use Rattle.cbor_copier.specs.Telling.{progress_in, progress_of, ComesTo, SomeGoOn, NoneGoOn, is_due, end_of, AreSpelled}
-use Rattle.cbor_copier.specs.Telling.{TellsWhole, Tells, TellsEnd, EndedIn, HasEnded, FaultIn, IsAtFault}
+use Rattle.cbor_copier.specs.Reading.{ComesTo, SomeGoOn, NoneGoOn, AreSpelled}
+use Rattle.cbor_copier.specs.Telling.{progress_in, progress_of, is_due, end_of}
+use Rattle.cbor_copier.specs.Reading.{TellsWhole, Tells, TellsEnd}
+use Rattle.cbor_copier.specs.Telling.{EndedIn, HasEnded, FaultIn, IsAtFault}
 use Rattle.cbor_copier.proofs.KeptLaws.{step_early, step_cut}
 use Rattle.cbor_copier.proofs.EnterLaws.{reaches, comes_at, lenient}
 use Rattle.cbor_copier.proofs.LiveLaws.{holds_goes}

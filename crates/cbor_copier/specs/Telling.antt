@@ -1,8 +1,5 @@
--- The answers of a copier, and what they say of the bytes so far and of the output.
-use Rattle.std.specs.Prelude.{◌≡◌, ℕ, ◌+◌, ◌<◌, ◌≤◌, ◌^◌, Bool, true, false, List, [], ◌∷◌, ◌++◌, length}
-use Rattle.ciborium_ll_grammar.specs.Title.{AreBytes}
-use Rattle.ciborium_ll_grammar.specs.Elements.{Mark, spelling, IsRun}
-use Rattle.ciborium_ll_grammar.specs.Faults.{Answer, Short, Syntax, BeginsWithElements, HasFault}
+-- The answers of a copier by its spot.
+use Rattle.std.specs.Prelude.{◌≡◌, ℕ, Bool, true, false, List, [], ◌∷◌}
 use Rattle.cbor_copier.specs.declared.phase.Phase.{Phase}
 use Rattle.cbor_copier.specs.declared.phase.Phase.TheVariants as p
 use Rattle.cbor_copier.specs.declared.progress.Progress.{Progress}
@@ -44,86 +41,6 @@ end_of (byte ∷ bytes) phase = e.Room
 abbrev pub IsAnswer : Progress → List ℕ → Phase → Type 0
 IsAnswer r.TooLong pending phase = progress_of pending phase ≡ r.More
 IsAnswer progress pending phase = progress ≡ progress_of pending phase
-
--- The answer is that more bytes are due: so is the `More` of `42`, and `TooLong` is not.
-abbrev pub IsMore : Progress → Type 0
-IsMore r.More = Unit {0}
-IsMore progress = ⊥
-
--- The answer is that there is no room for the pending bytes, as for `01` in an output of 0 bytes.
-abbrev pub IsRoom : Progress → Type 0
-IsRoom r.Room = Unit {0}
-IsRoom progress = ⊥
-
--- ---- what is said of all bytes so far
-
--- The bytes are that many elements, and the output is their shortest spelling, as `18 01` and `01` (RFC 7049, 2.1,
--- 2.2.2 and 3.9).
-pub record AreSpelled (count : ℕ) (bytes output : List ℕ) : Type 0 where
-  pub marks : List Mark
-  pub run : IsRun count bytes marks
-  pub spelled : output ≡ spelling marks
-
--- If no more bytes come, a copy of that many elements is at this fault with this output (RFC 7049, 2.1 and 2.2.2). One
--- element with `61` is at `Short` with the output `61`.
-pub record ComesTo (count : ℕ) (bytes : List ℕ) (answer : Answer) (output : List ℕ) : Type 0 where
-  pub fault : HasFault false count bytes
-  pub answered : fault.answer ≡ answer
-  pub written : fault.written ≡ output
-
--- Some more bytes make that many elements, as `20` after `18` does for one (RFC 7049, 2.1 and 2.2.2).
-pub record SomeGoOn (count : ℕ) (bytes : List ℕ) : Type 0 where
-  pub more : List ℕ
-  pub more_bytes : AreBytes more
-  pub marks : List Mark
-  pub run : IsRun count (bytes ++ more) marks
-
--- Whatever bytes follow, that many elements do not stand at the start, as with one and `1c` (RFC 7049, 2.1 and 2.2.2).
-abbrev pub NoneGoOn : ℕ → List ℕ → Type 0
-NoneGoOn count bytes = (more : List ℕ) → AreBytes more → BeginsWithElements false count (bytes ++ more) → ⊥
-
--- With some more bytes, a copy is at the fault of this place with this output (RFC 7049, 2.1 and 2.2.2). One element
--- with `1c` is at the place 0 without output.
-pub record FaultsAt (place count : ℕ) (bytes output : List ℕ) : Type 0 where
-  pub more : List ℕ
-  pub more_bytes : AreBytes more
-  pub comes_to : ComesTo count (bytes ++ more) (Syntax place) output
-
--- The meaning of an answer if nothing is pending. `More`: the bytes are a part of that many elements. `Ended`: they are
--- that many elements. `Syntax`: no list of that many elements begins so. For one element, `18` gets `More`, and `1c`
--- gets `Syntax(0)`.
-abbrev pub TellsWhole : ℕ → List ℕ → List ℕ → Progress → Type 0
-TellsWhole count bytes output r.More = ComesTo count bytes Short output × SomeGoOn count bytes
-TellsWhole count bytes output r.Room = ⊥
-TellsWhole count bytes output r.Ended = AreSpelled count bytes output
-TellsWhole count bytes output (r.Syntax place) = NoneGoOn count bytes × FaultsAt place count bytes output
-TellsWhole count bytes output r.TooLong =
-    ComesTo count bytes Short output × SomeGoOn count bytes × (2 ^ 64 ≤ length bytes + 1)
-
--- With some pending bytes after the output, one of those answers holds: for one element and `18 01`, with `01` pending
--- and no output, it is `Ended`.
-pub record LacksRoom (count : ℕ) (bytes output : List ℕ) : Type 0 where
-  pub pending : List ℕ
-  pub some : 0 < length pending
-  pub progress : Progress
-  pub told : TellsWhole count bytes (output ++ pending) progress
-
--- The meaning of the answer for all bytes so far and the output. For one element, `18 01` gets `Room` without output,
--- and `Ended` with the output `01`.
-abbrev pub Tells : ℕ → List ℕ → List ℕ → Progress → Type 0
-Tells count bytes output r.Room = LacksRoom count bytes output
-Tells count bytes output progress = TellsWhole count bytes output progress
-
--- The meaning of the last answer for all bytes and the output. `Ended`: they are that many elements, and all is
--- written. `Short`: they are a part of that many elements. `Syntax`: no list of that many elements begins so. For one
--- element, `42 01` with the output `42 01` gets `Short`.
-abbrev pub TellsEnd : ℕ → List ℕ → List ℕ → End → Type 0
-TellsEnd count bytes output e.Ended = AreSpelled count bytes output
-TellsEnd count bytes output e.Short = ComesTo count bytes Short output × SomeGoOn count bytes
-TellsEnd count bytes output e.Room = LacksRoom count bytes output
-TellsEnd count bytes output (e.Syntax place) = NoneGoOn count bytes × FaultsAt place count bytes output
-
--- ---- by the spot
 
 -- That many elements came: the phase is `Ended`, as after `f6`, and not `Bytes(2)`.
 abbrev pub EndedIn : Phase → Type 0

@@ -1,6 +1,6 @@
 //! The copier: it takes one byte after another, and puts out the copy.
 
-ghost use Rattle.std.specs.Prelude.{◌≡◌, ◌+◌, ◌<◌, ◌≤◌, [], length, take, true};
+ghost use Rattle.std.specs.Prelude.{◌≡◌, ◌≢◌, ◌+◌, ◌<◌, ◌≤◌, [], length, take, true};
 ghost use Rattle.cbor_copier.specs.Fronts.{has_left, most_front, open_count};
 ghost use Rattle.cbor_copier.specs.Blocked.{is_blocked};
 ghost use Rattle.cbor_copier.specs.Spots.{IsPutOut};
@@ -61,9 +61,10 @@ pub struct Copier {
 }
 
 impl Copier {
-    ghost use Rattle.std.specs.Prelude.{ℕ, ◌-◌, ◌++◌, ◌↔◌, ◌⊎◌, List, drop, false, IfSome};
+    ghost use Rattle.std.specs.Prelude.{ℕ, ◌-◌, ◌++◌, ◌↔◌, ◌⊎◌, List, drop, false, IfSome, IsSome, IsSomeAnd};
     ghost use Rattle.ciborium_ll_text.specs.States.{after_byte};
-    ghost use Rattle.cbor_copier.specs.Copying.{IsAt, IsCopied, spot_of};
+    ghost use Rattle.cbor_copier.specs.Copying.{Answers, AnswersEnd, AnswersPiece, HasCopied, HoldsSome, Keeps, Saves};
+    ghost use Rattle.cbor_copier.specs.Copying.{IsAt, IsCopied, held, pending, spot_of};
     ghost use Rattle.cbor_copier.specs.Snapshots.{Holds};
     ghost use Rattle.cbor_copier.specs.Spots.{Spot, body_due, body_phase, element_done, element_entered, elements_due, entered};
     ghost use Rattle.cbor_copier.specs.Spots.{string_closed, string_done, string_entered, string_open, within_entered};
@@ -72,18 +73,21 @@ impl Copier {
     ghost use Rattle.cbor_copier.specs.Plain.{AreKept};
     ghost use Rattle.cbor_copier.specs.Steps.{Step, TitleStep, byte_put, counted_by, text_left};
     ghost use Rattle.cbor_copier.specs.Steps.{title_place, with_byte, with_char};
-    ghost use Rattle.cbor_copier.specs.Telling.{IsAnswer, IsMore, IsRoom, Tells, is_due, progress_of};
-    ghost use Rattle.cbor_copier.specs.Telling.{AreSpelled, TellsEnd, end_of};
+    ghost use Rattle.cbor_copier.specs.Reading.{Copies, IsLast, IsMore, IsRoom, Tells};
+    ghost use Rattle.cbor_copier.specs.Telling.{IsAnswer, is_due, progress_of};
+    ghost use Rattle.cbor_copier.specs.Reading.{AreSpelled, TellsEnd};
+    ghost use Rattle.cbor_copier.specs.Telling.{end_of};
     ghost use Rattle.cbor_copier.specs.declared.phase.Phase.TheVariants as p;
     ghost use Rattle.cbor_copier.specs.declared.phase.StringKind.TheVariants as k;
     ghost use Rattle.cbor_copier.specs.declared.phase.Within.TheVariants as w;
     ghost use Rattle.ciborium_ll_grammar.specs.Title.{IsTitle};
     ghost use Rattle.cbor_copier.specs.declared.progress.End.TheVariants as e;
+    ghost use Rattle.cbor_copier.specs.declared.progress.Progress.{Progress};
     ghost use Rattle.cbor_copier.specs.declared.progress.Progress.TheVariants as r;
 
-    /// Makes a copier of `count` elements, before their first byte.
+    /// Makes a copier of `count` elements, which has read no byte and written none.
     pub fn new(count: usize) -> Copier
-        ensures { IsCopied count [] [] result }
+        ensures { HasCopied count [] [] result }
     {
         let mut copier = Copier {
             phase: Phase::Title,
@@ -531,11 +535,13 @@ impl Copier {
 
     /// Returns how the copy stands if no more bytes come.
     pub fn end(&self) -> End
-        ensures exactly { (count : ℕ) (fed given : List ℕ) → IsCopied count fed given self.now
-            → (result ≡ e.Ended ↔ AreSpelled count fed given) }
-        ensures tells { (count : ℕ) (fed given : List ℕ) → IsCopied count fed given self.now
-            → TellsEnd count fed given result }
-        ensures answers { result ≡ end_of self.now.pending self.now.phase }
+        ensures exactly { (count : ℕ) (read written : List ℕ) → HasCopied count read written self.now
+            → (result ≡ e.Ended ↔ AreSpelled count read written) }
+        ensures tells { (count : ℕ) (read written : List ℕ) → HasCopied count read written self.now
+            → TellsEnd count read written result }
+        ensures is { AnswersEnd self.now result }
+        ensures room { result ≡ e.Room → pending self.now ≢ [] }
+        ensures none { (result ≡ e.Room → ⊥) → pending self.now ≡ [] }
     {
         if !self.pending.is_empty() {
             return End::Room;
@@ -547,29 +553,8 @@ impl Copier {
         }
     }
 
-    /// Takes a piece of the elements' bytes, of any length, and writes their shortest spelling to the start of `out`.
-    ///
-    /// The cuts between pieces and the lengths of the outputs change nothing of all that is written. Only a few bytes
-    /// may stay pending.
-    ///
-    /// Each title becomes the shortest title of its header. A string of indefinite length keeps the same segments of
-    /// its body in one string: strings within it lose their opens and breaks. The copier writes nothing of a title or a
-    /// character that isn't whole. If `out` is full within one of them, the rest comes with the next call.
-    ///
-    /// - `More`: all that can be written of the bytes so far is written. Some more bytes make that many elements. If
-    ///   none come, a copy is short with exactly this output.
-    /// - `Room`: `out` is full. The caller gives the rest of the piece again. After the bytes still to write, one of
-    ///   the other answers holds.
-    /// - `Ended`: exactly the shortest spelling of that many elements is written, as `recode` writes it. The call takes
-    ///   no byte after them.
-    /// - `Syntax(offset)`: the answer comes with the first byte that makes it true, which counts as taken. With some
-    ///   bytes after those so far, a copy at a fault of this place has this output.
-    /// - `TooLong`: the call takes no byte after `usize::MAX`, and the rest is as with `More`.
-    ///
-    /// After `Ended` or `Syntax`, a later call answers the same. `recode` has the same faults, and the same output up
-    /// to them. But in a damaged body `recode` may have written less, by its buffer: a copier has written each whole
-    /// character before the damage.
-    pub fn feed(&mut self, bytes: &[u8], out: &mut [u8]) -> Copied
+    /// Does what [`Copier::feed`] says, by the spot.
+    fn take(&mut self, bytes: &[u8], out: &mut [u8]) -> Copied
         ensures taken { result.taken ≤ length bytes.now }
         ensures written { result.written ≤ length out.old }
         ensures kept { drop result.written out.new ≡ drop result.written out.old }
@@ -618,9 +603,54 @@ impl Copier {
         }
     }
 
+    /// Takes a piece of the elements' bytes, of any length, and writes their shortest spelling to the start of `out`.
+    ///
+    /// The cuts between pieces and the lengths of the outputs change nothing of all that is written. Only a few bytes
+    /// may stay pending.
+    ///
+    /// Each title becomes the shortest title of its header. A string of indefinite length keeps the same segments of
+    /// its body in one string: strings within it lose their opens and breaks. The copier writes nothing of a title or a
+    /// character that isn't whole. If `out` is full within one of them, the rest comes with the next call.
+    ///
+    /// - `More`: all that can be written of the bytes so far is written. Some more bytes make that many elements. If
+    ///   none come, a copy is short with exactly this output.
+    /// - `Room`: `out` is full. The caller gives the rest of the piece again. After the bytes still to write, one of
+    ///   the other answers holds.
+    /// - `Ended`: exactly the shortest spelling of that many elements is written, as `recode` writes it. The call takes
+    ///   no byte after them.
+    /// - `Syntax(offset)`: the answer comes with the first byte that makes it true, which counts as taken. With some
+    ///   bytes after those so far, a copy at a fault of this place has this output.
+    /// - `TooLong`: the call takes no byte after `usize::MAX`, and the rest is as with `More`.
+    ///
+    /// After `Ended` or `Syntax`, a later call answers the same. `recode` has the same faults, and the same output up
+    /// to them. But in a damaged body `recode` may have written less, by its buffer: a copier has written each whole
+    /// character before the damage.
+    #[inline(always)]
+    pub fn feed(&mut self, bytes: &[u8], out: &mut [u8]) -> Copied
+        ensures read { (count : ℕ) (read written : List ℕ) → HasCopied count read written self.old
+            → HasCopied count (read ++ take result.taken bytes.now) (written ++ take result.written out.new) self.new
+            × Copies count read written bytes.now (take result.written out.new) result }
+        ensures is { AnswersPiece self.new result.progress }
+        ensures taken { result.taken ≤ length bytes.now }
+        ensures written { result.written ≤ length out.old }
+        ensures kept { drop result.written out.new ≡ drop result.written out.old }
+        ensures all { IsMore result.progress → result.taken ≡ length bytes.now }
+        ensures long { result.progress ≡ r.TooLong → result.taken < length bytes.now }
+        ensures full { IsRoom result.progress → result.written ≡ length out.old }
+        ensures none { (IsRoom result.progress → ⊥) → pending self.new ≡ [] }
+        ensures fits { pending self.old ≡ [] → length bytes.now + 8 ≤ length out.old → IsRoom result.progress → ⊥ }
+        ensures grown { result.written + held self.new ≤ held self.old + result.taken }
+        ensures stays { (progress : Progress) → Answers self.old progress → IsLast progress
+            → (result.taken ≡ 0) × (result.written ≡ 0) × (result.progress ≡ progress) × Answers self.new progress }
+    {
+        self.take(bytes, out)
+    }
+
     /// Returns the state as plain numbers, from which [`Copier::restore`] makes this copier again.
     pub fn save(&self) -> Snapshot
-        ensures holds { Holds result (spot_of self.now) }
+        ensures keeps { (count : ℕ) (read written : List ℕ) → HasCopied count read written self.now
+            → Keeps count read written result }
+        ensures saves { Saves self.now result }
         ensures spare { result.spare ≡ 0 }
     {
         let (phase, number, text) = self.phase.numbers();
@@ -644,8 +674,8 @@ impl Copier {
         }
     }
 
-    /// Returns the copier that [`Copier::save`] made the numbers of, or `None` if they are those of no state.
-    pub fn restore(snapshot: &Snapshot) -> Option<Copier>
+    /// Returns the copier with these numbers, or `None` if they are those of no state.
+    fn load(snapshot: &Snapshot) -> Option<Copier>
         ensures some { IfSome result (λ copier. Holds snapshot.now (spot_of copier)) }
         ensures same { (spot : Spot) → Holds snapshot.now spot → IsAt result spot }
     {
@@ -664,5 +694,17 @@ impl Copier {
             offset: snapshot.offset as usize,
             pending: Pending::of(pending),
         })
+    }
+
+    /// Returns the copier that [`Copier::save`] made the numbers of, or `None` if they are those of no state. It has
+    /// read and written the same bytes.
+    #[inline(always)]
+    pub fn restore(snapshot: &Snapshot) -> Option<Copier>
+        ensures kept { (count : ℕ) (read written : List ℕ) → Keeps count read written snapshot.now
+            → IsSomeAnd result (λ copier. HasCopied count read written copier) }
+        ensures some { IfSome result (λ copier. Saves copier snapshot.now) }
+        ensures found { HoldsSome snapshot.now → IsSome result }
+    {
+        Copier::load(snapshot)
     }
 }

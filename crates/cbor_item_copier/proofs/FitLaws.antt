@@ -1,6 +1,6 @@
 -- The room that is always enough.
 use Rattle.std.proofs.Common.{◌≡◌, ◌⊎◌, ◌+◌, ◌<◌, ◌≤◌, ℕ, List, [], ◌∷◌, length, ap, inl, inr, subst, arith}
-use Rattle.cbor_copier.proofs.FrontLaws.{few_held}
+use Rattle.cbor_copier.proofs.ReadLaws.{held_few, held_some}
 use Rattle.cbor_checker.specs.declared.progress.Progress.{Progress as Checked}
 use Rattle.cbor_checker.specs.declared.progress.Progress.TheVariants as f
 use Rattle.cbor_checker.specs.Spots.{Spot}
@@ -8,7 +8,8 @@ use Rattle.cbor_checker.specs.Telling as checker
 use Rattle.cbor_item_copier.specs.declared.copier.ItemCopier.{ItemCopier}
 use Rattle.cbor_item_copier.specs.declared.progress.Progress.{Progress}
 use Rattle.cbor_item_copier.specs.Copying.{held, item_spot, pending}
-use Rattle.cbor_item_copier.specs.Telling.{IsRoom, of_checker, progress_of}
+use Rattle.cbor_item_copier.specs.Reading.{IsRoom}
+use Rattle.cbor_item_copier.specs.Telling.{of_checker, progress_of}
 
 -- A checker never answers `Room`.
 no_output : (checked : Checked) → IsRoom (of_checker checked) → ⊥
@@ -29,8 +30,7 @@ pub never_room : (old new : ItemCopier) (progress : Progress) (bytes room at wri
     → pending old ≡ [] → bytes + 8 ≤ room → IsRoom progress → ⊥
 never_room old new progress bytes room at written is full grown within none fits lacks =
     let some = some_pending (pending new) (item_spot new) (subst IsRoom is lacks) in
-    let few = few_held old.copier.phase old.copier.front old.copier.room in
     elim full [
       | inl given ↦ omega (arith, some, ap length given)
-      | inr all ↦ omega (arith, some, all, grown, within, ap length none, few, fits)
+      | inr all ↦ omega (arith, some, all, grown, within, held_some new.copier, held_few old.copier none, fits)
     ]

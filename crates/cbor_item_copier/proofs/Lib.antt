@@ -1,8 +1,11 @@
 pub mod ByteLaws
+pub mod ExactLaws
 pub mod FitLaws
 pub mod OutLaws
 pub mod PieceLaws
+pub mod ReadLaws
 pub mod RunLaws
+pub mod SavedLaws
 pub mod StateLaws
 pub mod StepLaws
 pub mod TellLaws

@@ -11,7 +11,8 @@ use Rattle.ciborium_ll_grammar.proofs.StrictFaultLaws.{no_fault}
 use Rattle.ciborium_ll_text.proofs.Lists.{length_zero}
 use Rattle.cbor_copier.specs.declared.phase.Phase.{Phase}
 use Rattle.cbor_copier.specs.declared.phase.Phase.TheVariants as p
-use Rattle.cbor_copier.specs.Telling.{ComesTo, NoneGoOn, TellsWhole, progress_in}
+use Rattle.cbor_copier.specs.Reading.{ComesTo, NoneGoOn, TellsWhole}
+use Rattle.cbor_copier.specs.Telling.{progress_in}
 use Rattle.cbor_copier.proofs.Reached.{between}
 use Rattle.cbor_copier.proofs.TellLaws.{title_short, in_front}
 use Rattle.cbor_item_copier.proofs.RunLaws.{title_some, run_long, run_front, same_runs}

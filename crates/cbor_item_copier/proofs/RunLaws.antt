@@ -14,7 +14,7 @@ use Rattle.ciborium_ll_grammar.proofs.AffixLaws.{AreBytes-append, announced}
 use Rattle.ciborium_ll_grammar.proofs.ElementLaws.{bytes_writable, one_element}
 use Rattle.ciborium_ll_grammar.proofs.StepLaws.{add_element}
 use Rattle.ciborium_ll_grammar.proofs.StringLaws.{break_title}
-use Rattle.cbor_copier.specs.Telling.{NoneGoOn}
+use Rattle.cbor_copier.specs.Reading.{NoneGoOn}
 use Rattle.cbor_copier.proofs.TellLaws.{in_front, whole_in_front}
 use Rattle.cbor_copier.proofs.EnterLaws.{lenient}
 use Rattle.cbor_copier.proofs.LiveLaws.{run_goes}

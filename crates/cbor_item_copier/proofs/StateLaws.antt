@@ -7,7 +7,7 @@ use Rattle.ciborium_ll_grammar.specs.Items.{IsItem}
 use Rattle.ciborium_ll_grammar.proofs.AffixLaws.{AreBytes-append}
 use Rattle.cbor_copier.specs.Spots.{Spot as Elements}
 use Rattle.cbor_copier.specs.Steps.{IsFed as AreElementsFed}
-use Rattle.cbor_copier.specs.Telling.{NoneGoOn}
+use Rattle.cbor_copier.specs.Reading.{NoneGoOn}
 use Rattle.cbor_copier.proofs.LiveLaws.{run_goes}
 use Rattle.cbor_copier.proofs.StepLaws as one_copy
 use Rattle.cbor_copier.proofs.TellLaws.{told, fed_to, in_front}
@@ -19,7 +19,7 @@ use Rattle.cbor_checker.specs.Telling.{FaultIn, IsAtFault, is_due}
 use Rattle.cbor_checker.proofs.ExactLaws.{fault_exact}
 use Rattle.cbor_checker.proofs.OneSpot.{one_spot}
 use Rattle.cbor_item_copier.specs.Copying.{most, AreTaken, AreFed}
-use Rattle.cbor_item_copier.specs.Telling.{IsCutCopy}
+use Rattle.cbor_item_copier.specs.Reading.{IsCutCopy}
 use Rattle.cbor_item_copier.proofs.OutLaws.{cut_in, whole_in}
 use Rattle.cbor_item_copier.proofs.RunLaws.{item_goes_on}
 

@@ -1,5 +1,5 @@
 -- The steps of a piece through a checker, and through a copier of elements, which does not get the byte at fault.
-use Rattle.std.proofs.Common.{◌≡◌, ℕ, ◌+◌, ◌<◌, ◌≤◌, ◌^◌, ◌⊎◌, ◌↔◌, Bool, true, List, [], ◌∷◌, ◌++◌, length, take, drop}
+use Rattle.std.proofs.Common.{◌≡◌, ◌≢◌, ℕ, zero, suc, ◌+◌, ◌<◌, ◌≤◌, ◌^◌, ◌⊎◌, ◌↔◌, Bool, true, List, [], ◌∷◌, ◌++◌, length, take, drop}
 use Rattle.std.proofs.Common.{refl, sym, ap, subst, arith, inl, inr, append_assoc, append-nil, length-append}
 use Rattle.std.proofs.Common.{get_or, take-append-drop}
 use Rattle.std.proofs.lemmas.Bool.{cases_lt}
@@ -8,16 +8,14 @@ use Rattle.ciborium_ll_grammar.specs.Title.{AreBytes}
 use Rattle.ciborium_ll_grammar.proofs.AffixLaws.{AreBytes-append, AreBytes-take}
 use Rattle.ciborium_ll_text.proofs.Lists.{length_zero}
 use Rattle.cbor_copier.specs.declared.copier.Copier.{Copier}
-use Rattle.cbor_copier.specs.declared.phase.Phase.{Phase as CopyPhase}
-use Rattle.cbor_copier.specs.declared.phase.Phase.TheVariants as cp
 use Rattle.cbor_copier.specs.declared.progress.Progress.{Progress as Copied}
 use Rattle.cbor_copier.specs.declared.progress.Progress.TheVariants as cr
 use Rattle.cbor_copier.specs.Copying as copy
-use Rattle.cbor_copier.specs.Copying.{IsCopied}
+use Rattle.cbor_copier.specs.Copying.{HasCopied}
 use Rattle.cbor_copier.specs.Spots.{putting}
-use Rattle.cbor_copier.specs.Telling as told
-use Rattle.cbor_copier.specs.Telling.{NoneGoOn}
-use Rattle.cbor_copier.proofs.StepLaws as one_copy
+use Rattle.cbor_copier.specs.Reading as told
+use Rattle.cbor_copier.specs.Reading.{NoneGoOn}
+use Rattle.cbor_copier.proofs.ReadLaws.{one_output, room_answers}
 use Rattle.cbor_checker.specs.declared.phase.Phase.{Phase}
 use Rattle.cbor_checker.specs.declared.phase.Phase.TheVariants as p
 use Rattle.cbor_checker.specs.declared.checker.Checker.{Checker}
@@ -82,18 +80,17 @@ at_fault checker progress answers =
 
 -- ---- a copier of elements takes the bytes, too
 
-room_some : (progress : Copied) (bytes : List ℕ) (phase : CopyPhase) → told.IsRoom progress
-    → told.IsAnswer progress bytes phase → bytes ≡ [] → ⊥
-room_some cr.Room [] cp.Ended room answer none = cc
-room_some cr.Room bytes phase room answer none = cc
-room_some progress bytes phase room answer none = room
+-- If there is no room, some bytes are pending.
+some_pending : (copier : Copier) (progress : Copied) → told.IsRoom progress → copy.AnswersPiece copier progress
+    → pending_of copier ≢ []
+some_pending copier cr.Room on answers = (room_answers copier cr.Room answers).0 tt
+some_pending copier progress on answers = absurd on
 
 -- If nothing was pending and no byte is taken, nothing is pending after the call.
-none_pending : (fed given out : List ℕ) (old new : Copier) → IsCopied most fed given old → pending_of old ≡ []
-    → IsCopied most fed (given ++ out) new → pending_of new ≡ []
+none_pending : (fed given out : List ℕ) (old new : Copier) → HasCopied most fed given old → pending_of old ≡ []
+    → HasCopied most fed (given ++ out) new → pending_of new ≡ []
 none_pending fed given out old new was none is =
-    let same = (one_copy.one_spot most fed (given ++ pending_of old) ((given ++ out) ++ pending_of new)
-    (putting [] (copy.spot_of old)) (putting [] (copy.spot_of new)) was is).1 in
+    let same = one_output most fed given (given ++ out) old new was is in
     length_zero (pending_of new) (omega (
       arith,
       ap length same,
@@ -102,6 +99,34 @@ none_pending fed given out old new was none is =
       length-append (given ++ out) (pending_of new),
       length-append given out,
     ))
+
+-- Nothing is pending after a call, or the room is full.
+pub given_or_full : (progress : Copied) (bytes : List ℕ) (written room : ℕ)
+    → (told.IsRoom progress → written ≡ room) → ((told.IsRoom progress → ⊥) → bytes ≡ [])
+    → (bytes ≡ []) ⊎ (written ≡ room)
+given_or_full cr.Room bytes written room full none = inr (full tt)
+given_or_full cr.More bytes written room full none = inl (none (λ is. is))
+given_or_full cr.Ended bytes written room full none = inl (none (λ is. is))
+given_or_full (cr.Syntax place) bytes written room full none = inl (none (λ is. is))
+given_or_full cr.TooLong bytes written room full none = inl (none (λ is. is))
+
+-- The bytes that were to be written are written, as far as there is room. No byte is read.
+pub only_written : (given put : List ℕ) (taken : ℕ) (old new : Copier)
+    → ((read : List ℕ) → HasCopied most read given old → HasCopied most (read ++ take taken []) (given ++ put) new)
+    → (strict : Bool) (depth : ℕ) (fed : List ℕ) (item : Spot)
+    → AreFed strict depth fed item (putting [] (copy.spot_of old)) (given ++ pending_of old)
+    → AreFed strict depth fed item (putting [] (copy.spot_of new)) ((given ++ put) ++ pending_of new)
+unfolding HasCopied copy.pending
+only_written given put taken old new goes strict depth fed item was = record {
+  checked = was.checked;
+  bytes = was.bytes;
+  taken = was.taken;
+  copied = rw (take_none taken, append-nil was.bytes) at (goes was.bytes was.copied);
+}
+  where
+    take_none : (n : ℕ) → take {A = ℕ} n [] ≡ []
+    take_none zero = refl
+    take_none (suc n) = refl
 
 -- If elements go on and there is room, the copier answers `More`.
 takes_more : (now output : List ℕ) (progress : Copied) → (NoneGoOn most now → ⊥) → length now + 1 ≤ most
@@ -117,10 +142,10 @@ takes_more now output cr.TooLong goes fits says room never = omega (arith, says.
 module _ (fed given bytes out : List ℕ) (taken room : ℕ) (progress : Copied) (old new : Copier)
     (within : taken ≤ length bytes) (are : AreBytes bytes) (goes : NoneGoOn most (fed ++ bytes) → ⊥)
     (counted : length fed + length bytes ≤ most) (fits : (length bytes ≤ 1) ⊎ (length bytes + 8 ≤ room))
-    (was : IsCopied most fed given old) (none : pending_of old ≡ [])
-    (is : IsCopied most (fed ++ take taken bytes) (given ++ out) new)
+    (was : HasCopied most fed given old) (none : pending_of old ≡ [])
+    (is : HasCopied most (fed ++ take taken bytes) (given ++ out) new)
     (says : told.Tells most (fed ++ take taken bytes) (given ++ out) progress)
-    (answer : told.IsAnswer progress (pending_of new) (copy.spot_of new).phase)
+    (answer : copy.AnswersPiece new progress)
     (all : told.IsMore progress → taken ≡ length bytes)
     (has_room : length bytes + 8 ≤ room → told.IsRoom progress → ⊥) where
   some_go : NoneGoOn most (fed ++ take taken bytes) → ⊥
@@ -138,13 +163,12 @@ module _ (fed given bytes out : List ℕ) (taken room : ℕ) (progress : Copied)
         | inl one ↦ (
             let zero : taken ≡ 0 = omega (arith, short, one) in
             let same : fed ++ take taken bytes ≡ fed = rw zero (append-nil fed) in
-            room_some progress (pending_of new) (copy.spot_of new).phase on answer
-            (none_pending fed given out old new was none (rw same at is))
+            some_pending new progress on answer (none_pending fed given out old new was none (rw same at is))
             )
         | inr wide ↦ has_room wide on
       ]
 
-  pub piece_copied : IsCopied most (fed ++ bytes) (given ++ out) new
+  pub piece_copied : HasCopied most (fed ++ bytes) (given ++ out) new
   piece_copied =
       elim (cases_lt taken (length bytes)) [
         | inl short ↦ absurd (takes_more (fed ++ take taken bytes) (given ++ out) progress some_go
@@ -188,11 +212,12 @@ module _ (s : Bool) (d : ℕ) (fed bytes : List ℕ) (taken kept : ℕ) (old new
   -- If a copier of elements takes the copied bytes, the copier of an item takes the bytes of the checker.
   pub step_fed : AreKept new taken kept → length fed + taken ≤ most → (given out : List ℕ) (copier copier' : Copier)
       → ((NoneGoOn most (fed ++ take kept bytes) → ⊥) → AreBytes (take kept bytes)
-      → length fed + length (take kept bytes) ≤ most → IsCopied most fed given copier
-      → IsCopied most (fed ++ take kept bytes) (given ++ out) copier')
+      → length fed + length (take kept bytes) ≤ most → HasCopied most fed given copier
+      → HasCopied most (fed ++ take kept bytes) (given ++ out) copier')
       → AreFed s d fed old (putting [] (copy.spot_of copier)) (given ++ pending_of copier)
       → AreFed s d (fed ++ take taken bytes) new (putting [] (copy.spot_of copier'))
       ((given ++ out) ++ pending_of copier')
+  unfolding HasCopied copy.pending
   step_fed are counted given out copier copier' goes was =
       let few = kept_within new taken kept are in
       let all = back_bytes fed (take taken bytes) (fed_bytes s d (fed ++ take taken bytes) new checked) in

@@ -21,7 +21,8 @@ use Rattle.cbor_item_copier.specs.declared.progress.Progress.{Progress}
 use Rattle.cbor_item_copier.specs.declared.progress.Progress.TheVariants as r
 use Rattle.cbor_item_copier.specs.declared.copier.ItemCopier.{ItemCopier}
 use Rattle.cbor_item_copier.specs.Copying.{most, AreTaken, AreFed, IsItemCopied, elements_spot, item_spot, pending}
-use Rattle.cbor_item_copier.specs.Telling.{of_checker, of_end, progress_of, end_of, TellsWhole, Tells, TellsEnd}
+use Rattle.cbor_item_copier.specs.Reading.{TellsWhole, Tells, TellsEnd}
+use Rattle.cbor_item_copier.specs.Telling.{of_checker, of_end, progress_of, end_of}
 use Rattle.cbor_item_copier.specs.declared.progress.End.{End}
 use Rattle.cbor_item_copier.proofs.RunLaws.{item_run}
 use Rattle.cbor_item_copier.proofs.StateLaws.{all_taken, due_sound, cut, spelled}

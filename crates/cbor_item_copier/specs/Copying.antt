@@ -1,5 +1,5 @@
 -- A copier of an item, by the states of its checker and its copier of elements.
-use Rattle.std.specs.Prelude.{◌≡◌, ℕ, Bool, List, [], ◌∷◌, ◌++◌, ◌+◌, length}
+use Rattle.std.specs.Prelude.{◌≡◌, ℕ, Bool, List, [], ◌∷◌, ◌++◌}
 use Rattle.cbor_copier.specs.declared.copier.Copier.{Copier}
 use Rattle.cbor_copier.specs.Copying as copy
 use Rattle.cbor_copier.specs.Spots.{Spot as Elements, putting}
@@ -10,6 +10,10 @@ use Rattle.cbor_checker.specs.Checking.{spot_of}
 use Rattle.cbor_checker.specs.Spots.{Spot}
 use Rattle.cbor_checker.specs.Steps.{IsFed}
 use Rattle.cbor_item_copier.specs.declared.copier.ItemCopier.{ItemCopier}
+use Rattle.cbor_item_copier.specs.declared.progress.End.{End}
+use Rattle.cbor_item_copier.specs.declared.progress.Progress.{Progress}
+use Rattle.cbor_item_copier.specs.declared.progress.Progress.TheVariants as r
+use Rattle.cbor_item_copier.specs.Telling.{end_of, progress_of}
 
 -- The most bytes that a `usize` counts, 2^64 - 1. Each element has a byte, so an item whose bytes are counted has at
 -- most as many elements.
@@ -34,11 +38,11 @@ pub record AreFed (strict : Bool) (depth : ℕ) (fed : List ℕ) (item : Spot) (
 
 -- The bytes that were put out and are to be written: `01` after `18 01` without room.
 abbrev pub pending_of : Copier → List ℕ
-pending_of copier = (copy.spot_of copier).put
+pending_of copier = copy.pending copier
 
 -- How many bytes are to be written, or are held back of a title or a character that is not whole: two after `19 01`.
 abbrev pub kept_len : Copier → ℕ
-kept_len copier = length (copy.spot_of copier).put + length (copy.spot_of copier).front
+kept_len copier = copy.held copier
 
 -- The bytes that a copier of an item put out and is to write: `01` after `82 01` with room for one byte.
 abbrev pub pending : ItemCopier → List ℕ
@@ -60,3 +64,29 @@ elements_spot c = putting [] (copy.spot_of c.copier)
 -- except for the pending bytes. After `82 01` with room for one byte, `given` is `82`.
 abbrev pub IsItemCopied : Bool → ℕ → List ℕ → List ℕ → ItemCopier → Type 0
 IsItemCopied strict depth fed given c = AreFed strict depth fed (item_spot c) (elements_spot c) (given ++ pending c)
+
+-- ---- in the words of the grammar
+
+-- `HasCopied strict depth read written copier`: the copier has read exactly the bytes `read` for an item to the depth,
+-- and if `strict` in its shortest spelling. It has written exactly the bytes `written` (RFC 7049, 2.1 to 2.4 and 3.9).
+-- If not `strict`, a copier that took `82 18 01` has read these, and has written `82 01` if there was room. A caller
+-- needs no more of this word: `new` and `feed` say when it holds, and `Tells` says what follows for the bytes. How a
+-- copier keeps what it has read is its own.
+unfoldable pub HasCopied : Bool → ℕ → List ℕ → List ℕ → ItemCopier → Type 0
+HasCopied strict depth read written copier = IsItemCopied strict depth read written copier
+
+-- The copier's answer, with the number that is due or the place of a fault: `More 1` after `82 01`, and `Room` if some
+-- of it is pending. The law `one_answer` says that the bytes decide it.
+unfoldable pub Answers : ItemCopier → Progress → Type 0
+Answers copier progress = progress ≡ progress_of (pending copier) (item_spot copier)
+
+-- The answer to a piece is the copier's, unless it is `TooLong`: then nothing is pending. After `82 01` with nothing
+-- pending, `More 1` and `TooLong` are such answers, and `More 2` is none.
+abbrev pub AnswersPiece : ItemCopier → Progress → Type 0
+AnswersPiece copier r.TooLong = pending copier ≡ []
+AnswersPiece copier progress = Answers copier progress
+
+-- The copier's answer if no more bytes come: `Short 1` after `82 01`. The law `one_answer` says that the bytes decide
+-- it.
+unfoldable pub AnswersEnd : ItemCopier → End → Type 0
+AnswersEnd copier end = end ≡ end_of (pending copier) (item_spot copier)

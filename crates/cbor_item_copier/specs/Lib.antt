@@ -1,4 +1,5 @@
 pub mod Copying
+pub mod Reading
 pub mod Snapshots
 pub mod Steps
 pub mod Telling

@@ -3,8 +3,8 @@
 ghost use Rattle.std.specs.Prelude.{◌≡◌, ◌≢◌, ◌+◌, ◌<◌, ◌≤◌, ◌^◌, ◌⊎◌, ◌++◌, Bool, ℕ, List, [], length, take, drop};
 ghost use Rattle.std.specs.Prelude.{true, false};
 ghost use Rattle.ciborium_ll_grammar.specs.Title.{AreBytes};
-ghost use Rattle.cbor_copier.specs.Copying.{IsCopied};
-ghost use Rattle.cbor_copier.specs.Telling.{NoneGoOn};
+ghost use Rattle.cbor_copier.specs.Copying.{HasCopied};
+ghost use Rattle.cbor_copier.specs.Reading.{NoneGoOn};
 ghost use Rattle.cbor_checker.specs.Checking.{spot_of};
 ghost use Rattle.cbor_checker.specs.Spots.{Spot};
 ghost use Rattle.cbor_checker.specs.Steps.{IsFed};
@@ -76,8 +76,8 @@ fn copy(copier: &mut Copier, bytes: &[u8], out: &mut [u8]) -> usize
     ensures full { (pending_of copier.new ≡ []) ⊎ (result ≡ length out.old) }
     ensures grown { result + kept_len copier.new ≤ kept_len copier.old + length bytes.now }
     ensures copied { (fed given : List ℕ) → (NoneGoOn most (fed ++ bytes.now) → ⊥) → AreBytes bytes.now
-        → length fed + length bytes.now ≤ most → IsCopied most fed given copier.old
-        → IsCopied most (fed ++ bytes.now) (given ++ take result out.new) copier.new }
+        → length fed + length bytes.now ≤ most → HasCopied most fed given copier.old
+        → HasCopied most (fed ++ bytes.now) (given ++ take result out.new) copier.new }
 {
     copier.feed(bytes, out).written
 }
@@ -91,20 +91,22 @@ pub struct ItemCopier {
 }
 
 impl ItemCopier {
+    ghost use Rattle.cbor_item_copier.specs.Copying.{Answers, AnswersEnd, AnswersPiece, HasCopied as HasItemCopied};
     ghost use Rattle.cbor_item_copier.specs.Copying.{IsItemCopied, held, item_spot, pending};
-    ghost use Rattle.std.specs.Prelude.{IfSome};
-    ghost use Rattle.cbor_copier.specs.Spots.{Spot as Elements};
-    ghost use Rattle.cbor_item_copier.specs.Snapshots.{Holds, IsAt, kept_spot};
+    ghost use Rattle.std.specs.Prelude.{IfSome, IsSome, IsSomeAnd};
+    ghost use Rattle.cbor_item_copier.specs.Snapshots.{HoldsSome, Keeps, Saves};
     ghost use Rattle.cbor_item_copier.specs.Steps.{Takes, TakesAt};
+    ghost use Rattle.cbor_item_copier.specs.declared.progress.Progress.{Progress};
     ghost use Rattle.cbor_item_copier.specs.declared.progress.Progress.TheVariants as r;
-    ghost use Rattle.cbor_item_copier.specs.Telling.{IsAnswer, IsMore, IsRoom, Tells, TellsEnd, end_of, progress_of};
+    ghost use Rattle.cbor_item_copier.specs.Reading.{Copies, IsLast, IsMore, IsRoom, Tells, TellsEnd};
+    ghost use Rattle.cbor_item_copier.specs.Telling.{IsAnswer, progress_of};
     ghost use Rattle.ciborium_ll_grammar.specs.Spellings.{is_shortest};
     ghost use Rattle.ciborium_ll_grammar.specs.declared.limits.TheConstants.{MOST_LEVELS};
 
-    /// Makes a copier of one item, before its first byte, with the `depth` of [`Checker::new`].
+    /// Makes a copier of one item, which has read no byte and written none, with the `depth` of [`Checker::new`].
     pub fn new(depth: usize) -> ItemCopier
         requires { depth ≤ MOST_LEVELS }
-        ensures { IsItemCopied false depth [] [] result }
+        ensures { HasItemCopied false depth [] [] result }
     {
         ItemCopier::with_spelling(depth, Spelling::Any)
     }
@@ -113,7 +115,7 @@ impl ItemCopier {
     /// the faults of [`Checker::strict`].
     pub fn strict(depth: usize) -> ItemCopier
         requires { depth ≤ MOST_LEVELS }
-        ensures { IsItemCopied true depth [] [] result }
+        ensures { HasItemCopied true depth [] [] result }
     {
         ItemCopier::with_spelling(depth, Spelling::Shortest)
     }
@@ -121,7 +123,7 @@ impl ItemCopier {
     /// Makes the copier of [`ItemCopier::new`] for `Any`, and that of [`ItemCopier::strict`] for `Shortest`.
     pub fn with_spelling(depth: usize, spelling: Spelling) -> ItemCopier
         requires { depth ≤ MOST_LEVELS }
-        ensures { IsItemCopied (is_shortest spelling) depth [] [] result }
+        ensures { HasItemCopied (is_shortest spelling) depth [] [] result }
     {
         ItemCopier {
             checker: Checker::with_spelling(depth, spelling),
@@ -129,9 +131,8 @@ impl ItemCopier {
         }
     }
 
-    /// Returns the last answer of [`ItemCopier::feed`], or `More(1)` before the first piece. After a `TooLong` it
-    /// returns `More`.
-    pub fn progress(&self) -> Progress
+    /// Returns the answer, by the states.
+    fn answer(&self) -> Progress
         ensures answers { result ≡ progress_of (pending self.now) (item_spot self.now) }
         ensures tells { (strict : Bool) (depth : ℕ) (fed given : List ℕ) → IsItemCopied strict depth fed given self.now
             → Tells strict depth fed given result }
@@ -147,11 +148,22 @@ impl ItemCopier {
         }
     }
 
+    /// Returns the last answer of [`ItemCopier::feed`], or `More(1)` before the first piece. After a `TooLong` it
+    /// returns `More`.
+    pub fn progress(&self) -> Progress
+        ensures tells { (strict : Bool) (depth : ℕ) (read written : List ℕ)
+            → HasItemCopied strict depth read written self.now → Tells strict depth read written result }
+        ensures is { Answers self.now result }
+        ensures long { result ≡ r.TooLong → ⊥ }
+    {
+        self.answer()
+    }
+
     /// Returns how the copy stands if no more bytes come.
     pub fn end(&self) -> End
-        ensures answers { result ≡ end_of (pending self.now) (item_spot self.now) }
-        ensures tells { (strict : Bool) (depth : ℕ) (fed given : List ℕ) → IsItemCopied strict depth fed given self.now
-            → TellsEnd strict depth fed given result }
+        ensures tells { (strict : Bool) (depth : ℕ) (read written : List ℕ)
+            → HasItemCopied strict depth read written self.now → TellsEnd strict depth read written result }
+        ensures is { AnswersEnd self.now result }
     {
         if lacks_room(&self.copier) {
             return End::Room;
@@ -217,15 +229,8 @@ impl ItemCopier {
         Some((at + taken, written + more))
     }
 
-    /// Takes a piece of the item's bytes, of any length, and writes their shortest spelling to the start of `out`, as
-    /// [`Copier::feed`] does.
-    ///
-    /// - `More(n)`: all that can be written of the bytes so far is written.
-    /// - `Room`: `out` is full. The caller gives the rest of the piece again.
-    /// - `Ended(n)`: the call takes no byte after the item.
-    /// - `Fault`: the answer comes with the first byte that makes it true. That byte counts as taken, and the spelling
-    ///   of the bytes before it is written.
-    pub fn feed(&mut self, bytes: &[u8], out: &mut [u8]) -> Copied
+    /// Does what [`ItemCopier::feed`] says, by the states.
+    fn take(&mut self, bytes: &[u8], out: &mut [u8]) -> Copied
         ensures taken { result.taken ≤ length bytes.now }
         ensures written { result.written ≤ length out.old }
         ensures kept { drop result.written out.new ≡ drop result.written out.old }
@@ -250,7 +255,7 @@ impl ItemCopier {
         let mut written = self.give(out);
         let mut at = 0;
         'pieces: while at < bytes.len() {
-            match self.progress() {
+            match self.answer() {
                 Progress::More(_) => {}
                 progress => {
                     return Copied {
@@ -277,13 +282,46 @@ impl ItemCopier {
         Copied {
             taken: bytes.len(),
             written,
-            progress: self.progress(),
+            progress: self.answer(),
         }
+    }
+
+    /// Takes a piece of the item's bytes, of any length, and writes their shortest spelling to the start of `out`, as
+    /// [`Copier::feed`] does.
+    ///
+    /// - `More(n)`: all that can be written of the bytes so far is written.
+    /// - `Room`: `out` is full. The caller gives the rest of the piece again.
+    /// - `Ended(n)`: the call takes no byte after the item.
+    /// - `Fault`: the answer comes with the first byte that makes it true. That byte counts as taken, and the spelling
+    ///   of the bytes before it is written.
+    #[inline(always)]
+    pub fn feed(&mut self, bytes: &[u8], out: &mut [u8]) -> Copied
+        ensures read { (strict : Bool) (depth : ℕ) (read written : List ℕ)
+            → HasItemCopied strict depth read written self.old
+            → HasItemCopied strict depth (read ++ take result.taken bytes.now)
+            (written ++ take result.written out.new) self.new
+            × Copies strict depth read written bytes.now (take result.written out.new) result }
+        ensures is { AnswersPiece self.new result.progress }
+        ensures taken { result.taken ≤ length bytes.now }
+        ensures written { result.written ≤ length out.old }
+        ensures kept { drop result.written out.new ≡ drop result.written out.old }
+        ensures all { IsMore result.progress → result.taken ≡ length bytes.now }
+        ensures long { result.progress ≡ r.TooLong → result.taken < length bytes.now }
+        ensures full { IsRoom result.progress → result.written ≡ length out.old }
+        ensures none { (IsRoom result.progress → ⊥) → pending self.new ≡ [] }
+        ensures fits { pending self.old ≡ [] → length bytes.now + 8 ≤ length out.old → IsRoom result.progress → ⊥ }
+        ensures grown { result.written + held self.new ≤ held self.old + result.taken }
+        ensures stays { (progress : Progress) → Answers self.old progress → IsLast progress
+            → (result.taken ≡ 0) × (result.written ≡ 0) × (self.new ≡ self.old) }
+    {
+        self.take(bytes, out)
     }
 
     /// Writes the state into `snapshot` as plain numbers, for [`ItemCopier::load`] and [`ItemCopier::restore`].
     pub fn save(&self, snapshot: &mut Snapshot)
-        ensures holds { Holds snapshot.new (item_spot self.now) (kept_spot self.now) }
+        ensures keeps { (strict : Bool) (depth : ℕ) (read written : List ℕ)
+            → HasItemCopied strict depth read written self.now → Keeps strict depth read written snapshot.new }
+        ensures saves { Saves self.now snapshot.new }
         ensures spare { snapshot.new.copier.spare ≡ 0 }
     {
         self.checker.save(&mut snapshot.checker);
@@ -293,10 +331,11 @@ impl ItemCopier {
     /// Becomes the copier that [`ItemCopier::save`] wrote, and returns whether there is one.
     #[inline(always)]
     pub fn load(&mut self, snapshot: &Snapshot) -> bool
-        ensures some { result ≡ true → Holds snapshot.now (item_spot self.new) (kept_spot self.new) }
-        ensures found { (item : Spot) (elements : Elements) → Holds snapshot.now item elements → result ≡ true }
-        ensures same { (item : Spot) (elements : Elements) → Holds snapshot.now item elements
-            → (item_spot self.new ≡ item) × (kept_spot self.new ≡ elements) }
+        ensures kept { (strict : Bool) (depth : ℕ) (read written : List ℕ)
+            → Keeps strict depth read written snapshot.now
+            → (result ≡ true) × HasItemCopied strict depth read written self.new }
+        ensures some { result ≡ true → Saves self.new snapshot.now }
+        ensures found { HoldsSome snapshot.now → result ≡ true }
         ensures none { result ≡ false → self.new ≡ self.old }
     {
         let Some(copier) = Copier::restore(&snapshot.copier) else {
@@ -311,9 +350,11 @@ impl ItemCopier {
 
     /// Returns the copier that [`ItemCopier::save`] wrote, or `None` if [`ItemCopier::load`] finds none.
     pub fn restore(snapshot: &Snapshot) -> Option<ItemCopier>
-        ensures some { IfSome result (λ copier. Holds snapshot.now (item_spot copier) (kept_spot copier)) }
-        ensures same { (item : Spot) (elements : Elements) → Holds snapshot.now item elements
-            → IsAt result item elements }
+        ensures kept { (strict : Bool) (depth : ℕ) (read written : List ℕ)
+            → Keeps strict depth read written snapshot.now
+            → IsSomeAnd result (λ copier. HasItemCopied strict depth read written copier) }
+        ensures some { IfSome result (λ copier. Saves copier snapshot.now) }
+        ensures found { HoldsSome snapshot.now → IsSome result }
     {
         let mut copier = ItemCopier::new(0);
         if copier.load(snapshot) {

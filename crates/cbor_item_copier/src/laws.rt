@@ -1,20 +1,40 @@
-//! Laws of the states of a copier of items, each the contract of an empty function.
+//! Laws of the answers of a copier of items, each the contract of an empty function.
 
-ghost use Rattle.std.specs.Prelude.{Bool, ℕ, ◌≡◌, ◌≤◌, ◌++◌, ◌↔◌, List};
+ghost use Rattle.std.specs.Prelude.{Bool, ℕ, ◌≡◌, ◌+◌, ◌≤◌, ◌++◌, ◌↔◌, List, [], length};
 ghost use Rattle.ciborium_ll_grammar.specs.Title.{AreBytes};
 ghost use Rattle.ciborium_ll_grammar.specs.Elements.{IsRun, Mark, spelling};
 ghost use Rattle.ciborium_ll_grammar.specs.Items.{IsItem};
-ghost use Rattle.cbor_copier.specs.Spots.{Spot as Elements};
-ghost use Rattle.cbor_checker.specs.Spots.{Spot};
-ghost use Rattle.cbor_checker.specs.Telling.{HasEnded, IsAtFault};
-ghost use Rattle.cbor_item_copier.specs.Copying.{AreFed, most};
+ghost use Rattle.cbor_checker.specs.Reading.{BeginsItem};
+ghost use Rattle.cbor_item_copier.specs.Copying.{Answers, AnswersEnd, HasCopied, held, most, pending};
+ghost use Rattle.cbor_item_copier.specs.Reading.{IsEnd, IsFault, IsRoom, IsSpelled, Tells};
+ghost use Rattle.cbor_item_copier.specs.Snapshots.{HoldsSome, Keeps, Saves};
+ghost use Rattle.cbor_item_copier.specs.declared.copier.ItemCopier.{ItemCopier};
+ghost use Rattle.cbor_item_copier.specs.declared.progress.End.{End};
+ghost use Rattle.cbor_item_copier.specs.declared.progress.Progress.{Progress};
+ghost use Rattle.cbor_item_copier.specs.declared.snapshot.Snapshot.{Snapshot};
 
-/// The same bytes lead to one state and put out the same bytes, however a caller cuts them into pieces and whatever
-/// room there is.
+/// Copiers that have read the same bytes have put out the same bytes: those that are written, and then those that are
+/// pending. So it is however a caller cuts the bytes into pieces, and whatever room there is. Each holds as many bytes
+/// of the others back.
 pub fn one_item_copy()
-    ensures { (strict : Bool) (depth : ℕ) (bytes output others : List ℕ) (item other : Spot) (elements more : Elements)
-        → AreFed strict depth bytes item elements output → AreFed strict depth bytes other more others
-        → (item ≡ other) × (elements ≡ more) × (output ≡ others) }
+    ensures output { (strict : Bool) (depth : ℕ) (read written others : List ℕ) (one other : ItemCopier)
+        → HasCopied strict depth read written one → HasCopied strict depth read others other
+        → written ++ pending one ≡ others ++ pending other }
+    ensures held { (strict : Bool) (depth : ℕ) (read written others : List ℕ) (one other : ItemCopier)
+        → HasCopied strict depth read written one → HasCopied strict depth read others other
+        → length written + held one ≡ length others + held other }
+{}
+
+/// Copiers that have read the same bytes and written the same answer the same. The number that is due and the place of
+/// a fault are the same, too.
+pub fn one_answer()
+    ensures answer { (strict : Bool) (depth : ℕ) (read written : List ℕ) (one other : ItemCopier)
+        (first second : Progress)
+        → HasCopied strict depth read written one → HasCopied strict depth read written other
+        → Answers one first → Answers other second → first ≡ second }
+    ensures end { (strict : Bool) (depth : ℕ) (read written : List ℕ) (one other : ItemCopier) (first second : End)
+        → HasCopied strict depth read written one → HasCopied strict depth read written other
+        → AnswersEnd one first → AnswersEnd other second → first ≡ second }
 {}
 
 /// An item is some number of elements, so it has one shortest spelling.
@@ -25,25 +45,54 @@ pub fn items_are_elements()
         → IsRun other item others → (count ≡ other) × (marks ≡ others) }
 {}
 
-/// A copy has ended exactly if the bytes so far are an item to the depth, for a strict copier in its shortest spelling.
-/// The output is then the item's shortest spelling. There is a fault exactly if no such item begins as they do.
-pub fn exact_item_copies()
-    ensures ended { (strict : Bool) (depth : ℕ) (bytes output : List ℕ) (item : Spot) (elements : Elements)
-        → AreFed strict depth bytes item elements output → (HasEnded item ↔ IsItem strict depth bytes) }
-    ensures fault { (strict : Bool) (depth : ℕ) (bytes output : List ℕ) (item : Spot) (elements : Elements)
-        → AreFed strict depth bytes item elements output
-        → (IsAtFault item ↔ ((more : List ℕ) → IsItem strict depth (bytes ++ more) → ⊥)) }
-    ensures spelled { (strict : Bool) (depth : ℕ) (bytes output : List ℕ) (item : Spot) (elements : Elements)
-        → AreFed strict depth bytes item elements output → IsItem strict depth bytes
-        → (count : ℕ) (marks : List Mark) → IsRun count bytes marks → output ≡ spelling marks }
+/// The answer is that the copy has ended exactly if the bytes so far are an item to the depth and its shortest spelling
+/// is written. For a strict copier the item is one in its shortest spelling. If nothing is pending, the answer is a
+/// fault exactly if no such item begins as they do.
+pub fn exact_answers()
+    ensures ended { (strict : Bool) (depth : ℕ) (bytes output : List ℕ) (progress : Progress)
+        → Tells strict depth bytes output progress
+        → (IsEnd progress ↔ (IsItem strict depth bytes × IsSpelled bytes output)) }
+    ensures fault { (strict : Bool) (depth : ℕ) (bytes output : List ℕ) (progress : Progress)
+        → Tells strict depth bytes output progress → (IsRoom progress → ⊥)
+        → (IsFault progress ↔ (BeginsItem strict depth bytes → ⊥)) }
 {}
 
-/// The output begins the shortest spelling of each item that begins with the bytes so far, if the item's elements can
-/// be counted.
+/// If the bytes so far are an item, all that is put out is its shortest spelling.
+pub fn item_spelled()
+    ensures { (strict : Bool) (depth : ℕ) (read written : List ℕ) (copier : ItemCopier)
+        → HasCopied strict depth read written copier → IsItem strict depth read
+        → (count : ℕ) (marks : List Mark) → IsRun count read marks → written ++ pending copier ≡ spelling marks }
+{}
+
+/// All that is put out begins the shortest spelling of each item that begins with the bytes so far, if the item's
+/// elements can be counted.
 pub fn item_spelled_so_far()
-    ensures { (strict : Bool) (depth : ℕ) (bytes output more : List ℕ) (item : Spot) (elements : Elements) (count : ℕ)
+    ensures { (strict : Bool) (depth : ℕ) (read written behind : List ℕ) (copier : ItemCopier) (count : ℕ)
         (marks : List Mark)
-        → AreFed strict depth bytes item elements output → AreBytes more → IsItem strict depth (bytes ++ more)
-        → IsRun count (bytes ++ more) marks → count ≤ most
-        → (rest : List ℕ) × (spelling marks ≡ output ++ rest) }
+        → HasCopied strict depth read written copier → AreBytes behind → IsItem strict depth (read ++ behind)
+        → IsRun count (read ++ behind) marks → count ≤ most
+        → (rest : List ℕ) × (spelling marks ≡ (written ++ pending copier) ++ rest) }
+{}
+
+/// A copier that has read no byte has written none, and holds none. If nothing is pending, a copier holds at most eight
+/// bytes back. The pending bytes are among those that are held.
+pub fn few_held()
+    ensures none { (strict : Bool) (depth : ℕ) (written : List ℕ) (copier : ItemCopier)
+        → HasCopied strict depth [] written copier
+        → (written ≡ []) × (pending copier ≡ []) × (held copier ≡ 0) }
+    ensures few { (copier : ItemCopier) → pending copier ≡ [] → held copier ≤ 8 }
+    ensures some { (copier : ItemCopier) → length (pending copier) ≤ held copier }
+{}
+
+/// Copiers with the same plain numbers answer the same, even if no bytes lead to their state. If the numbers keep some
+/// bytes, each has read and written those.
+pub fn one_saved()
+    ensures answer { (snapshot : Snapshot) (one other : ItemCopier) (first second : Progress) → Saves one snapshot
+        → Saves other snapshot → Answers one first → Answers other second → first ≡ second }
+    ensures end { (snapshot : Snapshot) (one other : ItemCopier) (first second : End) → Saves one snapshot
+        → Saves other snapshot → AnswersEnd one first → AnswersEnd other second → first ≡ second }
+    ensures read { (strict : Bool) (depth : ℕ) (read written : List ℕ) (copier : ItemCopier) (snapshot : Snapshot)
+        → Keeps strict depth read written snapshot → Saves copier snapshot
+        → HasCopied strict depth read written copier }
+    ensures some { (copier : ItemCopier) (snapshot : Snapshot) → Saves copier snapshot → HoldsSome snapshot }
 {}

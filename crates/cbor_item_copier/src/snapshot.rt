@@ -1,8 +1,6 @@
 //! A copier's state as plain numbers.
 
-ghost use Rattle.cbor_copier.specs.Spots.{Spot as Elements};
-ghost use Rattle.cbor_checker.specs.Spots.{Spot};
-ghost use Rattle.cbor_item_copier.specs.Snapshots.{Holds};
+ghost use Rattle.cbor_item_copier.specs.Snapshots.{HoldsSome};
 
 use cbor_copier::Copier;
 
@@ -28,7 +26,7 @@ const _: () = prove!(size_of::<Snapshot>() == 2424);
 impl Snapshot {
     /// Returns numbers that are no state.
     pub fn new() -> Snapshot
-        ensures { (item : Spot) (elements : Elements) → Holds result item elements → ⊥ }
+        ensures { HoldsSome result → ⊥ }
     {
         Snapshot {
             checker: cbor_checker::Snapshot::new(),

@@ -17,7 +17,7 @@ use Rattle.cbor_checker.specs.Telling.{EndedIn}
 use Rattle.cbor_checker.proofs.ExactLaws.{ended_exact}
 use Rattle.cbor_copier.proofs.StepLaws.{same_last}
 use Rattle.cbor_item_copier.specs.declared.progress.Progress.TheVariants as r
-use Rattle.cbor_item_copier.specs.Telling.{TellsWhole}
+use Rattle.cbor_item_copier.specs.Reading.{TellsWhole}
 use Rattle.tool_verdicts.specs.declared.verdict.Verdict.{Verdict}
 use Rattle.tool_verdicts.specs.declared.verdict.Verdict.TheVariants as v
 use Rattle.tool_files.specs.Recodes.{AnswersItems, AreRespelled, BeginsNone, CopiesItems, EndWithin, Names, StopAt}

@@ -8,22 +8,22 @@ use Rattle.std.proofs.lemmas.List.{take-append-drop, take_rest}
 use Rattle.std.proofs.Math.Seq.{take-add, take-length}
 use Rattle.cbor_checker.specs.declared.phase.Fault.{Fault}
 use Rattle.cbor_checker.specs.declared.phase.Fault.TheVariants as f
-use Rattle.cbor_checker.specs.declared.phase.Phase.{Phase}
-use Rattle.cbor_checker.specs.declared.phase.Phase.TheVariants as p
 use Rattle.cbor_checker.specs.declared.progress.Progress.{Progress as Checked}
 use Rattle.cbor_checker.specs.declared.progress.Progress.TheVariants as c
 use Rattle.cbor_checker.specs.Checking.{Answers, HasRead}
+use Rattle.cbor_checker.specs.Reading.{GoesOn, LacksAtLeast}
 use Rattle.cbor_checker.specs.Spots.{Spot}
 use Rattle.cbor_checker.specs.Steps as checks
 use Rattle.cbor_checker.specs.Telling as checker
-use Rattle.cbor_copier.specs.Spots.{Spot as Elements}
 use Rattle.cbor_copier.specs.Steps as copies
-use Rattle.cbor_copier.proofs.FrontLaws.{few_held}
 use Rattle.cbor_item_copier.specs.declared.copier.ItemCopier.{ItemCopier}
 use Rattle.cbor_item_copier.specs.declared.progress.Progress.{Progress}
 use Rattle.cbor_item_copier.specs.declared.progress.Progress.TheVariants as r
-use Rattle.cbor_item_copier.specs.Copying.{IsItemCopied, elements_spot, held, item_spot, most, pending}
-use Rattle.cbor_item_copier.specs.Telling.{IsAnswer, IsRoom, Tells, TellsWhole, of_checker, progress_of}
+use Rattle.cbor_item_copier.specs.Copying as item
+use Rattle.cbor_item_copier.specs.Copying.{elements_spot, held, item_spot, most, pending}
+use Rattle.cbor_item_copier.specs.Reading.{IsRoom, Tells, TellsWhole}
+use Rattle.cbor_item_copier.specs.Telling.{of_checker, progress_of}
+use Rattle.cbor_item_copier.proofs.ReadLaws.{few_held, fresh_clear}
 use Rattle.cbor_item_copier.proofs.StateLaws.{fresh_fed, one_fed}
 use Rattle.cbor_item_copier.proofs.TellLaws.{copier_tells, more_due}
 use Rattle.tool_files.specs.Recodes.{AreRespelled, EndWithin, Names, StopAt, Stands, TooMany, fault_place}
@@ -35,9 +35,10 @@ use Rattle.tool_files.proofs.RecodePlaces.{place_read}
 -- ---- before the first byte
 
 -- The states before the first byte of an item, and the output.
-fresh_spots : (depth : ℕ) (copier : ItemCopier) → IsItemCopied false depth [] [] copier
+fresh_spots : (depth : ℕ) (copier : ItemCopier) → item.HasCopied false depth [] [] copier
     → (item_spot copier ≡ checks.start false depth) × (elements_spot copier ≡ copies.start most)
     × (pending copier ≡ [])
+unfolding item.HasCopied
 fresh_spots depth copier was =
     one_fed false depth [] (pending copier) [] (item_spot copier) (checks.start false depth) (elements_spot copier)
     (copies.start most) was
@@ -49,8 +50,9 @@ fresh_due depth bytes spot given start = rw (given, start) refl
 
 -- A copy of items stands at the start of an item, after these items.
 pub fresh_stands : (depth : ℕ) (most left : Option ℕ) (start count : ℕ) (items outputs : List ℕ) (copier : ItemCopier)
-    → IsItemCopied false depth [] [] copier → AreRespelled depth count items outputs → start ≡ length items
+    → item.HasCopied false depth [] [] copier → AreRespelled depth count items outputs → start ≡ length items
     → IsLeft most left count → Stands depth most left start items outputs copier
+unfolding item.HasCopied
 fresh_stands depth most left start count items outputs copier was are is limit =
     let spots = fresh_spots depth copier was in
     let told = copier_tells copier (r.More 1) (fresh_due depth (pending copier) (item_spot copier) spots.2 spots.0)
@@ -75,19 +77,12 @@ fresh_stands depth most left start count items outputs copier was are is limit =
     }
 
 -- Nothing is held back before the first byte.
-pub fresh_held : (depth : ℕ) (copier : ItemCopier) → IsItemCopied false depth [] [] copier → held copier ≡ 0
-fresh_held depth copier was =
-    let spots = fresh_spots depth copier was in
-    let front = ap (λ (z : Elements). length z.front) spots.1 in
-    omega (arith, front, ap (length {A = ℕ}) spots.2)
+pub fresh_held : (depth : ℕ) (copier : ItemCopier) → item.HasCopied false depth [] [] copier → held copier ≡ 0
+fresh_held depth copier was = (fresh_clear false depth [] copier was).2
 
 -- If nothing is pending, at most eight bytes are held back.
 pub few : (copier : ItemCopier) → pending copier ≡ [] → held copier ≤ 8
-few copier given = omega (
-  arith,
-  few_held copier.copier.phase copier.copier.front copier.copier.room,
-  ap (length {A = ℕ}) given,
-)
+few copier given = few_held copier given
 
 -- ---- after a piece of a copier
 
@@ -103,20 +98,17 @@ named [] spot fault is = of_fault (checker.progress_of spot) is
     of_fault c.TooLong same = absurd cc
 named (byte ∷ bytes) spot fault is = absurd cc
 
-due_more : (phase : Phase) (spot : Spot) → checker.is_due phase ≡ true
-    → (due : ℕ) × (checker.progress_in phase spot ≡ c.More due)
-due_more p.Title spot due = (_, refl)
-due_more (p.Bytes left) spot due = (left, refl)
-due_more (p.Text left state) spot due = (left, refl)
-due_more p.Ended spot due = absurd cc
-due_more (p.Faulted fault) spot due = absurd cc
+-- An item that goes on lacks at least one byte.
+lacks_one : {depth : ℕ} (bytes : List ℕ) → GoesOn false depth bytes → LacksAtLeast false depth bytes 1
+lacks_one bytes on [] is = absurd (on.unended (rw append-nil at is))
+lacks_one bytes on (x ∷ behind) is = omega arith
 
 module _ (depth : ℕ) (most left : Option ℕ) (start : ℕ) (fed given : List ℕ) (old new : ItemCopier)
     (stands : Stands depth most left start fed given old)
     (bytes out : List ℕ) (progress : Progress)
-    (copied : IsItemCopied false depth (stands.within.part ++ bytes) (stands.within.front ++ out) new)
+    (copied : item.HasCopied false depth (stands.within.part ++ bytes) (stands.within.front ++ out) new)
     (tells : Tells false depth (stands.within.part ++ bytes) (stands.within.front ++ out) progress)
-    (answers : IsAnswer progress (pending new) (item_spot new)) where
+    (answers : item.AnswersPiece new progress) where
   all_fed : fed ++ bytes ≡ stands.within.before ++ (stands.within.part ++ bytes)
   all_fed = ap (λ (z : List ℕ). z ++ bytes) stands.within.is
       ∙ append_assoc stands.within.before stands.within.part bytes
@@ -143,10 +135,10 @@ module _ (depth : ℕ) (most left : Option ℕ) (start : ℕ) (fed given : List 
 
   -- More bytes of the item are due.
   pub stands_on : (due : ℕ) → progress ≡ r.More due → Stands depth most left start (fed ++ bytes) (given ++ out) new
-  unfolding end_within
+  unfolding end_within item.Answers
   stands_on due is =
       let answer : r.More due ≡ progress_of (pending new) (item_spot new) =
-      subst (λ (z : Progress). IsAnswer z (pending new) (item_spot new)) is answers in
+      subst (item.AnswersPiece new) is answers in
       let told = subst (Tells false depth (stands.within.part ++ bytes) (stands.within.front ++ out)) is tells in
       record {
         within = end_within due told;
@@ -172,10 +164,10 @@ module _ (depth : ℕ) (most left : Option ℕ) (start : ℕ) (fed given : List 
 
   -- The checker names the fault.
   pub names : (fault : Fault) → progress ≡ r.Fault fault → Names depth (stands.within.part ++ bytes) fault
-  unfolding HasRead Answers
+  unfolding HasRead Answers item.Answers item.HasCopied
   names fault is =
       let answer : r.Fault fault ≡ progress_of (pending new) (item_spot new) =
-      subst (λ (z : Progress). IsAnswer z (pending new) (item_spot new)) is answers in
+      subst (item.AnswersPiece new) is answers in
       record {
         checker = new.checker;
         has_read = copied.checked;
@@ -219,20 +211,15 @@ module _ (depth : ℕ) (most left : Option ℕ) (start : ℕ) (fed given : List 
   }
 
   -- No more bytes can be counted.
-  pub too_many : (all rest : List ℕ) → progress ≡ r.TooLong → checker.is_due (item_spot new).phase ≡ true
-      → 0 < length rest → all ≡ (fed ++ bytes) ++ rest → TooMany depth all (given ++ out)
-  too_many all rest is due some whole =
-      let clear = subst (λ (z : Progress). IsAnswer z (pending new) (item_spot new)) is answers in
+  pub too_many : (all rest : List ℕ) → progress ≡ r.TooLong → 0 < length rest → all ≡ (fed ++ bytes) ++ rest
+      → TooMany depth all (given ++ out)
+  too_many all rest is some whole =
       let long = subst (Tells false depth (stands.within.part ++ bytes) (stands.within.front ++ out)) is tells in
-      let more = due_more (item_spot new).phase (item_spot new) due in
-      let answer : r.More more.0 ≡ progress_of (pending new) (item_spot new) =
-      rw clear (ap of_checker (sym more.1)) in
-      let told = copier_tells new (r.More more.0) answer false depth (stands.within.part ++ bytes)
-      (stands.within.front ++ out) copied in
+      let on : GoesOn false depth (stands.within.part ++ bytes) = long.0.0 in
       record {
         fed = fed ++ bytes;
         rest = rest;
-        within = end_within more.0 told;
+        within = end_within 1 ((on, omega arith, lacks_one (stands.within.part ++ bytes) on), long.1);
         is = whole;
         many = omega (
           arith,

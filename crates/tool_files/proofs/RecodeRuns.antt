@@ -8,11 +8,9 @@ use Rattle.std.specs.declared.io.Error.{Error}
 use Rattle.ciborium_ll_text.proofs.Lists.{length_zero}
 use Rattle.cbor_checker.specs.declared.phase.Fault.{Fault}
 use Rattle.cbor_checker.specs.declared.phase.Fault.TheVariants as f
-use Rattle.cbor_checker.specs.Steps as checks
-use Rattle.cbor_copier.specs.Steps as copies
 use Rattle.cbor_item_copier.specs.declared.copier.ItemCopier.{ItemCopier}
-use Rattle.cbor_item_copier.specs.Copying.{IsItemCopied, elements_spot, item_spot, most, pending}
-use Rattle.cbor_item_copier.proofs.StateLaws.{fresh_fed, one_fed}
+use Rattle.cbor_item_copier.specs.Copying.{HasCopied}
+use Rattle.cbor_item_copier.proofs.ReadLaws.{fresh_clear}
 use Rattle.tool_verdicts.specs.declared.verdict.Verdict.{Verdict}
 use Rattle.tool_verdicts.specs.declared.verdict.Verdict.TheVariants as v
 use Rattle.tool_verdicts.specs.Parts.{IsAtMost}
@@ -22,13 +20,9 @@ use Rattle.tool_files.specs.Recodes.{TellsAll, TellsSome, TooMany, end_said, fau
 use Rattle.tool_files.proofs.RecodeLaws.{consumed_known, end_known, kept_known}
 
 -- Without a byte nothing is put out.
-none_out : (depth : ℕ) (part front : List ℕ) (copier : ItemCopier) → IsItemCopied false depth part front copier
+none_out : (depth : ℕ) (part front : List ℕ) (copier : ItemCopier) → HasCopied false depth part front copier
     → part ≡ [] → front ≡ []
-none_out depth part front copier was empty =
-    let same = one_fed false depth [] (front ++ pending copier) [] (item_spot copier) (checks.start false depth)
-    (elements_spot copier) (copies.start most) (rw empty at was)
-    (fresh_fed false depth (checks.start false depth) (copies.start most) [] checks.fresh copies.fresh) in
-    length_zero front (omega (arith, ap (length {A = ℕ}) same.2, length-append front (pending copier)))
+none_out depth part front copier was empty = (fresh_clear false depth front copier (rw empty at was)).0
 
 -- Bytes that are told later follow those at which a copy stops.
 stop_later : (depth : ℕ) (bytes more : List ℕ) (verdict : Verdict) (output : List ℕ) → StopAt depth bytes verdict output

@@ -9,8 +9,8 @@ use Rattle.cbor_checker.specs.declared.checker.Checker.{Checker}
 use Rattle.cbor_checker.specs.Checking.{Answers, HasRead}
 use Rattle.cbor_item_copier.specs.declared.copier.ItemCopier.{ItemCopier}
 use Rattle.cbor_item_copier.specs.declared.progress.Progress.TheVariants as r
-use Rattle.cbor_item_copier.specs.Copying.{IsItemCopied, pending}
-use Rattle.cbor_item_copier.specs.Telling.{IsSpelled, TellsWhole}
+use Rattle.cbor_item_copier.specs.Copying.{HasCopied, pending}
+use Rattle.cbor_item_copier.specs.Reading.{IsSpelled, TellsWhole}
 use Rattle.tool_verdicts.specs.Parts.{IsAtMost}
 use Rattle.tool_verdicts.specs.Verdicts.{verdict_moved}
 use Rattle.tool_verdicts.specs.declared.verdict.Verdict.{Verdict}
@@ -210,7 +210,7 @@ IsLeft most left count = ⊥
 pub record Stands (depth : ℕ) (most left : Option ℕ) (start : ℕ) (fed given : List ℕ) (copier : ItemCopier) : Type 0
   where
     pub within : EndWithin depth fed given
-    pub copied : IsItemCopied false depth within.part within.front copier
+    pub copied : HasCopied false depth within.part within.front copier
     pub none : pending copier ≡ []
     pub start_is : start ≡ length within.before
     pub limit : IsLeft most left within.count

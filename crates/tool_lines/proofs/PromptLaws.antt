@@ -7,14 +7,10 @@ use Rattle.ciborium_ll_io.specs.Transfer.{AppendsPart}
 use Rattle.std.proofs.lemmas.List.{take-append-drop, length-take}
 use Rattle.std.proofs.Math.Seq.{take-length, drop-length}
 use Rattle.cbor_copier.specs.declared.copier.Copier.{Copier}
-use Rattle.cbor_copier.specs.declared.phase.Phase.{Phase}
-use Rattle.cbor_copier.specs.declared.phase.Phase.TheVariants as h
 use Rattle.cbor_copier.specs.declared.progress.Progress.{Progress}
 use Rattle.cbor_copier.specs.declared.progress.Progress.TheVariants as p
-use Rattle.cbor_copier.specs.Copying.{IsCopied}
-use Rattle.cbor_copier.specs.Spots.{Spot}
-use Rattle.cbor_copier.specs.Steps.{IsFed, fresh, more}
-use Rattle.cbor_copier.specs.Telling.{IsAnswer, IsRoom, Tells, TellsWhole, progress_in, progress_of}
+use Rattle.cbor_copier.specs.Copying.{HasCopied}
+use Rattle.cbor_copier.specs.Reading.{IsRoom, Tells, TellsWhole}
 use Rattle.ciborium_ll_decoder.specs.declared.dec.Error.TheVariants as e
 use Rattle.ciborium_ll_decoder.specs.declared.copy.RecodeError.{RecodeError}
 use Rattle.ciborium_ll_decoder.specs.declared.copy.RecodeError.TheVariants as r
@@ -22,21 +18,6 @@ use Rattle.ciborium_ll_streams.specs.declared.streams.ReadFault.{ReadFault}
 use Rattle.ciborium_ll_streams.specs.declared.streams.ReadFault.TheVariants as f
 use Rattle.ciborium_ll_streams.specs.declared.streams.WriteFault.{WriteFault}
 use Rattle.tool_lines.specs.Prompt.{Breaks, Comes, CopiesPrompt, Stands, TellsAll, TellsSome}
-
--- Before the first byte nothing is put out.
-pub fresh_output : (count : ℕ) (bytes output : List ℕ) (spot : Spot) → IsFed count bytes spot output → bytes ≡ []
-    → output ≡ []
-fresh_output count bytes output spot fresh is = refl
-fresh_output count bytes output spot (more {bytes = before} byte new small fed step) is = absurd (none before is)
-  where
-    none : (xs : List ℕ) → xs ++ byte ∷ [] ≡ [] → ⊥
-    none [] is = cc
-    none (x ∷ xs) is = cc
-
--- If more bytes are due, none is pending.
-pub none_pending : (pending : List ℕ) (phase : Phase) → IsAnswer p.More pending phase → pending ≡ []
-none_pending [] phase is = refl
-none_pending (byte ∷ bytes) phase is = cc
 
 -- If there is room, the answer is `More`.
 pub only_more : (says : Progress) → (says ≡ p.More) ⊎ (says ≡ p.Room) → (IsRoom says → ⊥) → says ≡ p.More
@@ -74,14 +55,14 @@ module _ {R W : Type 0} (left : R → Option (List ℕ)) (got : W → Option (Li
     pub fed : List ℕ
     pub given : List ℕ
     pub rest : List ℕ
-    pub copied : IsCopied count fed given copier
+    pub copied : HasCopied count fed given copier
     pub split : due ≡ fed ++ piece ++ rest
     pub tells : left reader ≡ Some rest
     pub all : got writer ≡ Some (written ++ given)
     pub many : pieces ≤ length fed + length piece
     pub told : 0 < pieces → TellsWhole count fed given p.More
 
-  pub held_first : (copier : Copier) (reader : R) (writer : W) → IsCopied count [] [] copier
+  pub held_first : (copier : Copier) (reader : R) (writer : W) → HasCopied count [] [] copier
       → left reader ≡ Some due → got writer ≡ Some written → Held [] copier 0 reader writer
   held_first copier reader writer copied tells all = record {
     fed = [];
@@ -157,7 +138,7 @@ module _ {R W : Type 0} (left : R → Option (List ℕ)) (got : W → Option (Li
   -- A whole piece was taken, and the next one came.
   pub held_next : {piece : List ℕ} {copier : Copier} {pieces : ℕ} {reader : R} {writer : W}
       (held : Held piece copier pieces reader writer) (output bytes : List ℕ) (copier' : Copier) (reader' : R)
-      (writer' : W) → IsCopied count (held.fed ++ piece) (held.given ++ output) copier'
+      (writer' : W) → HasCopied count (held.fed ++ piece) (held.given ++ output) copier'
       → TellsAll got (written ++ held.given) output writer' → Consumes (left reader) (left reader') bytes
       → 0 < length bytes → TellsWhole count (held.fed ++ piece) (held.given ++ output) p.More
       → Held bytes copier' (pieces + 1) reader' writer'

@@ -9,7 +9,7 @@ use Rattle.ciborium_ll_streams.specs.declared.streams.ReadFault.TheVariants as f
 use Rattle.ciborium_ll_streams.specs.declared.streams.WriteFault.{WriteFault}
 use Rattle.cbor_copier.specs.declared.progress.Progress.{Progress}
 use Rattle.cbor_copier.specs.declared.progress.Progress.TheVariants as p
-use Rattle.cbor_copier.specs.Telling.{TellsWhole}
+use Rattle.cbor_copier.specs.Reading.{TellsWhole}
 
 -- The writer tells the bytes that it had, and then a beginning of these. Some may be lost at the end. If it had `00`
 -- and these are `81 01`, it may tell `00 81`.

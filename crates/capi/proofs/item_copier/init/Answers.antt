@@ -1,9 +1,9 @@
-use Rattle.std.proofs.Common.{refl}
-use Rattle.cbor_item_copier.specs.Copying.{item_spot}
-use Rattle.cbor_item_copier.specs.Snapshots.{kept_spot}
+use Rattle.std.proofs.Common.{[], refl}
+use Rattle.ciborium_ll_grammar.specs.Spellings.{is_shortest}
 use Rattle.capi.proofs.item_copier.init.Goals as goal
 
 pub returns : goal.returns
-returns c =
-    let fresh = c.with_spelling.result in
-    (item_spot fresh, kept_spot fresh, record { mark = refl; state = c.save.ensures.holds }, c.with_spelling.ensures)
+returns c = record {
+  mark = refl;
+  state = c.save.ensures.keeps (is_shortest c.args.spelling) c.args.depth [] [] c.with_spelling.ensures;
+}

@@ -1,5 +1,5 @@
-use Rattle.cbor_item_copier.proofs.StateLaws.{one_fed}
+use Rattle.cbor_item_copier.proofs.ReadLaws.{one_held, one_output}
 use Rattle.cbor_item_copier.proofs.laws.one_item_copy.Goals as goal
 
 pub returns : goal.returns
-returns c = one_fed
+returns c = record { output = one_output; held = one_held }

@@ -1,92 +1,41 @@
-use Rattle.std.proofs.Common.{◌≡◌, ◌∙◌, ◌+◌, [], ◌++◌, append-nil, append_assoc, take, length, sym, ap, rules, arith}
-use Rattle.ciborium_ll_text.proofs.Lists.{rest_long}
-use Rattle.cbor_copier.specs.Copying.{spot_of}
-use Rattle.cbor_copier.specs.Spots.{Spot, putting}
-use Rattle.cbor_copier.specs.Telling.{is_due}
-use Rattle.cbor_copier.proofs.KeptLaws.{given_grows}
-use Rattle.cbor_copier.proofs.RunLaws.{is_answer, fed_behind, drop_later, more_given, never_long, not_more}
-use Rattle.cbor_copier.proofs.TellLaws.{copier_tells, too_long}
+use Rattle.std.proofs.Common.{[], arith, take}
+use Rattle.cbor_copier.specs.Copying.{Answers, HasCopied, held, pending, spot_of}
+use Rattle.cbor_copier.specs.Spots.{putting}
+use Rattle.cbor_copier.proofs.ReadLaws.{answers_piece, copies, last_off, last_stays, none_pending}
 use Rattle.cbor_copier.proofs.copier.Copier.feed.Goals as goal
 
-pub pieces-preserved : goal.pieces-preserved
-pieces-preserved c =
-    let before = c.pieces.self in
-    let went = c.advance-len.ensures in
-    let bytes = c.args.bytes.now in
-    let long = rest_long bytes c.pieces.at in
-    let none : before.pending ≡ [] = more_given before.pending before.phase (sym c.progress.ensures ∙ c.in-More.is) in
-    record {
-      within = omega (arith, long, went.some.1, c.pieces.invariant.within);
-      written = search rules;
-      long = search rules;
-      kept = went.rest ∙ drop_later c.pieces.written c.advance-len.result.1 c.pieces.out c.args.out.now went.within.0
-          c.pieces.invariant.kept;
-      copied = λ count fed given is.
-          fed_behind count fed _ bytes c.pieces.at c.advance-len.result.0 (putting [] (spot_of c.advance-len.new.self))
-          (went.copied count (fed ++ take c.pieces.at bytes) given (c.pieces.invariant.copied count fed given is));
-      full = search rules;
-      grown = omega (arith, c.pieces.invariant.grown, went.grown, ap length none);
-      stays = λ off given.
-          let same = c.pieces.invariant.stays off given in
-          let phase = ap (λ (spot : Spot). is_due spot.phase) same.2 in
-          absurd (not_more before.pending before.phase (phase ∙ off) (sym c.progress.ensures ∙ c.in-More.is));
-    }
+pub returns-clause-read : goal.returns-clause-read
+unfolding HasCopied
+returns-clause-read c = λ count read written is.
+    let took = c.take.ensures in
+    let now = took.copied count read written is in (
+      now,
+      copies count read written c.args.bytes.now (take c.take.result.written c.take.new.out) _ c.take.result
+          (putting [] (spot_of c.take.new.self)) took.taken took.all took.long now
+          (took.tells count read written is),
+    )
 
-pub returns-in_default-clause-tells : goal.returns-in_default-clause-tells
-returns-in_default-clause-tells c = λ count fed given is.
-    copier_tells c.pieces.self c.progress.result c.progress.ensures count (fed ++ take c.pieces.at c.args.bytes.now)
-    (given ++ take c.pieces.written c.pieces.out) (c.pieces.invariant.copied count fed given is)
+pub returns-clause-is : goal.returns-clause-is
+returns-clause-is c = answers_piece c.take.new.self c.take.result.progress c.take.ensures.answers
 
-pub returns-then-self-clause-tells : goal.returns-then-self-clause-tells
-returns-then-self-clause-tells c = λ count fed given is.
-    too_long c.pieces.self (sym c.in-More.is ∙ c.progress.ensures) (omega (arith, c.if-self.true)) count
-    (fed ++ take c.pieces.at c.args.bytes.now) (given ++ take c.pieces.written c.pieces.out)
-    (c.pieces.invariant.copied count fed given is)
+pub returns-clause-grown : goal.returns-clause-grown
+unfolding held
+returns-clause-grown c = omega (arith, c.take.ensures.grown)
 
-pub returns-clause-tells : goal.returns-clause-tells
-returns-clause-tells c = λ count fed given is.
-    let all : c.pieces.at ≡ length c.args.bytes.now = search rules in
-    rw (← all) (copier_tells c.pieces.self c.progress-2.result c.progress-2.ensures count
-    (fed ++ take c.pieces.at c.args.bytes.now) (given ++ take c.pieces.written c.pieces.out)
-    (c.pieces.invariant.copied count fed given is))
+pub returns-clause-none : goal.returns-clause-none
+unfolding pending
+returns-clause-none c = none_pending c.take.result.progress _ _ c.take.ensures.answers
 
-pub returns-in_default-clause-answers : goal.returns-in_default-clause-answers
-returns-in_default-clause-answers c =
-    is_answer c.progress.result c.pieces.self.pending c.pieces.self.phase c.progress.ensures
+pub returns-clause-fits : goal.returns-clause-fits
+unfolding pending
+returns-clause-fits c = c.take.ensures.fits
 
-pub returns-clause-answers : goal.returns-clause-answers
-returns-clause-answers c =
-    is_answer c.progress-2.result c.pieces.self.pending c.pieces.self.phase c.progress-2.ensures
-
-pub pieces-init : goal.pieces-init
-pieces-init c =
-    let gave = c.give-written.ensures in
+pub returns-clause-stays : goal.returns-clause-stays
+unfolding Answers
+returns-clause-stays c = λ progress is last.
     let old = spot_of c.args.self.now in
-    record {
-      within = omega arith;
-      written = search rules;
-      long = search rules;
-      kept = gave.rest;
-      copied = λ count fed given is. rw (append-nil fed, append_assoc given, gave.given) is;
-      full = search rules;
-      grown = omega (
-        arith,
-        given_grows old 0 c.give-written.result (length old.put + length old.front) c.args.out.now
-            c.give-written.new.out c.give-written.new.self (omega arith) (omega arith) (search rules) gave.given,
-      );
-      stays = search rules;
-    }
-
-pub returns-clause-copied : goal.returns-clause-copied
-returns-clause-copied c = search rules
-
-pub returns-clause-all : goal.returns-clause-all
-returns-clause-all c = search rules
-
-pub returns-in_default-clause-long : goal.returns-in_default-clause-long
-returns-in_default-clause-long c = λ is.
-    absurd (never_long c.pieces.self.pending c.pieces.self.phase (sym c.progress.ensures ∙ is))
-
-pub returns-clause-long : goal.returns-clause-long
-returns-clause-long c = λ is.
-    absurd (never_long c.pieces.self.pending c.pieces.self.phase (sym c.progress-2.ensures ∙ is))
+    let new = spot_of c.take.new.self in
+    let off = last_off progress old.put old.phase is last in
+    let stays = c.take.ensures.stays off.0 off.1 in
+    let same = last_stays progress c.take.result.progress old new is last stays.2 c.take.ensures.answers in
+    (stays.0, stays.1, same.0, same.1)

@@ -1,101 +1,27 @@
-use Rattle.std.proofs.Common.{◌≡◌, ◌∙◌, ◌++◌, ℕ, List, false, length, take, sym, ap, subst, rules, arith}
-use Rattle.cbor_checker.specs.Telling.{is_due}
-use Rattle.cbor_copier.proofs.RunLaws.{drop_later}
-use Rattle.cbor_checker.proofs.OneSpot.{one_spot}
-use Rattle.cbor_checker.specs.Spots.{Spot}
-use Rattle.cbor_item_copier.specs.declared.copier.ItemCopier.{ItemCopier}
-use Rattle.cbor_item_copier.specs.Copying.{item_spot, elements_spot, pending}
-use Rattle.cbor_item_copier.specs.Telling.{Tells}
-use Rattle.cbor_item_copier.specs.declared.progress.Progress.TheVariants as r
-use Rattle.cbor_item_copier.proofs.FitLaws.{never_room}
-use Rattle.cbor_item_copier.proofs.TellLaws.{more_due, never_long, not_more, tells_long}
+use Rattle.std.proofs.Common.{take}
+use Rattle.cbor_item_copier.specs.Copying.{Answers, HasCopied, item_spot, pending}
+use Rattle.cbor_item_copier.proofs.ReadLaws.{answers_piece, copies, last_off, none_pending}
 use Rattle.cbor_item_copier.proofs.copier.ItemCopier.feed.Goals as goal
 
-pub pieces-preserved : goal.pieces-preserved
-pieces-preserved c =
-    let wrote = c.in-Some.ensures in
-    let before = c.pieces.self in
-    let so_far = c.pieces.invariant in
-    record {
-      within = wrote.all;
-      written = search rules;
-      long = search rules;
-      kept = wrote.kept ∙ drop_later c.pieces.written c.in-Some.end c.pieces.out c.args.out.now wrote.more so_far.kept;
-      copied = λ strict depth fed given was.
-          wrote.copied strict depth fed given (so_far.copied strict depth fed given was);
-      full = search rules;
-      grown = omega (arith, wrote.grown, so_far.grown);
-      stays = λ off given.
-          let same = so_far.stays off given in
-          let phase : is_due (item_spot before).phase ≡ false =
-          ap (λ (z : ItemCopier). is_due (item_spot z).phase) same.2 ∙ off in
-          absurd (not_more (pending before) (item_spot before) c.in-More.field-0 phase
-          (sym c.progress.ensures.answers ∙ c.in-More.is));
-    }
+pub returns-clause-read : goal.returns-clause-read
+unfolding HasCopied
+returns-clause-read c = λ strict depth read written is.
+    let took = c.take.ensures in
+    let now = took.copied strict depth read written is in (
+      now,
+      copies strict depth read written c.args.bytes.now (take c.take.result.written c.take.new.out) c.take.result
+          (item_spot c.take.new.self) took.taken took.all took.long now.checked
+          (took.tells strict depth read written is),
+    )
 
-pub returns-in_default-clause-tells : goal.returns-in_default-clause-tells
-returns-in_default-clause-tells c = λ strict depth fed given was.
-    c.progress.ensures.tells strict depth (fed ++ take c.pieces.at c.args.bytes.now)
-    (given ++ take c.pieces.written c.pieces.out) (c.pieces.invariant.copied strict depth fed given was)
+pub returns-clause-is : goal.returns-clause-is
+returns-clause-is c = answers_piece c.take.new.self c.take.result.progress c.take.ensures.answers
 
-pub returns-in-None-clause-tells : goal.returns-in-None-clause-tells
-returns-in-None-clause-tells c = λ strict depth fed given was.
-    let copier = c.pieces.self in
-    let stops = c.in-None.ensures in
-    let so_far = c.pieces.invariant.copied strict depth fed given was in
-    let now = fed ++ take c.pieces.at c.args.bytes.now in
-    subst (λ (z : List ℕ). Tells strict depth now (given ++ take c.pieces.written z) r.TooLong) (sym stops.same)
-    (tells_long (pending copier) strict depth now (given ++ take c.pieces.written c.pieces.out) (item_spot copier)
-    (elements_spot copier) c.in-More.field-0
-    (sym c.in-More.is ∙ c.progress.ensures.answers) so_far (stops.copied strict depth now _ so_far).1)
+pub returns-clause-none : goal.returns-clause-none
+returns-clause-none c = none_pending c.take.result.progress _ _ c.take.ensures.answers
 
-pub returns-clause-tells : goal.returns-clause-tells
-returns-clause-tells c = λ strict depth fed given was.
-    let bytes = c.args.bytes.now in
-    let all : c.pieces.at ≡ length bytes = search rules in
-    subst (λ (n : ℕ). Tells strict depth (fed ++ take n bytes) (given ++ take c.pieces.written c.pieces.out)
-    c.progress-2.result) all
-    (c.progress-2.ensures.tells strict depth (fed ++ take c.pieces.at bytes)
-    (given ++ take c.pieces.written c.pieces.out) (c.pieces.invariant.copied strict depth fed given was))
-
-pub returns-in_default-clause-fits : goal.returns-in_default-clause-fits
-returns-in_default-clause-fits c =
-    let so_far = c.pieces.invariant in
-    never_room c.args.self.now c.pieces.self c.progress.result (length c.args.bytes.now) (length c.args.out.now) c.pieces.at
-    c.pieces.written c.progress.ensures.answers (rw (← so_far.long) so_far.full) so_far.grown so_far.within
-
-pub returns-clause-fits : goal.returns-clause-fits
-returns-clause-fits c =
-    let so_far = c.pieces.invariant in
-    never_room c.args.self.now c.pieces.self c.progress-2.result (length c.args.bytes.now) (length c.args.out.now)
-    c.pieces.at c.pieces.written c.progress-2.ensures.answers (rw (← so_far.long) so_far.full) so_far.grown so_far.within
-
-pub returns-in-None-clause-grown : goal.returns-in-None-clause-grown
-returns-in-None-clause-grown c = omega (arith, c.in-None.ensures.held_same, c.pieces.invariant.grown)
-
-pub returns-in_default-clause-long : goal.returns-in_default-clause-long
-returns-in_default-clause-long c = λ is.
-    absurd (never_long (pending c.pieces.self) (item_spot c.pieces.self) (sym c.progress.ensures.answers ∙ is))
-
-pub returns-in_default-clause-cut : goal.returns-in_default-clause-cut
-returns-in_default-clause-cut c = λ strict depth fed given was is.
-    absurd (never_long (pending c.pieces.self) (item_spot c.pieces.self) (sym c.progress.ensures.answers ∙ is))
-
-pub returns-clause-long : goal.returns-clause-long
-returns-clause-long c = λ is.
-    absurd (never_long (pending c.pieces.self) (item_spot c.pieces.self) (sym c.progress-2.ensures.answers ∙ is))
-
-pub returns-clause-cut : goal.returns-clause-cut
-returns-clause-cut c = λ strict depth fed given was is.
-    absurd (never_long (pending c.pieces.self) (item_spot c.pieces.self) (sym c.progress-2.ensures.answers ∙ is))
-
-pub returns-in-None-clause-cut : goal.returns-in-None-clause-cut
-returns-in-None-clause-cut c = λ strict depth fed given was is.
-    let copier = c.pieces.self in
-    let so_far = c.pieces.invariant.copied strict depth fed given was in
-    let now = fed ++ take c.pieces.at c.args.bytes.now in
-    let behind = (c.in-None.ensures.copied strict depth now _ so_far).0 in
-    let same = one_spot strict depth now _ _ behind.checked so_far.checked in
-    let due = more_due (pending copier) (item_spot copier) c.in-More.field-0
-    (sym c.in-More.is ∙ c.progress.ensures.answers) in
-    ap (λ (z : Spot). is_due z.phase) same ∙ due.1
+pub returns-clause-stays : goal.returns-clause-stays
+unfolding Answers
+returns-clause-stays c = λ progress is last.
+    let off = last_off progress (pending c.args.self.now) (item_spot c.args.self.now) is last in
+    c.take.ensures.stays off.0 off.1

@@ -1,26 +1,29 @@
-use Rattle.std.proofs.Common.{◌∙◌, sym, rules}
-use Rattle.cbor_checker.specs.Checking.{HoldsSome, Saves}
-use Rattle.cbor_checker.proofs.SavedLaws.{one_held}
+use Rattle.std.proofs.Common.{◌∙◌, refl, sym, rules}
+use Rattle.cbor_item_copier.proofs.SavedLaws.{keeps_some, saved_read}
 use Rattle.cbor_item_copier.proofs.copier.ItemCopier.load.Goals as goal
 
-pub returns-then-not-load-clause-found : goal.returns-then-not-load-clause-found
-unfolding HoldsSome
-returns-then-not-load-clause-found c = λ item elements holds.
-    let both = sym c.if-not-load.true ∙ c.load.ensures.found (item, holds.item_is) in absurd cc
+pub returns-in_default-clause-found : goal.returns-in_default-clause-found
+returns-in_default-clause-found c = λ holds. c.in_default.ensures.found holds.1
 
-pub returns-then-not-load-clause-same : goal.returns-then-not-load-clause-same
-unfolding HoldsSome
-returns-then-not-load-clause-same c = λ item elements holds.
-    let both = sym c.if-not-load.true ∙ c.load.ensures.found (item, holds.item_is) in absurd cc
+pub returns-in_default-clause-kept : goal.returns-in_default-clause-kept
+returns-in_default-clause-kept c = λ strict depth read written keeps.
+    let no = c.in_default.ensures.found (keeps_some strict depth read written c.args.snapshot.now keeps).1 in absurd cc
+
+pub returns-then-not-load-clause-found : goal.returns-then-not-load-clause-found
+returns-then-not-load-clause-found c = λ holds.
+    let both = sym c.if-not-load.true ∙ c.load.ensures.found holds.0 in absurd cc
+
+pub returns-then-not-load-clause-kept : goal.returns-then-not-load-clause-kept
+returns-then-not-load-clause-kept c = λ strict depth read written keeps.
+    let holds = keeps_some strict depth read written c.args.snapshot.now keeps in
+    let both = sym c.if-not-load.true ∙ c.load.ensures.found holds.0 in absurd cc
 
 pub returns-clause-some : goal.returns-clause-some
-unfolding Saves
-returns-clause-some c = λ is. record { item_is = c.load.ensures.some (search rules); elements_are = search rules }
+returns-clause-some c = λ is. (c.load.ensures.some (search rules), c.in-Some.ensures.some)
 
-pub returns-clause-same : goal.returns-clause-same
-unfolding Saves
-returns-clause-same c = λ item elements holds.
-    let elements_is = holds.elements_are in (
-      one_held c.args.snapshot.now.checker _ item (c.load.ensures.some (search rules)) holds.item_is,
-      search (rules, elements_is),
-    )
+pub returns-clause-kept : goal.returns-clause-kept
+returns-clause-kept c = λ strict depth read written keeps. (
+  refl,
+  saved_read strict depth read written _ c.args.snapshot.now keeps
+      (c.load.ensures.some (search rules), c.in-Some.ensures.some),
+)

@@ -1,10 +1,10 @@
 use Rattle.std.proofs.Common.{rules}
-use Rattle.cbor_checker.specs.Checking.{Saves}
+use Rattle.cbor_item_copier.proofs.SavedLaws.{saves_keep}
 use Rattle.cbor_item_copier.proofs.copier.ItemCopier.save.Goals as goal
 
-pub returns-clause-holds : goal.returns-clause-holds
-unfolding Saves
-returns-clause-holds c = record { item_is = c.save.ensures.saves; elements_are = search rules }
+pub returns-clause-keeps : goal.returns-clause-keeps
+returns-clause-keeps c = λ strict depth read written was.
+    saves_keep strict depth read written c.args.self.now _ (c.save.ensures.saves, c.save-snapshot.ensures.saves) was
 
 pub returns-clause-spare : goal.returns-clause-spare
 returns-clause-spare c = search rules

@@ -2,7 +2,7 @@ use Rattle.std.proofs.Common.{rules, refl, sym, ap, ◌∙◌, arith, append-nil
 use Rattle.std.proofs.Common.{List, length, take, drop, length-append, false}
 use Rattle.std.proofs.lemmas.List.{length-drop, length-take-le}
 use Rattle.cbor_item_copier.proofs.PieceLaws.{given_front}
-use Rattle.cbor_item_copier.specs.Telling.{IsRoom}
+use Rattle.cbor_item_copier.specs.Reading.{IsRoom}
 use Rattle.tool_files.specs.Recodes.{fault_place, fault_said}
 use Rattle.tool_files.proofs.RecodeLaws.{fed_all, fed_more, fed_rest, feeds_stop, few, fresh_held, fresh_stands}
 use Rattle.tool_files.proofs.RecodeLaws.{front_copied}
@@ -41,9 +41,9 @@ items-preserved-in-More c =
           let s = c.items.invariant.stands most fed given was long in
           let on = stands_on c.args.self.now.depth _ _ c.items.self.start _ _ c.items.self.copier c.feed-copied.new.self s
           (take taken rest) (take c.feed-copied.result.written new_out) c.feed-copied.result.progress
-          (c.feed-copied.ensures.copied false c.args.self.now.depth s.within.part s.within.front s.copied)
-          (c.feed-copied.ensures.tells false c.args.self.now.depth s.within.part s.within.front s.copied)
-          c.feed-copied.ensures.answers c.in-More.field-0 c.in-More.is in
+          (c.feed-copied.ensures.read false c.args.self.now.depth s.within.part s.within.front s.copied).0
+          (c.feed-copied.ensures.read false c.args.self.now.depth s.within.part s.within.front s.copied).1.tells
+          c.feed-copied.ensures.is c.in-More.field-0 c.in-More.is in
           rw (
             ← fed_more fed piece c.items.at taken,
             ← given_front c.items.written c.feed-copied.result.written k c.items.out new_out
@@ -64,9 +64,9 @@ items-smaller c =
     let s = c.items.invariant.stands after.most after.fed after.given after.stands after.long in
     let on = some_taken c.args.self.now.depth _ _ c.items.self.start _ _ c.items.self.copier c.feed-copied.new.self s
     (take taken rest) (take c.feed-copied.result.written new_out) c.feed-copied.result.progress
-    (c.feed-copied.ensures.copied false c.args.self.now.depth s.within.part s.within.front s.copied)
-    (c.feed-copied.ensures.tells false c.args.self.now.depth s.within.part s.within.front s.copied)
-    c.feed-copied.ensures.answers c.in-Ended.field-0 c.in-Ended.is in
+    (c.feed-copied.ensures.read false c.args.self.now.depth s.within.part s.within.front s.copied).0
+    (c.feed-copied.ensures.read false c.args.self.now.depth s.within.part s.within.front s.copied).1.tells
+    c.feed-copied.ensures.is c.in-Ended.field-0 c.in-Ended.is in
     omega (
       arith,
       on,
@@ -107,9 +107,9 @@ items-preserved c =
           let s = c.items.invariant.stands most fed given was long in
           let on = one_more c.args.self.now.depth _ _ c.items.self.start _ _ c.items.self.copier c.feed-copied.new.self s
           (take taken rest) (take c.feed-copied.result.written new_out) c.feed-copied.result.progress
-          (c.feed-copied.ensures.copied false c.args.self.now.depth s.within.part s.within.front s.copied)
-          (c.feed-copied.ensures.tells false c.args.self.now.depth s.within.part s.within.front s.copied)
-          c.feed-copied.ensures.answers c.in-Ended.field-0 c.in-Ended.is in
+          (c.feed-copied.ensures.read false c.args.self.now.depth s.within.part s.within.front s.copied).0
+          (c.feed-copied.ensures.read false c.args.self.now.depth s.within.part s.within.front s.copied).1.tells
+          c.feed-copied.ensures.is c.in-Ended.field-0 c.in-Ended.is in
           let are = rw (
             fed_more fed piece c.items.at taken,
             given_front c.items.written c.feed-copied.result.written k c.items.out new_out
@@ -138,9 +138,9 @@ fault_verdict-requires c =
     let s = c.items.invariant.stands after.most after.fed after.given after.stands after.long in
     let on = place_fits c.args.self.now.depth _ _ c.items.self.start _ _ c.items.self.copier c.feed-copied.new.self s
     (take taken rest) (take c.feed-copied.result.written new_out) c.feed-copied.result.progress
-    (c.feed-copied.ensures.copied false c.args.self.now.depth s.within.part s.within.front s.copied)
-    (c.feed-copied.ensures.tells false c.args.self.now.depth s.within.part s.within.front s.copied)
-    c.feed-copied.ensures.answers c.in-Fault.fault c.in-Fault.is in
+    (c.feed-copied.ensures.read false c.args.self.now.depth s.within.part s.within.front s.copied).0
+    (c.feed-copied.ensures.read false c.args.self.now.depth s.within.part s.within.front s.copied).1.tells
+    c.feed-copied.ensures.is c.in-Fault.fault c.in-Fault.is in
     let within : c.items.at + taken ≤ length piece = omega (
       arith,
       c.feed-copied.ensures.taken,
@@ -172,9 +172,9 @@ returns-in-Fault-clause-feeds c = λ most fed given was long.
     let s = c.items.invariant.stands most fed given was long in
     let on = stop_at c.args.self.now.depth _ _ c.items.self.start _ _ c.items.self.copier c.feed-copied.new.self s
     (take taken rest) (take c.feed-copied.result.written new_out) c.feed-copied.result.progress
-    (c.feed-copied.ensures.copied false c.args.self.now.depth s.within.part s.within.front s.copied)
-    (c.feed-copied.ensures.tells false c.args.self.now.depth s.within.part s.within.front s.copied)
-    c.feed-copied.ensures.answers c.in-Fault.fault c.fault_verdict.result (fed ++ piece)
+    (c.feed-copied.ensures.read false c.args.self.now.depth s.within.part s.within.front s.copied).0
+    (c.feed-copied.ensures.read false c.args.self.now.depth s.within.part s.within.front s.copied).1.tells
+    c.feed-copied.ensures.is c.in-Fault.fault c.fault_verdict.result (fed ++ piece)
     (drop (c.items.at + taken) piece) c.in-Fault.is said whole in
     feeds_stop c.args.self.now.depth most c.items.self.left _ _ _ c.in-Fault.fault c.fault_verdict.result _ _ said
     (rw (← given_front c.items.written c.feed-copied.result.written k c.items.out new_out
@@ -204,15 +204,14 @@ returns-in-Room-clause-feeds c = λ most fed given was long.
       c.items.auto.written-fits,
     )) in
     let is = only_long c.feed-copied.result.progress c.in-Room.is lacks in
-    let due = c.feed-copied.ensures.cut false c.args.self.now.depth t.within.part t.within.front t.copied is in
     let some : 0 < length (drop (c.items.at + taken) piece) =
     omega (arith, c.feed-copied.ensures.long is, rest_len, length-drop (c.items.at + taken) piece) in
     let s = c.items.invariant.stands most fed given was long in
     let on = too_many c.args.self.now.depth _ _ c.items.self.start _ _ c.items.self.copier c.feed-copied.new.self s
     (take taken rest) (take c.feed-copied.result.written new_out) c.feed-copied.result.progress
-    (c.feed-copied.ensures.copied false c.args.self.now.depth s.within.part s.within.front s.copied)
-    (c.feed-copied.ensures.tells false c.args.self.now.depth s.within.part s.within.front s.copied)
-    c.feed-copied.ensures.answers (fed ++ piece) (drop (c.items.at + taken) piece) is due some whole in
+    (c.feed-copied.ensures.read false c.args.self.now.depth s.within.part s.within.front s.copied).0
+    (c.feed-copied.ensures.read false c.args.self.now.depth s.within.part s.within.front s.copied).1.tells
+    c.feed-copied.ensures.is (fed ++ piece) (drop (c.items.at + taken) piece) is some whole in
     rw (← given_front c.items.written c.feed-copied.result.written k c.items.out new_out
     (omega (arith, c.items.auto.written-fits)) refl out_len (omega (arith, out_len)) given) on
 
@@ -245,9 +244,9 @@ returns-then-not-goes_on-clause-feeds c = λ most fed given was long.
     let s = c.items.invariant.stands most fed given was long in
     let on = one_more c.args.self.now.depth _ _ c.items.self.start _ _ c.items.self.copier c.feed-copied.new.self s
     (take taken rest) (take c.feed-copied.result.written new_out) c.feed-copied.result.progress
-    (c.feed-copied.ensures.copied false c.args.self.now.depth s.within.part s.within.front s.copied)
-    (c.feed-copied.ensures.tells false c.args.self.now.depth s.within.part s.within.front s.copied)
-    c.feed-copied.ensures.answers c.in-Ended.field-0 c.in-Ended.is in
+    (c.feed-copied.ensures.read false c.args.self.now.depth s.within.part s.within.front s.copied).0
+    (c.feed-copied.ensures.read false c.args.self.now.depth s.within.part s.within.front s.copied).1.tells
+    c.feed-copied.ensures.is c.in-Ended.field-0 c.in-Ended.is in
     let are = rw (
       fed_more fed piece c.items.at taken,
       given_front c.items.written c.feed-copied.result.written k c.items.out new_out

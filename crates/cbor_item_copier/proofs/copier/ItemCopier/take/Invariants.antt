@@ -1,7 +1,7 @@
 use Rattle.std.proofs.Common.{◌≡◌, ◌≤◌, ◌+◌, ◌-◌, ◌⊎◌, ℕ, Bool, List, [], take, drop, length, ◌++◌, false}
 use Rattle.cbor_checker.specs.Telling.{is_due}
 use Rattle.cbor_item_copier.specs.Copying.{IsItemCopied, held, item_spot, pending}
-use Rattle.cbor_item_copier.proofs.copier.ItemCopier.feed.Given as goal
+use Rattle.cbor_item_copier.proofs.copier.ItemCopier.take.Given as goal
 
 abbrev pub invariant-pieces : goal.invariant-pieces
 invariant-pieces l =

@@ -1,7 +1,7 @@
 use Rattle.std.proofs.Common.{◌≡◌, ◌≤◌, ◌+◌, ◌-◌, ◌⊎◌, ℕ, List, [], take, drop, length, ◌++◌, false}
 use Rattle.cbor_copier.specs.Copying.{IsCopied, spot_of}
 use Rattle.cbor_copier.specs.Telling.{is_due}
-use Rattle.cbor_copier.proofs.copier.Copier.feed.Given as goal
+use Rattle.cbor_copier.proofs.copier.Copier.take.Given as goal
 
 abbrev pub invariant-pieces : goal.invariant-pieces
 invariant-pieces l =
