@@ -14,6 +14,8 @@ mod diags;
 #[cfg(test)]
 mod dumps;
 #[cfg(test)]
+mod embeds;
+#[cfg(test)]
 mod encodes;
 #[cfg(test)]
 mod ends;

@@ -344,7 +344,7 @@ pub static SPELLED: [(&str, &str, &str); 81] = [
 ];
 
 // Words, and the files that they name, if they ask for a look at files.
-pub static WORDS: [(&str, Option<&str>); 142] = [
+pub static WORDS: [(&str, Option<&str>); 145] = [
     ("check", Some("")),
     ("check -", Some("-")),
     ("check a b", Some("a b")),
@@ -491,7 +491,10 @@ pub static WORDS: [(&str, Option<&str>); 142] = [
     ("diag --embedded=all", None),
     ("diag --embedded=", None),
     ("diag --tagged", None),
-    ("dump --embedded", None),
+    ("dump --embedded a --embedded=tagged --max 1", Some("a")),
+    ("dump --embedded tagged", Some("tagged")),
+    ("dump --embedded=all", None),
+    ("encode --embedded", None),
     ("json --embedded=tagged", None),
     ("check --embedded", None),
 ];

@@ -1,5 +1,6 @@
 pub mod ArgumentLaws
 pub mod CanonLaws
+pub mod EmbedLaws
 pub mod FenceLaws
 pub mod InputLaws
 pub mod PartLaws

@@ -3,6 +3,7 @@ pub mod Arguments
 pub mod Given
 pub mod Deterministic
 pub mod Canon
+pub mod Embeds
 pub mod Encodes
 pub mod Fences
 pub mod Inputs

@@ -146,7 +146,8 @@ impl Setting {
             (Setting::Offsets | Setting::Colors(_) | Setting::Max(_), Word::Show(View::Titles)) =>
                 true,
             (Setting::Pretty | Setting::Exact, Word::Show(View::Notation)) => true,
-            (Setting::Embedded | Setting::Tagged, Word::Show(View::Notation)) => true,
+            (Setting::Embedded | Setting::Tagged, Word::Show(View::Titles | View::Notation)) =>
+                true,
             (Setting::Lossy, Word::Show(View::Json)) => true,
             _ => false,
         }

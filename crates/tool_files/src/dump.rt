@@ -13,6 +13,7 @@ ghost use Rattle.ciborium_ll.specs.Limits.{MOST_LEVELS};
 
 use crate::arguments::Options;
 use crate::fence::Fence;
+use crate::nested::{Asked, Holder, Strings};
 use crate::patient::Patient;
 use crate::shared::{Prompt, Shared};
 use cbor_dump::counted::skip_items;
@@ -27,6 +28,7 @@ use std::io;
 use std::io::Write as _;
 use tool_verdicts::check::{BUFFER_SIZE, decoder_of, failed_or, fault_of};
 use tool_verdicts::dump::{dump_verdict, left_shown};
+use tool_verdicts::items::EMBEDDED_ROOM;
 use tool_verdicts::verdict::Verdict;
 
 /// Prints rows, each as a line.
@@ -36,8 +38,6 @@ struct Printer<W> {
     writer: W,
     offsets: bool,
     colors: bool,
-    /// The level of a part of the last row's title or body.
-    below: usize,
     /// How many rows of a body are printed at most, if not all are.
     most: Option<usize>,
     /// How many rows of the present body were printed.
@@ -45,6 +45,9 @@ struct Printer<W> {
     /// The bytes of the present body that are in no row.
     hidden: Hidden,
 }
+
+/// The rows of a printer, with the items in byte strings as the options ask for them.
+type Page<'m, W> = Holder<'m, Strings, Printer<W>>;
 
 /// Bytes of a body that are not shown.
 #[derive(Clone, Copy)]
@@ -163,21 +166,12 @@ impl<W: io::Write> Rows for Printer<W> {
     ///
     /// The error is that of the writer, or says that there is no memory for the line.
     fn row(&mut self, row: Row<'_>) -> io::Result<()> {
-        self.below = level_below(&row);
         if matches!(row.meaning, Meaning::Bytes | Meaning::Text) {
             return self.put_body(row);
         }
         self.end_body()?;
         self.set_line(row)?;
         self.put(matches!(row.meaning, Meaning::Fault))
-    }
-}
-
-/// Returns the level of a part of a row: one deeper than a title, and otherwise the level of the row.
-fn level_below(row: &Row<'_>) -> usize {
-    match row.meaning {
-        Meaning::Header(_) => row.level.saturating_add(1),
-        Meaning::Bytes | Meaning::Text | Meaning::Fault => row.level,
     }
 }
 
@@ -199,8 +193,11 @@ fn first_digit(line: &str) -> usize {
 /// The options may name a part of the items: those after the first ones, and at most a number of them. If they name a
 /// number of lines, each body has at most that number, and a comment after them says how many bytes follow.
 ///
-/// The call flushes each whole line before it asks the reader for more. Colors are escape sequences between the bytes
-/// of the lines, and change none of them.
+/// If the options ask for the items in byte strings, the lines of an item take the place of those of a body. They may
+/// also ask for those under tag 24 alone (RFC 8949, 3.4.5.1).
+///
+/// The call flushes each whole line before it asks the reader for more. It holds a body back that may be an item. Colors
+/// are escape sequences between the bytes of the lines, and change none of them.
 ///
 /// # Errors
 ///
@@ -219,12 +216,11 @@ pub fn dump_input<R: io::Read + Drop, W: io::Write + Drop>(
         writer: Shared::new(&output),
         offsets: options.offsets,
         colors,
-        below: 0,
         most: options.max,
         rows: 0,
         hidden: NONE_HIDDEN,
     };
-    let outcome = dump_rows(Prompt::new(reader, &output), &mut printer, options);
+    let outcome = dump_held(Prompt::new(reader, &output), &mut printer, options);
     let ended = match &outcome {
         Err(Verdict::Output(_)) => Ok(()),
         Ok(()) | Err(Verdict::Failed(_)) => printer.end_body(),
@@ -236,11 +232,33 @@ pub fn dump_input<R: io::Read + Drop, W: io::Write + Drop>(
     }
 }
 
+/// Prints the rows of a part of a reader's bytes, from their start, and the rows that were held when they ended.
+fn dump_held<R: io::Read + Drop, W: io::Write>(
+    reader: R,
+    printer: &mut Printer<W>,
+    options: Options,
+) -> Result<(), Verdict> {
+    let asked = Asked {
+        embedded: options.embedded,
+        depth: options.depth,
+    };
+    let mut memory = [0; EMBEDDED_ROOM];
+    let mut holder = Holder::new(printer, &mut memory, asked);
+    let outcome = dump_rows(reader, &mut holder, options);
+    if let Err(Verdict::Output(_)) = &outcome {
+        return outcome;
+    }
+    match holder.let_go() {
+        Ok(()) => outcome,
+        Err(error) => Err(Verdict::Output(error)),
+    }
+}
+
 /// Prints the rows of a part of a reader's bytes, from their start, and the bytes that are left of a title or of a body
 /// after them. It prints nothing of the items that are passed over.
 fn dump_rows<R: io::Read + Drop, W: io::Write>(
     reader: R,
-    printer: &mut Printer<W>,
+    holder: &mut Page<'_, W>,
     options: Options,
 ) -> Result<(), Verdict>
     ensures { DumpsInput ⟦<Patient<R> as Read>⟧ ⟦<Fence<Patient<R>> as Read>⟧ options.strict options.skip options.items
@@ -254,21 +272,21 @@ fn dump_rows<R: io::Read + Drop, W: io::Write>(
         return Err(failed_or(fault, verdict));
     }
     match options.items {
-        None => dump_all(decoder, printer, options),
-        Some(items) => dump_some(decoder, items, printer, options),
+        None => dump_all(decoder, holder, options),
+        Some(items) => dump_some(decoder, items, holder, options),
     }
 }
 
 /// Prints the rows of all bytes that a decoder reads.
 fn dump_all<R: io::Read + Drop, W: io::Write>(
     mut decoder: Decoder<Patient<R>>,
-    printer: &mut Printer<W>,
+    holder: &mut Page<'_, W>,
     options: Options,
 ) -> Result<(), Verdict>
     requires alike { IsInMode options.strict decoder }
     ensures { DumpsAll ⟦<Patient<R> as Read>⟧ options.depth decoder result }
 {
-    let (outcome, offset) = print_all(&mut decoder, printer, options);
+    let (outcome, offset) = print_all(&mut decoder, holder, options);
     let (_, fault) = decoder.into_inner().into_parts();
     dump_verdict(outcome, fault, offset)
 }
@@ -277,7 +295,7 @@ fn dump_all<R: io::Read + Drop, W: io::Write>(
 fn dump_some<R: io::Read + Drop, W: io::Write>(
     mut decoder: Decoder<Patient<R>>,
     items: usize,
-    printer: &mut Printer<W>,
+    holder: &mut Page<'_, W>,
     options: Options,
 ) -> Result<(), Verdict>
     ensures { DumpsSome ⟦<Fence<Patient<R>> as Read>⟧ options.strict items options.depth decoder result }
@@ -286,7 +304,7 @@ fn dump_some<R: io::Read + Drop, W: io::Write>(
     let fence = Fence::new(decoder.into_inner(), items, options.depth);
     let spelling = Spelling::shortest_if(options.strict);
     let mut decoder = Decoder::with_spelling(fence, spelling, start);
-    let (outcome, offset) = print_all(&mut decoder, printer, options);
+    let (outcome, offset) = print_all(&mut decoder, holder, options);
     let (_, fault) = decoder.into_inner().into_inner().into_parts();
     dump_verdict(outcome, fault, offset)
 }
@@ -295,7 +313,7 @@ fn dump_some<R: io::Read + Drop, W: io::Write>(
 /// Returns the answer of the dump, and the offset at which the rows ended.
 fn print_all<R: Read, W: io::Write>(
     decoder: &mut Decoder<R>,
-    printer: &mut Printer<W>,
+    holder: &mut Page<'_, W>,
     options: Options,
 ) -> (Result<R::Error, DumpError<R::Error, io::Error>>, usize)
 where
@@ -303,9 +321,9 @@ where
     requires alike { IsInMode options.strict decoder.old }
     ensures { PrintsRows R.Read options.depth decoder.old result.0 result.1 }
 {
-    let outcome = print_rows(decoder, options.depth, options.strict, printer);
+    let outcome = print_rows(decoder, options.depth, options.strict, holder);
     let offset = decoder.offset();
-    let outcome = left_shown(decoder, outcome, printer.below, printer);
+    let outcome = left_shown(decoder, outcome, holder.below(), holder);
     (outcome, offset)
 }
 
@@ -317,7 +335,7 @@ fn print_rows<R: Read, W: io::Write>(
     decoder: &mut Decoder<R>,
     depth: usize,
     strict: bool,
-    printer: &mut Printer<W>,
+    holder: &mut Page<'_, W>,
 ) -> Result<R::Error, DumpError<R::Error, io::Error>>
 where
     R::Error: Drop,
@@ -329,5 +347,5 @@ where
         → FindsBehindRows strict depth due (offset_of decoder.old) (dump_said result None (offset_of decoder.new)) }
     ensures reads { AreRowsTaken result → ReadsAsCheck R.Read depth decoder.old result decoder.new }
 {
-    dump(decoder, depth, strict, printer)
+    dump(decoder, depth, strict, holder)
 }

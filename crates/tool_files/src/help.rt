@@ -119,6 +119,8 @@ Standard error says so too, unless the output is a terminal.
     --skip N        passes over the first N items, which must be well-formed. Offsets stay those of the whole file
     --items N       shows at most N items, and reads nothing after them as an item
     --max N         shows at most N lines of each body, and then how many bytes of it follow
+    --embedded      shows byte strings whose bytes are one item by the lines of the item: those of a definite length and
+                    at most 65536 bytes. With --embedded=tagged only the content of tag 24 is shown so
     --offsets       begins each line that has bytes with the offset of the first one
     --color WHEN    has colors: always, never, or auto, which also holds without it: if the output is a terminal
     --hex           reads hexadecimal digits, as docs/PROGRAM.md says
@@ -131,6 +133,11 @@ Standard error says so too, unless the output is a terminal.
     $ printf '6161' | ./cbor dump --offsets --hex
          0: 61                                  # text 1
          1:    61                               # \"a\"
+    $ printf 'd818 42 8101' | ./cbor dump --embedded --hex
+    d8 18                               # tag 24 (encoded item)
+       42                               # bytes 2
+          81                            # array 1
+             01                         # [0] 1
 
 The status is 0 if each file is well-formed, 1 if a file is not, 2 after other arguments, 3 if a file can't be read or
 the output can't be written, and 141 if the reader of the output has gone away.

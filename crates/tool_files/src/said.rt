@@ -101,6 +101,7 @@ pub fn options_of(word: Word) -> &'static [&'static str] {
             "--skip",
             "--items",
             "--max",
+            "--embedded",
             "--offsets",
             "--color",
             "--hex",
