@@ -1,5 +1,5 @@
 -- The items that byte strings of a dump contain (RFC 8949, 3.4.5.1).
-use Rattle.std.specs.Prelude.{◌≡◌, ◌==◌, ℕ, ◌+◌, Bool, true, false, ◌&&◌, List, [], ◌∷◌, ◌++◌, length}
+use Rattle.std.specs.Prelude.{◌==◌, ℕ, ◌+◌, Bool, true, false, ◌&&◌, List, [], ◌∷◌, ◌++◌, length}
 use Rattle.std.specs.Prelude.{nat_le, nat_lt, Option}
 use Rattle.cbor_embedded.specs.declared.Embedded.{Embedded}
 use Rattle.cbor_embedded.specs.declared.Embedded.TheVariants as b
