@@ -64,7 +64,7 @@ impl Checker {
         ensures { HasRead (is_shortest spelling) depth [] result }
     {
         Checker {
-            position: Position::of(spelling.is_shortest(), depth),
+            position: Position::of(spelling, depth),
             kinds: [0; MOST_LEVELS],
             counts: [0; MOST_LEVELS],
         }

@@ -4,8 +4,10 @@ ghost use Rattle.std.specs.Prelude.{Bool, ℕ, ◌≡◌, ◌+◌, ◌-◌, ◌<
 ghost use Rattle.std.specs.Str.{IsAscii};
 ghost use Rattle.ciborium_ll_text.specs.declared.state.State.TheVariants as s;
 ghost use Rattle.ciborium_ll_text.specs.States.{after};
+ghost use Rattle.ciborium_ll_grammar.specs.Spellings.{is_shortest};
 ghost use Rattle.cbor_checker.specs.Plain.{ArePlain, IsPlainItem, IsSpan};
 
+use ciborium_ll_grammar::spelling::Spelling;
 use ciborium_ll_text::state::{State, text_front};
 
 /// The length of an item in bytes, title included, by its first byte, with two lines for each major type. 0 says
@@ -199,13 +201,13 @@ fn string_len(bytes: &[u8]) -> usize
 /// Returns the length of the item from `at` on, title included, if an item is due and all of it is there: a number, a
 /// float, a simple value, or a string below 256 bytes; a text is ASCII.
 ///
-/// Otherwise it returns 0, and if `strict` also for a number, a float or a simple value of more than one byte. A 0 says
-/// nothing.
+/// Otherwise it returns 0, and for `Shortest` also if a number, a float or a simple value has more than one byte. A 0
+/// says nothing.
 #[inline(always)]
-fn plain_len(bytes: &[u8], at: usize, strict: bool) -> usize
+fn plain_len(bytes: &[u8], at: usize, spelling: Spelling) -> usize
     requires some { at < length bytes.now }
     ensures within { at + result ≤ length bytes.now }
-    ensures plain { 0 < result → IsPlainItem strict (take result (drop at bytes.now)) }
+    ensures plain { 0 < result → IsPlainItem (is_shortest spelling) (take result (drop at bytes.now)) }
 {
     let span = span_of(bytes[at]);
     if span.len == 0 {
@@ -214,7 +216,7 @@ fn plain_len(bytes: &[u8], at: usize, strict: bool) -> usize
     if span.len > bytes.len() - at {
         return 0;
     }
-    if strict && bytes[at] % 32 >= LONGER {
+    if spelling.is_shortest() && bytes[at] % 32 >= LONGER {
         return 0;
     }
     // If the item is no text, this looks at no byte.
@@ -237,18 +239,19 @@ pub(crate) struct Run {
 /// Takes at most `most` items whose lengths [`plain_len`] gives, if an item is due at `offset`. The `place` becomes the
 /// offset of the last item.
 #[inline(always)]
-fn run_of(bytes: &[u8], most: usize, strict: bool, offset: usize, place: &mut usize) -> Run
+fn run_of(bytes: &[u8], most: usize, spelling: Spelling, offset: usize, place: &mut usize) -> Run
     requires room { offset + length bytes.now ≤ usize.MAX }
     ensures within { result.len ≤ length bytes.now }
     ensures most { result.left ≤ most }
     ensures some { result.left < most → 0 < result.len }
-    ensures plain { ArePlain strict offset place.old (most - result.left) place.new (take result.len bytes.now) }
+    ensures plain { ArePlain (is_shortest spelling) offset place.old (most - result.left) place.new
+        (take result.len bytes.now) }
 {
     let mut at = 0;
     let mut left = most;
     let mut last = *place;
     'items: while left > 0 && at < bytes.len() {
-        let len = plain_len(bytes, at, strict);
+        let len = plain_len(bytes, at, spelling);
         if len == 0 {
             *place = last;
             return Run { len: at, left };
@@ -264,17 +267,17 @@ fn run_of(bytes: &[u8], most: usize, strict: bool, offset: usize, place: &mut us
 /// Does what [`run_of`] does, with a loop for each kind of checker: the loop for any spelling does not ask for longer
 /// titles. It stays a function of its own, with all that a title needs in registers.
 #[inline(never)]
-fn ascii_run(bytes: &[u8], most: usize, strict: bool, offset: usize, place: &mut usize) -> Run
+fn ascii_run(bytes: &[u8], most: usize, spelling: Spelling, offset: usize, place: &mut usize) -> Run
     requires room { offset + length bytes.now ≤ usize.MAX }
     ensures within { result.len ≤ length bytes.now }
     ensures most { result.left ≤ most }
     ensures some { result.left < most → 0 < result.len }
-    ensures plain { ArePlain strict offset place.old (most - result.left) place.new (take result.len bytes.now) }
+    ensures plain { ArePlain (is_shortest spelling) offset place.old (most - result.left) place.new
+        (take result.len bytes.now) }
 {
-    if strict {
-        run_of(bytes, most, true, offset, place)
-    } else {
-        run_of(bytes, most, false, offset, place)
+    match spelling {
+        Spelling::Any => run_of(bytes, most, Spelling::Any, offset, place),
+        Spelling::Shortest => run_of(bytes, most, Spelling::Shortest, offset, place),
     }
 }
 
@@ -359,7 +362,7 @@ fn begins_text(bytes: &[u8], at: usize) -> bool
 pub(crate) fn plain_run(
     bytes: &[u8],
     most: usize,
-    strict: bool,
+    spelling: Spelling,
     offset: usize,
     place: &mut usize,
 ) -> Run
@@ -367,16 +370,17 @@ pub(crate) fn plain_run(
     ensures within { result.len ≤ length bytes.now }
     ensures most { result.left ≤ most }
     ensures some { result.left < most → 0 < result.len }
-    ensures plain { ArePlain strict offset place.old (most - result.left) place.new (take result.len bytes.now) }
+    ensures plain { ArePlain (is_shortest spelling) offset place.old (most - result.left) place.new
+        (take result.len bytes.now) }
 {
-    let mut run = ascii_run(bytes, most, strict, offset, place);
+    let mut run = ascii_run(bytes, most, spelling, offset, place);
     'runs: while run.left > 0 && begins_text(bytes, run.len) {
         let texts = text_run(&bytes[run.len..], run.left, offset + run.len, place);
         if texts.len == 0 {
             break 'runs;
         }
         let at = run.len + texts.len;
-        let items = ascii_run(&bytes[at..], texts.left, strict, offset + at, place);
+        let items = ascii_run(&bytes[at..], texts.left, spelling, offset + at, place);
         run = Run {
             len: at + items.len,
             left: items.left,

@@ -10,16 +10,17 @@ ghost use Rattle.ciborium_ll_grammar.specs.declared.limits.TheConstants.{MOST_LE
 use crate::levels::{Levels, are_levels};
 use crate::phase::{Phase, Within};
 use crate::progress::{Feed, Progress};
-use crate::snapshot::{Snapshot, is_state, strict_of};
+use crate::snapshot::{Snapshot, is_state, spelling_of};
 use crate::tell::answer;
 use crate::walk::Walk;
 use ciborium_ll_grammar::few::Few;
 use ciborium_ll_grammar::limits::MOST_LEVELS;
+use ciborium_ll_grammar::spelling::Spelling;
 
 /// A checker's state without the numbers of its nests: how many nests there are, and all the rest.
 #[derive(Drop)]
 pub(crate) struct Position {
-    pub(crate) strict: bool,
+    pub(crate) spelling: Spelling,
     pub(crate) phase: Phase,
     pub(crate) front: Few,
     pub(crate) within: Within,
@@ -42,17 +43,18 @@ impl Position {
     ghost use Rattle.cbor_checker.specs.Reading.{IsMore, Tells};
     ghost use Rattle.cbor_checker.specs.Telling.{IsAnswer, is_due};
     ghost use Rattle.cbor_checker.specs.declared.progress.Progress.TheVariants as r;
+    ghost use Rattle.ciborium_ll_grammar.specs.Spellings.{is_shortest};
     ghost use Rattle.ciborium_ll_grammar.specs.declared.limits.TheConstants.{MOST_LEVELS};
 
     /// Returns the position of a checker before its first byte.
     #[inline(always)]
-    pub(crate) fn of(strict: bool, depth: usize) -> Position
+    pub(crate) fn of(spelling: Spelling, depth: usize) -> Position
         requires { depth ≤ MOST_LEVELS }
-        ensures spot { (kinds counts : List ℕ) → spot_in result kinds counts ≡ start strict depth }
+        ensures spot { (kinds counts : List ℕ) → spot_in result kinds counts ≡ start (is_shortest spelling) depth }
         ensures none { result.nests ≡ 0 }
     {
         Position {
-            strict,
+            spelling,
             phase: Phase::Title,
             front: Few::new(),
             within: Within::Nothing,
@@ -75,7 +77,7 @@ impl Position {
         snapshot.strings = strings;
         snapshot.more = more as u64;
         snapshot.title_len = self.front.save_into(&mut snapshot.title) as u8;
-        snapshot.strict = u8::from(self.strict);
+        snapshot.strict = u8::from(self.spelling.is_shortest());
         snapshot.nests = self.nests as u16;
         snapshot.depth = self.depth as u64;
         snapshot.place = self.place as u64;
@@ -105,7 +107,7 @@ impl Position {
         let Some(within) = Within::of(snapshot.strings, snapshot.more as usize) else {
             return false;
         };
-        let Some(strict) = strict_of(snapshot.strict) else {
+        let Some(spelling) = spelling_of(snapshot.strict) else {
             return false;
         };
         if !is_state(snapshot, phase, within) {
@@ -115,7 +117,7 @@ impl Position {
         if !are_levels(nests, &snapshot.kinds, &snapshot.counts) {
             return false;
         }
-        self.strict = strict;
+        self.spelling = spelling;
         self.phase = phase;
         self.front
             .load(&snapshot.title, usize::from(snapshot.title_len));
@@ -176,7 +178,7 @@ impl Position {
         ensures stays { is_due self.old.phase ≡ false → (result ≡ 0) × (spot_in self.new kinds.new counts.new ≡ spot_in self.old kinds.old counts.old) }
     {
         let mut walk = Walk {
-            strict: self.strict,
+            spelling: self.spelling,
             phase: self.phase,
             front: self.front.copy(),
             within: self.within,
@@ -191,7 +193,7 @@ impl Position {
         };
         let taken = walk.take(bytes);
         *self = Position {
-            strict: walk.strict,
+            spelling: walk.spelling,
             phase: walk.phase,
             front: walk.front.copy(),
             within: walk.within,

@@ -1,6 +1,8 @@
 //! A checker's state as plain numbers.
 
 ghost use Rattle.std.specs.Prelude.{◌≡◌, ◌<◌, ◌≤◌, length, true, false, IfNone, IfSome, IsSome, IsSomeAnd};
+ghost use Rattle.std.specs.Option.{option_map};
+ghost use Rattle.ciborium_ll_grammar.specs.Spellings.{is_shortest};
 ghost use Rattle.cbor_checker.specs.Opens.{open_count};
 ghost use Rattle.cbor_checker.specs.Snapshots.{IsState, strict_in};
 ghost use Rattle.cbor_checker.specs.Telling.{has_left};
@@ -9,6 +11,7 @@ use crate::phase::{Phase, Within};
 use crate::position::Position;
 use crate::progress::Feed;
 use ciborium_ll_grammar::limits::{LONGEST_TITLE, MOST_LEVELS};
+use ciborium_ll_grammar::spelling::Spelling;
 use ciborium_ll_grammar::titles::are_begun;
 
 /// The state of a [`Checker`](crate::Checker) as plain numbers in the caller's memory, for a program in C or one that
@@ -105,7 +108,7 @@ impl Snapshot {
             → (IsMore progress → ⊥) → IfSome result (λ feed. (feed.taken ≡ 0) × (feed.progress ≡ progress)) }
         ensures none { IfNone result (self.new ≡ self.old) }
     {
-        let mut position = Position::of(false, 0);
+        let mut position = Position::of(Spelling::Any, 0);
         if !position.load(self) {
             return None;
         }
@@ -139,13 +142,13 @@ fn are_counted(within: Within, offset: usize) -> bool
     }
 }
 
-/// Returns whether the checker takes the shortest spelling only: 0 is no, 1 is yes.
-pub(crate) fn strict_of(number: u8) -> Option<bool>
-    ensures { result ≡ strict_in number }
+/// Returns which spellings the checker takes: 0 is any, and 1 is the shortest only.
+pub(crate) fn spelling_of(number: u8) -> Option<Spelling>
+    ensures { option_map is_shortest result ≡ strict_in number }
 {
     match number {
-        0 => Some(false),
-        1 => Some(true),
+        0 => Some(Spelling::Any),
+        1 => Some(Spelling::Shortest),
         _ => None,
     }
 }

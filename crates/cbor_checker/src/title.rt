@@ -3,6 +3,7 @@
 ghost use Rattle.std.specs.Prelude.{◌≡◌, ◌<◌, ◌+◌, ◌%◌, ◌≤◌, true, false, IfSome, IfNone, length, slice_index};
 ghost use Rattle.ciborium_ll_grammar.specs.Title.{IsTitle, affix_len};
 ghost use Rattle.ciborium_ll_grammar.specs.Items.{IsTakenTitle};
+ghost use Rattle.ciborium_ll_grammar.specs.Spellings.{is_shortest};
 ghost use Rattle.cbor_checker.specs.Steps.{NoneTaken, SomeTaken};
 ghost use Rattle.cbor_checker.specs.Longer.{BeginsLonger, HasZero};
 ghost use Rattle.cbor_checker.specs.Blocked.{blocked, is_single};
@@ -10,21 +11,22 @@ ghost use Rattle.cbor_checker.specs.Blocked.{blocked, is_single};
 use crate::phase::{Fault, Within};
 use ciborium_ll_grammar::hdr::Header;
 use ciborium_ll_grammar::hdr::table::{Affix, TitleKind, row_of};
+use ciborium_ll_grammar::spelling::Spelling;
 use ciborium_ll_grammar::titles::title_of;
 
 /// Returns the header of a title, or `None` if no title that the checker takes begins with these bytes.
 ///
-/// The call refuses a title without a meaning, and a longer title if `strict`. All bytes that the first byte announces
-/// are there.
+/// The call refuses a title without a meaning, and a longer title if only the shortest are taken. All bytes that the
+/// first byte announces are there.
 #[inline(always)]
-pub(crate) fn taken_header(bytes: &[u8], strict: bool) -> Option<Header>
+pub(crate) fn taken_header(bytes: &[u8], spelling: Spelling) -> Option<Header>
     requires { length bytes.now ≡ 1 + affix_len (slice_index bytes.now 0 % 32) }
     ensures title { IfSome result (IsTitle bytes.now) }
-    ensures taken { IfSome result (IsTakenTitle strict bytes.now) }
-    ensures none { IfNone result (NoneTaken strict bytes.now) }
+    ensures taken { IfSome result (IsTakenTitle (is_shortest spelling) bytes.now) }
+    ensures none { IfNone result (NoneTaken (is_shortest spelling) bytes.now) }
 {
     let (title, kind) = title_of(bytes)?;
-    if strict && title.minor.is_refused_when_strict(title.major) {
+    if spelling.is_shortest() && title.minor.is_refused_when_strict(title.major) {
         return None;
     }
     title.header(kind)
@@ -60,13 +62,13 @@ fn begins_longer(bytes: &[u8]) -> bool
 }
 
 /// Returns whether the checker takes no title that begins with these bytes, which are too few for a whole title.
-pub(crate) fn begins_none(bytes: &[u8], strict: bool) -> bool
+pub(crate) fn begins_none(bytes: &[u8], spelling: Spelling) -> bool
     requires some { 0 < length bytes.now }
     requires cut { length bytes.now ≤ affix_len (slice_index bytes.now 0 % 32) }
-    ensures yes { result ≡ true → NoneTaken strict bytes.now }
-    ensures no { result ≡ false → SomeTaken strict bytes.now }
+    ensures yes { result ≡ true → NoneTaken (is_shortest spelling) bytes.now }
+    ensures no { result ≡ false → SomeTaken (is_shortest spelling) bytes.now }
 {
-    strict && begins_longer(bytes)
+    spelling.is_shortest() && begins_longer(bytes)
 }
 
 /// Returns why a title of this kind may not stand at `place`, before all of its bytes came.

@@ -18,12 +18,13 @@ use crate::title::{begins_none, blocked, is_single, taken_header};
 use ciborium_ll_grammar::few::Few;
 use ciborium_ll_grammar::hdr::Header;
 use ciborium_ll_grammar::hdr::table::{Affix, TitleKind, row_of};
+use ciborium_ll_grammar::spelling::Spelling;
 use ciborium_ll_text::state::{State, text_front};
 
 /// A checker during a call. The numbers of its nests stand in the caller's memory, and no call copies them.
 #[derive(Drop)]
 pub(crate) struct Walk<'a> {
-    pub(crate) strict: bool,
+    pub(crate) spelling: Spelling,
     pub(crate) phase: Phase,
     pub(crate) front: Few,
     pub(crate) within: Within,
@@ -43,6 +44,7 @@ impl Walk<'_> {
     ghost use Rattle.std.specs.Prelude.{Bool, ℕ, ◌-◌, ◌/◌, ◌++◌, List, [], IfSome, take, true, false};
     ghost use Rattle.ciborium_ll_grammar.specs.Title.{IsTitle};
     ghost use Rattle.ciborium_ll_grammar.specs.Items.{IsTakenTitle};
+    ghost use Rattle.ciborium_ll_grammar.specs.Spellings.{is_shortest};
     ghost use Rattle.ciborium_ll_grammar.specs.TitleRows.{IsTitleKind};
     ghost use Rattle.ciborium_ll_text.specs.States.{after_byte};
     ghost use Rattle.cbor_checker.specs.Steps.{IsFed, Leads, TitleStep, counted, counted_by, start, text_left};
@@ -187,13 +189,13 @@ impl Walk<'_> {
         self.phase = Phase::Title;
     }
 
-    /// Enters an open within an open string of its kind, or refuses it if strict.
+    /// Enters an open within an open string of its kind, or refuses it if only the shortest spelling is taken.
     fn enter_open(&mut self, within: Within)
         requires { open_count within ≤ self.old.offset }
-        ensures spot { spot_at self.new ≡ open_entered self.old.strict within (spot_at self.old) }
+        ensures spot { spot_at self.new ≡ open_entered (is_shortest self.old.spelling) within (spot_at self.old) }
         ensures lent { AreLent self.old.levels self.new.levels }
     {
-        if self.strict {
+        if self.spelling.is_shortest() {
             self.refuse();
         } else {
             self.string_open(within);
@@ -348,7 +350,7 @@ impl Walk<'_> {
         let bytes = self.front.bytes();
         let row = row_of(bytes[0]);
         if bytes.len() <= row.affix.len() {
-            if begins_none(bytes, self.strict) {
+            if begins_none(bytes, self.spelling) {
                 self.front.clear();
                 self.refuse();
             } else if let Some(fault) = blocked(self.within, self.depth, self.place, row.kind) {
@@ -356,7 +358,7 @@ impl Walk<'_> {
             }
             return;
         }
-        let header = taken_header(bytes, self.strict);
+        let header = taken_header(bytes, self.spelling);
         self.front.clear();
         match header {
             Some(header) => self.enter(header),
@@ -395,7 +397,7 @@ impl Walk<'_> {
         if len > 1 && blocked(self.within, self.depth, self.offset, kind).is_some() {
             return false;
         }
-        match taken_header(&bytes[..len], self.strict) {
+        match taken_header(&bytes[..len], self.spelling) {
             Some(header) => {
                 self.place = self.offset;
                 self.offset += len;
@@ -455,7 +457,7 @@ impl Walk<'_> {
         requires some { 0 < length bytes.now }
         requires room { self.old.offset + length bytes.now ≤ usize.MAX }
         requires title { IsTitle (take 1 bytes.now) header }
-        requires taken { IsTakenTitle self.old.strict (take 1 bytes.now) header }
+        requires taken { IsTakenTitle (is_shortest self.old.spelling) (take 1 bytes.now) header }
         ensures some { 0 < result.0 }
         ensures within { result.0 ≤ length bytes.now }
         ensures leads { Leads (spot_at self.old) (take result.0 bytes.now) (spot_at self.new) }
@@ -493,7 +495,7 @@ impl Walk<'_> {
         ensures clear { result.1 ≡ true → length self.new.front ≡ 0 }
         ensures lent { AreLent self.old.levels self.new.levels }
     {
-        match taken_header(&bytes[..1], self.strict) {
+        match taken_header(&bytes[..1], self.spelling) {
             Some(header) => self.short_taken(bytes, header),
             None => (self.title_byte(bytes), false),
         }
@@ -506,7 +508,7 @@ impl Walk<'_> {
         requires phase { self.old.phase ≡ p.Title }
         requires fresh { length self.old.front ≡ 0 }
         requires due { self.old.within ≡ w.Nothing }
-        requires any { self.old.strict ≡ false }
+        requires any { is_shortest self.old.spelling ≡ false }
         requires value { is_single kind ≡ true }
         requires within { len ≤ length bytes.now }
         requires room { self.old.offset + length bytes.now ≤ usize.MAX }
@@ -547,7 +549,7 @@ impl Walk<'_> {
             return self.short_run(bytes);
         }
         let len = 1 + row.affix.len();
-        if !self.strict && is_single(row.kind) && 1 < len && len <= bytes.len() {
+        if !self.spelling.is_shortest() && is_single(row.kind) && 1 < len && len <= bytes.len() {
             return (len, self.value_taken(bytes, len, row.kind));
         }
         (self.title_run(bytes), false)

@@ -71,7 +71,7 @@ impl Walk<'_> {
         let Some(left) = level.left() else {
             return (0, true);
         };
-        let run = plain_run(bytes, left + 1, self.strict, self.offset, &mut self.place);
+        let run = plain_run(bytes, left + 1, self.spelling, self.offset, &mut self.place);
         self.offset += run.len;
         if run.left > 0 {
             self.levels.replace(level.lowered(run.left - 1));
@@ -110,7 +110,7 @@ impl Walk<'_> {
         let run = plain_run(
             &bytes[1..],
             nest.left + 1,
-            self.strict,
+            self.spelling,
             self.offset,
             &mut self.place,
         );

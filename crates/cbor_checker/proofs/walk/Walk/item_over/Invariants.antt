@@ -13,7 +13,7 @@ invariant-levels l =
           ≡ settled l.fn.self.depth (levels_at l.fn.self.levels) first;
       phase : l.self.phase ≡ p.Title;
       within : l.self.within ≡ w.Nothing;
-      strict : l.self.strict ≡ l.fn.self.strict;
+      spelling : l.self.spelling ≡ l.fn.self.spelling;
       front : l.self.front ≡ l.fn.self.front;
       place : l.self.place ≡ l.fn.self.place;
       offset : l.self.offset ≡ l.fn.self.offset;
