@@ -8,7 +8,7 @@ use Rattle.ciborium_ll.specs.Types.Header.TheVariants as h
 use Rattle.ciborium_ll.specs.Title.{IsInRange}
 use Rattle.ciborium_ll.specs.Strings.{Bytes, definite}
 use Rattle.ciborium_ll.specs.Items.{IsItem}
-use Rattle.ciborium_ll.specs.Decoding.{ReadsPast}
+use Rattle.ciborium_ll.specs.Decoding.{ReadsPast, strict_of}
 use Rattle.ciborium_ll.specs.Encoding.{WritesAll, WritesBytes}
 use Rattle.ciborium_ll.proofs.CopyingTold.{consumes_told}
 use Rattle.ciborium_ll.proofs.ItemLaws.{one_item}
@@ -39,7 +39,7 @@ nothing (byte ∷ bytes) none = absurd (omega (arith, none))
 -- ---- the read of an item in memory
 
 module _ {R E : Type 0} (source : Reader R E) (depth : ℕ) (item : List ℕ) (old : Decoder R)
-    (ready : IsReadyToSkip source 64 old item) (mode : old.strict ≡ false) (is_item : IsItem false depth item) where
+    (ready : IsReadyToSkip source 64 old item) (mode : strict_of old ≡ false) (is_item : IsItem false depth item) where
   -- The read of an item does not stop.
   pub never_stops : (new : Decoder R) (error : SkipError E) → SkipsItem source depth 64 old (Err error) new → ⊥
   never_stops new error stops =

@@ -186,8 +186,8 @@ module _ {R E : Type 0} (source : Reader R E) (k : Kind) (opened now : Decoder R
     ]
 
     advances : {result : Result (Option Body) (Error E)} {progress : Progress} {new : Decoder R}
-        → EndsAdvance source k opened.strict opens now result progress new
-        → AdvancesFrom source k opened.strict opens now result progress new
+        → EndsAdvance source k (strict_of opened) opens now result progress new
+        → AdvancesFrom source k (strict_of opened) opens now result progress new
     advances ends = record {
       nest = [];
       left = opens;
@@ -199,7 +199,7 @@ module _ {R E : Type 0} (source : Reader R E) (k : Kind) (opened now : Decoder R
     }
 
     announces : {len : ℕ} {title : Decoder R} → PullsTitle source now (kind_header k (Some len)) title
-        → EndsAdvance source k opened.strict opens now (Ok (Some (record { length = len; place = now.offset })))
+        → EndsAdvance source k (strict_of opened) opens now (Ok (Some (record { length = len; place = now.offset })))
         (p.Open opens) title
     announces pulled = record { pulled = pulled; place = refl; after = inr (some, refl) }
 
@@ -208,7 +208,7 @@ module _ {R E : Type 0} (source : Reader R E) (k : Kind) (opened now : Decoder R
         → EndsBody source k [] len room now.offset title (Ok (tt {0})) new
         → SkipsSoFar source k None opened (p.Open opens) new
     read_string room {len} {title} {new} pulled steady ends =
-        skips_body source k opened.strict None room opened now title new (p.Open opens) (p.Open opens)
+        skips_body source k (strict_of opened) None room opened now title new (p.Open opens) (p.Open opens)
         (record { length = len; place = now.offset }) refl far steady ends.passed.steady
         (advances (announces pulled)) ends
 
@@ -217,7 +217,7 @@ module _ {R E : Type 0} (source : Reader R E) (k : Kind) (opened now : Decoder R
         → EndsBody source k [] len room now.offset title (Err error) new
         → SkipsString source k None room opened (Err error) new
     read_stops room {len} {title} {new} error pulled steady ends =
-        skips_stop source k opened.strict None room opened now title new (p.Open opens) (p.Open opens)
+        skips_stop source k (strict_of opened) None room opened now title new (p.Open opens) (p.Open opens)
         (record { length = len; place = now.offset }) error refl far steady (advances (announces pulled)) ends
 
     read_open : {title : Decoder R} → PullsTitle source now (kind_header k None) title
@@ -252,13 +252,16 @@ module _ {R E : Type 0} (source : Reader R E) (k : Kind) (opened now : Decoder R
         → (IsSteady source now → IsSteady source new) → DecoderPullAnswer source now (Err error) new
         → SkipsString source k None room opened (Err error) new
     read_none room new (e.Io fault) less steady fails =
-        skips_error source k opened.strict None room opened now new (p.Open opens) (p.Open opens) (e.Io fault) less refl
+        skips_error source k (strict_of opened) None room opened now new (p.Open opens) (p.Open opens) (e.Io fault)
+        less refl
         far steady (advances (fails, refl))
     read_none room new (e.Syntax place) less steady fails =
-        skips_error source k opened.strict None room opened now new (p.Open opens) (p.Damaged place) (e.Syntax place)
+        skips_error source k (strict_of opened) None room opened now new (p.Open opens) (p.Damaged place)
+        (e.Syntax place)
         less refl far steady (advances (inl (fails, refl)))
     read_none room new e.TooLong less steady fails =
-        skips_error source k opened.strict None room opened now new (p.Open opens) (p.Open opens) e.TooLong less refl
+        skips_error source k (strict_of opened) None room opened now new (p.Open opens) (p.Open opens) e.TooLong
+        less refl
         far steady (advances (inl (fails, refl)))
     read_none room new e.Waiting less steady fails = absurd fails
 
@@ -269,7 +272,8 @@ module _ {R E : Type 0} (source : Reader R E) (k : Kind) (opened now : Decoder R
         → SkipsString source k None room opened (Err (e.Syntax place)) new
     read_other room new place less steady found =
         let refused = rw among.passed.mode at found.refused in
-        skips_error source k opened.strict None room opened now new (p.Open opens) (p.Damaged place) (e.Syntax place)
+        skips_error source k (strict_of opened) None room opened now new (p.Open opens) (p.Damaged place)
+        (e.Syntax place)
         less refl far steady (advances (inr (record {
           other = record {
             header = found.header;
@@ -315,7 +319,7 @@ module _ {R E : Type 0} (source : Reader R E) (k : Kind) (opened now : Decoder R
   read_last : (room : ℕ) {title : Decoder R} → ReadFar (suc zero) → PullsTitle source now h.Break title
       → (IsSteady source now → IsSteady source title) → SkipsString source k None room opened (Ok (tt {0})) title
   read_last room {title} far pulled steady =
-      skips_end source k opened.strict None room opened now title (p.Open 1) p.Ended refl far steady
+      skips_end source k (strict_of opened) None room opened now title (p.Open 1) p.Ended refl far steady
       (advances {opens = suc zero} (omega arith) far (record { pulled = pulled; last = refl; after = refl }))
 
 -- ---- the loop over titles

@@ -10,7 +10,7 @@ use Rattle.ciborium_ll.specs.Types.Decoder.{Decoder}
 use Rattle.ciborium_ll.specs.Types.Error.{Error}
 use Rattle.ciborium_ll.specs.Title.{IsTitle}
 use Rattle.ciborium_ll.specs.Items.{AreItems, no_items, IsItem, IsTakenTitle}
-use Rattle.ciborium_ll.specs.Decoding.{IsSteady, ReadsPast, DecoderPullAnswer, PullsTitle}
+use Rattle.ciborium_ll.specs.Decoding.{IsSteady, ReadsPast, DecoderPullAnswer, PullsTitle, strict_of}
 use Rattle.ciborium_ll.proofs.DecodingLaws.{ReadsPast-none, ReadsPast-then}
 use Rattle.cbor_skip.specs.declared.SkipError.{SkipError}
 use Rattle.cbor_skip.specs.declared.SkipError.TheVariants as s
@@ -331,5 +331,5 @@ module _ {R E : Type 0} (source : Ghosts R E) where
 
     -- If the bytes are told, a dump answers `Ok` exactly if they are a sequence of items.
     pub answers_exactly : {W : Type 0} (result : Result E (DumpError E W)) (new : Decoder R)
-        → ReadsAsCheck source depth old result new → IsOk result ↔ IsSequence old.strict depth due
+        → ReadsAsCheck source depth old result new → IsOk result ↔ IsSequence (strict_of old) depth due
     answers_exactly result new reads = grind (arith, nat_tests, check_exactly, ready_for, both_ok, ok_both)

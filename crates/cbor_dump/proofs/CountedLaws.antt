@@ -11,6 +11,7 @@ use Rattle.cbor_skip.specs.Skipping.{ReadsCounted, SkipsItem, SkipsCounted, Stop
 use Rattle.cbor_skip.specs.SkippingTold.{IsReadyToSkip}
 use Rattle.cbor_skip.proofs.ItemSteps.{item_of}
 use Rattle.cbor_skip.proofs.SkippingToldLaws.{skip_exactly}
+use Rattle.ciborium_ll.specs.Decoding.{strict_of}
 use Rattle.cbor_dump.specs.Counted.{BeginsWithItems, SkipsAllItems, SkipsFewItems, SkipsItemsTold}
 use Rattle.cbor_dump.specs.Sequences.{ReadsItems}
 use Rattle.cbor_dump.proofs.ItemRows.{item_apart}
@@ -107,14 +108,16 @@ module _ {R E : Type 0} (source : Ghosts R E) where
     counted_told count new (Err error) stops = few_told count new error stops
 
     exactly_told : (count : ℕ) (new : Decoder R) (result : Result (Unit {0}) (SkipError E))
-        → SkipsItemsTold source count depth due old result new → IsOk result ↔ BeginsWithItems old.strict depth count due
+        → SkipsItemsTold source count depth due old result new
+        → IsOk result ↔ BeginsWithItems (strict_of old) depth count due
     exactly_told count new (Ok done) told = (λ ok. told.front, λ is. refl)
     exactly_told count new (Err error) told = (
       λ ok. absurd cc,
-      λ is. absurd (told.no_item (fewer_meet old.strict depth told.few told.before told.are_items count is.items
+      λ is. absurd (told.no_item (fewer_meet (strict_of old) depth told.few told.before told.are_items count is.items
           is.are_items is.rest told.ahead (sym is.is ∙ told.is) told.fewer)),
     )
 
     pub counted_exactly : (count : ℕ) (new : Decoder R) (result : Result (Unit {0}) (SkipError E))
-        → SkipsCounted source count depth room old result new → IsOk result ↔ BeginsWithItems old.strict depth count due
+        → SkipsCounted source count depth room old result new
+        → IsOk result ↔ BeginsWithItems (strict_of old) depth count due
     counted_exactly count new result counts = exactly_told count new result (counted_told count new result counts)

@@ -9,7 +9,7 @@ use Rattle.ciborium_ll.specs.Types.Decoder.{Decoder}
 use Rattle.ciborium_ll.specs.Types.Error.TheVariants as e
 use Rattle.ciborium_ll.specs.Items.{AreItems, no_items}
 use Rattle.ciborium_ll.specs.Faults.{Answer, Short, Syntax}
-use Rattle.ciborium_ll.specs.Decoding.{failures_of, view}
+use Rattle.ciborium_ll.specs.Decoding.{failures_of, view, strict_of}
 use Rattle.ciborium_ll.proofs.DecodingLaws.{ReadsPast-none, ReadsPast-then}
 use Rattle.ciborium_ll.proofs.CopyingTold.{consumes_told}
 use Rattle.ciborium_ll.proofs.NestLaws.{title_some}
@@ -118,13 +118,14 @@ module _ {R E : Type 0} (source : Ghosts R E) where
         }
 
     -- If a fault consumes nothing, no byte was left.
-    pub no_byte : (ahead : List ℕ) (between new : Decoder R) → MeetsItemFault source old.strict depth ahead Short between new
+    pub no_byte : (ahead : List ℕ) (between new : Decoder R)
+        → MeetsItemFault source (strict_of old) depth ahead Short between new
         → new.offset ≡ between.offset → (ahead ≡ []) × (view source new ≡ Some [])
     no_byte ahead between new meets still = grind (arith, nat_tests, nothing, due_first, fault_first, ahead, drop-nil)
 
     -- If no byte is left, the item is short, and nothing is consumed.
     no_bytes : (ahead : List ℕ) (answer : Answer) (between new : Decoder R)
-        → MeetsItemFault source old.strict depth ahead answer between new
+        → MeetsItemFault source (strict_of old) depth ahead answer between new
         → ahead ≡ [] → (answer ≡ Short) × (new.offset ≡ between.offset)
     no_bytes ahead answer between new meets none =
         let fault = meets.fault in
@@ -132,16 +133,17 @@ module _ {R E : Type 0} (source : Ghosts R E) where
         let both = length-append fault.before fault.ahead in
         let first = nothing fault.before (omega (arith, counted, both)) in
         let last = nothing fault.ahead (omega (arith, counted, both)) in
-        let at = due_first old.strict depth fault.before fault.point fault.reach first in
+        let at = due_first (strict_of old) depth fault.before fault.point fault.reach first in
         let short =
-        first_fault old.strict fault.before fault.point fault.ahead fault.answer fault.written fault.consumed fault.fault at last
+        first_fault (strict_of old) fault.before fault.point fault.ahead fault.answer fault.written fault.consumed
+        fault.fault at last
         in
         let begins = ap length first in
         (sym meets.answered ∙ short.0, omega (arith, meets.offset, short.1, begins))
 
     -- If no byte is left, the read of an item fails at the end.
     ends_there : (ahead : List ℕ) (between new : Decoder R) (error : SkipError E)
-        → SkipsTold source old.strict depth ahead between (Err error) new
+        → SkipsTold source (strict_of old) depth ahead between (Err error) new
         → ahead ≡ [] → IsEnd error between.offset new.offset
     ends_there ahead between new (s.Break at) met none =
         let counted = ap length (sym met.fault.is ∙ none) in
@@ -164,13 +166,13 @@ module _ {R E : Type 0} (source : Ghosts R E) where
 
     -- The items that were read are in the spelling of the decoder's mode.
     pub items_ready : (count : ℕ) (between : Decoder R) (reads : ReadsItems source depth count old between)
-        → AreItems old.strict depth count reads.bytes
+        → AreItems (strict_of old) depth count reads.bytes
     items_ready count between reads = grind (arith, nat_tests, ready_mode)
 
     -- The read of an item after some items meets the bytes that follow them.
     pub met_behind : (count : ℕ) (between : Decoder R) (reads : ReadsItems source depth count old between)
         (result : Result (Unit {0}) (SkipError E)) (new : Decoder R) → SkipsItem source depth room between result new
-        → SkipsTold source old.strict depth (behind count between reads).ahead between result new
+        → SkipsTold source (strict_of old) depth (behind count between reads).ahead between result new
     met_behind count between reads result new skips =
         let c = behind count between reads in
         subst (λ (b : Bool). SkipsTold source b depth c.ahead between result new) reads.passed.mode
@@ -187,7 +189,7 @@ module _ {R E : Type 0} (source : Ghosts R E) where
         let all = c.parts ∙ (ap (λ (z : List ℕ). finds.reads.bytes ++ z) none.0 ∙ append-nil finds.reads.bytes) in
         let counted = ap length all in
         record {
-          are_items = subst (λ (z : List ℕ). AreItems old.strict depth sequence.items z) (sym all)
+          are_items = subst (λ (z : List ℕ). AreItems (strict_of old) depth sequence.items z) (sym all)
               (items_ready sequence.items finds.between finds.reads);
           counted = finds.counted ∙ sym counted;
           left = none.1;
@@ -214,12 +216,13 @@ module _ {R E : Type 0} (source : Ghosts R E) where
 
     exactly_told : (new : Decoder R) (result : Result (Sequence E) (Stopped E))
         → ChecksTold source depth due old result new
-        → IsOk result ↔ IsSequence old.strict depth due
+        → IsOk result ↔ IsSequence (strict_of old) depth due
     exactly_told new (Ok sequence) told = (λ ok. (sequence.items, told.are_items), λ is. refl)
     exactly_told new (Err stopped) told = (
       λ ok. absurd cc,
       λ is.
-          elim (rows_meet old.strict depth stopped.items told.before told.are_items is.0 due is.1 told.ahead told.is) [
+          elim (rows_meet (strict_of old) depth stopped.items told.before told.are_items is.0 due is.1 told.ahead
+          told.is) [
             | inl comes ↦ absurd (told.no_item comes)
             | inr ends ↦ absurd (told.no_end ends.1)
           ],
@@ -227,25 +230,26 @@ module _ {R E : Type 0} (source : Ghosts R E) where
 
     pub check_exactly : (new : Decoder R) (result : Result (Sequence E) (Stopped E))
         → ChecksItems source depth room old result new
-        → IsOk result ↔ IsSequence old.strict depth due
+        → IsOk result ↔ IsSequence (strict_of old) depth due
     check_exactly new result checks = exactly_told new result (check_told new result checks)
 
-    number_told : (count : ℕ) → AreItems old.strict depth count due → (new : Decoder R)
+    number_told : (count : ℕ) → AreItems (strict_of old) depth count due → (new : Decoder R)
         (result : Result (Sequence E) (Stopped E))
         → ChecksTold source depth due old result new
         → IfOk result (λ sequence. sequence.items ≡ count)
     number_told count items new (Ok sequence) told =
-        elim (rows_meet old.strict depth sequence.items due told.are_items count due items [] (sym (append-nil due))) [
+        elim (rows_meet (strict_of old) depth sequence.items due told.are_items count due items []
+        (sym (append-nil due))) [
           | inl comes ↦ (
               let counted = ap length comes.is in
-              let some = items_counted old.strict depth 1 comes.item comes.is_item in
+              let some = items_counted (strict_of old) depth 1 comes.item comes.is_item in
               absurd (omega (arith, counted, some, length-append comes.item comes.rest))
               )
           | inr ends ↦ sym ends.0
         ]
     number_told count items new (Err stopped) told = tt
 
-    pub check_number : (count : ℕ) → AreItems old.strict depth count due → (new : Decoder R)
+    pub check_number : (count : ℕ) → AreItems (strict_of old) depth count due → (new : Decoder R)
         (result : Result (Sequence E) (Stopped E))
         → ChecksItems source depth room old result new
         → IfOk result (λ sequence. sequence.items ≡ count)

@@ -3,7 +3,7 @@ use Rattle.std.specs.Prelude.{◌≡◌, ℕ, ◌+◌, ◌<◌, Bool, List, ◌+
 use Rattle.ciborium_ll.specs.Types.Read.{Ghosts}
 use Rattle.ciborium_ll.specs.Types.Decoder.{Decoder}
 use Rattle.ciborium_ll.specs.Items.{AreItems}
-use Rattle.ciborium_ll.specs.Decoding.{view}
+use Rattle.ciborium_ll.specs.Decoding.{view, strict_of}
 use Rattle.cbor_skip.specs.declared.SkipError.{SkipError}
 use Rattle.cbor_skip.specs.ItemFaults.{BeginsWithItem}
 use Rattle.cbor_skip.specs.SkippingTold.{SkipsTold}
@@ -20,7 +20,7 @@ module _ {R E : Type 0} (source : Ghosts R E) where
   -- The bytes began with this many items, and exactly the bytes that follow are left. If two items of `01 80 05` are
   -- skipped, `05` is left.
   pub record SkipsAllItems (count depth : ℕ) (due : List ℕ) (old new : Decoder R) : Type 0 where
-    pub front : BeginsWithItems old.strict depth count due
+    pub front : BeginsWithItems (strict_of old) depth count due
     pub left : view source new ≡ Some front.rest
     pub offset : new.offset ≡ old.offset + length front.items
 
@@ -32,12 +32,12 @@ module _ {R E : Type 0} (source : Ghosts R E) where
     pub fewer : few < count
     pub before : List ℕ
     pub ahead : List ℕ
-    pub are_items : AreItems old.strict depth few before
+    pub are_items : AreItems (strict_of old) depth few before
     pub is : due ≡ before ++ ahead
-    pub no_item : BeginsWithItem old.strict depth ahead → ⊥
+    pub no_item : BeginsWithItem (strict_of old) depth ahead → ⊥
     pub between : Decoder R
     pub at : between.offset ≡ old.offset + length before
-    pub met : SkipsTold source old.strict depth ahead between (Err error) new
+    pub met : SkipsTold source (strict_of old) depth ahead between (Err error) new
 
   -- `skip_items` with told bytes, by its answer. For two items of `01 80 05` it is `Ok`, and of `01 ff` an error.
   abbrev pub SkipsItemsTold : ℕ → ℕ → List ℕ → Decoder R → Result (Unit {0}) (SkipError E) → Decoder R → Type 0

@@ -4,7 +4,7 @@ use Rattle.ciborium_ll.specs.Types.Read.{Ghosts}
 use Rattle.ciborium_ll.specs.Types.Decoder.{Decoder}
 use Rattle.ciborium_ll.specs.Types.Error.TheVariants as e
 use Rattle.ciborium_ll.specs.Items.{AreItems}
-use Rattle.ciborium_ll.specs.Decoding.{view, ReadsPast}
+use Rattle.ciborium_ll.specs.Decoding.{view, ReadsPast, strict_of}
 use Rattle.cbor_skip.specs.declared.SkipError.{SkipError}
 use Rattle.cbor_skip.specs.declared.SkipError.TheVariants as s
 use Rattle.cbor_skip.specs.Failures.{CountsItemFailure}
@@ -74,7 +74,7 @@ module _ {R E : Type 0} (source : Ghosts R E) where
   -- byte is left. The bytes `82 01 02 03` are 2 items.
   pub record FindsSequence (depth : ℕ) (due : List ℕ) (old : Decoder R) (sequence : Sequence E) (new : Decoder R)
       : Type 0 where
-    pub are_items : AreItems old.strict depth sequence.items due
+    pub are_items : AreItems (strict_of old) depth sequence.items due
     pub counted : sequence.bytes ≡ length due
     pub left : view source new ≡ Some []
     pub offset : new.offset ≡ old.offset + length due
@@ -85,14 +85,14 @@ module _ {R E : Type 0} (source : Ghosts R E) where
       : Type 0 where
     pub before : List ℕ
     pub ahead : List ℕ
-    pub are_items : AreItems old.strict depth stopped.items before
+    pub are_items : AreItems (strict_of old) depth stopped.items before
     pub is : due ≡ before ++ ahead
     pub place : stopped.place ≡ old.offset + length before
-    pub no_item : BeginsWithItem old.strict depth ahead → ⊥
+    pub no_item : BeginsWithItem (strict_of old) depth ahead → ⊥
     pub no_end : ahead ≡ [] → ⊥
     pub between : Decoder R
     pub at : between.offset ≡ stopped.place
-    pub met : SkipsTold source old.strict depth ahead between (Err stopped.error) new
+    pub met : SkipsTold source (strict_of old) depth ahead between (Err stopped.error) new
 
   -- The reads of `check` with told bytes, by its answer: it reads a sequence, or the items before the fault, and
   -- `SkipsTold` holds of the next item. It is `Ok` for `82 01 02`, and an error for `82 01`.

@@ -10,7 +10,7 @@ use Rattle.ciborium_ll.specs.Types.Error.TheVariants as e
 use Rattle.ciborium_ll.specs.Types.Header.{Header}
 use Rattle.ciborium_ll.specs.Title.{IsTitle, IsStrictTitle, IsRefused, affix_len}
 use Rattle.ciborium_ll.specs.Decoding.{failures_of, refusals_of, view, IsSteady, IsUntouched, MovesOn, DecoderPullAnswer}
-use Rattle.ciborium_ll.specs.Decoding.{PullsTitle, Reads}
+use Rattle.ciborium_ll.specs.Decoding.{PullsTitle, Reads, strict_of}
 use Rattle.cbor_dump.specs.declared.taken.Taken.{Taken}
 
 -- The bytes that were read for a row. If its length is 2, they are the first 2 of its 16.
@@ -71,7 +71,7 @@ LeavesBehind error bytes left = Unit {0}
 -- No header waits, and the decoder is as strict: for `true` it refuses `18 01`, and for `false` it takes it.
 pub record IsInMode {R : Type 0} (strict : Bool) (decoder : Decoder R) : Type 0 where
   pub none_waits : decoder.waiting ≡ None
-  pub mode : decoder.strict ≡ strict
+  pub mode : strict_of decoder ≡ strict
 
 -- A read was refused, since a header waits. Only the count of refusals changed, as from 0 to 1.
 pub record RefusesRead {R : Type 0} (old new : Decoder R) : Type 0 where

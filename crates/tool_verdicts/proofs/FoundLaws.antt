@@ -18,6 +18,7 @@ use Rattle.cbor_dump.specs.declared.dump.DumpError.{DumpError}
 use Rattle.cbor_dump.specs.declared.dump.DumpError.TheVariants as u
 use Rattle.cbor_dump.specs.Checking.{AnswersAs, AnswersTold}
 use Rattle.cbor_dump.specs.Singles.{ChecksOneTold}
+use Rattle.ciborium_ll.specs.Decoding.{strict_of}
 use Rattle.tool_verdicts.specs.Checking.{fault_said, sequence_said, single_said, FoundWell, StopsAsNamed, StopsBehind}
 use Rattle.tool_verdicts.specs.Checking.{FindsAll, FindsBehindRows, FindsOne, dump_said}
 
@@ -74,36 +75,38 @@ module _ {R E : Type 0} (source : Ghosts R E) where
 
   sequence_stops : (depth : ℕ) (due : List ℕ) (old new : Decoder R) (stopped : Stopped E)
       → ChecksTold source depth due old (Err stopped) new
-      → StopsBehind old.strict depth stopped.items due old.offset (fault_said stopped.error new.offset)
+      → StopsBehind (strict_of old) depth stopped.items due old.offset (fault_said stopped.error new.offset)
   sequence_stops depth due old new stopped told = record {
     before = told.before;
     ahead = told.ahead;
     are_items = told.are_items;
     is = told.is;
     stops =
-        fault_met old.strict depth told.ahead told.between new (old.offset + length told.before) stopped.error told.met
+        fault_met (strict_of old) depth told.ahead told.between new (old.offset + length told.before) stopped.error
+        told.met
         (told.at ∙ told.place);
   }
 
   pub sequence_found : (depth : ℕ) (due : List ℕ) (old new : Decoder R) (answer : Result (Sequence E) (Stopped E))
       → ChecksTold source depth due old answer new
-      → FindsAll old.strict depth due old.offset (sequence_said answer new.offset)
+      → FindsAll (strict_of old) depth due old.offset (sequence_said answer new.offset)
   sequence_found depth due old new (Ok sequence) told = (told.are_items, told.counted)
   sequence_found depth due old new (Err stopped) told =
-      fault_found_all old.strict depth stopped.items due old.offset new.offset stopped.error
+      fault_found_all (strict_of old) depth stopped.items due old.offset new.offset stopped.error
       (sequence_stops depth due old new stopped told)
 
   -- The verdict of a dump is that of a check with the same answer.
   ends_found : (depth : ℕ) (due : List ℕ) (old new : Decoder R)
       (checked : Result (Sequence E) (Stopped E)) (result : Result E (DumpError E Error)) → AnswersAs checked result
       → ChecksTold source depth due old checked new
-      → FindsBehindRows old.strict depth due old.offset (dump_said result None new.offset)
+      → FindsBehindRows (strict_of old) depth due old.offset (dump_said result None new.offset)
   ends_found depth due old new (Ok sequence) (Ok fault) answers told = (sequence.items, told.are_items)
   ends_found depth due old new (Err stopped) (Ok fault) answers told = absurd answers
   ends_found depth due old new (Ok sequence) (Err (u.Item error)) answers told = absurd answers
   ends_found depth due old new (Err stopped) (Err (u.Item error)) answers told = (
     stopped.items,
-    subst (λ (x : SkipError E). StopsBehind old.strict depth stopped.items due old.offset (fault_said x new.offset))
+    subst (λ (x : SkipError E). StopsBehind (strict_of old) depth stopped.items due old.offset
+        (fault_said x new.offset))
         answers (sequence_stops depth due old new stopped told),
   )
   ends_found depth due old new (Ok sequence) (Err (u.Rows fault)) answers told = absurd answers
@@ -111,22 +114,22 @@ module _ {R E : Type 0} (source : Ghosts R E) where
 
   pub dump_found : (depth : ℕ) (due : List ℕ) (old new : Decoder R) (result : Result E (DumpError E Error))
       → AnswersTold source depth due old result new
-      → FindsBehindRows old.strict depth due old.offset (dump_said result None new.offset)
+      → FindsBehindRows (strict_of old) depth due old.offset (dump_said result None new.offset)
   dump_found depth due old new result answers =
       ends_found depth due old new answers.checked result answers.answers answers.told
 
   pub single_found : (depth : ℕ) (due : List ℕ) (old new : Decoder R) (answer : Result (Sequence E) (NotOne E))
       → ChecksOneTold source depth due old answer new
-      → FindsOne old.strict depth due old.offset (single_said answer new.offset)
+      → FindsOne (strict_of old) depth due old.offset (single_said answer new.offset)
   single_found depth due old new (Ok sequence) told =
-      (told.0, subst (λ (n : ℕ). AreItems old.strict depth n due) told.0 told.1.are_items, told.1.counted)
+      (told.0, subst (λ (n : ℕ). AreItems (strict_of old) depth n due) told.0 told.1.are_items, told.1.counted)
   single_found depth due old new (Err (n.Item error)) told =
-      fault_found_one old.strict depth due old.offset new.offset error (record {
+      fault_found_one (strict_of old) depth due old.offset new.offset error (record {
         before = [];
         ahead = due;
         are_items = no_items;
         is = refl;
-        stops = fault_met old.strict depth due old new (old.offset + length {A = ℕ} []) error told (omega (arith));
+        stops = fault_met (strict_of old) depth due old new (old.offset + length {A = ℕ} []) error told (omega (arith));
       })
   single_found depth due old new (Err (n.More place next)) told = record {
     front = told.front;

@@ -17,6 +17,7 @@ use Rattle.cbor_skip.proofs.StrictnessLaws.{items_looser, passed_keeps}
 use Rattle.cbor_dump.specs.Counted.{SkipsFewItems}
 use Rattle.cbor_dump.specs.Sequences.{IsEnd, ReadsItems}
 use Rattle.cbor_dump.proofs.SequenceLaws.{behind, items_ready, met_behind, no_byte}
+use Rattle.ciborium_ll.specs.Decoding.{strict_of}
 use Rattle.tool_verdicts.specs.Checking.{StopsAsNamed, StopsBehind, fault_said}
 use Rattle.tool_verdicts.specs.Parts.{AddsSpans, AreSpans, EndsAt, EndsSome, FindsSome, IndexesAll, IndexesItems, IsAtMost, IsBelow, ReadsSpans, SaysSome, ended}
 use Rattle.tool_verdicts.specs.Parts.{FindsPart, FindsRest, enough, faulty, found, found_rest, more_spans, no_spans, stops}
@@ -93,7 +94,7 @@ module _ {R E : Type 0} (source : Ghosts R E) where
   module _ (depth room : ℕ) (old : Decoder R) (due : List ℕ) (ready : IsReadyToSkip source room old due) where
     -- The end of the read consumed nothing, so no byte was left.
     at_end : (ahead : List ℕ) (between new : Decoder R) (error : SkipError E)
-        → SkipsTold source old.strict depth ahead between (Err error) new → IsEnd error between.offset new.offset
+        → SkipsTold source (strict_of old) depth ahead between (Err error) new → IsEnd error between.offset new.offset
         → ahead ≡ []
     at_end ahead between new (s.Break at) met still = absurd still
     at_end ahead between new (s.Deep at) met still = absurd still
@@ -106,7 +107,7 @@ module _ {R E : Type 0} (source : Ghosts R E) where
     ends_found : (most : Option ℕ) (count : ℕ) (between new : Decoder R) (verdict : Verdict)
         (reads : ReadsItems source depth count old between)
         → EndsSome source depth room most count (length reads.bytes) between verdict new
-        → FindsSome old.strict depth most due old.offset verdict
+        → FindsSome (strict_of old) depth most due old.offset verdict
     ends_found most count between new verdict reads (enough is same said) =
         let c = behind source depth room old due ready count between reads in
         record {
@@ -137,27 +138,28 @@ module _ {R E : Type 0} (source : Ghosts R E) where
           ahead = c.ahead;
           are_items = items_ready source depth room old due ready count between reads;
           is = c.parts;
-          ends = faulty below (subst (λ (z : Verdict). StopsAsNamed old.strict depth c.ahead
+          ends = faulty below (subst (λ (z : Verdict). StopsAsNamed (strict_of old) depth c.ahead
               (old.offset + length reads.bytes) z) (sym named.1)
-              (fault_met source old.strict depth c.ahead between new (old.offset + length reads.bytes) error met
+              (fault_met source (strict_of old) depth c.ahead between new (old.offset + length reads.bytes) error met
               reads.passed.offset));
         }
 
     pub some_found : (most : Option ℕ) (verdict : Verdict) (new : Decoder R)
-        → SaysSome source depth room most old verdict new → FindsSome old.strict depth most due old.offset verdict
+        → SaysSome source depth room most old verdict new → FindsSome (strict_of old) depth most due old.offset verdict
     some_found most verdict new says = ends_found most says.count says.between new verdict says.reads says.ends
 
   -- The items before the fault are fewer than those that are passed over.
   pub few_found : (depth skip : ℕ) (due : List ℕ) (old new : Decoder R) (error : SkipError E)
       (few : SkipsFewItems source skip depth due old error new)
-      → StopsBehind old.strict depth few.few due old.offset (fault_said error new.offset)
+      → StopsBehind (strict_of old) depth few.few due old.offset (fault_said error new.offset)
   few_found depth skip due old new error few = record {
     before = few.before;
     ahead = few.ahead;
     are_items = few.are_items;
     is = few.is;
     stops =
-        fault_met source old.strict depth few.ahead few.between new (old.offset + length few.before) error few.met few.at;
+        fault_met source (strict_of old) depth few.ahead few.between new (old.offset + length few.before) error
+        few.met few.at;
   }
 
   -- The items that are passed over were read.
@@ -203,13 +205,13 @@ pub rest_found : {R E : Type 0} (source : Ghosts R E) (skip : ℕ) (most : Optio
     (old between : Decoder R) (due : List ℕ) → IsReadyToSkip source room old due
     → ReadsCounted source skip depth old between → (verdict : Verdict)
     → ((ahead : List ℕ) → IsReadyToSkip source room between ahead
-    → FindsRest most one between.strict depth ahead between.offset verdict)
-    → FindsPart skip most one old.strict depth due old.offset verdict
+    → FindsRest most one (strict_of between) depth ahead between.offset verdict)
+    → FindsPart skip most one (strict_of old) depth due old.offset verdict
 unfolding counted_items
 rest_found source skip most one depth room old between due ready counts verdict finds =
     let reads = counted_items source depth skip old between counts in
     let c = behind source depth room old due ready skip between reads in
     found_rest counts.items c.ahead (items_ready source depth room old due ready skip between reads) c.parts
-    (subst (λ (n : ℕ). FindsRest most one old.strict depth c.ahead n verdict) counts.passed.offset
+    (subst (λ (n : ℕ). FindsRest most one (strict_of old) depth c.ahead n verdict) counts.passed.offset
     (subst (λ (b : Bool). FindsRest most one b depth c.ahead between.offset verdict) counts.passed.mode
     (finds c.ahead c.still_ready)))

@@ -1,5 +1,5 @@
 use Rattle.std.proofs.Common.{◌≡◌, ℕ, ◌+◌, ◌++◌, ap, subst, sym, suc, ◌∙◌, refl, inr, le_refl, arith}
-use Rattle.ciborium_ll.specs.Decoding.{PullsTitle}
+use Rattle.ciborium_ll.specs.Decoding.{PullsTitle, strict_of}
 use Rattle.ciborium_ll.proofs.DecodingLaws.{exit_is, IfSome-all, ReadsPast-then}
 use Rattle.ciborium_ll.specs.Types.Header.{Header}
 use Rattle.ciborium_ll.specs.Types.Error.TheVariants.{Syntax}
@@ -225,8 +225,8 @@ parts-preserved-in-Continue-branch-2 g c = record {
       let inner = so_far.level in
       let due = piece_due g.R.Read stands so_far at in
       let rest = (c.in_ok-body-in-Piece.ensures.shows depth start (suc so_far.opens) nests
-      (items ++ so_far.parts) row c.read_title.new.decoder.strict due title_row (ap (λ (n : ℕ). n + 1) inner) (piece_offset
-      g.R.Read stands so_far at row _ takes) tt).behind in
+      (items ++ so_far.parts) row (strict_of c.read_title.new.decoder) due title_row (ap (λ (n : ℕ). n + 1) inner)
+      (piece_offset g.R.Read stands so_far at row _ takes) tt).behind in
       let went = rw c.offset-place.ensures.same at c.in-Ok.ensures.passes in
       let first = within_title g.R.Read stands so_far at
       _ row c.in-Ok.header c.offset-place.result c.title_level-at.result _ takes place titled
