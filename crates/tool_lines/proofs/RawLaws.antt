@@ -14,7 +14,7 @@ use Rattle.ciborium_ll_decoder.specs.declared.copy.RecodeError.{RecodeError}
 use Rattle.ciborium_ll_decoder.specs.declared.copy.RecodeError.TheVariants as r
 use Rattle.ciborium_ll_grammar.specs.Faults.{Syntax}
 use Rattle.ciborium_ll_decoder.specs.BodyCopies.{sides}
-use Rattle.ciborium_ll_decoder.specs.Decoding.{ReadsPast, view}
+use Rattle.ciborium_ll_decoder.specs.Decoding.{ReadsPast, view, strict_of}
 use Rattle.ciborium_ll_recode.specs.Recoding.{CopiesElements, StopsCopy}
 use Rattle.ciborium_ll_recode.specs.RecodingTold.{IsTold, RecodesAnyhow, StopsShort}
 use Rattle.ciborium_ll_decoder.proofs.BodyLaws.{view_none}
@@ -125,7 +125,7 @@ module _ {R R' W W' E F : Type 0} (left : R → List ℕ → Type 0) (left' : R'
 
 module _ {D S E F : Type 0} (source : Reader D E) (sink : Writer S F) where
   -- If no header waits, the bytes that are due are those that the reader has ahead.
-  pub told_ahead : (old : Decoder D) (writer : S) (due written : List ℕ) → old.strict ≡ false → old.waiting ≡ None
+  pub told_ahead : (old : Decoder D) (writer : S) (due written : List ℕ) → strict_of old ≡ false → old.waiting ≡ None
       → source.ahead old.reader ≡ Some due → sink.written writer ≡ Some written
       → IsTold source sink false (sides old writer) due written
   told_ahead old writer due written lenient none ahead output =
