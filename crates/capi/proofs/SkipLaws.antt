@@ -5,7 +5,7 @@ use Rattle.ciborium_ll.specs.Types.Read.{Ghosts}
 use Rattle.ciborium_ll.specs.Types.Decoder.{Decoder}
 use Rattle.ciborium_ll.specs.Types.Error.TheVariants as e
 use Rattle.ciborium_ll.specs.Faults.{Syntax}
-use Rattle.ciborium_ll.specs.Decoding.{IsFresh, offset_limit}
+use Rattle.ciborium_ll.specs.Decoding.{IsFresh, offset_limit, strict_of}
 use Rattle.cbor_skip.specs.declared.SkipError.{SkipError}
 use Rattle.cbor_skip.specs.declared.SkipError.TheVariants as s
 use Rattle.cbor_skip.specs.ItemFaults.{BeginsWithItem}
@@ -95,8 +95,10 @@ module _ {R E : Type 0} (source : Ghosts R E) where
   )
 
   pub skip_said : (depth : ℕ) (due : List ℕ) (old new : Decoder R) (result : Result (Unit {0}) (SkipError E))
-      (report : CllReport) (answer : CllAnswer) (place count : ℕ) → SkipsTold source old.strict depth due old result new
-      → old.strict ≡ false → old.offset ≡ 0 → answer ≡ skip_answer result → place ≡ skip_place result → count ≡ new.offset
+      (report : CllReport) (answer : CllAnswer) (place count : ℕ)
+      → SkipsTold source (strict_of old) depth due old result new
+      → strict_of old ≡ false → old.offset ≡ 0 → answer ≡ skip_answer result → place ≡ skip_place result
+      → count ≡ new.offset
       → Reports report count 0 place → Skips depth due answer report
   skip_said depth due old new result report answer place count told mode start same named behind reports =
       let lenient = subst (λ (b : Bool). SkipsTold source b depth due old result new) mode told in

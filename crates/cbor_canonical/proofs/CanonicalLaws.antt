@@ -10,7 +10,7 @@ use Rattle.ciborium_ll_io.specs.declared.io.Read.{Ghosts}
 use Rattle.ciborium_ll_grammar.specs.Items.{IsItem}
 use Rattle.ciborium_ll_decoder.specs.declared.dec.Decoder.{Decoder}
 use Rattle.ciborium_ll_decoder.specs.declared.dec.Error.TheVariants as e
-use Rattle.ciborium_ll_decoder.specs.Decoding.{IsFresh, offset_limit}
+use Rattle.ciborium_ll_decoder.specs.Decoding.{IsFresh, offset_limit, strict_of}
 use Rattle.ciborium_ll_decoder.proofs.BodyLaws.{view_none}
 use Rattle.ciborium_ll_grammar.specs.Faults.{Syntax}
 use Rattle.cbor_skip.specs.declared.SkipError.{SkipError}
@@ -117,8 +117,8 @@ module _ {R E : Type 0} (source : Ghosts R E) where
   refusal_go d offset bytes old new (Err (s.Read e.Waiting)) result told start end is = absurd told
 
   pub refusal_said : (d offset : ℕ) (bytes : List ℕ) (old new : Decoder R) (skipped : Result (Unit {0}) (SkipError E))
-      (result : Result ℕ Refusal) → SkipsTold source old.strict d bytes old skipped new
-      → old.strict ≡ false → old.offset ≡ 0 → offset ≡ new.offset → IsRefusalOf (length bytes) offset skipped result
+      (result : Result ℕ Refusal) → SkipsTold source (strict_of old) d bytes old skipped new
+      → strict_of old ≡ false → old.offset ≡ 0 → offset ≡ new.offset → IsRefusalOf (length bytes) offset skipped result
       → MatchResult result (λ len. (front : BeginsWithItem false d bytes) × (len ≡ length front.item))
       (λ r. HasRefusal d bytes r.why r.place)
   refusal_said d offset bytes old new skipped result told mode start end is =

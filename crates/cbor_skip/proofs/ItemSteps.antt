@@ -13,7 +13,7 @@ use Rattle.ciborium_ll_grammar.specs.Elements.{AreWritable}
 use Rattle.ciborium_ll_grammar.specs.Items.{Completes, byte_string, text_string, open_bytes, open_text, tag, array}
 use Rattle.ciborium_ll_grammar.specs.Items.{pairs, open_array, open_pairs, AreItems, no_items, more_items, IsItem}
 use Rattle.ciborium_ll_grammar.specs.Items.{IsTakenTitle, AreTakenStrings}
-use Rattle.ciborium_ll_decoder.specs.Decoding.{ReadsPast, DecoderPullAnswer, PullsTitle, IsSteady}
+use Rattle.ciborium_ll_decoder.specs.Decoding.{ReadsPast, DecoderPullAnswer, PullsTitle, IsSteady, strict_of}
 use Rattle.ciborium_ll_decoder.specs.Skipping.{IsTakenBehind, SkipsWhole}
 use Rattle.std.proofs.lemmas.List.{append_cancel_right}
 use Rattle.ciborium_ll_grammar.proofs.TitleLaws.{IsTitle-shortest, title_in_range}
@@ -95,10 +95,11 @@ module _ {R E : Type 0} (source : Ghosts R E) where
   reads_string {d = d} {old = old} {titled = titled} k len title steady whole =
       let x = kind_header k len in
       let shortest = IsTitle-shortest x (title_in_range title.title x title.is_title) in
-      let completes = string_completes titled.strict d k len (shortest_title x) whole.behind _ whole.bodies shortest
+      let completes =
+      string_completes (strict_of titled) d k len (shortest_title x) whole.behind _ whole.bodies shortest
       whole.is_string refl whole.taken whole.sound in
-      let keeps : strictness old ≡ true → titled.strict ≡ true =
-      λ on. title.mode ∙ (strict_by old.waiting old.strict on).0 in
+      let keeps : strictness old ≡ true → strict_of titled ≡ true =
+      λ on. title.mode ∙ (strict_by old.waiting (strict_of old) on).0 in
       reads_item title steady (completes_looser _ _ keeps d x whole.behind completes) whole.passed
 
   pub reads_nest : {d levels : ℕ} {old titled new : Decoder R} {x : Header} → suc levels ≡ d

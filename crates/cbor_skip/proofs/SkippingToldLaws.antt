@@ -16,7 +16,7 @@ use Rattle.ciborium_ll_grammar.specs.Strings.{Kind, Text, kind_header}
 use Rattle.ciborium_ll_grammar.specs.Faults.{Point, In, Answer, BodyDue, IsAtTitle, IsRefusedIn, FirstFault, CutTitle}
 use Rattle.ciborium_ll_grammar.specs.Faults.{NoTitle, LongTitle, OtherTitle, DamagedText, CutBody, CutDamagedText}
 use Rattle.ciborium_ll_grammar.specs.Faults.{Short, Syntax, with_front}
-use Rattle.ciborium_ll_decoder.specs.Decoding.{view, ReadsPast, DecoderPullAnswer, PullsTitle, IsSteady}
+use Rattle.ciborium_ll_decoder.specs.Decoding.{view, ReadsPast, DecoderPullAnswer, PullsTitle, IsSteady, strict_of}
 use Rattle.ciborium_ll_decoder.specs.Finishing.{IsNoText, StopsRest}
 use Rattle.ciborium_ll_decoder.specs.Skipping.{SkipsString, SkipsInside, MeetsNoTitle, MeetsOther, MeetsBody}
 use Rattle.ciborium_ll_grammar.proofs.TitleLaws.{shortest_no_longer}
@@ -83,10 +83,10 @@ module _ {R E : Type 0} (source : Ghosts R E) (depth room : ℕ) (old : Decoder 
           (behind.0, came.1 ∙ ap Some behind.2, behind.1, came.2 ∙ ap (◌++◌ bytes) behind.2)
 
       -- If the decoder is strict there, the skip takes only the shortest spelling.
-      strictly : at.strict ≡ true → strictness old ≡ true
+      strictly : strict_of at ≡ true → strictness old ≡ true
       strictly on =
           let mode = sym passed.mode ∙ on in
-          strict_settled old.waiting old.strict (ready.none_waits mode) ∙ mode
+          strict_settled old.waiting (strict_of old) (ready.none_waits mode) ∙ mode
 
       -- A fault at the point, which consumes `read`, is the fault that stops the skip.
       met : {point : Point} {answer : Answer} {written : List ℕ} {new : Decoder R} (read : List ℕ)
@@ -177,8 +177,8 @@ module _ {R E : Type 0} (source : Ghosts R E) (depth room : ℕ) (old : Decoder 
             let opened = ReadsPast-pull source old at titled bytes (kind_header k None) pulled passed steady in
             let behind = ReadsPast-then source old titled between _ part.behind opened part.passed in
             let taken = inside_when (strictness old) k (front ++ part.behind) part.bodies (λ on.
-            let mode : titled.strict ≡ true =
-            pulled.mode ∙ (passed.mode ∙ (strict_by old.waiting old.strict on).0) in
+            let mode : strict_of titled ≡ true =
+            pulled.mode ∙ (passed.mode ∙ (strict_by old.waiting (strict_of old) on).0) in
             (part.behind, refl, rw mode at part.taken)) in (
               bytes ++ (front ++ part.behind),
               at_string item part.inside taken part.sound,
@@ -276,28 +276,29 @@ module _ {R E : Type 0} (source : Ghosts R E) (depth room : ℕ) (old : Decoder 
         ]
 
     -- If the decoder is ready, its strictness is its mode.
-    pub ready_mode : strictness old ≡ old.strict
-    ready_mode = strict_mode old.waiting old.strict ready.none_waits
+    pub ready_mode : strictness old ≡ strict_of old
+    ready_mode = strict_mode old.waiting (strict_of old) ready.none_waits
 
     pub skip_told : (new : Decoder R) (result : Result (Unit {0}) (SkipError E))
-        → SkipsItem source depth room old result new → SkipsTold source old.strict depth due old result new
+        → SkipsItem source depth room old result new → SkipsTold source (strict_of old) depth due old result new
     skip_told new result skips =
         subst (λ (b : Bool). SkipsTold source b depth due old result new) ready_mode (told_by new result skips)
 
     exactly_told : (new : Decoder R) (result : Result (Unit {0}) (SkipError E))
-        → SkipsTold source old.strict depth due old result new → IsOk result ↔ BeginsWithItem old.strict depth due
+        → SkipsTold source (strict_of old) depth due old result new
+        → IsOk result ↔ BeginsWithItem (strict_of old) depth due
     exactly_told new (Ok done) told = (λ ok. told.front, λ front. refl)
     exactly_told new (Err (s.Break at)) told =
-        (λ ok. absurd cc, λ front. absurd (no_early_break old.strict depth due front told.fault))
+        (λ ok. absurd cc, λ front. absurd (no_early_break (strict_of old) depth due front told.fault))
     exactly_told new (Err (s.Deep at)) told =
-        (λ ok. absurd cc, λ front. absurd (no_deep_nest old.strict depth due front told.fault))
+        (λ ok. absurd cc, λ front. absurd (no_deep_nest (strict_of old) depth due front told.fault))
     exactly_told new (Err (s.Read (e.Io fault))) told =
-        (λ ok. absurd cc, λ front. absurd (no_item_fault old.strict depth due front told.fault))
+        (λ ok. absurd cc, λ front. absurd (no_item_fault (strict_of old) depth due front told.fault))
     exactly_told new (Err (s.Read (e.Syntax at))) told =
-        (λ ok. absurd cc, λ front. absurd (no_item_fault old.strict depth due front told.2.fault))
+        (λ ok. absurd cc, λ front. absurd (no_item_fault (strict_of old) depth due front told.2.fault))
     exactly_told new (Err (s.Read e.TooLong)) told = absurd told
     exactly_told new (Err (s.Read e.Waiting)) told = absurd told
 
     pub skip_exactly : (new : Decoder R) (result : Result (Unit {0}) (SkipError E))
-        → SkipsItem source depth room old result new → IsOk result ↔ BeginsWithItem old.strict depth due
+        → SkipsItem source depth room old result new → IsOk result ↔ BeginsWithItem (strict_of old) depth due
     skip_exactly new result skips = exactly_told new result (skip_told new result skips)

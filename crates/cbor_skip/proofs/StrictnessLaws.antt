@@ -8,7 +8,7 @@ use Rattle.ciborium_ll_grammar.specs.Strings.{Kind}
 use Rattle.ciborium_ll_grammar.specs.Items.{Completes, positive, negative, float, simple, byte_string, text_string}
 use Rattle.ciborium_ll_grammar.specs.Items.{open_bytes, open_text, tag, array, pairs, open_array, open_pairs, AreItems}
 use Rattle.ciborium_ll_grammar.specs.Items.{no_items, more_items, IsTakenTitle}
-use Rattle.ciborium_ll_decoder.specs.Decoding.{ReadsPast, PullsTitle}
+use Rattle.ciborium_ll_decoder.specs.Decoding.{ReadsPast, PullsTitle, strict_of}
 use Rattle.cbor_skip.specs.Due.{ItemDue, here, within, IsTakenInside}
 use Rattle.cbor_skip.specs.Skipping.{strict_unless_waiting, strictness}
 
@@ -95,5 +95,5 @@ module _ {R E : Type 0} (source : Ghosts R E) where
 
   -- If no header waited on a strict decoder, none waits after the bytes that it read.
   pub none_behind : {old new : Decoder R} {bytes : List ℕ} → ReadsPast source old bytes new
-      → (old.strict ≡ true → old.waiting ≡ None) → new.strict ≡ true → new.waiting ≡ None
+      → (strict_of old ≡ true → old.waiting ≡ None) → strict_of new ≡ true → new.waiting ≡ None
   none_behind p none on = grind arith

@@ -7,7 +7,7 @@ use Rattle.ciborium_ll_decoder.specs.declared.dec.Decoder.{Decoder}
 use Rattle.ciborium_ll_decoder.specs.declared.dec.Error.{Error}
 use Rattle.ciborium_ll_grammar.specs.Strings.{Kind, kind_header}
 use Rattle.ciborium_ll_grammar.specs.Items.{Completes, AreItems, IsItem}
-use Rattle.ciborium_ll_decoder.specs.Decoding.{IsSteady, MovesOn, ReadsPast, DecoderPullAnswer, PullsTitle}
+use Rattle.ciborium_ll_decoder.specs.Decoding.{IsSteady, MovesOn, ReadsPast, DecoderPullAnswer, PullsTitle, strict_of}
 use Rattle.ciborium_ll_decoder.specs.Skipping.{SkipsString}
 use Rattle.cbor_skip.specs.declared.Begun.{Begun}
 use Rattle.cbor_skip.specs.declared.Begun.TheVariants as b
@@ -24,7 +24,7 @@ strict_unless_waiting (Some header) strict = false
 -- Whether only the shortest spelling is taken (RFC 7049, 3.9): by a strict decoder on which no header waits. If so,
 -- `01` is taken, and `18 01` is not.
 abbrev pub strictness : {R : Type 0} → Decoder R → Bool
-strictness decoder = strict_unless_waiting decoder.waiting decoder.strict
+strictness decoder = strict_unless_waiting decoder.waiting (strict_of decoder)
 
 -- The beginning that the header of a nest makes: the number of its items, or the header, if that number is not told or
 -- not counted. The title `82` makes 2 items, and `9f` makes its header.

@@ -4,7 +4,7 @@ use Rattle.ciborium_ll_io.specs.declared.io.Read.{Ghosts}
 use Rattle.ciborium_ll_decoder.specs.declared.dec.Decoder.{Decoder}
 use Rattle.ciborium_ll_decoder.specs.declared.dec.Error.TheVariants as e
 use Rattle.ciborium_ll_grammar.specs.Faults.{Answer, Short, Syntax}
-use Rattle.ciborium_ll_decoder.specs.Decoding.{offset_limit, view, IsSteady}
+use Rattle.ciborium_ll_decoder.specs.Decoding.{offset_limit, view, IsSteady, strict_of}
 use Rattle.cbor_skip.specs.declared.SkipError.{SkipError}
 use Rattle.cbor_skip.specs.declared.SkipError.TheVariants as s
 use Rattle.cbor_skip.specs.ItemFaults.{HasDeepNest, HasEarlyBreak, HasItemFault, BeginsWithItem}
@@ -13,7 +13,7 @@ module _ {R E : Type 0} (source : Ghosts R E) where
   -- The reader gives the bytes that it tells. The offset fits the bytes that are due, with 8 and with the buffer's
   -- length to spare. No header waits on a strict decoder. With `01` due and a buffer of 64 bytes, the offset 0 fits.
   pub record IsReadyToSkip (room : ℕ) (decoder : Decoder R) (due : List ℕ) : Type 0 where
-    pub none_waits : decoder.strict ≡ true → decoder.waiting ≡ None
+    pub none_waits : strict_of decoder ≡ true → decoder.waiting ≡ None
     pub steady : IsSteady source decoder
     pub told : view source decoder ≡ Some due
     pub fits-title : decoder.offset + length due + 8 < offset_limit

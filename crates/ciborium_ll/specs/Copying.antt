@@ -11,6 +11,7 @@ use Rattle.ciborium_ll_decoder.specs.declared.copy.RecodeError.TheVariants as r
 use Rattle.ciborium_ll_decoder.specs.declared.dec.Error.TheVariants as e
 use Rattle.ciborium_ll_grammar.specs.Title.{IsTitle, shortest_title, BeginsRefused, IsCutTitle}
 use Rattle.ciborium_ll_decoder.specs.Decoding.{offset_limit, view, IsSteady, MovesOn, ReadsPast, DecoderPullAnswer}
+use Rattle.ciborium_ll_decoder.specs.Decoding.{strict_of}
 use Rattle.ciborium_ll_decoder.specs.BodyCopies.{Sides, sides}
 use Rattle.ciborium_ll_io.specs.Writes.{WritesAll, WritesFront}
 
@@ -88,7 +89,7 @@ module _ {R E W F : Type 0} (source : Reader R E) (sink : Writer W F) where
   -- The decoder is not strict, and the reader gives the bytes that it tells. The writer has room for as many bytes, and
   -- the offset fits, with 8 to spare. If `18 17` is due, this is room for 2 bytes.
   pub record IsReadyForTitles (now : Sides R W) (due written : List ℕ) : Type 0 where
-    pub lenient : now.decoder.strict ≡ false
+    pub lenient : strict_of now.decoder ≡ false
     pub steady : IsSteady source now.decoder
     pub due-told : view source now.decoder ≡ Some due
     pub written-told : sink.written now.writer ≡ Some written

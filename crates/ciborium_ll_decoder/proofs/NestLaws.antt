@@ -11,7 +11,7 @@ use Rattle.ciborium_ll_decoder.specs.declared.seg.Progress.TheVariants as p
 use Rattle.ciborium_ll_grammar.specs.Title.{IsTitle, shortest_title, title_len, IsInRange}
 use Rattle.ciborium_ll_grammar.specs.Strings.{Kind, kind_header}
 use Rattle.ciborium_ll_grammar.proofs.OpenStrings.{IsInsideAt}
-use Rattle.ciborium_ll_decoder.specs.Decoding.{Begins, ReadsPast, TakesBack}
+use Rattle.ciborium_ll_decoder.specs.Decoding.{Begins, ReadsPast, TakesBack, strict_of}
 use Rattle.ciborium_ll_decoder.specs.Segments.{Nests, in_place, deeper, back, FindsBody, EndsAdvance, AdvancesFrom}
 use Rattle.ciborium_ll_grammar.proofs.TitleLaws.{one_title, IsTitle-shortest}
 pub use Rattle.ciborium_ll_grammar.proofs.AloneLaws.{alone_bytes, open_alone, open_length, open_in_range, title_some}
@@ -138,7 +138,7 @@ module _ {R E : Type 0} (source : Ghosts R E) (k : Kind) where
     pub reader : new.reader ≡ pulled.reader
     pub offset : new.offset ≡ pulled.offset
     pub none_waits : new.waiting ≡ None
-    pub mode : new.strict ≡ pulled.strict
+    pub mode : strict_of new ≡ strict_of pulled
     pub ended : progress ≡ p.Ended
 
   only_found : (len : ℕ) (pulled pushed new : Decoder R) (body : Body) (progress : Progress)

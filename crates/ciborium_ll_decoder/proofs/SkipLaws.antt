@@ -12,7 +12,7 @@ use Rattle.ciborium_ll_decoder.specs.declared.seg.Progress.TheVariants as p
 use Rattle.ciborium_ll_grammar.specs.Title.{IsInRange, shortest_title, title_len}
 use Rattle.ciborium_ll_grammar.specs.Strings.{Kind, kind_header, IsString, definite, indefinite}
 use Rattle.ciborium_ll_grammar.proofs.OpenStrings.{IsInsideAt, one_open, more_open}
-use Rattle.ciborium_ll_decoder.specs.Decoding.{DecoderPullAnswer, ReadsPast, IsSteady, TakesBack}
+use Rattle.ciborium_ll_decoder.specs.Decoding.{DecoderPullAnswer, ReadsPast, IsSteady, TakesBack, strict_of}
 use Rattle.ciborium_ll_decoder.specs.Segments.{FindsOther, AdvancesTo, NestsTooDeep}
 use Rattle.ciborium_ll_decoder.specs.Finishing.{ReadsRest, BeginsRest, EndsBody}
 use Rattle.ciborium_ll_decoder.specs.Skipping.{SkipsWhole, SkipsInside, MeetsNoTitle, MeetsOther, MeetsBody}
@@ -135,7 +135,7 @@ module _ {R E : Type 0} (source : Reader R E) (k : Kind) where
 
   -- The strings so far are strings that the decoder takes.
   taken_among : {opens : ℕ} {bodies : List (List ℕ)} {opened now : Decoder R}
-      (a : IsAmong source k opens bodies opened now) → AreTakenStrings opened.strict k a.strings bodies
+      (a : IsAmong source k opens bodies opened now) → AreTakenStrings (strict_of opened) k a.strings bodies
   taken_among a = grind (arith, flat_inside)
 
   part_of : {opens : ℕ} {bodies : List (List ℕ)} {opened now : Decoder R} → IsAmong source k opens bodies opened now
@@ -165,7 +165,7 @@ module _ {R E : Type 0} (source : Reader R E) (k : Kind) where
     no_title {between} error a fails = record { between = between; part = part_of a; fails = fails }
 
     meets_other : {left : ℕ} {between : Decoder R} (at : ℕ) → IsAmong source k left bodies opened between
-        → FindsOther source k opened.strict left between at progress new → MeetsOther source k opened at new
+        → FindsOther source k (strict_of opened) left between at progress new → MeetsOther source k opened at new
     meets_other at a other = search (part_of, other_inside, some_open, arith)
 
     open_error : (room : ℕ) (error : Error E) → 0 < opened.offset → new.offset < 2 ^ 64
@@ -194,7 +194,7 @@ module _ {R E : Type 0} (source : Reader R E) (k : Kind) where
   -- ---- both forms of a string
 
   pub skips_end : (strict : Bool) (len : Option ℕ) (room : ℕ) (opened now new : Decoder R)
-      (progress progress' : Progress) → strict ≡ opened.strict → SkipsSoFar len opened progress now
+      (progress progress' : Progress) → strict ≡ strict_of opened → SkipsSoFar len opened progress now
       → (IsSteady source now → IsSteady source new) → AdvancesTo source k strict progress now (Ok None) progress' new
       → SkipsString source k len room opened (Ok (tt {0})) new
   skips_end strict None room opened now new progress progress' mode so_far steady advances =
@@ -204,7 +204,7 @@ module _ {R E : Type 0} (source : Reader R E) (k : Kind) where
       lone_end strict len opened now new progress progress' so_far advances
 
   pub skips_error : (strict : Bool) (len : Option ℕ) (room : ℕ) (opened now new : Decoder R)
-      (progress progress' : Progress) (error : Error E) → new.offset < 2 ^ 64 → strict ≡ opened.strict
+      (progress progress' : Progress) (error : Error E) → new.offset < 2 ^ 64 → strict ≡ strict_of opened
       → SkipsSoFar len opened progress now
       → (IsSteady source now → IsSteady source new) → AdvancesTo source k strict progress now (Err error) progress' new
       → SkipsString source k len room opened (Err error) new
@@ -215,7 +215,7 @@ module _ {R E : Type 0} (source : Reader R E) (k : Kind) where
       absurd (lone_error strict len opened now new progress progress' so_far error advances)
 
   pub skips_body : (strict : Bool) (len : Option ℕ) (room : ℕ) (opened now new ended : Decoder R)
-      (progress progress' : Progress) (body : Body) → strict ≡ opened.strict → SkipsSoFar len opened progress now
+      (progress progress' : Progress) (body : Body) → strict ≡ strict_of opened → SkipsSoFar len opened progress now
       → (IsSteady source now → IsSteady source new) → (IsSteady source new → IsSteady source ended)
       → AdvancesTo source k strict progress now (Ok (Some body)) progress' new
       → EndsBody source k [] body.length room body.place new (Ok (tt {0})) ended → SkipsSoFar len opened progress' ended
@@ -230,7 +230,7 @@ module _ {R E : Type 0} (source : Reader R E) (k : Kind) where
       (lone_body strict len opened now new progress progress' so_far body advances) reads
 
   pub skips_stop : (strict : Bool) (len : Option ℕ) (room : ℕ) (opened now new ended : Decoder R)
-      (progress progress' : Progress) (body : Body) (error : Error E) → strict ≡ opened.strict
+      (progress progress' : Progress) (body : Body) (error : Error E) → strict ≡ strict_of opened
       → SkipsSoFar len opened progress now → (IsSteady source now → IsSteady source new)
       → AdvancesTo source k strict progress now (Ok (Some body)) progress' new
       → EndsBody source k [] body.length room body.place new (Err error) ended

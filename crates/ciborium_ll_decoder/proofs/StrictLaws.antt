@@ -50,7 +50,7 @@ module _ {R E : Type 0} (source : Ghosts R E) where
     pub offset : new.offset ≡ old.offset + length title
     pub none_waits : new.waiting ≡ None
     pub failures : failures_of source new ≡ failures_of source old
-    pub mode : new.strict ≡ old.strict
+    pub mode : strict_of new ≡ strict_of old
 
   pub title_read : (old between new : Decoder R) (read title : List ℕ) (b : Minor) → old.waiting ≡ None
       → ReadsAll source old read between → ReadsAll source between (minor_affix b) new → title ≡ read ++ minor_affix b
@@ -72,13 +72,13 @@ module _ {R E : Type 0} (source : Ghosts R E) where
 
   -- The decoder read a title that it takes, so `pull` gives the header.
   pub title_pulled : (old new : Decoder R) (title : List ℕ) (header : Header) → IsTitle title header
-      → old.waiting ≡ None → (IsTrue old.strict → IsStrictTitle title header) → TitleRead old title new
+      → old.waiting ≡ None → (IsTrue (strict_of old) → IsStrictTitle title header) → TitleRead old title new
       → PullsTitle source old header new
   title_pulled old new title header is_title none strict read = search arith
 
   -- A strict decoder read a title that is not strict, so it refuses the title.
   pub title_refused : (old new : Decoder R) (title : List ℕ) (header : Header) → IsTitle title header
-      → old.waiting ≡ None → IsTrue old.strict → (IsStrictTitle title header → ⊥) → TitleRead old title new
+      → old.waiting ≡ None → IsTrue (strict_of old) → (IsStrictTitle title header → ⊥) → TitleRead old title new
       → RefusesTitleWhole source old old.offset new
   title_refused old new title header is_title none strict refused read = search
 

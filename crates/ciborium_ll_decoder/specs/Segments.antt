@@ -5,6 +5,7 @@ use Rattle.std.specs.Borrow.{GName}
 use Rattle.ciborium_ll_io.specs.declared.io.Read.{Ghosts}
 use Rattle.ciborium_ll_grammar.specs.declared.hdr.Header.{Header}
 use Rattle.ciborium_ll_grammar.specs.declared.hdr.Header.TheVariants as h
+use Rattle.ciborium_ll_grammar.specs.Spellings.{is_shortest}
 use Rattle.ciborium_ll_decoder.specs.declared.dec.Decoder.{Decoder}
 use Rattle.ciborium_ll_decoder.specs.declared.dec.Error.{Error}
 use Rattle.ciborium_ll_decoder.specs.declared.dec.Error.TheVariants as e
@@ -15,7 +16,7 @@ use Rattle.ciborium_ll_decoder.specs.declared.seg.Segments.{Segments}
 use Rattle.ciborium_ll_decoder.specs.declared.seg.Progress.TheVariants as p
 use Rattle.ciborium_ll_grammar.specs.Title.{IsTitle}
 use Rattle.ciborium_ll_grammar.specs.Strings.{Kind, kind_header, IsMisplaced}
-use Rattle.ciborium_ll_decoder.specs.Decoding.{ReadsPast, DecoderPullAnswer, PullsTitle, TakesBack}
+use Rattle.ciborium_ll_decoder.specs.Decoding.{ReadsPast, DecoderPullAnswer, PullsTitle, TakesBack, strict_of}
 
 -- ---- what a string is to its callers
 
@@ -34,7 +35,7 @@ module _ {R P : Type 0} {parser : Parser P} where
 
   -- Whether the string is strict. A strict string takes no open within an open: it refuses the second title of `7f 7f`.
   abbrev pub string_strict : Segments R P parser → Bool
-  string_strict s = s.strict
+  string_strict s = is_shortest s.spelling
 
   -- None of the string's titles was read. Over `5f 41 01 ff` the title `5f` is due, and the progress is `Open(0)`.
   abbrev pub IsAtBeginning : Segments R P parser → Type 0
@@ -48,7 +49,7 @@ module _ {R E P : Type 0} {parser : Parser P} (source : Ghosts R E) where
       Type 0 where
     pub back : TakesBack source old header (string_decoder string)
     pub fresh : IsAtBeginning string
-    pub mode : string_strict string ≡ old.strict
+    pub mode : string_strict string ≡ strict_of old
     pub same_reference : string_reference string ≡ reference
 
 -- ---- opens and breaks in a row

@@ -10,7 +10,7 @@ use Rattle.ciborium_ll_grammar.specs.Strings.{Kind, kind_header, IsString}
 use Rattle.ciborium_ll_grammar.specs.Elements.{AreWritable}
 use Rattle.ciborium_ll_grammar.specs.Faults.{IsInside, IsRefusedIn}
 use Rattle.ciborium_ll_grammar.specs.Items.{AreTakenStrings}
-use Rattle.ciborium_ll_decoder.specs.Decoding.{IsSteady, MovesOn, ReadsPast, DecoderPullAnswer, PullsTitle}
+use Rattle.ciborium_ll_decoder.specs.Decoding.{IsSteady, MovesOn, ReadsPast, DecoderPullAnswer, PullsTitle, strict_of}
 use Rattle.ciborium_ll_decoder.specs.Finishing.{EndsBody}
 use Rattle.ciborium_ll_decoder.specs.Segments.{PullsOther}
 
@@ -28,7 +28,7 @@ module _ {R E : Type 0} (source : Ghosts R E) (kind : Kind) where
     pub behind : List ℕ
     pub bodies : List (List ℕ)
     pub is_string : IsString kind (shortest_title (kind_header kind len) ++ behind) bodies
-    pub taken : IsTakenBehind old.strict kind len behind bodies
+    pub taken : IsTakenBehind (strict_of old) kind len behind bodies
     pub sound : AreWritable kind bodies
     pub passed : ReadsPast source old behind new
 
@@ -39,7 +39,7 @@ module _ {R E : Type 0} (source : Ghosts R E) (kind : Kind) where
     pub behind : List ℕ
     pub bodies : List (List ℕ)
     pub inside : IsInside kind (shortest_title (kind_header kind None) ++ behind) bodies
-    pub taken : AreTakenStrings old.strict kind behind bodies
+    pub taken : AreTakenStrings (strict_of old) kind behind bodies
     pub sound : AreWritable kind bodies
     pub passed : ReadsPast source old behind between
 
@@ -54,7 +54,7 @@ module _ {R E : Type 0} (source : Ghosts R E) (kind : Kind) where
   pub record MeetsOther (old : Decoder R) (at : ℕ) (new : Decoder R) : Type 0 where
     pub between : Decoder R
     pub part : SkipsInside old between
-    pub other : PullsOther source (IsRefusedIn between.strict kind) between at new
+    pub other : PullsOther source (IsRefusedIn (strict_of between) kind) between at new
 
   -- After that beginning the title of a segment came, and the read of its body failed. The body's place is the offset
   -- of that title (RFC 7049, 2.2.2). In `5f 42 01` from offset 0 on, this place is 1.

@@ -44,7 +44,7 @@ pub struct Decoder<R> {
     reader: R,
     offset: usize,
     waiting: Option<Header>,
-    strict: bool,
+    spelling: Spelling,
     refusals: Failures,
     ghost covered: { offset + waiting_len waiting < 2 ^ 64 },
 }
@@ -102,7 +102,7 @@ impl<R: Read> Decoder<R> {
             reader,
             offset,
             waiting: None,
-            strict: spelling.is_shortest(),
+            spelling,
             refusals: Failures::new(),
         }
     }
@@ -133,14 +133,7 @@ impl<R: Read> Decoder<R> {
     pub fn spelling(&self) -> Spelling
         ensures { is_shortest result ≡ strict_of self.now }
     {
-        Spelling::shortest_if(self.strict)
-    }
-
-    /// Returns whether the decoder is strict.
-    pub(crate) fn is_strict(&self) -> bool
-        ensures { result ≡ strict_of self.now }
-    {
-        self.strict
+        self.spelling
     }
 
     /// Takes the waiting header, or otherwise reads one title (RFC 7049, 2.1 to 2.3).
@@ -347,7 +340,7 @@ impl<R: Read> Decoder<R> {
     fn taken(&self, minor: Minor, first: u8) -> Option<Minor>
         ensures taken { result ≡ (if strict_of self.now && refused_when_strict (first / 32) minor then None else Some minor) }
     {
-        if self.strict && minor.is_refused_when_strict(first / 32) {
+        if self.spelling.is_shortest() && minor.is_refused_when_strict(first / 32) {
             None
         } else {
             Some(minor)

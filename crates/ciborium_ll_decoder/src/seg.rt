@@ -5,6 +5,7 @@ ghost use Rattle.std.specs.Prelude.{None, Some, IsTrue};
 ghost use Rattle.ciborium_ll_text.specs.States.{after};
 ghost use Rattle.ciborium_ll_text.specs.declared.state.State.TheVariants.{Between};
 ghost use Rattle.ciborium_ll_grammar.specs.declared.hdr.Header.TheVariants.{Break};
+ghost use Rattle.ciborium_ll_grammar.specs.Spellings.{is_shortest};
 ghost use Rattle.ciborium_ll_grammar.specs.Strings.{Kind, kind_header, Bytes as byte_strings, IsMisplaced};
 ghost use Rattle.ciborium_ll_decoder.specs.Kept.{kept_bytes};
 ghost use Rattle.ciborium_ll_decoder.specs.Progress.{opens_of};
@@ -18,6 +19,7 @@ pub use self::chunked::{Chunked, finish_body};
 pub use self::strings::open_segments;
 use crate::dec::{Decoder, Error};
 use ciborium_ll_grammar::hdr::Header;
+use ciborium_ll_grammar::spelling::Spelling;
 use ciborium_ll_io::io::Read;
 use ciborium_ll_text::state::{State, text_front, text_of};
 use std::marker::PhantomData;
@@ -105,9 +107,9 @@ pub(crate) enum Progress {
 pub struct Segments<'r, R, P: Parser> {
     pub(crate) decoder: &'r mut Decoder<R>,
     progress: Progress,
-    strict: bool,
+    spelling: Spelling,
     parser: PhantomData<P>,
-    ghost shallow: { IsTrue strict → opens_of progress ≤ 1 },
+    ghost shallow: { IsTrue (is_shortest spelling) → opens_of progress ≤ 1 },
 }
 
 impl<'r, R: Read, P: Parser> Segments<'r, R, P> {
@@ -128,11 +130,11 @@ impl<'r, R: Read, P: Parser> Segments<'r, R, P> {
         ensures mode { string_strict result ≡ strict_of decoder.old }
         ensures same_reference { string_reference result ≡ decoder.entry.ghost_name }
     {
-        let strict = decoder.is_strict();
+        let spelling = decoder.spelling();
         Segments {
             decoder,
             progress: Progress::Open(0),
-            strict,
+            spelling,
             parser: PhantomData,
         }
     }
@@ -234,7 +236,7 @@ impl<'r, R: Read, P: Parser> Segments<'r, R, P> {
                 return Err(error);
             }
         };
-        let (progress, found) = Self::found_by(header, place, opens, self.strict);
+        let (progress, found) = Self::found_by(header, place, opens, self.spelling);
         self.progress = progress;
         found
     }
@@ -246,12 +248,12 @@ impl<'r, R: Read, P: Parser> Segments<'r, R, P> {
         header: Header,
         place: usize,
         opens: usize,
-        strict: bool,
+        spelling: Spelling,
     ) -> (Progress, Result<Option<Body>, Error<R::Error>>)
         ensures steps { (old new : AnyDecoder R) → PullsTitle R.Read old header new → place ≡ offset_of old
-            → StepsOver R.Read P.kind strict opens old result.1 result.0 new }
+            → StepsOver R.Read P.kind (is_shortest spelling) opens old result.1 result.0 new }
         ensures opens { opens_of result.0 ≤ opens + 1 }
-        ensures shallow { IsTrue strict → opens ≤ 1 → opens_of result.0 ≤ 1 }
+        ensures shallow { IsTrue (is_shortest spelling) → opens ≤ 1 → opens_of result.0 ≤ 1 }
     {
         match P::length(header) {
             Some(Some(length)) => {
@@ -263,7 +265,7 @@ impl<'r, R: Read, P: Parser> Segments<'r, R, P> {
                 (progress, Ok(Some(Body { length, place })))
             }
             Some(None) if opens == usize::MAX => (Progress::TooDeep, Err(Error::TooLong)),
-            Some(None) if opens > 0 && strict => (
+            Some(None) if opens > 0 && spelling.is_shortest() => (
                 Progress::Damaged(place),
                 Err(Error::Syntax(place)),
             ),

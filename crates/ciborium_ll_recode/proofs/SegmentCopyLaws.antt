@@ -23,7 +23,7 @@ use Rattle.ciborium_ll_decoder.specs.declared.seg.Body.{Body}
 use Rattle.ciborium_ll_decoder.specs.declared.seg.Progress.{Progress}
 use Rattle.ciborium_ll_decoder.specs.declared.seg.Progress.TheVariants as p
 use Rattle.ciborium_ll_decoder.specs.BodyCopies.{BodyWritten, CopiesBody, Sides, sides}
-use Rattle.ciborium_ll_decoder.specs.Decoding.{IsSteady, offset_limit}
+use Rattle.ciborium_ll_decoder.specs.Decoding.{IsSteady, offset_limit, strict_of}
 use Rattle.ciborium_ll_decoder.specs.Segments.{AdvancesTo}
 use Rattle.ciborium_ll_decoder.proofs.DecodingLaws.{ReadsPast-then}
 use Rattle.ciborium_ll_decoder.proofs.NestLaws.{alone_bytes, title_some}
@@ -52,7 +52,7 @@ module _ {R E W F : Type 0} (source : Reader R E) (sink : Writer W F) (k : Kind)
     abbrev pub Leads : Result (Option Body) (Error E) → Progress → Decoder R → Type 0
     Leads result after new = AdvancesAmong source k so_far.bodies opened.decoder now.decoder result after new
 
-    pub leads : (strict : Bool) → strict ≡ opened.decoder.strict → (result : Result (Option Body) (Error E))
+    pub leads : (strict : Bool) → strict ≡ strict_of opened.decoder → (result : Result (Option Body) (Error E))
         (after : Progress) (new : Decoder R) → AdvancesTo source k strict progress now.decoder result after new
         → (IsSteady source now.decoder → IsSteady source new) → Leads result after new
     leads strict mode result after new advances steady = advances_among source k so_far.bodies opened.decoder
@@ -91,7 +91,7 @@ module _ {R E W F : Type 0} (source : Reader R E) (sink : Writer W F) (k : Kind)
         | inl refused ↦ title_stops source sink room (stands_inside all.among) tt refl new (e.Syntax at) refused.0
         | inr other ↦ (
             let stands = stands_inside all.among in
-            let refused = other_inside source k opened.decoder.strict all.left all.between at after new
+            let refused = other_inside source k (strict_of opened.decoder) all.left all.between at after new
             all.among.passed.mode (some_open k all.left _ _ all.among.within) other in
             inr (inl (search))
             )

@@ -7,6 +7,7 @@ use Rattle.ciborium_ll_io.specs.declared.io.Write.{Ghosts as Writer}
 use Rattle.ciborium_ll_grammar.specs.Shortening.{Shortens}
 use Rattle.ciborium_ll_decoder.specs.declared.dec.Decoder.{Decoder}
 use Rattle.ciborium_ll_decoder.specs.declared.copy.RecodeError.{RecodeError}
+use Rattle.ciborium_ll_decoder.specs.Decoding.{strict_of}
 
 module _ {R E W F : Type 0} (source : Reader R E) (sink : Writer W F) where
   -- Only the bytes can stop a copy. No header waits, the reader gives the bytes that it tells, and the offset fits
@@ -14,7 +15,7 @@ module _ {R E W F : Type 0} (source : Reader R E) (sink : Writer W F) where
   -- many are next, and otherwise for as many bytes as are due. For one element of `18 17 05`, this is room for 1 byte.
   pub record OnlyBytesStop (strict : Bool) (count room-in : ℕ) (decoder : Decoder R) (writer : W)
       (due written : List ℕ) : Type 0 where
-    pub mode : decoder.strict ≡ strict
+    pub mode : strict_of decoder ≡ strict
     pub none_waits : decoder.waiting ≡ None
     pub due-told : source.ahead decoder.reader ≡ Some due
     pub steady : IsTrue (source.steady decoder.reader)

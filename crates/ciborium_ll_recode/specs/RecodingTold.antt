@@ -12,7 +12,7 @@ use Rattle.ciborium_ll_grammar.specs.Strings.{IsWritable, most_kept}
 use Rattle.ciborium_ll_grammar.specs.Elements.{Mark, spelling, IsRun}
 use Rattle.ciborium_ll_grammar.specs.Faults.{Point, Due, In, BodyDue, Reaches, Answer, Short, Syntax, BeginsWithElements}
 use Rattle.ciborium_ll_grammar.specs.Faults.{HasFault, with_front}
-use Rattle.ciborium_ll_decoder.specs.Decoding.{offset_limit, Begins, view, IsSteady}
+use Rattle.ciborium_ll_decoder.specs.Decoding.{offset_limit, Begins, view, IsSteady, strict_of}
 use Rattle.ciborium_ll_recode.specs.Recoding.{NextWrite}
 use Rattle.ciborium_ll_decoder.specs.BodyCopies.{Sides}
 
@@ -61,7 +61,7 @@ module _ {R E W F : Type 0} (source : Reader R E) (sink : Writer W F) where
   -- wait on a strict decoder, which never read that header itself. If the header of `82` waits before `01 02`, the
   -- bytes that are due are `82 01 02`.
   pub record IsTold (strict : Bool) (now : Sides R W) (due written : List ℕ) : Type 0 where
-    pub mode : now.decoder.strict ≡ strict
+    pub mode : strict_of now.decoder ≡ strict
     pub due-told : view source now.decoder ≡ Some due
     pub written-told : sink.written now.writer ≡ Some written
     pub none_waits : strict ≡ true → now.decoder.waiting ≡ None

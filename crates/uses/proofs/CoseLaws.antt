@@ -9,7 +9,7 @@ use Rattle.ciborium_ll.specs.Types.Header.TheVariants as h
 use Rattle.ciborium_ll.specs.Types.Decoder.{Decoder}
 use Rattle.ciborium_ll.specs.Title.{shortest_title}
 use Rattle.ciborium_ll.specs.Items.{Completes, IsItem}
-use Rattle.ciborium_ll.specs.Decoding.{view, IsSteady, ReadsPast, PullsTitle}
+use Rattle.ciborium_ll.specs.Decoding.{view, IsSteady, ReadsPast, PullsTitle, strict_of}
 use Rattle.ciborium_ll.proofs.CopyingTold.{consumes_told}
 use Rattle.ciborium_ll.proofs.DecodingLaws.{ReadsPast-none, passes_settled}
 use Rattle.cbor_skip.specs.Skipping.{ReadsWithin, strictness}
@@ -26,7 +26,7 @@ use Rattle.uses.specs.Cose.{to_protected, to_unprotected, to_payload, to_signatu
 use Rattle.uses.specs.Cose.{TookString, TookPayload, TookMap, StopsAtPart, StopsSign1}
 
 module _ {R E : Type 0} (source : Ghosts R E) where
-  pub took_pull : (old new : Decoder R) (header : Header) → old.strict ≡ true → old.waiting ≡ None
+  pub took_pull : (old new : Decoder R) (header : Header) → strict_of old ≡ true → old.waiting ≡ None
       → PullsTitle source old header new → Took source old (shortest_title header) new
   took_pull old new header strict none pulled =
       let same : pulled.title ≡ shortest_title header = (pulled.strict strict none).shortest in
@@ -56,7 +56,7 @@ module _ {R E : Type 0} (source : Ghosts R E) where
   }
 
   -- The title of a map and then its items are a map.
-  pub took_map : (old titled new : Decoder R) (len : Option ℕ) (span : Span) → old.strict ≡ true
+  pub took_map : (old titled new : Decoder R) (len : Option ℕ) (span : Span) → strict_of old ≡ true
       → old.waiting ≡ None → PullsTitle source old (h.Map len) titled → ReadsWithin source (h.Map len) (MAP_DEPTH - 1)
       titled new → span.start ≡ old.offset → span.end ≡ new.offset → TookMap source old span new
   took_map old titled new len span strict none pulls within start end =
@@ -66,7 +66,7 @@ module _ {R E : Type 0} (source : Ghosts R E) where
       (passes_settled source titled new within.rest within.passed pulls.none_waits) in
       let whole = took_then old titled new (shortest_title header) within.rest title rest in
       let mode : strictness titled ≡ true =
-      strict_settled titled.waiting titled.strict pulls.none_waits ∙ (pulls.mode ∙ strict) in
+      strict_settled titled.waiting (strict_of titled) pulls.none_waits ∙ (pulls.mode ∙ strict) in
       let completes = subst (λ (s : Bool). Completes s MAP_DEPTH header within.rest) mode within.completes in
       let spelled = pulls.strict strict none in
       let is_item = item_of true MAP_DEPTH pulls.title within.rest header pulls.is_title spelled completes in
@@ -85,7 +85,7 @@ module _ {R E : Type 0} (source : Ghosts R E) where
       }
 
   -- The title of a byte string and then its body are a byte string.
-  pub took_string : (old titled new : Decoder R) (len : ℕ) (span : Span) → old.strict ≡ true → old.waiting ≡ None
+  pub took_string : (old titled new : Decoder R) (len : ℕ) (span : Span) → strict_of old ≡ true → old.waiting ≡ None
       → PullsTitle source old (h.Bytes (Some len)) titled → TookBody source len titled span new
       → TookString source old span new
   took_string old titled new len span strict none pulls body =
@@ -192,7 +192,7 @@ module _ {R E : Type 0} (source : Ghosts R E) where
 
     -- If the read stops at the part that is due, no COSE_Sign1 was read.
     pub stopped : (bytes before : List ℕ) (due : Due) (now ended : Decoder R) (error : CoseError E)
-        → view source first ≡ Some bytes → first.strict ≡ true → ((d : Decoder R) → IsSteady source d)
+        → view source first ≡ Some bytes → strict_of first ≡ true → ((d : Decoder R) → IsSteady source d)
         → Came first before due now → StopsAtPart source (IsAllowed due) now error ended → StopsSign1 source bytes error
     stopped bytes before due now ended error told strict steady came stops =
         let left = consumes_told (view source first) (view source now) bytes before told came.took.consumed in

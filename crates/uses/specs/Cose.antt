@@ -9,7 +9,7 @@ use Rattle.ciborium_ll.specs.Types.Decoder.{Decoder}
 use Rattle.ciborium_ll.specs.Types.Error.{Error}
 use Rattle.ciborium_ll.specs.Title.{shortest_title}
 use Rattle.ciborium_ll.specs.Items.{IsItem}
-use Rattle.ciborium_ll.specs.Decoding.{view, IsSteady, ReadsPast, DecoderPullAnswer, PullsTitle, ReadsBytes}
+use Rattle.ciborium_ll.specs.Decoding.{view, IsSteady, ReadsPast, DecoderPullAnswer, PullsTitle, ReadsBytes, strict_of}
 use Rattle.ciborium_ll.specs.Segments.{PullsOther}
 use Rattle.cbor_skip.specs.declared.SkipError.{SkipError}
 use Rattle.cbor_skip.specs.declared.SkipError.TheVariants as s
@@ -119,7 +119,7 @@ module _ {R E : Type 0} (source : Ghosts R E) where
     pub consumed : Consumes (view source old) (view source new) bytes
     pub offset : new.offset ≡ old.offset + length bytes
     pub none_waits : new.waiting ≡ None
-    pub mode : new.strict ≡ old.strict
+    pub mode : strict_of new ≡ strict_of old
 
   -- A body of this length was taken. At the offset 3, `01 02` has the span from 3 up to 5.
   pub record TookBody (len : ℕ) (old : Decoder R) (span : Span) (new : Decoder R) : Type 0 where
@@ -206,7 +206,7 @@ module _ {R E : Type 0} (source : Ghosts R E) where
     pub told : view source decoder ≡ Some rest
     pub place : decoder.offset ≡ length before
     pub none_waits : decoder.waiting ≡ None
-    pub strict : decoder.strict ≡ true
+    pub strict : strict_of decoder ≡ true
     pub steady : IsSteady source decoder
     pub ended : Decoder R
     pub stops : StopsAtPart (IsAllowed due) decoder error ended

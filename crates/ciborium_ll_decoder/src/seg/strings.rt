@@ -55,11 +55,11 @@ pub fn open_segments<R: Read, P: Parser>(decoder: &mut Decoder<R>) -> Segments<'
     ensures mode { string_strict result ≡ strict_of decoder.old }
     ensures same_reference { string_reference result ≡ decoder.entry.ghost_name }
 {
-    let strict = decoder.is_strict();
+    let spelling = decoder.spelling();
     Segments {
         decoder,
         progress: Progress::Open(1),
-        strict,
+        spelling,
         parser: PhantomData,
     }
 }

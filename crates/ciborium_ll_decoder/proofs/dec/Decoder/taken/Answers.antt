@@ -4,5 +4,5 @@ use Rattle.ciborium_ll_decoder.proofs.dec.Decoder.taken.Goals as goal
 pub returns-then-is_refused_when_strict : goal.returns-then-is_refused_when_strict
 returns-then-is_refused_when_strict g c = search rules
 
-pub returns-else-self : goal.returns-else-self
-returns-else-self g c = search rules
+pub returns-else-is_shortest : goal.returns-else-is_shortest
+returns-else-is_shortest g c = search rules

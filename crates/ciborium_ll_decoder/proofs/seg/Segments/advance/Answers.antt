@@ -1,5 +1,5 @@
 use Rattle.std.proofs.Common.{rules, arith, refl, subst, ◌∙◌, Bool, Some, Ok, Err}
-use Rattle.ciborium_ll_decoder.specs.Segments.{EndsAdvance}
+use Rattle.ciborium_ll_decoder.specs.Segments.{EndsAdvance, string_strict}
 use Rattle.ciborium_ll_decoder.proofs.DecodingLaws.{exit_is, MovesOn-none, MovesOn-then}
 use Rattle.ciborium_ll_decoder.proofs.AdvanceLaws.{Reached-start, Reached-step, Reached-ends}
 use Rattle.ciborium_ll_decoder.proofs.seg.Segments.advance.Goals as goal
@@ -8,7 +8,7 @@ pub titles-init : goal.titles-init
 titles-init g c = record {
   same = refl;
   mode = refl;
-  reached = Reached-start g.R.Read g.P.Parser.kind c.args.self.now.strict c.args.self.now.progress
+  reached = Reached-start g.R.Read g.P.Parser.kind (string_strict c.args.self.now) c.args.self.now.progress
       c.args.self.now.decoder.now c.args.self.now.shallow;
   opens = omega arith;
   moves_on = MovesOn-none g.R.Read c.args.self.now.decoder.now;
@@ -22,7 +22,8 @@ titles-preserved g c =
     record {
       same = search rules;
       mode = step.mode ∙ kept.mode;
-      reached = Reached-step g.R.Read g.P.Parser.kind c.args.self.now.strict c.args.self.now.progress c.in-Open.opens _
+      reached = Reached-step g.R.Read g.P.Parser.kind (string_strict c.args.self.now) c.args.self.now.progress
+          c.in-Open.opens _
           _ _ _ reached
           step.moves_on.steady (rw (c.in_default-2.is, kept.mode) at step.steps);
       opens = let counted = rw c.in-Open.is at kept.opens in omega (arith, counted, step.opens);
@@ -38,7 +39,7 @@ returns-in_err-body g c =
     c.titles.invariant.mode c.in_err-body.ensures.steps in
     record {
       same_reference = search rules;
-      advances = rw same (Reached-ends g.R.Read g.P.Parser.kind c.args.self.now.strict c.args.self.now.progress
+      advances = rw same (Reached-ends g.R.Read g.P.Parser.kind (string_strict c.args.self.now) c.args.self.now.progress
           c.in-Open.opens _ _ _ (Err c.in_err-body.field-0.0) _ reached step);
       mode = c.in_err-body.ensures.mode ∙ c.titles.invariant.mode;
       opens = let counted =
@@ -52,7 +53,8 @@ returns-in-Some g c =
     let step = rw c.in-Some.is at c.in_ok-body.ensures.steps in
     record {
       same_reference = search rules;
-      advances = Reached-ends g.R.Read g.P.Parser.kind c.args.self.now.strict c.args.self.now.progress c.in-Open.opens _
+      advances = Reached-ends g.R.Read g.P.Parser.kind (string_strict c.args.self.now) c.args.self.now.progress
+          c.in-Open.opens _
           _ _ (Ok (Some c.in-Some.body)) _ reached step;
       mode = c.in_ok-body.ensures.mode ∙ c.titles.invariant.mode;
       opens = let counted =
