@@ -4,6 +4,7 @@
 
 ghost use Rattle.std.specs.Prelude.{◌↔◌, ◌≤◌, IsTrue};
 ghost use Rattle.ciborium_ll_grammar.specs.Items.{IsItem};
+ghost use Rattle.ciborium_ll_grammar.specs.Spellings.{is_shortest};
 ghost use Rattle.ciborium_ll_grammar.specs.declared.limits.TheConstants.{MOST_LEVELS};
 
 use cbor_skip::skip_item;
@@ -32,13 +33,13 @@ pub enum Embedded {
 /// 2.1 to 2.4).
 ///
 /// `82 01 02` is one item if `depth` is 1 or more. `01 02` are two items, and `82 01` is none. `depth` is at most 256.
-/// Each text is UTF-8. If `strict` is true, the item is in its shortest spelling (3.9): `01` is, and `18 01` is not.
-pub fn is_one_item(body: &[u8], depth: usize, strict: bool) -> bool
+/// Each text is UTF-8. With `Shortest` the item is in its shortest spelling (3.9): `01` is, and `18 01` is not.
+pub fn is_one_item(body: &[u8], depth: usize, spelling: Spelling) -> bool
     requires shallow { depth ≤ MOST_LEVELS }
-    ensures { IsTrue result ↔ IsItem strict depth body.now }
+    ensures { IsTrue result ↔ IsItem (is_shortest spelling) depth body.now }
 {
     let reader = SliceReader::new(body);
-    let mut decoder = Decoder::with_spelling(reader, Spelling::shortest_if(strict), 0);
+    let mut decoder = Decoder::with_spelling(reader, spelling, 0);
     match skip_item(&mut decoder, depth, &mut [0; BUFFER_SIZE]) {
         Ok(()) => decoder.offset() == body.len(),
         Err(_) => false,
