@@ -3,6 +3,7 @@
 ghost use Rattle.std.specs.Prelude.{◌≡◌, ◌≤◌, ◌++◌, ℕ, Some, IfErr, IfOk, IfSome, OnOk};
 ghost use Rattle.ciborium_ll_grammar.specs.Title.{IsTitle};
 ghost use Rattle.ciborium_ll_grammar.specs.Items.{Completes, IsItem};
+ghost use Rattle.ciborium_ll_grammar.specs.Spellings.{is_shortest};
 ghost use Rattle.ciborium_ll_grammar.specs.Parts.{IsMinor, IsParts, minor_number, title_bytes};
 ghost use Rattle.cbor_encode.specs.Adding.{Adds, HasBody, HasNumber, IsHead};
 ghost use Rattle.cbor_encode.specs.Left.{IsWithin, left_of};
@@ -11,6 +12,7 @@ ghost use Rattle.cbor_encode.specs.Scalars.{IsMeant};
 use crate::Expected;
 use crate::cursor::{Cursor, Stop};
 use ciborium_ll_grammar::hdr::{Header, Minor, Title, shortest};
+use ciborium_ll_grammar::spelling::Spelling;
 
 /// A mark of a width (RFC 8949, 8.1).
 #[derive(Clone, Copy)]
@@ -166,16 +168,16 @@ fn put_title(out: &mut Vec<u8>, title: Title, left: usize) -> Result<(), Stop>
     }
 }
 
-/// Returns the title of the header, with the mark if there is one. If `is_strict` is true, no mark is taken.
-fn title_of(header: Header, mark: Option<Mark>, is_strict: bool) -> Result<Title, Expected>
+/// Returns the title of the header, with the mark if there is one. With `Shortest` no mark is taken.
+fn title_of(header: Header, mark: Option<Mark>, spelling: Spelling) -> Result<Title, Expected>
     requires meant { IsMeant header mark }
     ensures parts { IfOk result IsParts }
-    ensures head { IfOk result (λ title. IsHead is_strict header (title_bytes title)) }
+    ensures head { IfOk result (λ title. IsHead (is_shortest spelling) header (title_bytes title)) }
 {
     let Some(mark) = mark else {
         return Ok(shortest(header));
     };
-    if is_strict {
+    if spelling.is_shortest() {
         return Err(Expected::NoMark);
     }
     match marked(header, mark) {
@@ -186,20 +188,20 @@ fn title_of(header: Header, mark: Option<Mark>, is_strict: bool) -> Result<Title
 
 /// Adds the title of the header, and a body. From the item on, `left` bytes of the text are left.
 ///
-/// If `is_strict` is true, no mark is taken, and the title is the shortest.
+/// With `Shortest` no mark is taken, and the title is the shortest.
 pub(crate) fn put_chunk(
     out: &mut Vec<u8>,
     header: Header,
     mark: Option<Mark>,
     body: &[u8],
-    is_strict: bool,
+    spelling: Spelling,
     left: usize,
 ) -> Result<(), Stop>
     requires meant { IsMeant header mark }
-    ensures wrote { OnOk result (Adds (HasBody is_strict header body.now) out.old.items out.new.items) }
+    ensures wrote { OnOk result (Adds (HasBody (is_shortest spelling) header body.now) out.old.items out.new.items) }
     ensures place { IfErr result (IsWithin left) }
 {
-    match title_of(header, mark, is_strict) {
+    match title_of(header, mark, spelling) {
         Ok(title) => put_title(out, title, left)?,
         Err(expected) => return Err(Stop { expected, left }),
     }
@@ -212,13 +214,13 @@ pub(crate) fn put_whole(
     header: Header,
     mark: Option<Mark>,
     body: &[u8],
-    is_strict: bool,
+    spelling: Spelling,
     left: usize,
 ) -> Result<(), Stop>
     requires meant { IsMeant header mark }
-    ensures wrote { OnOk result ((depth : ℕ) → Completes is_strict depth header body.now
-        → Adds (IsItem is_strict depth) out.old.items out.new.items) }
+    ensures wrote { OnOk result ((depth : ℕ) → Completes (is_shortest spelling) depth header body.now
+        → Adds (IsItem (is_shortest spelling) depth) out.old.items out.new.items) }
     ensures place { IfErr result (IsWithin left) }
 {
-    put_chunk(out, header, mark, body, is_strict, left)
+    put_chunk(out, header, mark, body, spelling, left)
 }

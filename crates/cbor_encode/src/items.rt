@@ -2,6 +2,7 @@
 
 ghost use Rattle.std.specs.Prelude.{◌<◌, ◌≤◌, ◌*◌, ℕ, IfErr, IfOk, OnOk, length};
 ghost use Rattle.ciborium_ll_grammar.specs.Items.{AreItems, IsItem};
+ghost use Rattle.ciborium_ll_grammar.specs.Spellings.{is_shortest};
 ghost use Rattle.cbor_encode.specs.Adding.{Adds};
 ghost use Rattle.cbor_encode.specs.Left.{IsWithin, left_of};
 ghost use Rattle.cbor_encode.specs.Scalars.{IsScalar};
@@ -13,14 +14,15 @@ use crate::numbers::{Number, read_number};
 use crate::strings::{begins_string, put_chunks, put_string};
 use crate::words::read_word;
 use ciborium_ll_grammar::hdr::Header;
+use ciborium_ll_grammar::spelling::Spelling;
 use std::alloc::Global;
 
 /// The rules for the whole text.
 #[derive(Clone, Copy)]
 pub(crate) struct Rules {
     pub(crate) alloc: Global,
-    /// All titles are the shortest.
-    pub(crate) is_strict: bool,
+    /// The titles that the bytes may have.
+    pub(crate) spelling: Spelling,
 }
 
 /// The encodings of items, joined, and how many items or pairs they are.
@@ -38,7 +40,7 @@ pub(crate) fn put_item(
     depth: usize,
     rules: Rules,
 ) -> Result<(), Stop>
-    ensures wrote { OnOk result (Adds (IsItem rules.is_strict depth) out.old.items out.new.items) }
+    ensures wrote { OnOk result (Adds (IsItem (is_shortest rules.spelling) depth) out.old.items out.new.items) }
     ensures shorter { OnOk result (left_of cursor.new < left_of cursor.old) }
     ensures within { left_of cursor.new ≤ left_of cursor.old }
     ensures place { IfErr result (IsWithin (left_of cursor.old)) }
@@ -48,20 +50,21 @@ pub(crate) fn put_item(
         Some(b'{') => put_map(cursor, out, depth, rules),
         Some(b'<') => put_embedded(cursor, out, depth, rules),
         Some(b'0'..=b'9' | b'-') => put_number(cursor, out, depth, rules),
-        Some(b'(') => put_chunks(cursor, out, rules.alloc, rules.is_strict),
+        Some(b'(') => put_chunks(cursor, out, rules.alloc, rules.spelling),
         _ => put_plain(cursor, out, rules),
     }
 }
 
 /// Encodes a string or a named value.
 fn put_plain(cursor: &mut Cursor<'_>, out: &mut Vec<u8>, rules: Rules) -> Result<(), Stop>
-    ensures wrote { OnOk result ((depth : ℕ) → Adds (IsItem rules.is_strict depth) out.old.items out.new.items) }
+    ensures wrote { OnOk result ((depth : ℕ) → Adds (IsItem (is_shortest rules.spelling) depth) out.old.items
+        out.new.items) }
     ensures shorter { OnOk result (left_of cursor.new < left_of cursor.old) }
     ensures within { left_of cursor.new ≤ left_of cursor.old }
     ensures place { IfErr result (IsWithin (left_of cursor.old)) }
 {
     if begins_string(cursor) {
-        return put_string(cursor, out, rules.alloc, rules.is_strict);
+        return put_string(cursor, out, rules.alloc, rules.spelling);
     }
     let left = cursor.left();
     let number = read_word(cursor)?;
@@ -71,10 +74,11 @@ fn put_plain(cursor: &mut Cursor<'_>, out: &mut Vec<u8>, rules: Rules) -> Result
 /// Adds an integer, a float or a simple value. From it on, `left` bytes of the text are left.
 fn put_scalar(out: &mut Vec<u8>, number: Number, rules: Rules, left: usize) -> Result<(), Stop>
     requires scalar { IsScalar number.header number.mark }
-    ensures wrote { OnOk result ((depth : ℕ) → Adds (IsItem rules.is_strict depth) out.old.items out.new.items) }
+    ensures wrote { OnOk result ((depth : ℕ) → Adds (IsItem (is_shortest rules.spelling) depth) out.old.items
+        out.new.items) }
     ensures place { IfErr result (IsWithin left) }
 {
-    put_whole(out, number.header, number.mark, &[], rules.is_strict, left)
+    put_whole(out, number.header, number.mark, &[], rules.spelling, left)
 }
 
 /// Encodes an integer, a float or a tag.
@@ -85,7 +89,7 @@ fn put_number(
     depth: usize,
     rules: Rules,
 ) -> Result<(), Stop>
-    ensures wrote { OnOk result (Adds (IsItem rules.is_strict depth) out.old.items out.new.items) }
+    ensures wrote { OnOk result (Adds (IsItem (is_shortest rules.spelling) depth) out.old.items out.new.items) }
     ensures shorter { OnOk result (left_of cursor.new < left_of cursor.old) }
     ensures within { left_of cursor.new ≤ left_of cursor.old }
     ensures place { IfErr result (IsWithin (left_of cursor.old)) }
@@ -110,7 +114,7 @@ fn put_number(
         Header::Tag(tag),
         number.mark,
         item.as_slice(),
-        rules.is_strict,
+        rules.spelling,
         left,
     )
 }
@@ -118,7 +122,7 @@ fn put_number(
 /// Encodes the item of a tag, up to the closing parenthesis.
 #[cycle(items)]
 fn read_tagged(cursor: &mut Cursor<'_>, depth: usize, rules: Rules) -> Result<Vec<u8>, Stop>
-    ensures item { IfOk result (λ bytes. IsItem rules.is_strict depth bytes.items) }
+    ensures item { IfOk result (λ bytes. IsItem (is_shortest rules.spelling) depth bytes.items) }
     ensures within { left_of cursor.new ≤ left_of cursor.old }
     ensures place { IfErr result (IsWithin (left_of cursor.old)) }
 {
@@ -138,7 +142,7 @@ fn put_array(
     depth: usize,
     rules: Rules,
 ) -> Result<(), Stop>
-    ensures wrote { OnOk result (Adds (IsItem rules.is_strict depth) out.old.items out.new.items) }
+    ensures wrote { OnOk result (Adds (IsItem (is_shortest rules.spelling) depth) out.old.items out.new.items) }
     ensures shorter { OnOk result (left_of cursor.new < left_of cursor.old) }
     ensures within { left_of cursor.new ≤ left_of cursor.old }
     ensures place { IfErr result (IsWithin (left_of cursor.old)) }
@@ -155,14 +159,14 @@ fn put_array(
     if form.is_open() {
         put(&mut items.bytes, &[0xff], left)?;
         let bytes = items.bytes.as_slice();
-        return put_whole(out, Header::Array(None), None, bytes, rules.is_strict, left);
+        return put_whole(out, Header::Array(None), None, bytes, rules.spelling, left);
     }
     put_whole(
         out,
         Header::Array(Some(items.count)),
         form.mark(),
         items.bytes.as_slice(),
-        rules.is_strict,
+        rules.spelling,
         left,
     )
 }
@@ -175,7 +179,7 @@ fn put_map(
     depth: usize,
     rules: Rules,
 ) -> Result<(), Stop>
-    ensures wrote { OnOk result (Adds (IsItem rules.is_strict depth) out.old.items out.new.items) }
+    ensures wrote { OnOk result (Adds (IsItem (is_shortest rules.spelling) depth) out.old.items out.new.items) }
     ensures shorter { OnOk result (left_of cursor.new < left_of cursor.old) }
     ensures within { left_of cursor.new ≤ left_of cursor.old }
     ensures place { IfErr result (IsWithin (left_of cursor.old)) }
@@ -192,14 +196,14 @@ fn put_map(
     if form.is_open() {
         put(&mut pairs.bytes, &[0xff], left)?;
         let bytes = pairs.bytes.as_slice();
-        return put_whole(out, Header::Map(None), None, bytes, rules.is_strict, left);
+        return put_whole(out, Header::Map(None), None, bytes, rules.spelling, left);
     }
     put_whole(
         out,
         Header::Map(Some(pairs.count)),
         form.mark(),
         pairs.bytes.as_slice(),
-        rules.is_strict,
+        rules.spelling,
         left,
     )
 }
@@ -212,7 +216,7 @@ fn put_embedded(
     depth: usize,
     rules: Rules,
 ) -> Result<(), Stop>
-    ensures wrote { OnOk result (Adds (IsItem rules.is_strict depth) out.old.items out.new.items) }
+    ensures wrote { OnOk result (Adds (IsItem (is_shortest rules.spelling) depth) out.old.items out.new.items) }
     ensures shorter { OnOk result (left_of cursor.new < left_of cursor.old) }
     ensures within { left_of cursor.new ≤ left_of cursor.old }
     ensures place { IfErr result (IsWithin (left_of cursor.old)) }
@@ -234,7 +238,7 @@ fn put_embedded(
     }
     let bytes = items.bytes.as_slice();
     let header = Header::Bytes(Some(bytes.len()));
-    put_whole(out, header, form.mark(), bytes, rules.is_strict, left)
+    put_whole(out, header, form.mark(), bytes, rules.spelling, left)
 }
 
 /// Encodes items up to this closing bracket.
@@ -246,7 +250,7 @@ fn read_items(
     rules: Rules,
 ) -> Result<Contents, Stop>
     requires some { 0 < length close.now }
-    ensures items { IfOk result (λ items. AreItems rules.is_strict depth items.count items.bytes.items) }
+    ensures items { IfOk result (λ items. AreItems (is_shortest rules.spelling) depth items.count items.bytes.items) }
     ensures within { left_of cursor.new ≤ left_of cursor.old }
     ensures place { IfErr result (IsWithin (left_of cursor.old)) }
 {
@@ -264,7 +268,8 @@ fn read_items(
 /// Encodes pairs of a key and a value up to the closing brace.
 #[cycle(items)]
 fn read_pairs(cursor: &mut Cursor<'_>, depth: usize, rules: Rules) -> Result<Contents, Stop>
-    ensures pairs { IfOk result (λ pairs. AreItems rules.is_strict depth (2 * pairs.count) pairs.bytes.items) }
+    ensures pairs { IfOk result (λ pairs. AreItems (is_shortest rules.spelling) depth (2 * pairs.count)
+        pairs.bytes.items) }
     ensures within { left_of cursor.new ≤ left_of cursor.old }
     ensures place { IfErr result (IsWithin (left_of cursor.old)) }
 {

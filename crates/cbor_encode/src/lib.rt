@@ -5,6 +5,7 @@
 ghost use Rattle.std.specs.Prelude.{◌≡◌, ◌≤◌, true, false, IfErr, IfOk, OnOk};
 ghost use Rattle.ciborium_ll_text.specs.Text.{IsCharacters};
 ghost use Rattle.ciborium_ll_grammar.specs.Items.{IsItem};
+ghost use Rattle.ciborium_ll_grammar.specs.Spellings.{is_shortest};
 ghost use Rattle.ciborium_ll_grammar.specs.declared.limits.TheConstants.{MOST_LEVELS};
 ghost use Rattle.cbor_encode.specs.Places.{IsFaultIn};
 ghost use Rattle.cbor_encode.specs.Sequences.{AreSequence, has_underscore};
@@ -25,6 +26,7 @@ use self::items::Rules;
 use self::places::located;
 use self::sequences::{check_text, read_one, read_sequence};
 use ciborium_ll_grammar::limits::MOST_LEVELS;
+use ciborium_ll_grammar::spelling::Spelling;
 use std::alloc::Global;
 
 /// The greatest depth of tags, arrays, maps and embedded items, in levels.
@@ -141,7 +143,8 @@ pub fn encode(alloc: Global, text: &[u8], depth: usize) -> Result<Vec<u8>, Notat
     ensures fault { IfErr result (IsFaultIn text.now) }
 {
     // Each mark has an underscore. Without one all titles are the shortest.
-    one_item(alloc, text, depth, !text.contains(&b'_'))
+    let spelling = Spelling::shortest_if(!text.contains(&b'_'));
+    one_item(alloc, text, depth, spelling)
 }
 
 /// Encodes one item as [`encode`] does, but takes no mark on an integer, a length or a tag (RFC 8949, 4.1). The marks
@@ -156,7 +159,7 @@ pub fn encode_shortest(alloc: Global, text: &[u8], depth: usize) -> Result<Vec<u
     ensures text { OnOk result (IsCharacters text.now) }
     ensures fault { IfErr result (IsFaultIn text.now) }
 {
-    one_item(alloc, text, depth, true)
+    one_item(alloc, text, depth, Spelling::Shortest)
 }
 
 /// Encodes a sequence of items (RFC 8742), each as [`encode`] takes it. A comma, white space or a comment stands
@@ -177,7 +180,7 @@ pub fn encode_all(alloc: Global, text: &[u8], depth: usize) -> Result<Vec<u8>, N
     }
     let rules = Rules {
         alloc,
-        is_strict: !text.contains(&b'_'),
+        spelling: Spelling::shortest_if(!text.contains(&b'_')),
     };
     match read_sequence(text, depth, rules) {
         Ok(bytes) => Ok(bytes),
@@ -185,21 +188,21 @@ pub fn encode_all(alloc: Global, text: &[u8], depth: usize) -> Result<Vec<u8>, N
     }
 }
 
-/// Encodes one item. If `is_strict` is true, all titles are the shortest.
+/// Encodes one item. With `Shortest` all titles are the shortest.
 fn one_item(
     alloc: Global,
     text: &[u8],
     depth: usize,
-    is_strict: bool,
+    spelling: Spelling,
 ) -> Result<Vec<u8>, NotationError>
-    ensures item { IfOk result (λ bytes. IsItem is_strict depth bytes.items) }
+    ensures item { IfOk result (λ bytes. IsItem (is_shortest spelling) depth bytes.items) }
     ensures text { OnOk result (IsCharacters text.now) }
     ensures fault { IfErr result (IsFaultIn text.now) }
 {
     if let Err(stop) = check_text(text) {
         return Err(located(text, stop));
     }
-    match read_one(text, depth, Rules { alloc, is_strict }) {
+    match read_one(text, depth, Rules { alloc, spelling }) {
         Ok(bytes) => Ok(bytes),
         Err(stop) => Err(located(text, stop)),
     }

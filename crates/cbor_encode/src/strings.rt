@@ -4,6 +4,7 @@ ghost use Rattle.std.specs.Prelude.{◌≡◌, ◌<◌, ◌≤◌, ◌+◌, ◌^
 ghost use Rattle.ciborium_ll_text.specs.Text.{IsCharacters, IsFront};
 ghost use Rattle.ciborium_ll_grammar.specs.Strings.{kind_header};
 ghost use Rattle.ciborium_ll_grammar.specs.Items.{IsItem};
+ghost use Rattle.ciborium_ll_grammar.specs.Spellings.{is_shortest};
 ghost use Rattle.cbor_encode.specs.Adding.{Adds};
 ghost use Rattle.cbor_encode.specs.Chunks.{AreWithin, HasChunks};
 ghost use Rattle.cbor_encode.specs.Left.{IsWithin, left_of};
@@ -14,6 +15,7 @@ use crate::cursor::{Cursor, Stop};
 use crate::heads::{Form, put, put_chunk, put_whole, take_form};
 use crate::quoted::{read_base64, read_hex, read_quoted};
 use ciborium_ll_grammar::hdr::Header;
+use ciborium_ll_grammar::spelling::Spelling;
 use ciborium_ll_text::state::{State, text_front};
 use std::alloc::Global;
 
@@ -105,9 +107,9 @@ pub(crate) fn put_string(
     cursor: &mut Cursor<'_>,
     out: &mut Vec<u8>,
     alloc: Global,
-    is_strict: bool,
+    spelling: Spelling,
 ) -> Result<(), Stop>
-    ensures wrote { OnOk result ((depth : ℕ) → Adds (IsItem is_strict depth) out.old.items out.new.items) }
+    ensures wrote { OnOk result ((depth : ℕ) → Adds (IsItem (is_shortest spelling) depth) out.old.items out.new.items) }
     ensures shorter { OnOk result (left_of cursor.new < left_of cursor.old) }
     ensures within { left_of cursor.new ≤ left_of cursor.old }
     ensures place { IfErr result (IsWithin (left_of cursor.old)) }
@@ -118,7 +120,7 @@ pub(crate) fn put_string(
     let form = take_form(cursor);
     if !form.is_open() {
         let header = string_header(body.is_text, Some(bytes.len()));
-        return put_whole(out, header, form.mark(), bytes, is_strict, left);
+        return put_whole(out, header, form.mark(), bytes, spelling, left);
     }
     if !bytes.is_empty() {
         return Err(Stop {
@@ -127,7 +129,7 @@ pub(crate) fn put_string(
         });
     }
     let header = string_header(body.is_text, None);
-    put_whole(out, header, None, &[0xff], is_strict, left)
+    put_whole(out, header, None, &[0xff], spelling, left)
 }
 
 /// Encodes a string of indefinite length by the strings in its parentheses.
@@ -135,9 +137,9 @@ pub(crate) fn put_chunks(
     cursor: &mut Cursor<'_>,
     out: &mut Vec<u8>,
     alloc: Global,
-    is_strict: bool,
+    spelling: Spelling,
 ) -> Result<(), Stop>
-    ensures wrote { OnOk result ((depth : ℕ) → Adds (IsItem is_strict depth) out.old.items out.new.items) }
+    ensures wrote { OnOk result ((depth : ℕ) → Adds (IsItem (is_shortest spelling) depth) out.old.items out.new.items) }
     ensures shorter { OnOk result (left_of cursor.new < left_of cursor.old) }
     ensures within { left_of cursor.new ≤ left_of cursor.old }
     ensures place { IfErr result (IsWithin (left_of cursor.old)) }
@@ -148,10 +150,10 @@ pub(crate) fn put_chunks(
     }
     cursor.skip_space()?;
     let is_text = begins_text(cursor)?;
-    let mut strings = read_chunks(cursor, is_text, alloc, is_strict)?;
+    let mut strings = read_chunks(cursor, is_text, alloc, spelling)?;
     put(&mut strings, &[0xff], left)?;
     let header = string_header(is_text, None);
-    put_whole(out, header, None, strings.as_slice(), is_strict, left)
+    put_whole(out, header, None, strings.as_slice(), spelling, left)
 }
 
 /// Returns whether the first string that begins here or after further opens is a text.
@@ -174,19 +176,19 @@ fn read_chunks(
     cursor: &mut Cursor<'_>,
     is_text: bool,
     alloc: Global,
-    is_strict: bool,
+    spelling: Spelling,
 ) -> Result<Vec<u8>, Stop>
-    ensures chunks { IfOk result (λ strings. HasChunks is_strict (kind_of is_text) strings.items) }
+    ensures chunks { IfOk result (λ strings. HasChunks (is_shortest spelling) (kind_of is_text) strings.items) }
     ensures within { left_of cursor.new ≤ left_of cursor.old }
     ensures place { IfErr result (IsWithin (left_of cursor.old)) }
 {
     let mut strings = Vec::new(alloc);
     let mut opens = 1;
     'chunks: while opens > 0 {
-        opens = put_opens(cursor, &mut strings, opens, is_text, is_strict)?;
-        put_string_within(cursor, &mut strings, is_text, alloc, is_strict)?;
+        opens = put_opens(cursor, &mut strings, opens, is_text, spelling)?;
+        put_string_within(cursor, &mut strings, is_text, alloc, spelling)?;
         cursor.end_item(b")")?;
-        opens = close_opens(cursor, &mut strings, opens, is_text, is_strict)?;
+        opens = close_opens(cursor, &mut strings, opens, is_text, spelling)?;
     }
     Ok(strings)
 }
@@ -197,21 +199,21 @@ fn put_opens(
     strings: &mut Vec<u8>,
     opens: usize,
     is_text: bool,
-    is_strict: bool,
+    spelling: Spelling,
 ) -> Result<usize, Stop>
     requires some { 0 < opens }
     requires counted { opens + left_of cursor.old < 2 ^ 64 }
-    requires chunks { AreWithin is_strict (kind_of is_text) opens strings.old.items }
-    ensures chunks { IfOk result (λ after. AreWithin is_strict (kind_of is_text) after strings.new.items) }
+    requires chunks { AreWithin (is_shortest spelling) (kind_of is_text) opens strings.old.items }
+    ensures chunks { IfOk result (λ after. AreWithin (is_shortest spelling) (kind_of is_text) after strings.new.items) }
     ensures some { IfOk result (λ after. 0 < after) }
     ensures counted { IfOk result (λ after. after + left_of cursor.new ≤ opens + left_of cursor.old) }
     ensures within { left_of cursor.new ≤ left_of cursor.old }
     ensures place { IfErr result (IsWithin (left_of cursor.old)) }
 {
     let mut opens = opens;
-    'opens: while !is_strict && cursor.take_word(b"(_") {
+    'opens: while !spelling.is_shortest() && cursor.take_word(b"(_") {
         let open = string_header(is_text, None);
-        put_chunk(strings, open, None, &[], is_strict, cursor.left())?;
+        put_chunk(strings, open, None, &[], spelling, cursor.left())?;
         opens += 1;
         cursor.skip_space()?;
     }
@@ -224,11 +226,11 @@ fn put_string_within(
     strings: &mut Vec<u8>,
     is_text: bool,
     alloc: Global,
-    is_strict: bool,
+    spelling: Spelling,
 ) -> Result<(), Stop>
     ensures chunks { OnOk result ((opens : ℕ) → 0 < opens
-        → AreWithin is_strict (kind_of is_text) opens strings.old.items
-        → AreWithin is_strict (kind_of is_text) opens strings.new.items) }
+        → AreWithin (is_shortest spelling) (kind_of is_text) opens strings.old.items
+        → AreWithin (is_shortest spelling) (kind_of is_text) opens strings.new.items) }
     ensures shorter { OnOk result (left_of cursor.new < left_of cursor.old) }
     ensures within { left_of cursor.new ≤ left_of cursor.old }
     ensures place { IfErr result (IsWithin (left_of cursor.old)) }
@@ -242,13 +244,13 @@ fn put_string_within(
     let bytes = body.bytes.as_slice();
     if !form.is_open() {
         let header = string_header(is_text, Some(bytes.len()));
-        return put_chunk(strings, header, form.mark(), bytes, is_strict, stop.left);
+        return put_chunk(strings, header, form.mark(), bytes, spelling, stop.left);
     }
-    if is_strict || !bytes.is_empty() {
+    if spelling.is_shortest() || !bytes.is_empty() {
         return Err(stop);
     }
     let open = string_header(is_text, None);
-    put_chunk(strings, open, None, &[0xff], is_strict, stop.left)
+    put_chunk(strings, open, None, &[0xff], spelling, stop.left)
 }
 
 /// Encodes the breaks of the parentheses that close here, without the last one of the string. Returns how many opens
@@ -258,10 +260,10 @@ fn close_opens(
     strings: &mut Vec<u8>,
     opens: usize,
     is_text: bool,
-    is_strict: bool,
+    spelling: Spelling,
 ) -> Result<usize, Stop>
-    requires chunks { AreWithin is_strict (kind_of is_text) opens strings.old.items }
-    ensures chunks { IfOk result (λ opens. AreWithin is_strict (kind_of is_text) opens strings.new.items) }
+    requires chunks { AreWithin (is_shortest spelling) (kind_of is_text) opens strings.old.items }
+    ensures chunks { IfOk result (λ opens. AreWithin (is_shortest spelling) (kind_of is_text) opens strings.new.items) }
     ensures fewer { IfOk result (λ after. after ≤ opens) }
     ensures within { left_of cursor.new ≤ left_of cursor.old }
     ensures place { IfErr result (IsWithin (left_of cursor.old)) }

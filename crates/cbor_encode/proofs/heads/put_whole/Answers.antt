@@ -3,5 +3,5 @@ use Rattle.cbor_encode.proofs.heads.put_whole.Goals as goal
 
 pub returns-clause-wrote : goal.returns-clause-wrote
 returns-clause-wrote c =
-    whole_added c.args.is_strict c.args.header c.args.body.now c.args.out.now.items c.put_chunk.new.out.items
+    whole_added _ c.args.header c.args.body.now c.args.out.now.items c.put_chunk.new.out.items
     c.put_chunk.result c.put_chunk.ensures.wrote

@@ -14,7 +14,7 @@ items-preserved c = record {
   within = omega arith;
   items = record {
     count = c.items.invariant.items.count + 1;
-    are = items_more c.args.rules.is_strict c.args.depth c.items.invariant.items.count c.items.bytes.items
+    are = items_more _ c.args.depth c.items.invariant.items.count c.items.bytes.items
         c.put_item.new.out.items c.items.invariant.items.are c.in_ok-put_item.ensures.wrote;
   };
 }

@@ -4,8 +4,8 @@ use Rattle.cbor_encode.proofs.strings.put_chunks.Goals as goal
 
 pub returns-clause-wrote : goal.returns-clause-wrote
 returns-clause-wrote c =
-    completed_always c.args.is_strict c.string_header-header.result c.as_slice.result.now c.args.out.now.items
+    completed_always _ c.string_header-header.result c.as_slice.result.now c.args.out.now.items
     c.put_whole.new.out.items c.put_whole.result c.put_whole.ensures.wrote
     (λ depth. rw (c.string_header-header.ensures, c.as_slice.ensures.value, c.in_ok-put.ensures.wrote)
-    (open_completes c.args.is_strict depth c.in_ok-is_text.is_text c.in_ok-strings.strings.items
+    (open_completes _ depth c.in_ok-is_text.is_text c.in_ok-strings.strings.items
     c.in_ok-strings.ensures.chunks))

@@ -1,4 +1,5 @@
 use Rattle.std.proofs.Common.{◌<◌, ◌≤◌, ◌+◌}
+use Rattle.ciborium_ll_grammar.specs.Spellings.{is_shortest}
 use Rattle.cbor_encode.specs.Left.{left_of}
 use Rattle.cbor_encode.specs.Chunks.{AreWithin}
 use Rattle.cbor_encode.specs.Scalars.{kind_of}
@@ -9,7 +10,7 @@ invariant-opens l = record {
   within : left_of l.cursor ≤ left_of l.fn.cursor;
   some : 0 < l.opens;
   counted : l.opens + left_of l.cursor ≤ l.fn.opens + left_of l.fn.cursor;
-  chunks : AreWithin l.is_strict (kind_of l.is_text) l.opens l.strings.items;
+  chunks : AreWithin (is_shortest l.spelling) (kind_of l.is_text) l.opens l.strings.items;
 }
 
 abbrev pub decreases-opens : goal.decreases-opens
