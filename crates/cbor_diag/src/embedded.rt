@@ -23,7 +23,7 @@ use crate::put::put;
 use crate::strings::put_hex;
 use cbor_embedded::is_one_item;
 use ciborium_ll::io::{Read, SliceReader, Write};
-use ciborium_ll::{Decoder, Header};
+use ciborium_ll::{Decoder, Header, Spelling};
 use std::marker::PhantomData;
 
 /// How many byte strings that contain one another are shown as items.
@@ -96,7 +96,7 @@ impl<B: Bodies> Bodies for Nested<B> {
         line: Line,
         memory: &mut [u8],
     ) -> Result<(), W::Error> {
-        if !is_one_item(body, depth - 1, false) {
+        if !is_one_item(body, depth - 1, Spelling::Any) {
             return put_quoted(writer, body, mark);
         }
         put(writer, b"<<")?;

@@ -5,6 +5,7 @@ ghost use Rattle.ciborium_ll.specs.Decoding.{MovesOn, offset_of, waiting_of};
 ghost use Rattle.ciborium_ll.specs.Finishing.{EndsBody};
 ghost use Rattle.ciborium_ll.specs.Skipping.{SkipsString};
 ghost use Rattle.ciborium_ll.specs.Sides.{sides};
+ghost use Rattle.ciborium_ll.specs.Spellings.{is_shortest};
 ghost use Rattle.cbor_diag.specs.declared.strings.TheConstants.{BUFFER_SIZE};
 ghost use Rattle.cbor_diag.specs.Marks.{mark_text};
 ghost use Rattle.cbor_diag.specs.NextShows.{IsNext, ShowsNext};
@@ -18,7 +19,7 @@ use crate::DiagError;
 use crate::marks::{Mark, pull_marked};
 use cbor_skip::SkipError;
 use ciborium_ll::io::{Read, Write};
-use ciborium_ll::{Body, Chunked, Decoder, Error, Header};
+use ciborium_ll::{Body, Chunked, Decoder, Error, Header, Spelling};
 use ciborium_ll_decoder::seg::open_segments;
 
 /// How far a string of the indefinite form was shown.
@@ -83,10 +84,10 @@ fn show_next<R: Read, W: Write, P: Chunked>(
     ensures counted { IfOk result (λ after. after.opens ≤ offset_of decoder.new) }
     ensures moves_on { MovesOn R.Read decoder.old decoder.new }
 {
-    let is_strict = decoder.spelling().is_shortest();
+    let spelling = decoder.spelling();
     let place = decoder.offset();
     let marked = pull_marked(decoder, true)?;
-    match next_of::<P>(marked.header, is_strict) {
+    match next_of::<P>(marked.header, spelling) {
         Next::String(len) => {
             let body = Body { length: len, place };
             show_chunk::<R, W, P>(decoder, writer, body, quotes, far.is_first, marked.mark)?;
@@ -114,12 +115,13 @@ fn show_next<R: Read, W: Write, P: Chunked>(
 }
 
 /// Returns what a title of this header begins or ends within a string of the kind.
-fn next_of<P: Chunked>(header: Header, is_strict: bool) -> Next
-    ensures { IsNext P.kind is_strict header result }
+fn next_of<P: Chunked>(header: Header, spelling: Spelling) -> Next
+    ensures { IsNext P.kind (is_shortest spelling) header result }
 {
     match P::length(header) {
         Some(Some(len)) => Next::String(len),
-        Some(None) => { if is_strict { Next::Other } else { Next::Open } }
+        Some(None) if spelling.is_shortest() => Next::Other,
+        Some(None) => Next::Open,
         None => {
             if header == Header::Break {
                 Next::Break

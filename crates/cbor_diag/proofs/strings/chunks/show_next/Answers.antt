@@ -43,7 +43,7 @@ returns-in_ok-open-in-Open-clause-next g c =
     let pulls = rw c.offset-place.ensures.same at c.in_ok-marked.ensures.pulls in
     let first = rw c.offset-place.ensures.same at c.in_ok-marked.ensures.moves_on in
     let loose : strict_of c.args.decoder.now ≡ false =
-    sym c.spelling.ensures ∙ (sym c.is_shortest-is_strict.ensures ∙ c.in-Open.ensures.1) in
+    sym c.spelling-spelling.ensures ∙ c.in-Open.ensures.1 in
     next_open g.R.Read g.W.Write g.P.Parser.kind 64 c.args.far.opens c.args.far.is_first c.args.decoder.now
     c.pull_marked.new.decoder c.args.writer.now c.in_ok-marked.marked pulls first.steady _ _ c.in-Open.ensures.0
     loose c.in_ok-open-in-Open.ensures.written refl refl
@@ -67,10 +67,9 @@ returns-in_ok-close-in-Break-clause-next g c =
 pub returns-in-Other-clause-next : goal.returns-in-Other-clause-next
 returns-in-Other-clause-next g c =
     let pulls = rw c.offset-place.ensures.same at c.in_ok-marked.ensures.pulls in
-    let strict = c.is_shortest-is_strict.ensures ∙ c.spelling.ensures in
     next_other g.R.Read g.W.Write g.P.Parser.kind 64 c.args.far.opens c.args.far.is_first c.args.decoder.now
     c.pull_marked.new.decoder c.args.writer.now c.in_ok-marked.marked pulls c.offset-place.result
-    c.offset-place.ensures.value (rw strict at c.in-Other.ensures)
+    c.offset-place.ensures.value (rw c.spelling-spelling.ensures at c.in-Other.ensures)
 
 pub returns-in_ok-show_chunk-in-String-clause-rises : goal.returns-in_ok-show_chunk-in-String-clause-rises
 returns-in_ok-show_chunk-in-String-clause-rises g c =
