@@ -3,6 +3,7 @@
 ghost use Rattle.std.specs.Prelude.{◌≡◌, ℕ, ◌+◌, ◌-◌, ◌<◌, ◌≤◌, ◌↔◌, List, [], ◌∷◌, ◌++◌, length, Bool, Err, IfErr};
 ghost use Rattle.std.specs.Prelude.{IsOk};
 ghost use Rattle.ciborium_ll.specs.Items.{IsTakenTitle};
+ghost use Rattle.ciborium_ll.specs.Spellings.{is_shortest};
 ghost use Rattle.ciborium_ll.specs.Title.{IsTitle, title_len};
 ghost use Rattle.ciborium_ll.specs.Decoding.{offset_of, strict_of, IsWaiting};
 ghost use Rattle.cbor_skip.specs.Due.{IsNest};
@@ -33,7 +34,7 @@ use crate::taken::Taken;
 use crate::walk::{Entered, Walk};
 use cbor_skip::SkipError;
 use ciborium_ll::io::Read;
-use ciborium_ll::{Decoder, Error, Header};
+use ciborium_ll::{Decoder, Error, Header, Spelling};
 
 /// Why a dump ended early.
 #[derive(Debug, Drop)]
@@ -46,8 +47,9 @@ pub enum DumpError<E, W> {
 
 /// Shows a sequence of items (RFC 8742) in rows up to its end, and returns the reader's error there.
 ///
-/// Tags, arrays and maps nest at most `depth` levels deep, and `depth` is at most 256. A strict dump takes only the
-/// shortest spelling. The dump reads nothing ahead of the rows, and before an error shows all bytes that it read.
+/// Tags, arrays and maps nest at most `depth` levels deep, and `depth` is at most 256. With `Shortest` the dump is
+/// strict: it takes only the shortest spelling. The dump reads nothing ahead of the rows, and before an error shows all
+/// bytes that it read.
 ///
 /// # Rows
 ///
@@ -95,23 +97,24 @@ pub enum DumpError<E, W> {
 pub fn dump<R: Read, S: Rows>(
     decoder: &mut Decoder<R>,
     depth: usize,
-    strict: bool,
+    spelling: Spelling,
     rows: &mut S,
 ) -> Result<R::Error, DumpError<R::Error, S::Error>>
 where
     R::Error: Drop,
     requires { depth ≤ MOST_LEVELS }
-    ensures exactly { (due : List ℕ) → IsInMode strict decoder.old
+    ensures exactly { (due : List ℕ) → IsInMode (is_shortest spelling) decoder.old
         → IsReadyToSkip R.Read most_bytes decoder.old due → AreRowsTaken result
         → (IsOk result ↔ IsSequence (strict_of decoder.old) depth due) }
     ensures refused { IsRefused result → ShowsRefused R.Read depth (offset_of decoder.old) (S.drawn rows.old)
         (S.drawn rows.new) [] decoder.old decoder.new }
-    ensures told { (due : List ℕ) → IsInMode strict decoder.old
+    ensures told { (due : List ℕ) → IsInMode (is_shortest spelling) decoder.old
         → IsReadyToSkip R.Read most_bytes decoder.old due → AreRowsTaken result
         → AnswersTold R.Read depth due decoder.old result decoder.new }
     ensures shows { AreRowsTaken result
-        → ShowsAll R.Read strict depth (S.drawn rows.old) (S.drawn rows.new) result decoder.old decoder.new }
-    ensures reads { IsInMode strict decoder.old → AreRowsTaken result
+        → ShowsAll R.Read (is_shortest spelling) depth (S.drawn rows.old) (S.drawn rows.new) result decoder.old
+        decoder.new }
+    ensures reads { IsInMode (is_shortest spelling) decoder.old → AreRowsTaken result
         → ReadsAsCheck R.Read depth decoder.old result decoder.new }
     ensures waits { IsWaiting decoder.old → AnswersWaiting rows.old decoder.old result rows.new decoder.new }
     ensures moves { LeavesDecoder R.Read result decoder.old decoder.new }
@@ -122,11 +125,11 @@ where
         let place = decoder.offset();
         let level = walk.level();
         let mut taken = Taken::new();
-        let header = match taken.read_title(decoder, strict, place) {
+        let header = match taken.read_title(decoder, spelling, place) {
             Ok(header) => header,
             Err(error) => return ended(&taken, error, place, level, rows),
         };
-        title(decoder, &mut walk, header, &taken, strict, place, rows)?;
+        title(decoder, &mut walk, header, &taken, spelling, place, rows)?;
     }
 }
 
@@ -207,21 +210,21 @@ fn title<R: Read, S: Rows>(
     walk: &mut Walk,
     header: Header,
     taken: &Taken,
-    strict: bool,
+    spelling: Spelling,
     place: usize,
     rows: &mut S,
 ) -> Result<(), DumpError<R::Error, S::Error>>
 where
     R::Error: Drop,
     requires behind { walk.old.used < offset_of decoder.old }
-    ensures shows { (depth whole start : ℕ) (before : List ℕ) → IsDue strict depth whole walk.old before
-        → IsTitle (taken_bytes taken.now) header → IsTakenTitle strict (taken_bytes taken.now) header
+    ensures shows { (depth whole start : ℕ) (before : List ℕ) → IsDue (is_shortest spelling) depth whole walk.old before
+        → IsTitle (taken_bytes taken.now) header → IsTakenTitle (is_shortest spelling) (taken_bytes taken.now) header
         → place ≡ start + length before
         → offset_of decoder.old ≡ place + length (taken_bytes taken.now) → AreRowsTaken result
         → ShowsTitle R.Read depth whole start (S.drawn rows.old) (S.drawn rows.new) before (taken_bytes taken.now)
-        header walk.new strict place result decoder.old decoder.new }
+        header walk.new (is_shortest spelling) place result decoder.old decoder.new }
     ensures refused { (depth whole start : ℕ) (before : List ℕ)
-        → IsDue strict depth whole walk.old before → IsTitle (taken_bytes taken.now) header
+        → IsDue (is_shortest spelling) depth whole walk.old before → IsTitle (taken_bytes taken.now) header
         → place ≡ start + length before
         → offset_of decoder.old ≡ place + length (taken_bytes taken.now) → IsRefused result
         → ShowsBehindRefused R.Read depth start (S.drawn rows.old) (S.drawn rows.new) before (taken_bytes taken.now)
@@ -230,9 +233,18 @@ where
 {
     match header {
         Header::Bytes(len) => {
-            string(decoder, walk, Kind::Bytes, len, taken, strict, place, rows)
+            string(
+                decoder,
+                walk,
+                Kind::Bytes,
+                len,
+                taken,
+                spelling,
+                place,
+                rows,
+            )
         }
-        Header::Text(len) => string(decoder, walk, Kind::Text, len, taken, strict, place, rows),
+        Header::Text(len) => string(decoder, walk, Kind::Text, len, taken, spelling, place, rows),
         Header::Break => break_title(walk, taken, place, rows),
         Header::Tag(_) | Header::Array(_) | Header::Map(_) => {
             nest(walk, header, taken, place, rows)
@@ -339,21 +351,22 @@ fn string<R: Read, S: Rows>(
     kind: Kind,
     len: Option<usize>,
     taken: &Taken,
-    strict: bool,
+    spelling: Spelling,
     place: usize,
     rows: &mut S,
 ) -> Result<(), DumpError<R::Error, S::Error>>
 where
     R::Error: Drop,
     requires behind { walk.old.used < offset_of decoder.old }
-    ensures shows { (depth whole start : ℕ) (before : List ℕ) → IsDue strict depth whole walk.old before
+    ensures shows { (depth whole start : ℕ) (before : List ℕ) → IsDue (is_shortest spelling) depth whole walk.old before
         → IsTitle (taken_bytes taken.now) (kind_header (kind_of kind) len)
-        → IsTakenTitle strict (taken_bytes taken.now) (kind_header (kind_of kind) len)
+        → IsTakenTitle (is_shortest spelling) (taken_bytes taken.now) (kind_header (kind_of kind) len)
         → place ≡ start + length before
         → offset_of decoder.old ≡ place + length (taken_bytes taken.now) → AreRowsTaken result
         → ShowsTitle R.Read depth whole start (S.drawn rows.old) (S.drawn rows.new) before (taken_bytes taken.now)
-        (kind_header (kind_of kind) len) walk.new strict place result decoder.old decoder.new }
-    ensures refused { (depth whole start : ℕ) (before : List ℕ) → IsDue strict depth whole walk.old before
+        (kind_header (kind_of kind) len) walk.new (is_shortest spelling) place result decoder.old decoder.new }
+    ensures refused { (depth whole start : ℕ) (before : List ℕ)
+        → IsDue (is_shortest spelling) depth whole walk.old before
         → IsTitle (taken_bytes taken.now) (kind_header (kind_of kind) len)
         → place ≡ start + length before
         → offset_of decoder.old ≡ place + length (taken_bytes taken.now) → IsRefused result
@@ -366,7 +379,7 @@ where
     let within = walk.within();
     shown(taken, Meaning::Header(header), within, place, level, rows)?;
     let mut kept = KeyBody::new();
-    rest(decoder, kind, len, strict, level, &mut kept, rows)?;
+    rest(decoder, kind, len, spelling, level, &mut kept, rows)?;
     walk.item_done(key_string(kind, len, kept));
     Ok(())
 }
@@ -377,7 +390,7 @@ fn rest<R: Read, S: Rows>(
     decoder: &mut Decoder<R>,
     kind: Kind,
     len: Option<usize>,
-    strict: bool,
+    spelling: Spelling,
     level: usize,
     kept: &mut KeyBody,
     rows: &mut S,
@@ -390,8 +403,8 @@ where
     ensures shows { (depth start : ℕ) (nests : List Nest) (items title : List ℕ) → StandsWithin depth nests items
         → IsTitle title (kind_header (kind_of kind) len) → level ≡ length nests
         → offset_of decoder.old ≡ start + length (items ++ title) → AreRowsTaken result
-        → ShowsKept R.Read depth start (S.drawn rows.old) (S.drawn rows.new) (items ++ title) (kind_of kind) len strict
-        (offset_of decoder.old - title_len (kind_header (kind_of kind) len)) result kept.new decoder.old decoder.new }
+        → ShowsKept R.Read depth start (S.drawn rows.old) (S.drawn rows.new) (items ++ title) (kind_of kind) len
+        (is_shortest spelling) (offset_of decoder.old - title_len (kind_header (kind_of kind) len)) result kept.new decoder.old decoder.new }
     ensures refused { (depth start : ℕ) (nests : List Nest) (items title : List ℕ) → StandsWithin depth nests items
         → IsTitle title (kind_header (kind_of kind) len) → level ≡ length nests
         → offset_of decoder.old ≡ start + length (items ++ title) → IsRefused result
@@ -406,6 +419,6 @@ where
                 .saturating_sub(kind.header(Some(len)).title_len());
             body(decoder, kind, len, place, level + 1, kept, rows)
         }
-        None => pieces(decoder, kind, strict, level, rows),
+        None => pieces(decoder, kind, spelling, level, rows),
     }
 }

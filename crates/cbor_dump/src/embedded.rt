@@ -4,6 +4,7 @@ ghost use Rattle.std.specs.Prelude.{◌≡◌, ◌≤◌, ◌+◌, ◌^◌, ℕ,
 ghost use Rattle.cbor_dump.specs.declared.embedded.TheConstants.{SPARE};
 ghost use Rattle.ciborium_ll.specs.Decoding.{offset_of};
 ghost use Rattle.ciborium_ll.specs.Items.{IsItem};
+ghost use Rattle.ciborium_ll.specs.Spellings.{is_shortest};
 ghost use Rattle.cbor_skip.specs.SkippingTold.{IsReadyToSkip};
 ghost use Rattle.cbor_dump.specs.Bodies.{DrawsBody, IsShownAs};
 ghost use Rattle.cbor_dump.specs.Dumps.{Lines};
@@ -37,8 +38,8 @@ const SPARE: usize = 16;
 /// deeper. Each byte of the body stands in one of them. On `Ok(false)` the call took no row, and the caller shows the
 /// body as it is.
 ///
-/// The answer is `true` exactly if the body is one whole item to `depth` levels, and 16 offsets follow it. If `strict` is
-/// true, the item is in its shortest spelling. `depth` is at most 256.
+/// The answer is `true` exactly if the body is one whole item to `depth` levels, and 16 offsets follow it. With
+/// `Shortest` the item is in its shortest spelling. `depth` is at most 256.
 ///
 /// Example: rows hold back the parts of the body of `42 81 00` until its 2 bytes have come. The title has the level 0,
 /// so its body stands at `levels` 1. A caller that allows 256 levels in all gives the `depth` 255.
@@ -51,22 +52,21 @@ pub fn dump_body<S: Deepen>(
     offset: usize,
     levels: usize,
     depth: usize,
-    strict: bool,
+    spelling: Spelling,
     rows: &mut S,
 ) -> Result<bool, S::Error>
     requires shallow { depth ≤ MOST_LEVELS }
     ensures shown { IfOk result (λ is. is ≡ true → DrawsBody S.base S.drawn depth offset levels body.now rows.old
         rows.new) }
-    ensures item { IfOk result (λ is. IsShownAs strict depth offset body.now is) }
+    ensures item { IfOk result (λ is. IsShownAs (is_shortest spelling) depth offset body.now is) }
     ensures untouched { IfOk result (λ is. is ≡ false → rows.new ≡ rows.old) }
 {
-    if !has_offsets(offset, body.len()) || !is_one_item(body, depth, strict) {
+    if !has_offsets(offset, body.len()) || !is_one_item(body, depth, spelling) {
         return Ok(false);
     }
     rows.deepen(levels);
-    let spelling = Spelling::shortest_if(strict);
     let mut decoder = Decoder::with_spelling(SliceReader::new(body), spelling, offset);
-    let shown = dump_item(&mut decoder, depth, strict, rows);
+    let shown = dump_item(&mut decoder, depth, spelling, rows);
     rows.deepen(0);
     match shown {
         Ok(()) => Ok(true),
@@ -85,17 +85,18 @@ fn has_offsets(offset: usize, len: usize) -> bool
 fn dump_item<R: Read, S: Rows>(
     decoder: &mut Decoder<R>,
     depth: usize,
-    strict: bool,
+    spelling: Spelling,
     rows: &mut S,
 ) -> Result<(), S::Error>
 where
     R::Error: Drop,
     requires shallow { depth ≤ MOST_LEVELS }
-    ensures { (due : List ℕ) → IsInMode strict decoder.old → IsReadyToSkip R.Read most_bytes decoder.old due
-        → IsItem strict depth due → OnOk result
+    ensures { (due : List ℕ) → IsInMode (is_shortest spelling) decoder.old
+        → IsReadyToSkip R.Read most_bytes decoder.old due
+        → IsItem (is_shortest spelling) depth due → OnOk result
         (Lines depth (offset_of decoder.old) (S.drawn rows.old) (S.drawn rows.new) [] due Meant) }
 {
-    match dump(decoder, depth, strict, rows) {
+    match dump(decoder, depth, spelling, rows) {
         Ok(_) => Ok(()),
         Err(DumpError::Rows(fault)) => Err(fault),
         // The bytes are an item, so this is no case.

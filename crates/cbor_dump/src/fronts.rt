@@ -2,6 +2,7 @@
 
 ghost use Rattle.std.specs.Prelude.{◌≡◌, ◌%◌, ℕ, List, ◌∷◌, length, None, Some};
 ghost use Rattle.ciborium_ll.specs.Decoding.{IsSteady, offset_of, strict_of, view, waiting_of};
+ghost use Rattle.ciborium_ll.specs.Spellings.{is_shortest};
 ghost use Rattle.ciborium_ll.specs.Title.{affix_len};
 ghost use Rattle.ciborium_ll_text.specs.States.{after};
 ghost use Rattle.ciborium_ll_text.specs.declared.state.State.TheVariants.{Between};
@@ -13,11 +14,10 @@ use ciborium_ll::{Decoder, Header, Spelling};
 use ciborium_ll_text::state::{State, text_front};
 
 /// Returns the header of a title, which has the first byte and as many bytes as that announces.
-pub(crate) fn title_header(title: &[u8], strict: bool) -> Option<Header>
+pub(crate) fn title_header(title: &[u8], spelling: Spelling) -> Option<Header>
     ensures { (first : ℕ) (affix : List ℕ) → title.now ≡ first ∷ affix → length affix ≡ affix_len (first % 32)
-        → AnswersTitle strict title.now result }
+        → AnswersTitle (is_shortest spelling) title.now result }
 {
-    let spelling = Spelling::shortest_if(strict);
     whole_header(&mut Decoder::with_spelling(SliceReader::new(title), spelling, 0))
 }
 

@@ -2,6 +2,7 @@
 
 ghost use Rattle.std.specs.Prelude.{◌≡◌, ℕ, ◌+◌, ◌<◌, ◌≤◌, Bool, List, [], ◌++◌, length, suc, IfErr, IfOk, IfSome};
 ghost use Rattle.std.specs.Prelude.{None, Some};
+ghost use Rattle.ciborium_ll.specs.Spellings.{is_shortest};
 ghost use Rattle.ciborium_ll.specs.Title.{IsTitle};
 ghost use Rattle.ciborium_ll.specs.Strings.{IsWritable, kind_header};
 ghost use Rattle.ciborium_ll.specs.Decoding.{offset_of, view, waiting_of};
@@ -18,7 +19,7 @@ use crate::key::KeyBody;
 use crate::rows::{Meaning, Rows, Within};
 use crate::taken::{MOST_BYTES, Taken};
 use ciborium_ll::io::Read;
-use ciborium_ll::{Decoder, Error, Header};
+use ciborium_ll::{Decoder, Error, Header, Spelling};
 
 /// The kind of a string: a byte string or a text string.
 #[derive(Clone, Copy)]
@@ -141,8 +142,8 @@ enum Part {
 }
 
 /// Returns the role of a header within a string of indefinite length of this kind.
-fn part_of(header: Header, kind: Kind, strict: bool) -> Part
-    ensures { IsPart strict (kind_of kind) header result }
+fn part_of(header: Header, kind: Kind, spelling: Spelling) -> Part
+    ensures { IsPart (is_shortest spelling) (kind_of kind) header result }
 {
     let len = match (header, kind) {
         (Header::Break, _) => return Part::Break,
@@ -152,7 +153,7 @@ fn part_of(header: Header, kind: Kind, strict: bool) -> Part
     };
     match len {
         Some(len) => Part::Piece(len),
-        None if strict => Part::Other,
+        None if spelling.is_shortest() => Part::Other,
         None => Part::Open,
     }
 }
@@ -174,7 +175,7 @@ fn title_level(header: Header, inner: usize) -> usize
 pub(crate) fn pieces<R: Read, S: Rows>(
     decoder: &mut Decoder<R>,
     kind: Kind,
-    strict: bool,
+    spelling: Spelling,
     level: usize,
     rows: &mut S,
 ) -> Result<(), DumpError<R::Error, S::Error>>
@@ -186,7 +187,7 @@ where
         → IsTitle title (kind_header (kind_of kind) None) → level ≡ length nests
         → offset_of decoder.old ≡ start + length (items ++ title) → AreRowsTaken result
         → ShowsBehindTitle R.Read depth start (S.drawn rows.old) (S.drawn rows.new) (items ++ title) (kind_of kind) None
-        strict 0 result decoder.old decoder.new }
+        (is_shortest spelling) 0 result decoder.old decoder.new }
     ensures refused { (depth start : ℕ) (nests : List Nest) (items title : List ℕ) → StandsWithin depth nests items
         → IsTitle title (kind_header (kind_of kind) None) → level ≡ length nests
         → offset_of decoder.old ≡ start + length (items ++ title) → IsRefused result
@@ -199,11 +200,11 @@ where
     'parts: loop {
         let place = decoder.offset();
         let mut taken = Taken::new();
-        let header = match taken.read_title(decoder, strict, place) {
+        let header = match taken.read_title(decoder, spelling, place) {
             Ok(header) => header,
             Err(error) => return Err(fault(&taken, error, place, inner, rows)),
         };
-        let part = part_of(header, kind, strict);
+        let part = part_of(header, kind, spelling);
         if let Part::Other = part {
             return Err(fault(&taken, Error::Syntax(place), place, inner, rows));
         }

@@ -7,7 +7,7 @@ ghost use Rattle.ciborium_ll.specs.Decoding.{offset_of, view, waiting_of, IsWait
 
 use crate::fronts::{is_cut, is_text, title_header};
 use ciborium_ll::io::Read;
-use ciborium_ll::{Decoder, Error, Header};
+use ciborium_ll::{Decoder, Error, Header, Spelling};
 use ciborium_ll_grammar::hdr::table::row_of;
 
 /// How many bytes a row has at most.
@@ -26,6 +26,7 @@ pub(crate) struct Taken {
 
 impl Taken {
     ghost use Rattle.ciborium_ll.specs.Items.{IsTakenTitle};
+    ghost use Rattle.ciborium_ll.specs.Spellings.{is_shortest};
     ghost use Rattle.ciborium_ll.specs.Title.{IsTitle};
     ghost use Rattle.cbor_dump.specs.Takings.{EndsRow, IsInMode, IsSteadyNoneWaiting, Keeps, PullsRow, ReadsBy, ReadsMore};
     ghost use Rattle.cbor_dump.specs.Takings.{IsTitleRow, LeavesBehind, RefusesRead, taken_bytes};
@@ -113,31 +114,31 @@ impl Taken {
         self.read(decoder, count)
     }
 
-    /// Reads a title. A strict read takes only a strict title. The error `Syntax` has the offset `place`.
+    /// Reads a title. With `Shortest` it takes only a strict title. The error `Syntax` has the offset `place`.
     pub(crate) fn read_title<R: Read>(
         &mut self,
         decoder: &mut Decoder<R>,
-        strict: bool,
+        spelling: Spelling,
         place: usize,
     ) -> Result<Header, Error<R::Error>>
         requires none { taken_bytes self.old ≡ [] }
         ensures keeps { Keeps R.Read (taken_bytes self.old) (taken_bytes self.new) decoder.old decoder.new }
         ensures title { IfOk result (λ header. IsTitle (taken_bytes self.new) header) }
-        ensures taken { IfOk result (λ header. IsTakenTitle strict (taken_bytes self.new) header) }
+        ensures taken { IfOk result (λ header. IsTakenTitle (is_shortest spelling) (taken_bytes self.new) header) }
         ensures passes { waiting_of decoder.old ≡ None
             → IfOk result (λ _. ReadsPast R.Read decoder.old (taken_bytes self.new) decoder.new) }
-        ensures row { IfErr result (λ error. IsTitleRow strict error (taken_bytes self.new)) }
+        ensures row { IfErr result (λ error. IsTitleRow (is_shortest spelling) error (taken_bytes self.new)) }
         ensures left { IfErr result (λ error. IsSteadyNoneWaiting R.Read decoder.old
             → IfSome (view R.Read decoder.new) (LeavesBehind error (taken_bytes self.new))) }
         ensures waits { IsWaiting decoder.old → (result ≡ Err Waiting) × (taken_bytes self.new ≡ [])
             × RefusesRead decoder.old decoder.new }
-        ensures pulls { IsInMode strict decoder.old → place ≡ offset_of decoder.old
+        ensures pulls { IsInMode (is_shortest spelling) decoder.old → place ≡ offset_of decoder.old
             → PullsRow R.Read decoder.old result decoder.new }
         ensures moves { ReadsBy R.Read result decoder.old decoder.new }
     {
         self.read(decoder, 1)?;
         self.read_affix(decoder, affix_len(self.bytes()[0]))?;
-        match title_header(self.bytes(), strict) {
+        match title_header(self.bytes(), spelling) {
             Some(header) => Ok(header),
             None => Err(Error::Syntax(place)),
         }
