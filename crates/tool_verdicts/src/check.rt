@@ -3,6 +3,7 @@
 ghost use Rattle.std.specs.Prelude.{◌≡◌, ◌≤◌, ◌↔◌, ℕ, List};
 ghost use Rattle.ciborium_ll.specs.Decoding.{IsFreshAs, offset_of, strict_of};
 ghost use Rattle.ciborium_ll.specs.Items.{IsItem};
+ghost use Rattle.ciborium_ll.specs.Spellings.{is_shortest};
 ghost use Rattle.cbor_skip.specs.SkippingTold.{IsReadyToSkip};
 ghost use Rattle.cbor_dump.specs.Sequences.{IsSequence};
 ghost use Rattle.tool_verdicts.specs.Checking.{Finds, FindsAll, FindsOne, IsWanted, FoundWell, SaysVerdict, SaysItems, SaysOne};
@@ -20,11 +21,11 @@ use ciborium_ll::{Decoder, Error, Spelling};
 /// How many bytes of a string are read at once.
 pub const BUFFER_SIZE: usize = 512;
 
-/// Makes a decoder at the start of a reader's bytes, a strict one if `strict`.
-pub fn decoder_of<R: Read>(reader: R, strict: bool) -> Decoder<R>
-    ensures { IsFreshAs strict reader 0 result }
+/// Makes a decoder of this spelling at the start of a reader's bytes.
+pub fn decoder_of<R: Read>(reader: R, spelling: Spelling) -> Decoder<R>
+    ensures { IsFreshAs (is_shortest spelling) reader 0 result }
 {
-    Decoder::with_spelling(reader, Spelling::shortest_if(strict), 0)
+    Decoder::with_spelling(reader, spelling, 0)
 }
 
 /// Returns the verdict, or the error of a read that failed for another reason than the end.
