@@ -5,6 +5,7 @@ use Rattle.std.specs.Str.Parse.{IsNumeral, digits_value}
 use Rattle.std.specs.Borrow.{Bor}
 use Rattle.std.specs.declared.alloc.Global.{Global}
 use Rattle.tool_requests.specs.Number.{IsNumberUpTo, most_depth}
+use Rattle.ciborium_ll.specs.Spellings.{is_shortest}
 use Rattle.tool_files.specs.Orders.{order_name}
 use Rattle.cbor_deterministic.specs.declared.Order.{Order}
 use Rattle.tool_files.specs.declared.options.Colors.{Colors}
@@ -307,7 +308,7 @@ with_setting (s.Depth depth) choices = record choices { depth = depth }
 -- The choices that the options hold, as the depth 3 that `--depth 3` set.
 abbrev pub choices_of : Options → Choices
 choices_of options = record {
-  strict = options.strict;
+  strict = is_shortest options.spelling;
   deterministic = options.deterministic;
   order = options.order;
   one = options.one;

@@ -16,6 +16,7 @@ use cbor_deterministic::Order;
 use cbor_diag::Layout;
 use cbor_embedded::Embedded;
 use cbor_json::Mode;
+use ciborium_ll::Spelling;
 use tool_requests::number::{MOST_DEPTH, number_up_to};
 
 impl Word {
@@ -271,7 +272,7 @@ impl Options {
         ensures { choices_of result ≡ default_choices }
     {
         Options {
-            strict: false,
+            spelling: Spelling::Any,
             deterministic: false,
             order: None,
             one: false,
@@ -297,7 +298,7 @@ impl Options {
         ensures { choices_of self.new ≡ with_setting setting (choices_of self.old) }
     {
         match setting {
-            Setting::Strict => self.strict = true,
+            Setting::Strict => self.spelling = Spelling::Shortest,
             Setting::Deterministic => self.deterministic = true,
             Setting::Order(order) => self.order = Some(order),
             Setting::One => self.one = true,

@@ -2,6 +2,7 @@
 
 ghost use Rattle.std.specs.Prelude.{◌≤◌, ◌↔◌, ℕ, List, length, IsOk, None};
 ghost use Rattle.ciborium_ll.specs.Decoding.{offset_of};
+ghost use Rattle.ciborium_ll.specs.Spellings.{is_shortest};
 ghost use Rattle.cbor_skip.specs.SkippingTold.{IsReadyToSkip};
 ghost use Rattle.cbor_dump.specs.Checking.{ReadsAsCheck};
 ghost use Rattle.cbor_dump.specs.Dumps.{AreRowsTaken};
@@ -261,10 +262,10 @@ fn dump_rows<R: io::Read + Drop, W: io::Write>(
     holder: &mut Page<'_, W>,
     options: Options,
 ) -> Result<(), Verdict>
-    ensures { DumpsInput ⟦<Patient<R> as Read>⟧ ⟦<Fence<Patient<R>> as Read>⟧ options.strict options.skip options.items
-        options.depth reader result }
+    ensures { DumpsInput ⟦<Patient<R> as Read>⟧ ⟦<Fence<Patient<R>> as Read>⟧ (is_shortest options.spelling)
+        options.skip options.items options.depth reader result }
 {
-    let mut decoder = decoder_of(Patient::new(reader), options.strict);
+    let mut decoder = decoder_of(Patient::new(reader), options.spelling);
     let mut buffer = [0; BUFFER_SIZE];
     if let Err(error) = skip_items(&mut decoder, options.skip, options.depth, &mut buffer) {
         let verdict = fault_of(error, decoder.offset());
@@ -283,7 +284,7 @@ fn dump_all<R: io::Read + Drop, W: io::Write>(
     holder: &mut Page<'_, W>,
     options: Options,
 ) -> Result<(), Verdict>
-    requires alike { IsInMode options.strict decoder }
+    requires alike { IsInMode (is_shortest options.spelling) decoder }
     ensures { DumpsAll ⟦<Patient<R> as Read>⟧ options.depth decoder result }
 {
     let (outcome, offset) = print_all(&mut decoder, holder, options);
@@ -298,12 +299,12 @@ fn dump_some<R: io::Read + Drop, W: io::Write>(
     holder: &mut Page<'_, W>,
     options: Options,
 ) -> Result<(), Verdict>
-    ensures { DumpsSome ⟦<Fence<Patient<R>> as Read>⟧ options.strict items options.depth decoder result }
+    ensures { DumpsSome ⟦<Fence<Patient<R>> as Read>⟧ (is_shortest options.spelling) items options.depth decoder
+        result }
 {
     let start = decoder.offset();
     let fence = Fence::new(decoder.into_inner(), items, options.depth);
-    let spelling = Spelling::shortest_if(options.strict);
-    let mut decoder = Decoder::with_spelling(fence, spelling, start);
+    let mut decoder = Decoder::with_spelling(fence, options.spelling, start);
     let (outcome, offset) = print_all(&mut decoder, holder, options);
     let (_, fault) = decoder.into_inner().into_inner().into_parts();
     dump_verdict(outcome, fault, offset)
@@ -318,10 +319,10 @@ fn print_all<R: Read, W: io::Write>(
 ) -> (Result<R::Error, DumpError<R::Error, io::Error>>, usize)
 where
     R::Error: Drop,
-    requires alike { IsInMode options.strict decoder.old }
+    requires alike { IsInMode (is_shortest options.spelling) decoder.old }
     ensures { PrintsRows R.Read options.depth decoder.old result.0 result.1 }
 {
-    let outcome = print_rows(decoder, options.depth, options.strict, holder);
+    let outcome = print_rows(decoder, options.depth, options.spelling, holder);
     let offset = decoder.offset();
     let outcome = left_shown(decoder, outcome, holder.below(), holder);
     (outcome, offset)
@@ -334,18 +335,19 @@ where
 fn print_rows<R: Read, W: io::Write>(
     decoder: &mut Decoder<R>,
     depth: usize,
-    strict: bool,
+    spelling: Spelling,
     holder: &mut Page<'_, W>,
 ) -> Result<R::Error, DumpError<R::Error, io::Error>>
 where
     R::Error: Drop,
     requires shallow { depth ≤ MOST_LEVELS }
-    requires alike { IsInMode strict decoder.old }
+    requires alike { IsInMode (is_shortest spelling) decoder.old }
     ensures exactly { (due : List ℕ) → IsReadyToSkip R.Read most_bytes decoder.old due → AreRowsTaken result
-        → (IsOk result ↔ IsSequence strict depth due) }
+        → (IsOk result ↔ IsSequence (is_shortest spelling) depth due) }
     ensures told { (due : List ℕ) → IsReadyToSkip R.Read most_bytes decoder.old due → AreRowsTaken result
-        → FindsBehindRows strict depth due (offset_of decoder.old) (dump_said result None (offset_of decoder.new)) }
+        → FindsBehindRows (is_shortest spelling) depth due (offset_of decoder.old)
+        (dump_said result None (offset_of decoder.new)) }
     ensures reads { AreRowsTaken result → ReadsAsCheck R.Read depth decoder.old result decoder.new }
 {
-    dump(decoder, depth, strict, holder)
+    dump(decoder, depth, spelling, holder)
 }

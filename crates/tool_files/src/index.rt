@@ -1,6 +1,7 @@
 //! The word `check` with `--index`.
 
 ghost use Rattle.std.specs.Prelude.{◌≡◌, ◌++◌, ℕ, List, Some, OnOk, string_bytes};
+ghost use Rattle.ciborium_ll.specs.Spellings.{is_shortest};
 ghost use Rattle.tool_files.specs.Indexes.{IndexesInput, span_line};
 
 use crate::arguments::Options;
@@ -85,12 +86,12 @@ fn index_items<R: io::Read + Drop, S: Spans>(
     spans: &mut S,
     options: Options,
 ) -> Result<Verdict, S::Error>
-    ensures { IndexesInput ⟦<BufferedReader<'static, R> as Read>⟧ options.strict options.skip options.items options.depth
-        reader (S.taken spans.old) (S.taken spans.new) result }
+    ensures { IndexesInput ⟦<BufferedReader<'static, R> as Read>⟧ (is_shortest options.spelling) options.skip
+        options.items options.depth reader (S.taken spans.old) (S.taken spans.new) result }
 {
     let mut ahead = [0; ROOM];
     let reader = BufferedReader::new(reader, &mut ahead);
-    let mut decoder = decoder_of(reader, options.strict);
+    let mut decoder = decoder_of(reader, options.spelling);
     let found = index_part(
         &mut decoder,
         options.skip,

@@ -1,5 +1,6 @@
 //! The words `diag` and `json`.
 
+ghost use Rattle.ciborium_ll.specs.Spellings.{is_shortest};
 ghost use Rattle.tool_files.specs.Shows.{WritesInput};
 
 use crate::arguments::Options;
@@ -130,12 +131,13 @@ fn write_items<R: io::Read + Drop, W: Write>(
     options: Options,
     form: Form,
 ) -> Result<Result<(), Verdict>, W::Error>
-    ensures { WritesInput ⟦<SliceReader<'static> as Read>⟧ ⟦<BufferedReader<'static, R> as Read>⟧ W.Write options.strict
-        options.skip options.items options.one options.depth form reader writer.old result writer.new }
+    ensures { WritesInput ⟦<SliceReader<'static> as Read>⟧ ⟦<BufferedReader<'static, R> as Read>⟧ W.Write
+        (is_shortest options.spelling) options.skip options.items options.one options.depth form reader writer.old result
+        writer.new }
 {
     let mut ahead = [0; ROOM];
     let reader = BufferedReader::new(reader, &mut ahead);
-    let mut decoder = decoder_of(reader, options.strict);
+    let mut decoder = decoder_of(reader, options.spelling);
     let outcome = items_part(
         &mut decoder,
         writer,

@@ -10,7 +10,7 @@ ghost use Rattle.tool_files.specs.Embeds.{HandsOn, is_held, is_item_tag};
 use cbor_dump::embedded::{Deepen, dump_body};
 use cbor_dump::rows::{Meaning, Row, Rows, Within};
 use cbor_embedded::{ENCODED_ITEM, Embedded};
-use ciborium_ll::Header;
+use ciborium_ll::{Header, Spelling};
 use std::marker::PhantomData;
 
 /// At most eight byte strings that contain one another are shown as items.
@@ -99,7 +99,14 @@ impl<B: Bodies> Bodies for Deeper<B> {
     ) -> Result<bool, S::Error> {
         // The item may be in any spelling, as in `diag`.
         let mut holder = Holder::<B, S>::new(rows, memory, asked);
-        let is_shown = dump_body(bytes, offset, levels, asked.depth, false, &mut holder)?;
+        let is_shown = dump_body(
+            bytes,
+            offset,
+            levels,
+            asked.depth,
+            Spelling::Any,
+            &mut holder,
+        )?;
         holder.let_go()?;
         Ok(is_shown)
     }

@@ -7,6 +7,7 @@ use cbor_deterministic::Order;
 use cbor_diag::{Layout, Style};
 use cbor_embedded::Embedded;
 use cbor_json::Mode;
+use ciborium_ll::Spelling;
 use tool_verdicts::items::Form;
 
 /// A word for a look at files.
@@ -49,8 +50,8 @@ pub enum Colors {
 /// The options of a look at files.
 #[derive(Clone, Copy)]
 pub struct Options {
-    /// Whether only the shortest spelling is taken.
-    pub strict: bool,
+    /// The titles that are taken.
+    pub spelling: Spelling,
     /// Whether only the deterministic encoding is taken.
     pub deterministic: bool,
     /// The order of keys in the deterministic encoding, if one was given. Otherwise it is the bytewise order.

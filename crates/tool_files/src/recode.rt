@@ -15,6 +15,7 @@ use crate::patient::{Patient, Rest};
 use cbor_checker::Fault;
 use cbor_dump::counted::skip_items;
 use cbor_item_copier::{ItemCopier, Progress};
+use ciborium_ll::Spelling;
 use ciborium_ll::io::{StdWriter, Write, WriteFault};
 use std::io;
 use tool_verdicts::check::{BUFFER_SIZE, decoder_of, failed_or, fault_of};
@@ -237,7 +238,7 @@ pub fn copy_part<R: io::Read + Drop, W: io::Write>(
         → CopiesPart (rest_ahead R.remaining) W.contents options.skip options.depth options.items due written result.1
         result.0 }
 {
-    let mut decoder = decoder_of(Patient::new(reader), false);
+    let mut decoder = decoder_of(Patient::new(reader), Spelling::Any);
     let mut buffer = [0; BUFFER_SIZE];
     if let Err(error) = skip_items(&mut decoder, options.skip, options.depth, &mut buffer) {
         let verdict = fault_of(error, decoder.offset());

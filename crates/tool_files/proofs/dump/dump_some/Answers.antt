@@ -11,7 +11,7 @@ returns g c = record {
     search rules,
   );
   start = c.with_spelling-decoder.result;
-  fresh = rw (c.shortest_if-spelling.ensures, c.offset-start.ensures.value) at c.with_spelling-decoder.ensures;
+  fresh = rw c.offset-start.ensures.value at c.with_spelling-decoder.ensures;
   rows = record {
     new = c.print_all-outcome.new.decoder;
     outcome = c.print_all-outcome.result.0;
