@@ -1,6 +1,6 @@
 //! Reads bytes plainly: by tables of titles and of text, with no call of the library.
 
-use ciborium_ll::{Float, Header};
+use ciborium_ll::{Float, Header, Spelling};
 use std::alloc::Global;
 use std::test::Fail;
 
@@ -179,14 +179,14 @@ pub struct Copied {
     pub offset: usize,
     /// Why it stops before its end, if it does.
     pub fault: Option<Fault>,
-    /// Whether it is the copy of a strict decoder.
-    is_strict: bool,
+    /// The titles that it takes.
+    spelling: Spelling,
 }
 
 /// Reads the next title of a copy.
 fn due_title(copied: &mut Copied, bytes: &[u8]) -> Result<Title, Fault> {
     let next = next_title(bytes, &mut copied.offset)?;
-    if copied.is_strict {
+    if copied.spelling.is_shortest() {
         strictly(next)
     } else {
         Ok(next)
@@ -240,7 +240,7 @@ fn segments(copied: &mut Copied, bytes: &[u8], major: u8) -> Result<(), Fail> {
                     return Ok(());
                 }
             }
-            Ok(next) if next.major == major && next.is_open() && !copied.is_strict => {
+            Ok(next) if next.major == major && next.is_open() && !copied.spelling.is_shortest() => {
                 depth = depth.saturating_add(1);
             }
             Ok(next) if next.is_open() => copied.fault = Some(Fault::Syntax(next.place)),
@@ -275,12 +275,12 @@ fn element(copied: &mut Copied, bytes: &[u8]) -> Result<(), Fail> {
 }
 
 /// Makes a copy that has not begun.
-fn fresh(alloc: Global, is_strict: bool) -> Copied {
+fn fresh(alloc: Global, spelling: Spelling) -> Copied {
     Copied {
         output: Vec::new(alloc),
         offset: 0,
         fault: None,
-        is_strict,
+        spelling,
     }
 }
 
@@ -311,7 +311,7 @@ fn headers(copied: &mut Copied, count: usize, bytes: &[u8]) -> Result<(), Fail> 
 
 /// Copies elements. With `are_headers` each title is an element without its body.
 pub fn copy(alloc: Global, are_headers: bool, count: usize, bytes: &[u8]) -> Result<Copied, Fail> {
-    let mut copied = fresh(alloc, false);
+    let mut copied = fresh(alloc, Spelling::Any);
     if are_headers {
         headers(&mut copied, count, bytes)?;
     } else {
@@ -322,7 +322,7 @@ pub fn copy(alloc: Global, are_headers: bool, count: usize, bytes: &[u8]) -> Res
 
 /// Copies elements as a strict decoder gives them.
 pub fn strict_copy(alloc: Global, count: usize, bytes: &[u8]) -> Result<Copied, Fail> {
-    let mut copied = fresh(alloc, true);
+    let mut copied = fresh(alloc, Spelling::Shortest);
     elements(&mut copied, count, bytes)?;
     Ok(copied)
 }
