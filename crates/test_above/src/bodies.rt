@@ -3,6 +3,7 @@
 use crate::shared::holds;
 use cbor_dump::embedded::{Deepen, dump_body};
 use cbor_dump::rows::{Row, Rows};
+use ciborium_ll::Spelling;
 
 // How many rows are taken at most.
 const MOST_ROWS: usize = 4;
@@ -64,7 +65,7 @@ impl Deepen for Taken {
 // Returns whether a body at the offset 5 is shown two levels deeper by exactly these rows.
 fn is_shown(body: &[u8], depth: usize, rows: &[(usize, usize, usize)]) -> bool {
     let mut taken = Taken::new();
-    dump_body(body, 5, 2, depth.min(256), true, &mut taken) == Ok(true)
+    dump_body(body, 5, 2, depth.min(256), Spelling::Shortest, &mut taken) == Ok(true)
         && taken.are(rows)
         && taken.deeper == 0
 }
@@ -72,7 +73,8 @@ fn is_shown(body: &[u8], depth: usize, rows: &[(usize, usize, usize)]) -> bool {
 // Returns whether a body is not shown, and no row was taken.
 fn is_left(body: &[u8], depth: usize) -> bool {
     let mut taken = Taken::new();
-    dump_body(body, 5, 2, depth.min(256), true, &mut taken) == Ok(false) && taken.are(&[])
+    dump_body(body, 5, 2, depth.min(256), Spelling::Shortest, &mut taken) == Ok(false)
+        && taken.are(&[])
 }
 
 // A title that begins an element stands one level deeper than its array, and a body one level deeper than its string.
@@ -99,6 +101,6 @@ fn bodies_that_are_no_items(rt: HostRuntime) {
 #[test]
 fn a_row_that_is_refused(rt: HostRuntime) {
     let mut taken = Taken::new();
-    let shown = dump_body(&[0x84, 1, 2, 3, 4], 0, 1, 1, true, &mut taken);
+    let shown = dump_body(&[0x84, 1, 2, 3, 4], 0, 1, 1, Spelling::Shortest, &mut taken);
     holds(&rt, shown == Err(()), "the error of the row");
 }
