@@ -19,7 +19,7 @@ use Rattle.cbor_deterministic.specs.Views.{Opens, HasPairs, IsPairOf, first_pair
 use Rattle.cbor_deterministic.specs.Views.{IsBytesOf, IsTextOf, IsOpenedBy}
 use Rattle.cbor_deterministic.specs.declared.view.Item.{Item}
 use Rattle.ciborium_ll_text.specs.Text.{IsCharacters}
-use Rattle.std.proofs.Common.{Option, Some, None, MatchOption, Bool, true, false, nat_eq}
+use Rattle.std.proofs.Common.{◌+◌, Option, Some, None, IfSome, MatchOption, Bool, true, false, nat_eq}
 use Rattle.std.proofs.lemmas.Bool.Decides.{nat_tests}
 use Rattle.cbor_deterministic.specs.Deterministic.{byte_string, text_string, positive, negative, simple, float, tag}
 use Rattle.std.proofs.Common.{◌⊎◌, inl, inr, IsTrue}
@@ -299,6 +299,12 @@ module _ {ord : Order} where
       let one = one_opening e w k.pairs rest (h.Map (Some k.count)) (h.Map (Some n)) k.opens o in
       f value (subst (λ (u : List ℕ). IsPairOf ord (e - 1) u key value) one.1 k.has)
   get_result e n w rest key (Some i) o f = record { count = n; pairs = rest; opens = o; has = f }
+
+-- A value that was found may go down one level less than its map.
+pub one_level_less : (e : ℕ) (r : Option Item) → 0 < e → IfSome r (λ i. i.depth ≡ e - 1)
+    → IfSome r (λ i. e ≡ i.depth + 1)
+one_level_less e None some less = tt
+one_level_less e (Some i) some less = omega (arith, some, less)
 
 -- ---- contents
 

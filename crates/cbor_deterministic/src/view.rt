@@ -287,10 +287,12 @@ impl<'a> Item<'a> {
     ///
     /// The search stops at the first greater key.
     pub fn get(&self, key: &[u8]) -> Option<Item<'a>>
-        ensures { MatchOption result
+        ensures found { MatchOption result
             (HasNoKey (item_order self.now) (item_depth self.now) (item_bytes self.now) key.now)
             (λ item. HasKey (item_order self.now) (item_depth self.now) (item_bytes self.now) key.now
             (item_bytes item)) }
+        ensures depth { IfSome result (λ item. item_depth self.now ≡ item_depth item + 1) }
+        ensures order { IfSome result (λ item. item_order item ≡ item_order self.now) }
     {
         let (header, contents) = self.open();
         match map_count(header) {
@@ -301,30 +303,36 @@ impl<'a> Item<'a> {
 
     /// Returns the value of the key that is this text. The search passes all pairs up to the key.
     pub fn get_text(&self, key: &str) -> Option<Item<'a>>
-        ensures { MatchOption result (HasNoKey (item_order self.now) (item_depth self.now) (item_bytes self.now)
+        ensures found { MatchOption result (HasNoKey (item_order self.now) (item_depth self.now) (item_bytes self.now)
             (shortest_title (Header.Text (Some (length key.now))) ++ key.now))
             (λ item. HasKey (item_order self.now) (item_depth self.now) (item_bytes self.now)
             (shortest_title (Header.Text (Some (length key.now))) ++ key.now) (item_bytes item)) }
+        ensures depth { IfSome result (λ item. item_depth self.now ≡ item_depth item + 1) }
+        ensures order { IfSome result (λ item. item_order item ≡ item_order self.now) }
     {
         self.get_titled(Header::Text(Some(key.len())), key.as_bytes())
     }
 
     /// Returns the value of the key that is this unsigned integer, as [`Item::get_text`] does.
     pub fn get_positive(&self, key: u64) -> Option<Item<'a>>
-        ensures { MatchOption result (HasNoKey (item_order self.now) (item_depth self.now) (item_bytes self.now)
+        ensures found { MatchOption result (HasNoKey (item_order self.now) (item_depth self.now) (item_bytes self.now)
             (shortest_title (Header.Positive key)))
             (λ item. HasKey (item_order self.now) (item_depth self.now) (item_bytes self.now)
             (shortest_title (Header.Positive key)) (item_bytes item)) }
+        ensures depth { IfSome result (λ item. item_depth self.now ≡ item_depth item + 1) }
+        ensures order { IfSome result (λ item. item_order item ≡ item_order self.now) }
     {
         self.get_titled(Header::Positive(key), &[])
     }
 
     /// Returns the value of the key that is the negative integer -1 - n, as [`Item::get_text`] does.
     pub fn get_negative(&self, n: u64) -> Option<Item<'a>>
-        ensures { MatchOption result (HasNoKey (item_order self.now) (item_depth self.now) (item_bytes self.now)
+        ensures found { MatchOption result (HasNoKey (item_order self.now) (item_depth self.now) (item_bytes self.now)
             (shortest_title (Header.Negative n)))
             (λ item. HasKey (item_order self.now) (item_depth self.now) (item_bytes self.now)
             (shortest_title (Header.Negative n)) (item_bytes item)) }
+        ensures depth { IfSome result (λ item. item_depth self.now ≡ item_depth item + 1) }
+        ensures order { IfSome result (λ item. item_order item ≡ item_order self.now) }
     {
         self.get_titled(Header::Negative(n), &[])
     }
@@ -332,10 +340,12 @@ impl<'a> Item<'a> {
     /// Returns the value of the key that is the shortest title of this header and these contents.
     fn get_titled(&self, title: Header, body: &[u8]) -> Option<Item<'a>>
         requires { IsInRange title }
-        ensures { MatchOption result (HasNoKey (item_order self.now) (item_depth self.now) (item_bytes self.now)
+        ensures found { MatchOption result (HasNoKey (item_order self.now) (item_depth self.now) (item_bytes self.now)
             (shortest_title title ++ body.now))
             (λ item. HasKey (item_order self.now) (item_depth self.now) (item_bytes self.now)
             (shortest_title title ++ body.now) (item_bytes item)) }
+        ensures depth { IfSome result (λ item. item_depth self.now ≡ item_depth item + 1) }
+        ensures order { IfSome result (λ item. item_order item ≡ item_order self.now) }
     {
         let (header, contents) = self.open();
         match map_count(header) {
@@ -377,8 +387,10 @@ fn find<'a>(
     key: &[u8],
 ) -> Option<Item<'a>>
     requires { ∥ HasPairs order depth count pairs.now ∥₁ }
-    ensures { MatchOption result ((value : List ℕ) → IsPairOf order depth pairs.now key.now value → ⊥)
+    ensures found { MatchOption result ((value : List ℕ) → IsPairOf order depth pairs.now key.now value → ⊥)
         (λ item. IsPairOf order depth pairs.now key.now item.bytes.now) }
+    ensures depth { IfSome result (λ item. item.depth ≡ depth) }
+    ensures order { IfSome result (λ item. item.order ≡ order) }
 {
     let mut rest = pairs;
     let mut due = count;
@@ -412,9 +424,11 @@ fn find_titled<'a>(
 ) -> Option<Item<'a>>
     requires range { IsInRange title }
     requires pairs { ∥ HasPairs order depth count pairs.now ∥₁ }
-    ensures { MatchOption result
+    ensures found { MatchOption result
         ((value : List ℕ) → IsPairOf order depth pairs.now (shortest_title title ++ body.now) value → ⊥)
         (λ item. IsPairOf order depth pairs.now (shortest_title title ++ body.now) item.bytes.now) }
+    ensures depth { IfSome result (λ item. item.depth ≡ depth) }
+    ensures order { IfSome result (λ item. item.order ≡ order) }
 {
     let mut rest = pairs;
     let mut due = count;

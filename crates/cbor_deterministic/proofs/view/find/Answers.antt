@@ -15,8 +15,8 @@ unreachable-requires-in_default-next_item c =
     c.in_default-next_item.field-0.why c.in_default-next_item.field-0.left c.pairs.invariant.are c.pairs-test.true
     c.in-Ok.ensures.item c.in-Ok.ensures.whole c.in_default-next_item.ensures.fails
 
-pub returns : goal.returns
-returns c =
+pub returns-clause-found : goal.returns-clause-found
+returns-clause-found c =
     λ value q. none_left c.args.depth c.pairs.due c.pairs.rest.now c.args.key.now value c.pairs.invariant.are
     (omega arith) (c.pairs.invariant.back value q)
 
@@ -41,17 +41,20 @@ pairs-preserved c =
           c.in-Ok-next_item.ensures.whole differ (c.pairs.invariant.back value q);
     }
 
-pub returns-in-Equal : goal.returns-in-Equal
-returns-in-Equal c =
+pub returns-in-Equal-clause-found : goal.returns-in-Equal-clause-found
+returns-in-Equal-clause-found c =
     c.pairs.invariant.there c.in-Ok-next_item.value.bytes.now
     (first_here c.args.depth c.pairs.rest.now c.in-Ok.other.bytes.now c.in-Ok-next_item.value.bytes.now
     c.in-Ok.after.now c.in-Ok-next_item.last.now c.args.key.now c.in-Ok.ensures.item c.in-Ok.ensures.whole
     c.in-Ok-next_item.ensures.item
     c.in-Ok-next_item.ensures.whole c.in-Equal.ensures)
 
-pub returns-in-Greater : goal.returns-in-Greater
-returns-in-Greater c =
+pub returns-in-Greater-clause-found : goal.returns-in-Greater-clause-found
+returns-in-Greater-clause-found c =
     none_after c.args.depth c.pairs.due c.args.pairs.now c.pairs.rest.now c.in-Ok.other.bytes.now
     c.in-Ok-next_item.value.bytes.now c.in-Ok.after.now c.in-Ok-next_item.last.now c.args.key.now
     c.pairs.invariant.back c.pairs.invariant.are c.pairs-test.true c.in-Ok.ensures.item c.in-Ok.ensures.whole
     c.in-Ok-next_item.ensures.item c.in-Ok-next_item.ensures.whole c.in-Greater.ensures
+
+pub returns-in-Equal-clause-depth : goal.returns-in-Equal-clause-depth
+returns-in-Equal-clause-depth c = c.in-Ok-next_item.ensures.depth

@@ -16,8 +16,8 @@ unreachable-requires-in_default-next_item c =
     c.in_default-next_item.field-0.why c.in_default-next_item.field-0.left c.pairs.invariant.are c.pairs-test.true
     c.in-Ok.ensures.item c.in-Ok.ensures.whole c.in_default-next_item.ensures.fails
 
-pub returns : goal.returns
-returns c =
+pub returns-clause-found : goal.returns-clause-found
+returns-clause-found c =
     λ value q. none_left c.args.depth c.pairs.due c.pairs.rest.now (shortest_title c.args.title ++ c.args.body.now)
     value c.pairs.invariant.are
     (omega arith) (c.pairs.invariant.back value q)
@@ -43,11 +43,14 @@ pairs-preserved c =
           c.in-Ok-next_item.ensures.whole differ (c.pairs.invariant.back value q);
     }
 
-pub returns-then-is_titled : goal.returns-then-is_titled
-returns-then-is_titled c =
+pub returns-then-is_titled-clause-found : goal.returns-then-is_titled-clause-found
+returns-then-is_titled-clause-found c =
     c.pairs.invariant.there c.in-Ok-next_item.value.bytes.now
     (first_here c.args.depth c.pairs.rest.now c.in-Ok.other.bytes.now c.in-Ok-next_item.value.bytes.now
     c.in-Ok.after.now c.in-Ok-next_item.last.now (shortest_title c.args.title ++ c.args.body.now) c.in-Ok.ensures.item
     c.in-Ok.ensures.whole c.in-Ok-next_item.ensures.item
     c.in-Ok-next_item.ensures.whole
     (told c.is_titled.result c.if-is_titled.true c.is_titled.ensures))
+
+pub returns-then-is_titled-clause-order : goal.returns-then-is_titled-clause-order
+returns-then-is_titled-clause-order c = c.in-Ok-next_item.ensures.order

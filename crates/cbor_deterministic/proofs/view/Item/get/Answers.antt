@@ -1,4 +1,4 @@
-use Rattle.cbor_deterministic.proofs.ViewLaws.{as_head, map_level, map_checked, one_opening, get_result}
+use Rattle.cbor_deterministic.proofs.ViewLaws.{as_head, map_level, map_checked, one_level_less, one_opening, get_result}
 use Rattle.std.proofs.Common.{arith, Some}
 use Rattle.ciborium_ll_grammar.specs.declared.hdr.Header.TheVariants as h
 use Rattle.cbor_deterministic.proofs.view.Item.get.Goals as goal
@@ -18,16 +18,24 @@ overflow_sub-self c =
     let l = map_level c.args.self.now.depth c.in-Some.count c.open-header.result.1.now o.completes in
     omega arith
 
-pub returns-in-Some : goal.returns-in-Some
-returns-in-Some c =
+pub returns-in-Some-clause-found : goal.returns-in-Some-clause-found
+returns-in-Some-clause-found c =
     let o = as_head c.args.self.now.depth c.args.self.now.bytes.now c.open-header.result.0
     (h.Map (Some c.in-Some.count)) c.open-header.result.1.now
     c.open-header.ensures c.in-Some.ensures in
     get_result c.args.self.now.depth c.in-Some.count c.args.self.now.bytes.now c.open-header.result.1.now
-    c.args.key.now c.find.result o c.find.ensures
+    c.args.key.now c.find.result o c.find.ensures.found
 
-pub returns-in-None : goal.returns-in-None
-returns-in-None c value k =
+pub returns-in-Some-clause-depth : goal.returns-in-Some-clause-depth
+returns-in-Some-clause-depth c =
+    let o = as_head c.args.self.now.depth c.args.self.now.bytes.now c.open-header.result.0
+    (h.Map (Some c.in-Some.count)) c.open-header.result.1.now
+    c.open-header.ensures c.in-Some.ensures in
+    one_level_less c.args.self.now.depth c.find.result
+    (map_level c.args.self.now.depth c.in-Some.count c.open-header.result.1.now o.completes) c.find.ensures.depth
+
+pub returns-in-None-clause-found : goal.returns-in-None-clause-found
+returns-in-None-clause-found c value k =
     let one = one_opening c.args.self.now.depth c.args.self.now.bytes.now c.open-header.result.1.now k.pairs
     c.open-header.result.0 (h.Map (Some k.count)) c.open-header.ensures k.opens in
     c.in-None.ensures k.count one.0
