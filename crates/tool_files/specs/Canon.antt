@@ -15,7 +15,7 @@ use Rattle.cbor_canonical.specs.declared.Why.{Why}
 use Rattle.cbor_canonical.specs.declared.Why.TheVariants as w
 use Rattle.tool_verdicts.specs.declared.verdict.Verdict.{Verdict}
 use Rattle.tool_verdicts.specs.declared.verdict.Verdict.TheVariants as v
-use Rattle.tool_files.specs.Given.{IsWhole}
+use Rattle.tool_files.specs.Given.{AppendsSome, IsWhole}
 use Rattle.tool_files.specs.declared.canon.CanonFault.{CanonFault}
 use Rattle.tool_files.specs.declared.canon.CanonFault.TheVariants as c
 
@@ -63,8 +63,9 @@ IsErrorAt start Memory Memory = Unit {0}
 IsErrorAt start error moved = ⊥
 
 -- `Ok`: the bytes of the reader are items, and their encodings were written. After a refusal nothing was written, and
--- the bytes of the reader stop with it. Nothing was written either if memory or the reader failed. Of the input `18 01`
--- `01` is written.
+-- the bytes of the reader stop with it. Nothing was written either if memory or the reader failed. If the writer
+-- failed, the bytes of the reader are items, and it got a beginning of their encodings, or all of them. Of the input
+-- `18 01` `01` is written.
 abbrev pub WritesCanon : {W : Type 0} → (W → Option (List ℕ)) → Order → ℕ → Option (List ℕ) → W
     → Result (Unit {0}) CanonFault → W → Type 0
 WritesCanon told order depth input old (Ok done) new = (bytes encodings : List ℕ) × IsWhole input bytes
@@ -72,7 +73,8 @@ WritesCanon told order depth input old (Ok done) new = (bytes encodings : List �
 WritesCanon told order depth input old (Err (c.Unwritten error)) new = (bytes : List ℕ) × IsWhole input bytes
     × AreUnwritten order depth bytes error × Keeps (told old) (told new)
 WritesCanon told order depth input old (Err (c.Input error)) new = Keeps (told old) (told new)
-WritesCanon told order depth input old (Err (c.Output error)) new = Unit {0}
+WritesCanon told order depth input old (Err (c.Output error)) new = (bytes encodings : List ℕ) × IsWhole input bytes
+    × AreRewritten order depth bytes encodings × AppendsSome (told old) (told new) encodings
 
 -- The verdict for a refusal, as `check` names such a fault: `break 2` for `Break` at 2. The faults of values have the
 -- reasons of the deterministic encoding.

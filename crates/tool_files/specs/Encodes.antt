@@ -5,7 +5,7 @@ use Rattle.ciborium_ll_text.specs.Text.{IsCharacters}
 use Rattle.cbor_encode.specs.Places.{IsFaultIn}
 use Rattle.cbor_encode.specs.Sequences.{has_underscore}
 use Rattle.tool_verdicts.specs.Checking.{IsWanted}
-use Rattle.tool_files.specs.Given.{IsWhole}
+use Rattle.tool_files.specs.Given.{AppendsSome, IsWhole}
 use Rattle.tool_files.specs.declared.encode.EncodeFault.{EncodeFault}
 use Rattle.tool_files.specs.declared.encode.EncodeFault.TheVariants as e
 
@@ -17,8 +17,9 @@ pub record AreEncoded (one : Bool) (depth : ℕ) (text bytes : List ℕ) : Type 
   pub shortest : has_underscore text ≡ false → IsWanted one true depth bytes
 
 -- `Ok`: the writer got the bytes of what is wanted. A fault of the notation has its place, line and column in the text
--- of the reader. After it, and after a failed read, the writer has what it had. Of the text `[1]` it gets `81 01`, and
--- of `[1` nothing: the fault is in line 1 and column 3.
+-- of the reader. After it, and after a failed read, the writer has what it had. If the writer failed, it got a beginning
+-- of the bytes of what is wanted, or all of them. Of the text `[1]` it gets `81 01`, and of `[1` nothing: the fault is
+-- in line 1 and column 3.
 abbrev pub WritesNotation : {W : Type 0} → (W → Option (List ℕ)) → Bool → ℕ → Option (List ℕ) → W
     → Result (Unit {0}) EncodeFault → W → Type 0
 WritesNotation told one depth input old (Ok done) new = (text bytes : List ℕ) × IsWhole input text
@@ -26,4 +27,5 @@ WritesNotation told one depth input old (Ok done) new = (text bytes : List ℕ) 
 WritesNotation told one depth input old (Err (e.Notation fault)) new = (text : List ℕ) × IsWhole input text
     × IsFaultIn text fault × Keeps (told old) (told new)
 WritesNotation told one depth input old (Err (e.Input error)) new = Keeps (told old) (told new)
-WritesNotation told one depth input old (Err (e.Output error)) new = Unit {0}
+WritesNotation told one depth input old (Err (e.Output error)) new = (text bytes : List ℕ) × IsWhole input text
+    × AreEncoded one depth text bytes × AppendsSome (told old) (told new) bytes

@@ -6,6 +6,7 @@ ghost use Rattle.tool_files.specs.Canon.{AreRewritten, AreUnwritten, IsErrorAt, 
 ghost use Rattle.tool_files.specs.Orders.{chosen_order};
 
 use crate::options::Options;
+use crate::send::send_all;
 use cbor_canonical::{CanonicalError, Refusal, Why, canonical};
 use cbor_deterministic::{Order, Refusal as NotDeterministic, Why as Reason};
 use std::alloc::Global;
@@ -74,7 +75,7 @@ fn refusal_verdict(why: Why, place: usize) -> Verdict
 ///
 /// - `Unwritten`: `canonical` refuses an item, at this offset in the input, or no memory is left. Nothing is written.
 /// - `Input`: the reader failed, or there is no memory for the bytes. Nothing is written.
-/// - `Output`: the writer failed. It may have got a part of the encodings.
+/// - `Output`: the writer failed. It got a beginning of the encodings of all items, or all of it.
 pub fn canon_input<R: io::Read + Drop, W: io::Write>(
     alloc: Global,
     mut reader: R,
@@ -90,10 +91,7 @@ pub fn canon_input<R: io::Read + Drop, W: io::Write>(
     let encodings = canonical_all(alloc, bytes.as_slice(), options.depth, order).map_err(
         CanonFault::Unwritten,
     )?;
-    writer
-        .write_all(encodings.as_slice())
-        .map_err(CanonFault::Output)?;
-    writer.flush().map_err(CanonFault::Output)
+    send_all(writer, encodings.as_slice()).map_err(CanonFault::Output)
 }
 
 /// Writes the deterministic encodings of the items of a sequence (RFC 8742), one after the other.

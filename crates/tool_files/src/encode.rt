@@ -3,6 +3,7 @@
 ghost use Rattle.tool_files.specs.Encodes.{WritesNotation};
 
 use crate::options::Options;
+use crate::send::send_all;
 use cbor_encode::{NotationError, encode, encode_all};
 use std::alloc::Global;
 use std::io;
@@ -28,7 +29,7 @@ pub enum EncodeFault {
 ///
 /// - `Notation`: the text is no such notation. The error has the line and the column. Nothing is written.
 /// - `Input`: the reader failed, or there is no memory for the text. Nothing is written.
-/// - `Output`: the writer failed. It may have got a part of the bytes.
+/// - `Output`: the writer failed. It got a beginning of the bytes, or all of them.
 pub fn encode_input<R: io::Read + Drop, W: io::Write>(
     alloc: Global,
     mut reader: R,
@@ -45,8 +46,5 @@ pub fn encode_input<R: io::Read + Drop, W: io::Write>(
         encode_all(alloc, text.as_slice(), options.depth)
     };
     let bytes = encoded.map_err(EncodeFault::Notation)?;
-    writer
-        .write_all(bytes.as_slice())
-        .map_err(EncodeFault::Output)?;
-    writer.flush().map_err(EncodeFault::Output)
+    send_all(writer, bytes.as_slice()).map_err(EncodeFault::Output)
 }

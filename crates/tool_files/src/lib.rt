@@ -27,6 +27,7 @@ pub mod progress;
 pub mod recode;
 mod request;
 pub mod said;
+mod send;
 mod shared;
 pub mod shown;
 mod text;
