@@ -17,9 +17,9 @@ pub record AreEncoded (one : Bool) (depth : ℕ) (text bytes : List ℕ) : Type 
   pub shortest : has_underscore text ≡ false → IsWanted one true depth bytes
 
 -- `Ok`: the writer got the bytes of what is wanted. A fault of the notation has its place, line and column in the text
--- of the reader. After it, and after a failed read, the writer has what it had. If the writer failed, it got a beginning
--- of the bytes of what is wanted, or all of them. Of the text `[1]` it gets `81 01`, and of `[1` nothing: the fault is
--- in line 1 and column 3.
+-- of the reader. After it, and after a failed read, the writer has what it had. If the writer failed, it got a
+-- beginning of the bytes of what is wanted, or all of them. Of the text `[1]` it gets `81 01`, and of `[1` nothing: the
+-- fault is in line 1 and column 3.
 abbrev pub WritesNotation : {W : Type 0} → (W → Option (List ℕ)) → Bool → ℕ → Option (List ℕ) → W
     → Result (Unit {0}) EncodeFault → W → Type 0
 WritesNotation told one depth input old (Ok done) new = (text bytes : List ℕ) × IsWhole input text
