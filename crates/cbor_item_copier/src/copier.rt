@@ -250,7 +250,8 @@ impl ItemCopier {
         ensures fits { pending self.old ≡ [] → length bytes.now + 8 ≤ length out.old → IsRoom result.progress → ⊥ }
         ensures grown { result.written + held self.new ≤ held self.old + result.taken }
         ensures stays { is_due (item_spot self.old).phase ≡ false → pending self.old ≡ []
-            → (result.taken ≡ 0) × (result.written ≡ 0) × (self.new ≡ self.old) }
+            → (result.taken ≡ 0) × (result.written ≡ 0) × (self.new ≡ self.old)
+            × (result.progress ≡ progress_of (pending self.old) (item_spot self.old)) }
     {
         let mut written = self.give(out);
         let mut at = 0;
@@ -312,7 +313,7 @@ impl ItemCopier {
         ensures fits { pending self.old ≡ [] → length bytes.now + 8 ≤ length out.old → IsRoom result.progress → ⊥ }
         ensures grown { result.written + held self.new ≤ held self.old + result.taken }
         ensures stays { (progress : Progress) → Answers self.old progress → IsLast progress
-            → (result.taken ≡ 0) × (result.written ≡ 0) × (self.new ≡ self.old) }
+            → (result.taken ≡ 0) × (result.written ≡ 0) × (self.new ≡ self.old) × (result.progress ≡ progress) }
     {
         self.take(bytes, out)
     }

@@ -1,4 +1,4 @@
-use Rattle.std.proofs.Common.{take}
+use Rattle.std.proofs.Common.{take, sym, ◌∙◌}
 use Rattle.cbor_item_copier.specs.Copying.{Answers, HasCopied, item_spot, pending}
 use Rattle.cbor_item_copier.proofs.ReadLaws.{answers_piece, copies, last_off, none_pending}
 use Rattle.cbor_item_copier.proofs.copier.ItemCopier.feed.Goals as goal
@@ -24,4 +24,5 @@ pub returns-clause-stays : goal.returns-clause-stays
 unfolding Answers
 returns-clause-stays c = λ progress is last.
     let off = last_off progress (pending c.args.self.now) (item_spot c.args.self.now) is last in
-    c.take.ensures.stays off.0 off.1
+    let same = c.take.ensures.stays off.0 off.1 in
+    (same.0, same.1, same.2, same.3 ∙ sym is)

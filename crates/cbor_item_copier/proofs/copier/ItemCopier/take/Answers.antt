@@ -6,7 +6,9 @@ use Rattle.cbor_checker.specs.Spots.{Spot}
 use Rattle.cbor_item_copier.specs.declared.copier.ItemCopier.{ItemCopier}
 use Rattle.cbor_item_copier.specs.Copying.{item_spot, elements_spot, pending}
 use Rattle.cbor_item_copier.specs.Reading.{Tells}
+use Rattle.cbor_item_copier.specs.declared.progress.Progress.{Progress}
 use Rattle.cbor_item_copier.specs.declared.progress.Progress.TheVariants as r
+use Rattle.cbor_item_copier.specs.Telling.{progress_of}
 use Rattle.cbor_item_copier.proofs.FitLaws.{never_room}
 use Rattle.cbor_item_copier.proofs.TellLaws.{more_due, never_long, not_more, tells_long}
 use Rattle.cbor_item_copier.proofs.copier.ItemCopier.take.Goals as goal
@@ -99,3 +101,34 @@ returns-in-None-clause-cut c = λ strict depth fed given was is.
     let due = more_due (pending copier) (item_spot copier) c.in-More.field-0
     (sym c.in-More.is ∙ c.answer.ensures.answers) in
     ap (λ (z : Spot). is_due z.phase) same ∙ due.1
+
+-- Nothing was taken or written, so the answer is that of the copier before the call.
+answers_same : (old new : ItemCopier) (taken written : ℕ) (progress : Progress)
+    → (taken ≡ 0) × (written ≡ 0) × (new ≡ old) → progress ≡ progress_of (pending new) (item_spot new)
+    → (taken ≡ 0) × (written ≡ 0) × (new ≡ old) × (progress ≡ progress_of (pending old) (item_spot old))
+answers_same old new taken written progress same is = (
+  same.0,
+  same.1,
+  same.2,
+  subst (λ (z : ItemCopier). progress ≡ progress_of (pending z) (item_spot z)) same.2 is,
+)
+
+pub returns-in_default-clause-stays : goal.returns-in_default-clause-stays
+returns-in_default-clause-stays c = λ off given.
+    answers_same c.args.self.now c.pieces.self c.pieces.at c.pieces.written c.answer.result
+    (c.pieces.invariant.stays off given) c.answer.ensures.answers
+
+pub returns-in-None-clause-stays : goal.returns-in-None-clause-stays
+returns-in-None-clause-stays c = λ off given.
+    let copier = c.pieces.self in
+    let same = c.pieces.invariant.stays off given in
+    let phase : is_due (item_spot copier).phase ≡ false =
+    ap (λ (z : ItemCopier). is_due (item_spot z).phase) same.2 ∙ off in
+    absurd (not_more (pending copier) (item_spot copier) c.in-More.field-0 phase
+    (sym c.answer.ensures.answers ∙ c.in-More.is))
+
+pub returns-clause-stays : goal.returns-clause-stays
+returns-clause-stays c = λ off given.
+    let all : c.pieces.at ≡ length c.args.bytes.now = search rules in
+    answers_same c.args.self.now c.pieces.self (length c.args.bytes.now) c.pieces.written c.answer-2.result
+    (rw all at c.pieces.invariant.stays off given) c.answer-2.ensures.answers
