@@ -10,5 +10,6 @@ pub mod PlainLaws
 pub mod ReadLaws
 pub mod RunLaws
 pub mod SavedLaws
+pub mod ShortestLaws
 pub mod StepLaws
 pub mod TellLaws

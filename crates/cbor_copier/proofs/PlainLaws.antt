@@ -43,7 +43,7 @@ use Rattle.cbor_copier.proofs.RunLaws.{body_given, title_given}
 
 abbrev len_test : ℕ → ℕ → Bool
 len_test first len =
-    eqb len 0
+    (eqb len 0 && not (ltb (first % 32) 24))
     || ((eqb len 1 && (ltb (first % 32) 24 && (not (eqb (first / 32) 2) && not (eqb (first / 32) 3))))
     || (eqb len (1 + first % 32) && (ltb (first % 32) 24 && (eqb (first / 32) 2 || eqb (first / 32) 3))))
 
@@ -208,7 +208,7 @@ small_title b major is small =
 pub kept_by : (xs : List ℕ) (len : ℕ) → Below xs → 0 < length xs → IsLen (slice_index xs 0) len → 0 < len
     → len ≤ length xs → (slice_index xs 0 / 32 ≡ 3 → IsCharacters (take (len - 1) (drop 1 xs))) → IsKept (take len xs)
 kept_by [] len below some is least le text = absurd (omega (arith, some))
-kept_by (b ∷ xs) len below some (inl none) least le text = absurd (omega (arith, none, least))
+kept_by (b ∷ xs) len below some (inl none) least le text = absurd (omega (arith, none.0, least))
 kept_by (b ∷ xs) len below some (inr (inl v)) least le text =
     let m = major_of (b / 32) (omega (arith, below 0 (omega arith))) v.2 v.3 in
     let title = small_title b m.major m.is v.1 in

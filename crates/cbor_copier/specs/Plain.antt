@@ -1,5 +1,5 @@
 -- Elements that a copy keeps as they are.
-use Rattle.std.specs.Prelude.{◌≡◌, ◌≢◌, ℕ, suc, ◌+◌, ◌-◌, ◌/◌, ◌%◌, ◌<◌, ◌⊎◌, List, [], ◌++◌, length}
+use Rattle.std.specs.Prelude.{◌≡◌, ◌≢◌, ℕ, suc, ◌+◌, ◌-◌, ◌/◌, ◌%◌, ◌<◌, ◌≤◌, ◌⊎◌, List, [], ◌++◌, length, slice_index}
 use Rattle.cbor_copier.specs.declared.phase.Phase.TheVariants as p
 use Rattle.cbor_copier.specs.declared.phase.Within.TheVariants as w
 use Rattle.cbor_copier.specs.Spots.{Spot, elements_due}
@@ -31,10 +31,20 @@ pub data AreKept : ℕ → ℕ → List ℕ → Type 0 where
       → AreKept (suc count) (length bytes) (bytes ++ item)
 
 -- The number in the table of a first byte, by its major type and its lower five bits (RFC 7049, 2.1). It is the length
--- of a title of one byte that begins no string, or of a string below 24 bytes: 1 for `81`, and 3 for `42`. 0 says
--- nothing.
+-- of a title of one byte that begins no string, or of a string below 24 bytes: 1 for `81`, and 3 for `42`. It is 0 for
+-- any other byte, as `18`.
 abbrev pub IsLen : ℕ → ℕ → Type 0
 IsLen first len =
-    (len ≡ 0)
+    ((len ≡ 0) × (24 ≤ first % 32))
     ⊎ ((len ≡ 1) × (first % 32 < 24) × (first / 32 ≢ 2) × (first / 32 ≢ 3)
     ⊎ (len ≡ 1 + first % 32) × (first % 32 < 24) × ((first / 32 ≡ 2) ⊎ (first / 32 ≡ 3)))
+
+-- The title at this index is no simple value from 24 to 31, which takes two bytes (RFC 7049, 2.3). At the index 1,
+-- `01 f8 20` has such a title, and `01 f8 18` has none.
+abbrev pub IsMeantAt : ℕ → List ℕ → Type 0
+IsMeantAt at bytes = slice_index bytes at ≡ 0xf8 → 32 ≤ slice_index bytes (at + 1)
+
+-- No element of one byte begins so (RFC 7049, 2.1): the first byte begins a string, or an affix follows it. `42` and
+-- `18` are such bytes, and `17` is none.
+abbrev pub BeginsLonger : ℕ → Type 0
+BeginsLonger first = (24 ≤ first % 32) ⊎ ((first / 32 ≡ 2) ⊎ (first / 32 ≡ 3))

@@ -13,5 +13,6 @@ mod progress;
 mod snapshot;
 
 pub use self::copier::Copier;
+pub use self::plain::{ShortestRun, shortest_run};
 pub use self::progress::{Copied, End, Progress};
 pub use self::snapshot::Snapshot;

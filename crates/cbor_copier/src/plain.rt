@@ -1,13 +1,14 @@
 //! Elements that a copy keeps as they are, and whose bytes are all there.
 
-ghost use Rattle.std.specs.Prelude.{◌≡◌, ◌+◌, ◌-◌, ◌<◌, ◌≤◌, [], drop, take, length, true};
+ghost use Rattle.std.specs.Prelude.{◌≡◌, ◌+◌, ◌-◌, ◌<◌, ◌≤◌, ◌⊎◌, List, [], drop, take, length, slice_index, true};
+ghost use Rattle.ciborium_ll_grammar.specs.Elements.{IsStrictRun, Mark};
 ghost use Rattle.ciborium_ll_text.specs.Text.{IsCharacters};
-ghost use Rattle.cbor_copier.specs.Plain.{AreKept, IsKept, IsLen};
+ghost use Rattle.cbor_copier.specs.Plain.{AreKept, BeginsLonger, IsKept, IsLen, IsMeantAt};
 
 use ciborium_ll_text::state::{State, text_front};
 
-/// The length of an element in bytes, title included, by its first byte, with two lines for each major type. 0 says
-/// nothing.
+/// The length of an element in bytes, title included, by its first byte, with two lines for each major type. It is 0 if
+/// an affix follows the first byte.
 #[rattlefmt::skip]
 static LENS: [u8; 256] = [
     // unsigned integers
@@ -92,6 +93,7 @@ fn title_len(bytes: &[u8], at: usize) -> usize
     requires some { at < length bytes.now }
     ensures within { at + result ≤ length bytes.now }
     ensures kept { 0 < result → IsKept (take result (drop at bytes.now)) }
+    ensures meant { 0 < result → IsMeantAt at bytes.now }
 {
     let first = bytes[at];
     let left = bytes.len() - at;
@@ -121,6 +123,8 @@ fn kept_len(bytes: &[u8], at: usize) -> usize
     requires some { at < length bytes.now }
     ensures within { at + result ≤ length bytes.now }
     ensures kept { 0 < result → IsKept (take result (drop at bytes.now)) }
+    ensures meant { 0 < result → IsMeantAt at bytes.now }
+    ensures none { result ≡ 0 → BeginsLonger (slice_index bytes.now at) }
 {
     let len = len_of(bytes[at]);
     if len == 0 {
@@ -154,6 +158,9 @@ pub(crate) fn kept_run(bytes: &[u8], most: usize) -> Run
     ensures most { result.left ≤ most }
     ensures last { result.last ≤ result.len }
     ensures kept { 0 < result.len → AreKept (most - result.left) result.last (take result.len bytes.now) }
+    ensures strict { (marks : List Mark) × IsStrictRun (most - result.left) (take result.len bytes.now) marks }
+    ensures ends { (result.left ≡ 0) ⊎ ((result.len ≡ length bytes.now)
+        ⊎ BeginsLonger (slice_index bytes.now result.len)) }
 {
     let mut at = 0;
     let mut last = 0;
@@ -175,5 +182,33 @@ pub(crate) fn kept_run(bytes: &[u8], most: usize) -> Run
         len: at,
         last,
         left,
+    }
+}
+
+/// Elements in a row, each in its shortest spelling.
+#[derive(Drop)]
+pub struct ShortestRun {
+    /// How many elements there are.
+    pub elements: usize,
+    /// How many bytes they have.
+    pub len: usize,
+}
+
+/// Returns at most `most` elements at the start of `bytes`, each in its shortest spelling (RFC 7049, 3.9). They have no
+/// simple value from 24 to 31 (RFC 7049, 2.3).
+///
+/// There may be more such elements: the run may end before a string, or before a title of more than one byte. Any other
+/// element of one byte belongs to it.
+pub fn shortest_run(bytes: &[u8], most: usize) -> ShortestRun
+    ensures within { result.len ≤ length bytes.now }
+    ensures most { result.elements ≤ most }
+    ensures run { (marks : List Mark) × IsStrictRun result.elements (take result.len bytes.now) marks }
+    ensures ends { (result.elements ≡ most) ⊎ ((result.len ≡ length bytes.now)
+        ⊎ BeginsLonger (slice_index bytes.now result.len)) }
+{
+    let run = kept_run(bytes, most);
+    ShortestRun {
+        elements: most - run.left,
+        len: run.len,
     }
 }

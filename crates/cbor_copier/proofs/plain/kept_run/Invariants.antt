@@ -1,4 +1,5 @@
-use Rattle.std.proofs.Common.{◌≡◌, ◌<◌, ◌≤◌, ◌-◌, take, length}
+use Rattle.std.proofs.Common.{◌≡◌, ◌<◌, ◌≤◌, ◌-◌, List, take, length}
+use Rattle.ciborium_ll_grammar.specs.Elements.{IsStrictRun, Mark}
 use Rattle.cbor_copier.specs.Plain.{AreKept}
 use Rattle.cbor_copier.proofs.plain.kept_run.Given as goal
 
@@ -10,6 +11,7 @@ invariant-elements l =
       last : l.last ≤ l.at;
       none : l.at ≡ 0 → l.left ≡ l.most;
       kept : 0 < l.at → AreKept (l.most - l.left) l.last (take l.at l.bytes);
+      strict : (marks : List Mark) × IsStrictRun (l.most - l.left) (take l.at l.bytes) marks;
     }
 
 abbrev pub decreases-elements : goal.decreases-elements
