@@ -10,6 +10,7 @@ pub mod ItemPieceLaws
 pub mod FrontParts
 pub mod PieceLaws
 pub mod PullLaws
+pub mod RunCopies
 pub mod SkipLaws
 pub mod TextFronts
 pub mod TitleParts

@@ -3,10 +3,12 @@
 #![tactic(auto)]
 
 ghost use Rattle.std.specs.Prelude.{◌≡◌, ◌≢◌, ◌↔◌, ◌≤◌, ◌<◌, ◌⊎◌, List, ◌++◌, drop, length, Bool, true, false, ℕ};
+ghost use Rattle.std.specs.Prelude.{None, Some};
 ghost use Rattle.cbor_deterministic.specs.declared.Order.{Order as AnyOrder};
 ghost use Rattle.cbor_deterministic.specs.declared.Why.{Why as AnyWhy};
 ghost use Rattle.cbor_deterministic.specs.Deterministic.{HasDeterministic};
 ghost use Rattle.cbor_deterministic.specs.Refusals.{HasRefusal};
+ghost use Rattle.ciborium_ll.specs.Decoding.{IsSteady, offset_of, reader_of, waiting_of};
 ghost use Rattle.ciborium_ll.specs.Faults.{BeginsWithElements};
 ghost use Rattle.ciborium_ll.specs.Recoding.{CopiesElements};
 ghost use Rattle.ciborium_ll.specs.Sides.{sides};
@@ -234,11 +236,16 @@ fn stop_of_copy(copied: Result<(), RecodeError<EndOfFile, OutOfSpace>>) -> (CllA
 fn copy_onto<'a, R: Read>(
     decoder: &mut Decoder<R>,
     writer: &mut SliceWriter<'a>,
+    bytes: &[u8],
     count: usize,
     buffer: &mut [u8],
     tally: &mut Tally,
 ) -> Result<(), RecodeError<R::Error, OutOfSpace>>
     requires room { LEAST_BUFFER ≤ length buffer.old }
+    requires steady { IsSteady R.Read decoder.old }
+    requires ahead { R.Read.ahead (reader_of decoder.old) ≡ Some bytes.now }
+    requires none_waits { waiting_of decoder.old ≡ None }
+    requires start { offset_of decoder.old ≡ 0 }
     ensures copied { CopiesElements R.Read ⟦<SliceWriter<'a> as Write>⟧ count (length buffer.old)
         (sides decoder.old writer.old) result (sides decoder.new writer.new) }
     ensures counted { CountsCopy R.Read ⟦<SliceWriter<'a> as Write>⟧ count (length buffer.old)
@@ -247,7 +254,7 @@ fn copy_onto<'a, R: Read>(
     ensures target { slice_target writer.new ≡ slice_target writer.old }
 {
     // The contracts know the end of a loan inside a writer, but not inside an encoder over the writer.
-    copy_counted(decoder, writer, count, buffer, tally)
+    copy_counted(decoder, writer, bytes, count, buffer, tally)
 }
 
 /// Copies `count` elements, and reports how far the copy came.
@@ -267,7 +274,14 @@ fn copy(bytes: &[u8], count: usize, out: &mut [u8], report: &mut CllReport) -> C
         whole: 0,
         spelled: 0,
     };
-    let copied = copy_onto(&mut decoder, &mut writer, count, &mut buffer, &mut tally);
+    let copied = copy_onto(
+        &mut decoder,
+        &mut writer,
+        bytes,
+        count,
+        &mut buffer,
+        &mut tally,
+    );
     let (answer, place) = stop_of_copy(copied);
     let written = writer.written().len();
     report.say_elements(decoder.offset(), written, place, tally);
@@ -323,7 +337,14 @@ fn check(bytes: &[u8], count: usize, report: &mut CllReport) -> CllAnswer
     let mut decoder = Decoder::strict(SliceReader::new(bytes));
     // A strict copy writes exactly what it reads, so the length of the input is room enough.
     let mut writer = Discard::new(bytes.len());
-    let copied = copy_counted(&mut decoder, &mut writer, count, &mut buffer, &mut tally);
+    let copied = copy_counted(
+        &mut decoder,
+        &mut writer,
+        bytes,
+        count,
+        &mut buffer,
+        &mut tally,
+    );
     let (answer, place) = stop_of_copy(copied);
     tally.spelled = 0;
     report.say_elements(decoder.offset(), 0, place, tally);
