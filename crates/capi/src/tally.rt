@@ -76,8 +76,8 @@ fn copy_one<R: Read, W: Bounded + Drop>(
 }
 
 /// Copies elements that stand in their shortest spelling, as many as a run has and as fit into the buffer and the room.
-/// `ahead` has the bytes that the decoder gives. Returns how many elements were copied. It never fails, since the decoder
-/// has their bytes and the writer has room for them.
+/// `ahead` has the bytes that the decoder gives. Returns how many elements were copied. It never fails, since the
+/// decoder has their bytes and the writer has room for them.
 #[inline(always)]
 fn copy_run<R: Read, W: Bounded + Drop>(
     decoder: &mut Decoder<R>,

@@ -1,6 +1,6 @@
 //! Elements that a copy keeps as they are, and whose bytes are all there.
 
-ghost use Rattle.std.specs.Prelude.{◌≡◌, ◌+◌, ◌-◌, ◌<◌, ◌≤◌, ◌⊎◌, List, [], drop, take, length, slice_index, true};
+ghost use Rattle.std.specs.Prelude.{◌≡◌, ◌+◌, ◌-◌, ◌<◌, ◌≤◌, ◌⊎◌, List, [], drop, take, length, slice_index, false, true};
 ghost use Rattle.ciborium_ll_grammar.specs.Elements.{IsStrictRun, Mark};
 ghost use Rattle.ciborium_ll_text.specs.Text.{IsCharacters};
 ghost use Rattle.cbor_copier.specs.Plain.{AreKept, BeginsLonger, IsKept, IsLen, IsMeantAt};
@@ -185,6 +185,14 @@ pub(crate) fn kept_run(bytes: &[u8], most: usize) -> Run
     }
 }
 
+/// Returns whether [`kept_run`] may return an element, by the first title alone.
+#[inline(always)]
+fn may_begin(bytes: &[u8]) -> bool
+    ensures { result ≡ false → 0 < length bytes.now → BeginsLonger (slice_index bytes.now 0) }
+{
+    !bytes.is_empty() && (len_of(bytes[0]) > 0 || title_len(bytes, 0) > 0)
+}
+
 /// Elements in a row, each in its shortest spelling.
 #[derive(Drop)]
 pub struct ShortestRun {
@@ -199,6 +207,7 @@ pub struct ShortestRun {
 ///
 /// There may be more such elements: the run may end before a string, or before a title of more than one byte. Any other
 /// element of one byte belongs to it.
+#[inline(always)]
 pub fn shortest_run(bytes: &[u8], most: usize) -> ShortestRun
     ensures within { result.len ≤ length bytes.now }
     ensures most { result.elements ≤ most }
@@ -206,6 +215,13 @@ pub fn shortest_run(bytes: &[u8], most: usize) -> ShortestRun
     ensures ends { (result.elements ≡ most) ⊎ ((result.len ≡ length bytes.now)
         ⊎ BeginsLonger (slice_index bytes.now result.len)) }
 {
+    // This test spares a call before each element that is longer.
+    if !may_begin(bytes) {
+        return ShortestRun {
+            elements: 0,
+            len: 0,
+        };
+    }
     let run = kept_run(bytes, most);
     ShortestRun {
         elements: most - run.left,
