@@ -1,6 +1,8 @@
 pub mod ByteLaws
+pub mod EndLaws
 pub mod ExactLaws
 pub mod FitLaws
+pub mod JoinLaws
 pub mod OutLaws
 pub mod PieceLaws
 pub mod ReadLaws

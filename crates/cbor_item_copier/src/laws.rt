@@ -1,16 +1,20 @@
 //! Laws of the answers of a copier of items, each the contract of an empty function.
 
-ghost use Rattle.std.specs.Prelude.{Bool, ℕ, ◌≡◌, ◌+◌, ◌≤◌, ◌++◌, ◌↔◌, List, [], length};
+ghost use Rattle.std.specs.Prelude.{Bool, ℕ, ◌≡◌, ◌≢◌, ◌+◌, ◌≤◌, ◌++◌, ◌↔◌, List, [], length};
 ghost use Rattle.ciborium_ll_grammar.specs.Title.{AreBytes};
 ghost use Rattle.ciborium_ll_grammar.specs.Elements.{IsRun, Mark, spelling};
 ghost use Rattle.ciborium_ll_grammar.specs.Items.{IsItem};
 ghost use Rattle.cbor_checker.specs.Reading.{BeginsItem};
+ghost use Rattle.cbor_checker.specs.declared.phase.Fault.{Fault};
 ghost use Rattle.cbor_item_copier.specs.Copying.{Answers, AnswersEnd, HasCopied, held, most, pending};
-ghost use Rattle.cbor_item_copier.specs.Reading.{IsEnd, IsFault, IsRoom, IsSpelled, Tells};
+ghost use Rattle.cbor_item_copier.specs.Reading.{Copies, IsEnd, IsFault, IsMore, IsRoom, IsSpelled, Tells};
 ghost use Rattle.cbor_item_copier.specs.Snapshots.{HoldsSome, Keeps, Saves};
 ghost use Rattle.cbor_item_copier.specs.declared.copier.ItemCopier.{ItemCopier};
+ghost use Rattle.cbor_item_copier.specs.declared.progress.Copied.{Copied};
 ghost use Rattle.cbor_item_copier.specs.declared.progress.End.{End};
+ghost use Rattle.cbor_item_copier.specs.declared.progress.End.TheVariants as e;
 ghost use Rattle.cbor_item_copier.specs.declared.progress.Progress.{Progress};
+ghost use Rattle.cbor_item_copier.specs.declared.progress.Progress.TheVariants as r;
 ghost use Rattle.cbor_item_copier.specs.declared.snapshot.Snapshot.{Snapshot};
 
 /// Copiers that have read the same bytes have put out the same bytes: those that are written, and then those that are
@@ -37,6 +41,20 @@ pub fn one_answer()
         → AnswersEnd one first → AnswersEnd other second → first ≡ second }
 {}
 
+/// If no more bytes come, the number that was due, the lack of room and the fault are those of the copier's answer.
+pub fn end_answers()
+    ensures short { (copier : ItemCopier) (due : ℕ) → AnswersEnd copier (e.Short due) → Answers copier (r.More due) }
+    ensures room { (copier : ItemCopier) → AnswersEnd copier e.Room → Answers copier r.Room }
+    ensures fault { (copier : ItemCopier) (fault : Fault) → AnswersEnd copier (e.Fault fault)
+        → Answers copier (r.Fault fault) }
+{}
+
+/// The answer is that there is no room exactly if some bytes are pending.
+pub fn room_answers()
+    ensures { (copier : ItemCopier) (progress : Progress) → Answers copier progress
+        → (IsRoom progress ↔ (pending copier ≢ [])) }
+{}
+
 /// An item is some number of elements, so it has one shortest spelling.
 pub fn items_are_elements()
     ensures some { (strict : Bool) (depth : ℕ) (item : List ℕ) → IsItem strict depth item
@@ -55,6 +73,19 @@ pub fn exact_answers()
     ensures fault { (strict : Bool) (depth : ℕ) (bytes output : List ℕ) (progress : Progress)
         → Tells strict depth bytes output progress → (IsRoom progress → ⊥)
         → (IsFault progress ↔ (BeginsItem strict depth bytes → ⊥)) }
+{}
+
+/// A copier that reads two pieces answers as one that reads both of them, joined. So it is if it took the first piece
+/// whole (`both`), and if it answered to the first piece that no more bytes are due (`first`).
+pub fn joined_pieces()
+    ensures both { (strict : Bool) (depth : ℕ) (read written one two put more : List ℕ) (first second all : Copied)
+        → Copies strict depth read written one put first → first.taken ≡ length one
+        → Copies strict depth (read ++ one) (written ++ put) two more second
+        → all.taken ≡ length one + second.taken → all.progress ≡ second.progress
+        → Copies strict depth read written (one ++ two) (put ++ more) all }
+    ensures first { (strict : Bool) (depth : ℕ) (read written one two put : List ℕ) (copied : Copied)
+        → Copies strict depth read written one put copied → (IsMore copied.progress → ⊥)
+        → Copies strict depth read written (one ++ two) put copied }
 {}
 
 /// If the bytes so far are an item, all that is put out is its shortest spelling.
