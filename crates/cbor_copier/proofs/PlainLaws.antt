@@ -1,6 +1,6 @@
 -- Elements that a copy keeps as they are: the table's entries for first bytes, and the spots that these elements lead
 -- to.
-use Rattle.std.proofs.Common.{false, get_or-take, length-drop, ◌^◌, ◌≡◌, ◌≢◌, ℕ, zero, suc, ◌+◌, ◌-◌, ◌*◌, ◌/◌, ◌%◌, ◌<◌, ◌≤◌, Bool, true, List, [], ◌∷◌}
+use Rattle.std.proofs.Common.{◌⊎◌, false, get_or-take, length-drop, ◌^◌, ◌≡◌, ◌≢◌, ℕ, zero, suc, ◌+◌, ◌-◌, ◌*◌, ◌/◌, ◌%◌, ◌<◌, ◌≤◌, Bool, true, List, [], ◌∷◌}
 use Rattle.std.proofs.Common.{◌++◌, ◌&&◌, ◌||◌, inl, inr, eqb, ltb, get_or, length, take, drop, slice_index, refl, sym}
 use Rattle.std.proofs.Common.{ap, ◌∙◌, arith, append_assoc, append-nil, length-append, not, Some}
 use Rattle.std.proofs.lemmas.Bool.{agree_below_at}
@@ -11,7 +11,7 @@ use Rattle.ciborium_ll_grammar.specs.declared.hdr.Header.{Header}
 use Rattle.ciborium_ll_grammar.specs.declared.hdr.Header.TheVariants as h
 use Rattle.ciborium_ll_grammar.specs.Title.{IsTitle, Major, Unsigned, Negative, ByteString, TextString, Array, Map, Tag}
 use Rattle.ciborium_ll_grammar.specs.Title.{Other, Small, major_code, numbered, numbered_header, shortest_title}
-use Rattle.ciborium_ll_grammar.specs.Title.{Size, One, Two, Four, Eight, affix_len, affix_of, alone, first_byte, minor_of, numbered_title, size_limit}
+use Rattle.ciborium_ll_grammar.specs.Title.{Size, One, Two, Four, Eight, least_size, affix_len, affix_of, alone, first_byte, minor_of, numbered_title, size_limit}
 use Rattle.ciborium_ll_grammar.specs.declared.hdr.Minor.TheVariants as m
 use Rattle.ciborium_ll_grammar.specs.Parts.{refused_when_strict}
 use Rattle.ciborium_ll_grammar.proofs.AffixLaws.{refused_affix, title_or_refused}
@@ -139,44 +139,54 @@ body_put kind zero out left place offset = due_put (left - 1) out (bare left pla
 body_put kind (suc len) out left place offset = refl
 
 -- After the title of a string, its body leads to the spot after the element.
-string_on : (kind : StringKind) (b : ℕ) (body : List ℕ) → Below (b ∷ body) → IsPutOut kind body
+string_on : (kind : StringKind) (title body : List ℕ) → Below body → IsPutOut kind body
     → (count left offset : ℕ) (fed out put : List ℕ)
-    → IsFed count (fed ++ b ∷ []) (putting [] (body_due kind (length body) (putting put (bare left offset (offset + 1)))))
-    (out ++ b ∷ [])
-    → IsFed count (fed ++ b ∷ body) (elements_due (left - 1) (bare left offset (offset + suc (length body)))) (out ++ b ∷ body)
-string_on kind b [] below whole count left offset fed out put led =
-    rw (due_clear (left - 1) left offset (offset + 1) put) at led
-string_on kind b (x ∷ xs) below whole count left offset fed out put led =
+    → IsFed count (fed ++ title)
+    (putting [] (body_due kind (length body) (putting put (bare left offset (offset + length title))))) (out ++ title)
+    → IsFed count (fed ++ (title ++ body)) (elements_due (left - 1) (bare left offset (offset + length (title ++ body))))
+    (out ++ (title ++ body))
+string_on kind title [] below whole count left offset fed out put led =
+    rw (append-nil title) (rw (due_clear (left - 1) left offset (offset + length title) put) at led)
+string_on kind title (x ∷ xs) below whole count left offset fed out put led =
     let n = length (x ∷ xs) in
+    let m = length title in
     let phase = body_phase kind n in
-    let spot = at_phase phase (bare left offset (offset + 1)) in
-    let far : offset + suc n ≡ (offset + 1) + n = omega arith in
+    let spot = at_phase phase (bare left offset (offset + m)) in
+    let far : offset + length (title ++ (x ∷ xs)) ≡ (offset + m) + n = omega (arith, length-append title (x ∷ xs)) in
     let none : n - n ≡ 0 = omega arith in
     let new = element_done (counted_by n spot) in
-    let gone = body_given kind count n (x ∷ xs) spot new (fed ++ b ∷ []) (out ++ b ∷ []) [] (x ∷ xs)
-    (λ i less. below (suc i) (omega (arith, less))) refl refl refl (omega arith) (omega arith) whole (rw none refl) refl
-    (rw (append-nil ((out ++ b ∷ []) ++ []), append-nil (out ++ b ∷ [])) led) in
-    rw (far, ← append_assoc fed (b ∷ []) (x ∷ xs), ← append_assoc out (b ∷ []) (x ∷ xs), ← due_phase (left - 1) left offset ((offset + 1) + n) phase)
-    (rw (due_none (left - 1) left offset ((offset + 1) + n) phase, append-nil ((out ++ b ∷ []) ++ (x ∷ xs))) at gone)
+    let gone = body_given kind count n (x ∷ xs) spot new (fed ++ title) (out ++ title) [] (x ∷ xs)
+    below refl refl refl (omega arith) (omega arith) whole (rw none refl) refl
+    (rw (append-nil ((out ++ title) ++ []), append-nil (out ++ title)) led) in
+    rw (far, ← append_assoc fed title (x ∷ xs), ← append_assoc out title (x ∷ xs), ← due_phase (left - 1) left offset ((offset + m) + n) phase)
+    (rw (due_none (left - 1) left offset ((offset + m) + n) phase, append-nil ((out ++ title) ++ (x ∷ xs))) at gone)
 
-kept_string : (kind : StringKind) (b : ℕ) (body : List ℕ) → Below (b ∷ body)
-    → IsTitle (b ∷ []) (string_of kind (length body)) → IsPutOut kind body → IsKept (b ∷ body)
-kept_string kind b body below is whole count left place offset fed out led =
+-- A string whose title is the shortest of its header is kept.
+kept_titled : (kind : StringKind) (title body : List ℕ) → Below title → Below body → 0 < length title
+    → IsTitle title (string_of kind (length body)) → title ≡ shortest_title (string_of kind (length body))
+    → IsPutOut kind body → IsKept (title ++ body)
+kept_titled kind title body below within some is short whole count left place offset fed out led =
     let header = string_of kind (length body) in
-    let short = one_shortest b header is in
+    let n = length title in
     let out1 = shortest_title header in
-    let at = bare left offset (offset + 1) in
+    let at = bare left offset (offset + n) in
     let new = body_due kind (length body) (putting out1 at) in
-    let long : 1 ≡ length out1 = ap length short in
-    let here : (offset + 1) - length out1 ≡ offset = omega (arith, long) in
+    let long : n ≡ length out1 = ap (length {A = ℕ}) short in
+    let here : (offset + n) - length out1 ≡ offset = omega (arith, long) in
     let there : new ≡ entered w.Nothing header at =
     sym (enters_string kind (length body) (putting out1 at)
     ∙ ap (λ (z : ℕ). body_due kind (length body) (record (putting out1 at) { place = z })) here) in
-    let put : (b ∷ []) ++ [] ≡ [] ++ new.put = short ∙ sym (body_put kind (length body) out1 left offset (offset + 1)) in
-    let gone = title_given count 1 (b ∷ []) header (bare left place offset) new fed out [] (b ∷ []) []
-    (first_below b body below) (omega arith) refl is refl refl refl refl there put
-    (rw (append-nil (out ++ []), append-nil out) led) in
-    string_on kind b body below whole count left offset fed out out1 (rw (append-nil (out ++ b ∷ [])) at gone)
+    let put : title ++ [] ≡ [] ++ new.put =
+    append-nil title ∙ (short ∙ sym (body_put kind (length body) out1 left offset (offset + n))) in
+    let gone = title_given count n title header (bare left place offset) new fed out [] title []
+    below some refl is refl refl refl refl there put (rw (append-nil (out ++ []), append-nil out) led) in
+    string_on kind title body within whole count left offset fed out out1 (rw (append-nil (out ++ title)) at gone)
+
+kept_string : (kind : StringKind) (b : ℕ) (body : List ℕ) → Below (b ∷ body)
+    → IsTitle (b ∷ []) (string_of kind (length body)) → IsPutOut kind body → IsKept (b ∷ body)
+kept_string kind b body below is whole =
+    kept_titled kind (b ∷ []) body (first_below b body below) (below_rest b body below) (omega arith) is
+    (one_shortest b (string_of kind (length body)) is) whole
 
 -- ---- the element of a first byte, by the number in the table
 
@@ -444,3 +454,49 @@ module _ (xs : List ℕ) (b : ℕ) (below : Below xs) (first : slice_index xs 0 
         λ e. absurd (omega (arith, e, at)),
         λ e low. rw (x, y, z, w) (some low),
       )
+
+-- ---- strings of 24 to 255 bytes
+
+two_below : (b n : ℕ) (xs : List ℕ) → Below (b ∷ n ∷ xs) → Below (b ∷ n ∷ [])
+two_below b n xs below zero less = below zero (omega arith)
+two_below b n xs below (suc zero) less = below (suc zero) (omega arith)
+two_below b n xs below (suc (suc i)) less = absurd (omega (arith, less))
+
+-- The title of a length of one byte is the shortest from 24 on.
+long_title : (b n : ℕ) (major : Major) → major_code major ≡ b / 32 → b % 32 ≡ 24 → n < 256
+    → numbered_title major One n ≡ b ∷ n ∷ []
+long_title b n major is at less =
+    let first : first_byte major 24 ≡ b = omega (arith, is, at) in
+    let same : n % 256 ≡ n = omega (arith, less) in
+    rw (first, same) refl
+
+long_kept : (kind : StringKind) (b n : ℕ) (xs : List ℕ) (major : Major) → Below (b ∷ n ∷ xs)
+    → major_code major ≡ b / 32 → b % 32 ≡ 24 → 24 ≤ n → n ≤ length xs
+    → numbered_header major One n ≡ string_of kind n → shortest_title (string_of kind n) ≡ numbered_title major (least_size n) n
+    → IsPutOut kind (take n xs) → IsKept (b ∷ n ∷ take n xs)
+long_kept kind b n xs major below is at least le header short whole =
+    let less : n < 256 = below 1 (omega arith) in
+    let long : length (take n xs) ≡ n = length-take-le n xs le in
+    let title = long_title b n major is at less in
+    let size : least_size n ≡ One = grind (arith, nat_tests) in
+    let is_title : IsTitle (b ∷ n ∷ []) (string_of kind n) = rw (title, header) at (numbered major One n less) in
+    let spelled : b ∷ n ∷ [] ≡ shortest_title (string_of kind n) = sym (short ∙ (rw size refl ∙ title)) in
+    kept_titled kind (b ∷ n ∷ []) (take n xs) (two_below b n xs below)
+    (below_take n xs le (below_rest n xs (below_rest b (n ∷ xs) below))) (omega arith) (rw long is_title)
+    (rw long spelled) whole
+
+-- A string whose length stands in one byte is kept, if its title is the shortest and a text's body is text.
+pub long_string : (xs : List ℕ) (b : ℕ) → Below xs → slice_index xs 0 ≡ b → (b / 32 ≡ 2) ⊎ (b / 32 ≡ 3)
+    → b % 32 ≡ 24 → 24 ≤ slice_index xs 1 → 2 + slice_index xs 1 ≤ length xs
+    → (b / 32 ≡ 3 → IsCharacters (take (slice_index xs 1) (drop 2 xs))) → IsKept (take (2 + slice_index xs 1) xs)
+long_string [] b below first kind at least le text = absurd (omega (arith, le))
+long_string (a ∷ []) b below first kind at least le text = absurd (omega (arith, le))
+long_string (a ∷ n ∷ xs) b below first kind at least le text =
+    let within : n ≤ length xs = omega (arith, le) in
+    let head : a % 32 ≡ 24 = omega (arith, first, at) in
+    let far : 2 + n ≡ suc (suc n) = omega arith in
+    rw far (elim kind [
+      | inl two ↦ long_kept k.Bytes a n xs ByteString below (omega (arith, first, two)) head least within refl refl tt
+      | inr three ↦ long_kept k.Text a n xs TextString below (omega (arith, first, three)) head least within refl refl
+          (text three)
+    ])

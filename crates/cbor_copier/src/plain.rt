@@ -1,6 +1,6 @@
 //! Elements that a copy keeps as they are, and whose bytes are all there.
 
-ghost use Rattle.std.specs.Prelude.{◌≡◌, ◌+◌, ◌-◌, ◌<◌, ◌≤◌, ◌⊎◌, List, [], drop, take, length, slice_index, false, true};
+ghost use Rattle.std.specs.Prelude.{◌≡◌, ◌+◌, ◌-◌, ◌/◌, ◌<◌, ◌≤◌, ◌⊎◌, List, [], drop, take, length, slice_index, false, true};
 ghost use Rattle.ciborium_ll_grammar.specs.Elements.{IsStrictRun, Mark};
 ghost use Rattle.ciborium_ll_text.specs.Text.{IsCharacters};
 ghost use Rattle.cbor_copier.specs.Plain.{AreKept, BeginsLonger, IsKept, IsLen, IsMeantAt};
@@ -86,8 +86,32 @@ fn stays_in_eight(first: u8, x: u8, y: u8, z: u8, w: u8) -> bool
     first >= 0xe0 || x > 0 || y > 0 || z > 0 || w > 0
 }
 
-/// Returns the length of the title at `at`, if it has an affix, begins no string, is the shortest of its header, and
-/// all of it is there. Otherwise it returns 0.
+/// Returns the length of the string at `at`, if its title has an affix of one byte and is the shortest, and all of the
+/// string is there. Otherwise it returns 0.
+#[inline(always)]
+fn string_len(bytes: &[u8], at: usize) -> usize
+    requires some { at < length bytes.now }
+    requires string { (slice_index bytes.now at / 32 ≡ 2) ⊎ (slice_index bytes.now at / 32 ≡ 3) }
+    ensures within { at + result ≤ length bytes.now }
+    ensures kept { 0 < result → IsKept (take result (drop at bytes.now)) }
+{
+    let first = bytes[at];
+    let left = bytes.len() - at;
+    if first % 32 != 24 || left < 2 || bytes[at + 1] < 24 {
+        return 0;
+    }
+    let len = 2 + usize::from(bytes[at + 1]);
+    if len > left {
+        return 0;
+    }
+    if first / 32 == 3 && !is_text(&bytes[at + 2..at + len]) {
+        return 0;
+    }
+    len
+}
+
+/// Returns the length of the title at `at`, if it has an affix, is the shortest of its header, and all of it is there.
+/// For a string it returns what [`string_len`] does. Otherwise it returns 0.
 #[inline(always)]
 fn title_len(bytes: &[u8], at: usize) -> usize
     requires some { at < length bytes.now }
@@ -98,7 +122,7 @@ fn title_len(bytes: &[u8], at: usize) -> usize
     let first = bytes[at];
     let left = bytes.len() - at;
     if first / 32 == 2 || first / 32 == 3 {
-        return 0;
+        return string_len(bytes, at);
     }
     match first % 32 {
         24 if left >= 2 && stays_in_one(first, bytes[at + 1]) => 2,
@@ -185,12 +209,20 @@ pub(crate) fn kept_run(bytes: &[u8], most: usize) -> Run
     }
 }
 
+/// The first bytes of a byte string and of a text whose length stands in one byte.
+const STRINGS: [u8; 2] = [0x58, 0x78];
+
 /// Returns whether [`kept_run`] may return an element, by the first title alone.
 #[inline(always)]
 fn may_begin(bytes: &[u8]) -> bool
     ensures { result ≡ false → 0 < length bytes.now → BeginsLonger (slice_index bytes.now 0) }
 {
-    !bytes.is_empty() && (len_of(bytes[0]) > 0 || title_len(bytes, 0) > 0)
+    if bytes.is_empty() {
+        return false;
+    }
+    let first = bytes[0];
+    let is_string = first == STRINGS[0] || first == STRINGS[1];
+    len_of(first) > 0 || is_string || title_len(bytes, 0) > 0
 }
 
 /// Elements in a row, each in its shortest spelling.
@@ -205,8 +237,8 @@ pub struct ShortestRun {
 /// Returns at most `most` elements at the start of `bytes`, each in its shortest spelling (RFC 7049, 3.9). They have no
 /// simple value from 24 to 31 (RFC 7049, 2.3).
 ///
-/// There may be more such elements: the run may end before a string, or before a title of more than one byte. Any other
-/// element of one byte belongs to it.
+/// There may be more such elements: the run may end before a string, or before a title of more than one byte. It never
+/// ends before another element of one byte.
 #[inline(always)]
 pub fn shortest_run(bytes: &[u8], most: usize) -> ShortestRun
     ensures within { result.len ≤ length bytes.now }
