@@ -1,0 +1,4 @@
+pub mod ParseLaws
+pub mod PushLaws
+pub mod TakenLaws
+pub mod TextEnds

@@ -1,0 +1,186 @@
+-- What a part of a piece makes of tokens.
+use Rattle.std.proofs.Common.{◌≡◌, ℕ, zero, suc, ◌+◌, ◌-◌, ◌<◌, Bool, List, [], ◌∷◌, ◌++◌, length, Some, None}
+use Rattle.std.proofs.Common.{refl, sym, ap, subst, ◌∙◌, arith, append-nil, append_assoc, length-append}
+use Rattle.ciborium_ll_grammar.specs.declared.hdr.Header.{Header}
+use Rattle.ciborium_ll_grammar.specs.declared.hdr.Header.TheVariants as h
+use Rattle.ciborium_ll_grammar.specs.Title.{IsCutTitle}
+use Rattle.ciborium_ll_text.specs.Text.{IsCharacters, IsStuck}
+use Rattle.ciborium_ll_text.proofs.FrontLaws.{IsStuck-nil}
+use Rattle.ciborium_ll_text.proofs.TextLaws.{IsCharacters-append, IsCharacters-nil}
+use Rattle.cbor_parser.specs.declared.event.Event.{Event}
+use Rattle.cbor_parser.specs.declared.event.Event.TheVariants as e
+use Rattle.cbor_parser.specs.declared.parser.Parser.{Parser}
+use Rattle.cbor_parser.specs.declared.phase.Within.{Within}
+use Rattle.cbor_parser.specs.declared.phase.Within.TheVariants as w
+use Rattle.cbor_parser.specs.Phases.{bytes_left, phase_after}
+use Rattle.cbor_parser.specs.Parsing.{AreTokens, AtFault, AtTitle, CanEnd, InBytes, InText, IsParsed, IsPart}
+use Rattle.cbor_parser.specs.Parsing.{IsTitleIn, Point, Token, at_title, bytes, in_body, left_of, more, no_text}
+use Rattle.cbor_parser.specs.Parsing.{no_title, none, point_at, point_of, text, token}
+use Rattle.cbor_parser.specs.Pushing.{Enters, Tells, grown, text_point}
+use Rattle.cbor_parser.proofs.TextEnds.{any_end}
+
+-- Nothing was pushed.
+pub nothing : (strict : Bool) (front : List ℕ) → front ≡ [] → IsParsed strict [] [] (AtTitle w.Nothing front)
+nothing strict front e =
+    subst (λ (f : List ℕ). IsParsed strict [] [] (AtTitle w.Nothing f)) (sym e) (at_title none tt refl)
+
+-- Three lists and more of the last one.
+joined : (b d t y part : List ℕ) → b ≡ d ++ (t ++ y) → b ++ part ≡ d ++ (t ++ (y ++ part))
+joined b d t y part is =
+    ap (λ (z : List ℕ). z ++ part) is ∙ (append_assoc d (t ++ y) part ∙ ap (λ (z : List ℕ). d ++ z) (append_assoc t y part))
+
+-- ---- titles
+
+-- Within a body, no title is due.
+not_title : (within : Within) (place : ℕ) (header : Header) (part body : List ℕ) (point : Point) (other : Within)
+    (title : List ℕ) → IsPart within place header part body point → point ≡ AtTitle other title → ⊥
+not_title within place header part body point other title (bytes long due) e = cc e
+not_title within place header part body point other title (text chars stuck can long due) e = cc e
+not_title within place header part body point other title (no_text chars stuck can long) e = cc e
+
+-- A part of a title.
+pub title_on : (strict : Bool) (b : List ℕ) (tokens : List Token) (within : Within) (title part : List ℕ)
+    → IsParsed strict b tokens (AtTitle within title) → IsCutTitle (title ++ part)
+    → IsParsed strict (b ++ part) tokens (AtTitle within (title ++ part))
+title_on strict b tokens within title part (at_title {done = d} are cut is) goes =
+    at_title are goes (ap (λ (z : List ℕ). z ++ part) is ∙ append_assoc d title part)
+title_on strict b tokens within title part (in_body are title' part' is) goes =
+    absurd (not_title _ _ _ _ _ _ within title part' refl)
+
+-- A whole title, from `start` to `end`.
+entered : (strict : Bool) (b d t : List ℕ) (tokens : List Token) (before after : Within) (start end : ℕ) (header : Header)
+    → AreTokens strict d tokens before → IsTitleIn strict before t header after → b ≡ d ++ t → start ≡ length d
+    → end ≡ length (d ++ t)
+    → IsParsed strict b (token header [] ∷ tokens) (point_at (phase_after before start end header) after [])
+entered strict b d t tokens before after start end (h.Bytes (Some (suc len))) are is_title is from to =
+    in_body are is_title (bytes {len = suc len} {body = []} (omega arith) (omega arith)) (is ∙ ap (λ (z : List ℕ). d ++ z) (sym (append-nil t)))
+entered strict b d t tokens before after start end (h.Text (Some (suc len))) are is_title is from to =
+    rw (from, to)
+    (in_body are is_title (text {len = suc len} {body = []} {carried = []} IsCharacters-nil IsStuck-nil (any_end (suc len)) (omega arith) (omega arith))
+    (is ∙ ap (λ (z : List ℕ). d ++ z) (sym (append-nil t))))
+entered strict b d t tokens before after start end (h.Text (Some zero)) are is_title is from to =
+    at_title (more {body = []} are is_title refl IsCharacters-nil) tt
+    (is ∙ (ap (λ (z : List ℕ). d ++ z) (sym (append-nil t)) ∙ sym (append-nil (d ++ (t ++ [])))))
+entered strict b d t tokens before after start end (h.Text None) are is_title is from to =
+    at_title (more {body = []} are is_title refl IsCharacters-nil) tt
+    (is ∙ (ap (λ (z : List ℕ). d ++ z) (sym (append-nil t)) ∙ sym (append-nil (d ++ (t ++ [])))))
+entered strict b d t tokens before after start end header are is_title is from to =
+    at_title (more {body = []} are is_title refl tt) tt
+    (is ∙ (ap (λ (z : List ℕ). d ++ z) (sym (append-nil t)) ∙ sym (append-nil (d ++ (t ++ [])))))
+
+-- What an event says of a whole title.
+pub title_tells : (strict : Bool) (b part all : List ℕ) (tokens : List Token) (within : Within) (front title : List ℕ)
+    (start end : ℕ) (event : Event) (new : Parser) → IsParsed strict b tokens (AtTitle within front)
+    → title ≡ front ++ part → start ≡ length b - length front → end ≡ length b + length part
+    → Enters strict within title start end event (point_of new) → new.strict ≡ strict → new.offset ≡ end
+    → Tells strict b tokens part all event new
+title_tells strict b part all tokens within front title start end (e.Header header offset)
+    new (at_title {done = d} are cut is) e from to (after, is_title, place, point) spelling counted =
+    let whole : b ++ part ≡ d ++ title =
+    ap (λ (z : List ℕ). z ++ part) is ∙ (append_assoc d front part ∙ ap (λ (z : List ℕ). d ++ z) (sym e)) in
+    let long = ap length is ∙ length-append d front in
+    let at : start ≡ length d = omega (arith, from, long) in
+    let ends : end ≡ length (d ++ title) = to ∙ (sym (length-append b part) ∙ ap length whole) in (
+      record {
+        parsed = subst (λ (q : Point). IsParsed strict (b ++ part) (token header [] ∷ tokens) q) (sym point)
+            (entered strict (b ++ part) d title tokens within after start end header are is_title whole at ends);
+        spelling = spelling;
+        offset = counted ∙ (to ∙ sym (length-append b part));
+      },
+      record { done = d; title = title; is_title = is_title.is_title; whole = whole; place = place ∙ at },
+    )
+title_tells strict b part all tokens within front title start end (e.Fault place)
+    new (at_title {done = d} are cut is) e from to (bad, same, point) spelling counted =
+    let whole : b ++ part ≡ d ++ title =
+    ap (λ (z : List ℕ). z ++ part) is ∙ (append_assoc d front part ∙ ap (λ (z : List ℕ). d ++ z) (sym e)) in
+    let long = ap length is ∙ length-append d front in
+    let at : start ≡ length d = omega (arith, from, long) in (
+      record {
+        parsed = subst (λ (q : Point). IsParsed strict (b ++ part) tokens q) (sym (point ∙ ap AtFault at))
+            (no_title are bad whole);
+        spelling = spelling;
+        offset = counted ∙ (to ∙ sym (length-append b part));
+      },
+      point ∙ ap AtFault (sym same),
+    )
+title_tells strict b part all tokens within front title start end (e.Need due) new (at_title are cut is) e from to enters
+    spelling counted = elim enters [ ]
+title_tells strict b part all tokens within front title start end (e.Body left) new (at_title are cut is) e from to enters
+    spelling counted = elim enters [ ]
+title_tells strict b part all tokens within front title start end (e.Text carried left) new (at_title are cut is) e from to
+    enters spelling counted = elim enters [ ]
+title_tells strict b part all tokens within front title start end e.TooLong new (at_title are cut is) e from to enters
+    spelling counted = elim enters [ ]
+title_tells strict b part all tokens within front title start end event new (in_body are title' part' is) e from to enters
+    spelling counted = absurd (not_title _ _ _ _ _ _ within front part' refl)
+
+-- ---- bodies
+
+-- A part of a body of a byte string.
+pub bytes_on : (strict : Bool) (b : List ℕ) (tokens : List Token) (within : Within) (left : ℕ)
+    → IsParsed strict b tokens (InBytes within left) → (part : List ℕ) (rest : ℕ) → length part + rest ≡ left
+    → IsParsed strict (b ++ part) (grown tokens part) (point_at (bytes_left rest) within [])
+bytes_on strict b tokens within left (in_body {done = d} {title = t} are is_title (bytes {body = y} long due) is) part zero e =
+    at_title (more are is_title (omega (arith, long, e, length-append y part)) tt) tt
+    (joined b d t y part is ∙ sym (append-nil (d ++ (t ++ (y ++ part)))))
+bytes_on strict b tokens within left (in_body {done = d} {title = t} are is_title (bytes {body = y} long due) is) part (suc rest) e =
+    in_body are is_title (bytes (omega (arith, long, e, length-append y part)) (omega arith)) (joined b d t y part is)
+
+-- What the body lacks.
+pub bytes_lack : (rest : ℕ) (within : Within) → rest ≡ left_of (point_at (bytes_left rest) within [])
+bytes_lack zero within = refl
+bytes_lack (suc rest) within = refl
+
+pub text_lacks : (rest place : ℕ) (within : Within) → rest ≡ left_of (text_point within rest place)
+text_lacks zero place within = refl
+text_lacks (suc rest) place within = refl
+
+-- A part of a text.
+pub text_on : (strict : Bool) (b : List ℕ) (tokens : List Token) (within : Within) (carried : List ℕ) (left place : ℕ)
+    → IsParsed strict b tokens (InText within carried left place) → (part : List ℕ) (rest : ℕ) → length part + rest ≡ left
+    → IsCharacters (carried ++ part)
+    → IsParsed strict (b ++ part) (grown tokens (carried ++ part)) (text_point within rest place)
+text_on strict b tokens within carried left place
+    (in_body {done = d} {title = t} {tokens = ts} are is_title (text {len = len} {body = y} chars stuck can long due) is) part rest e whole =
+    by_rest rest refl
+  where
+    all : b ++ part ≡ d ++ (t ++ (y ++ (carried ++ part)))
+    all = joined b d t (y ++ carried) part is ∙ ap (λ (z : List ℕ). d ++ (t ++ z)) (append_assoc y carried part)
+
+    body : IsCharacters (y ++ (carried ++ part))
+    body = IsCharacters-append y (carried ++ part) chars whole
+
+    counted : length (y ++ (carried ++ part)) + rest ≡ len
+    counted = omega (arith, long, e, length-append y (carried ++ part), length-append carried part)
+
+    by_rest : (n : ℕ) → n ≡ rest
+        → IsParsed strict (b ++ part) (token (h.Text (Some len)) (y ++ (carried ++ part)) ∷ ts) (text_point within n place)
+    by_rest zero same =
+        at_title (more are is_title (omega (arith, counted, same)) body) tt
+        (all ∙ sym (append-nil (d ++ (t ++ (y ++ (carried ++ part))))))
+    by_rest (suc n) same =
+        in_body are is_title
+        (text {len = len} {carried = []} body IsStuck-nil (any_end (suc n)) (omega (arith, counted, same)) (omega arith))
+        (all ∙ ap (λ (z : List ℕ). d ++ (t ++ z)) (sym (append-nil (y ++ (carried ++ part)))))
+
+-- More of a character that is cut.
+pub text_cut : (strict : Bool) (b : List ℕ) (tokens : List Token) (within : Within) (carried : List ℕ) (left place : ℕ)
+    → IsParsed strict b tokens (InText within carried left place) → (part : List ℕ) (rest : ℕ) → length part + rest ≡ left
+    → IsStuck (carried ++ part) → CanEnd (carried ++ part) rest → 0 < rest
+    → IsParsed strict (b ++ part) tokens (InText within (carried ++ part) rest place)
+text_cut strict b tokens within carried left place
+    (in_body {done = d} {title = t} are is_title (text {body = y} chars stuck can long due) is) part rest e held goes some =
+    in_body are is_title
+    (text chars held goes (omega (arith, long, e, length-append carried part)) some)
+    (joined b d t (y ++ carried) part is ∙ ap (λ (z : List ℕ). d ++ (t ++ z)) (append_assoc y carried part))
+
+-- Bytes with which no text goes on.
+pub text_fault : (strict : Bool) (b : List ℕ) (tokens : List Token) (within : Within) (carried : List ℕ) (left place : ℕ)
+    → IsParsed strict b tokens (InText within carried left place) → (part : List ℕ) (rest : ℕ) → length part + rest ≡ left
+    → IsStuck (carried ++ part) → (CanEnd (carried ++ part) rest → ⊥)
+    → IsParsed strict (b ++ part) tokens (AtFault place)
+text_fault strict b tokens within carried left place
+    (in_body {done = d} {title = t} are is_title (text {body = y} chars stuck can long due) is) part rest e held stops =
+    in_body are is_title
+    (no_text chars held stops (omega (arith, long, e, length-append carried part)))
+    (joined b d t (y ++ carried) part is ∙ ap (λ (z : List ℕ). d ++ (t ++ z)) (append_assoc y carried part))

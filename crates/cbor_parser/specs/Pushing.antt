@@ -1,0 +1,76 @@
+-- What was pushed to a parser, and what an answer says of it.
+use Rattle.std.specs.Prelude.{◌≡◌, ℕ, ◌+◌, ◌≤◌, ◌^◌, Bool, List, [], ◌∷◌, ◌++◌, length, take}
+use Rattle.ciborium_ll_grammar.specs.declared.hdr.Header.{Header}
+use Rattle.ciborium_ll_grammar.specs.Title.{IsTitle}
+use Rattle.ciborium_ll_text.specs.Text.{IsCharacters}
+use Rattle.cbor_parser.specs.declared.event.Event.{Event}
+use Rattle.cbor_parser.specs.declared.event.Event.TheVariants as e
+use Rattle.cbor_parser.specs.declared.event.Pushed.{Pushed}
+use Rattle.cbor_parser.specs.declared.parser.Parser.{Parser}
+use Rattle.cbor_parser.specs.declared.phase.Within.{Within}
+use Rattle.cbor_parser.specs.Phases.{phase_after, text_left}
+use Rattle.cbor_parser.specs.Parsing.{AtFault, IsNoTitleIn, IsParsed, IsTitleIn, Point, Token, due_of, left_of}
+use Rattle.cbor_parser.specs.Parsing.{point_at, point_of, token}
+
+-- These bytes were pushed to the parser and taken, and the events named these tokens, the last one first (RFC 7049, 2.1
+-- to 2.4). If `strict`, only the shortest spelling is taken (3.9).
+pub record HasPushed (strict : Bool) (bytes : List ℕ) (tokens : List Token) (parser : Parser) : Type 0 where
+  pub parsed : IsParsed strict bytes tokens (point_of parser)
+  pub spelling : parser.strict ≡ strict
+  pub offset : parser.offset ≡ length bytes
+
+-- More of the last body: with the part `06`, the body `05` of the last token becomes `05 06`.
+abbrev pub grown : List Token → List ℕ → List Token
+grown [] part = []
+grown (last ∷ tokens) part = record last { body = last.body ++ part } ∷ tokens
+
+-- The bytes end with a title of this header, which begins at the offset. `82 19 01 00` ends with a title at 1.
+pub record EndsWithTitle (bytes : List ℕ) (header : Header) (offset : ℕ) : Type 0 where
+  pub done : List ℕ
+  pub title : List ℕ
+  pub is_title : IsTitle title header
+  pub whole : bytes ≡ done ++ title
+  pub place : offset ≡ length done
+
+-- `Tells strict before tokens part all event new`: what an event says, if these bytes and tokens came before, the part
+-- of the piece was taken, and `all` are the bytes of the piece. After `42 05`, the piece `06 82` has the event `Body(0)`
+-- with the part `06`.
+abbrev pub Tells : Bool → List ℕ → List Token → List ℕ → List ℕ → Event → Parser → Type 0
+Tells strict before tokens part all (e.Need due) new =
+    (part ≡ all) × HasPushed strict (before ++ part) tokens new × (due ≡ due_of (point_of new))
+Tells strict before tokens part all (e.Header header offset) new =
+    HasPushed strict (before ++ part) (token header [] ∷ tokens) new × EndsWithTitle (before ++ part) header offset
+Tells strict before tokens part all (e.Body left) new =
+    HasPushed strict (before ++ part) (grown tokens part) new × (left ≡ left_of (point_of new))
+Tells strict before tokens part all (e.Text carried left) new =
+    HasPushed strict (before ++ part) (grown tokens (carried ++ part)) new × IsCharacters (carried ++ part)
+    × (left ≡ left_of (point_of new))
+Tells strict before tokens part all (e.Fault place) new =
+    HasPushed strict (before ++ part) tokens new × (point_of new ≡ AtFault place)
+Tells strict before tokens part all e.TooLong new =
+    HasPushed strict before tokens new × (part ≡ []) × (2 ^ 64 ≤ length before + length all)
+
+-- The event takes no byte of a piece: a fault, or a piece that is too long. `Need` takes all.
+abbrev pub Stops : Event → Type 0
+Stops (e.Fault place) = Unit {0}
+Stops e.TooLong = Unit {0}
+Stops event = ⊥
+
+-- What an answer says of a piece, if these bytes and tokens came before: `Tells` of the bytes that were taken.
+abbrev pub Pushes : Bool → List ℕ → List Token → List ℕ → Pushed → Parser → Type 0
+Pushes strict before tokens piece pushed new =
+    Tells strict before tokens (take pushed.taken piece) piece pushed.event new
+
+-- The point after a part of a text, with this many bytes left: `InText` with none of a character, or a title is due.
+abbrev pub text_point : Within → ℕ → ℕ → Point
+text_point within left place = point_at (text_left left place) within []
+
+-- `Enters strict before title start end event point`: what an event says of a whole title from `start` to `end` within
+-- the strings `before`, and the point that it leads to. A fault has the place `start`. The title `42` leads to a body.
+abbrev pub Enters : Bool → Within → List ℕ → ℕ → ℕ → Event → Point → Type 0
+Enters strict before title start end (e.Header header offset) point =
+    (after : Within) × IsTitleIn strict before title header after × (offset ≡ start)
+    × (point ≡ point_at (phase_after before start end header) after [])
+Enters strict before title start end (e.Fault place) point =
+    IsNoTitleIn strict before title × (place ≡ start) × (point ≡ AtFault start)
+Enters strict before title start end event point = ⊥
