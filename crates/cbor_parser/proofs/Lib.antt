@@ -1,3 +1,4 @@
+pub mod OneParse
 pub mod ParseLaws
 pub mod PushLaws
 pub mod TakenLaws

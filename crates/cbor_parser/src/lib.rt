@@ -5,6 +5,7 @@
 #![tactic(auto)]
 
 mod event;
+pub mod laws;
 mod parser;
 mod phase;
 mod title;
