@@ -184,3 +184,10 @@ text_fault strict b tokens within carried left place
     in_body are is_title
     (no_text chars held stops (omega (arith, long, e, length-append carried part)))
     (joined b d t (y ++ carried) part is ∙ ap (λ (z : List ℕ). d ++ (t ++ z)) (append_assoc y carried part))
+
+-- If nothing is under way, the bytes are whole tokens.
+pub whole_tokens : (strict : Bool) (b : List ℕ) (tokens : List Token) (within : Within)
+    → IsParsed strict b tokens (AtTitle within []) → AreTokens strict b tokens within
+whole_tokens strict b tokens within (at_title {done = d} are cut is) =
+    subst (λ (x : List ℕ). AreTokens strict x tokens within) (sym (is ∙ append-nil d)) are
+whole_tokens strict b tokens within (in_body are title part is) = absurd (not_title _ _ _ _ _ _ within [] part refl)

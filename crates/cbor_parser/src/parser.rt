@@ -34,10 +34,11 @@ pub struct Parser {
 
 impl Parser {
     ghost use Rattle.std.specs.Prelude.{◌<◌, ◌+◌, ◌-◌, ◌%◌, ◌++◌, ◌⊎◌, Bool, ℕ, List, [], slice_index, take, false};
-    ghost use Rattle.cbor_parser.specs.Parsing.{AreTokens, AtFault, AtTitle, InBytes, InText, Token, due_of, point_of};
+    ghost use Rattle.cbor_parser.specs.Parsing.{AreTokens, AtFault, AtTitle, Token, due_of, point_of};
     ghost use Rattle.cbor_parser.specs.Pushing.{Enters, HasPushed, Pushes, Stops, text_point};
     ghost use Rattle.cbor_parser.specs.declared.event.Event.TheVariants as e;
     ghost use Rattle.cbor_parser.specs.declared.phase.Phase.TheVariants as p;
+    ghost use Rattle.cbor_parser.specs.declared.phase.Within.TheVariants as w;
     ghost use Rattle.ciborium_ll_grammar.specs.Spellings.{is_shortest};
     ghost use Rattle.ciborium_ll_grammar.specs.Title.{affix_len};
 
@@ -94,6 +95,21 @@ impl Parser {
             }
             Phase::Bytes(left) | Phase::Text(left, _) => left,
             Phase::Faulted(_) => 0,
+        }
+    }
+
+    /// Returns whether the bytes may end here: no title, no body and no string of indefinite length is under way.
+    ///
+    /// The call does not ask if an array or a map goes on.
+    pub fn is_between(&self) -> bool
+        ensures yes { result ≡ true → point_of self.now ≡ AtTitle w.Nothing [] }
+        ensures no { point_of self.now ≡ AtTitle w.Nothing [] → result ≡ true }
+        ensures whole { (strict : Bool) (before : List ℕ) (tokens : List Token) → result ≡ true
+            → HasPushed strict before tokens self.now → AreTokens strict before tokens w.Nothing }
+    {
+        match (self.phase, self.within) {
+            (Phase::Title, Within::Nothing) => self.front.len() == 0,
+            _ => false,
         }
     }
 
@@ -167,7 +183,8 @@ impl Parser {
         requires phase { self.now.phase ≡ p.Title }
         requires some { 0 < length bytes.now }
         ensures some { 0 < result }
-        ensures long { length self.now.front + result ≡ 1 + affix_len (slice_index (self.now.front ++ bytes.now) 0 % 32) }
+        ensures long { length self.now.front + result
+            ≡ 1 + affix_len (slice_index (self.now.front ++ bytes.now) 0 % 32) }
     {
         let front = self.front.bytes();
         if front.is_empty() {
@@ -182,7 +199,8 @@ impl Parser {
         requires fresh { self.old.front ≡ [] }
         requires long { length title.now ≡ 1 + affix_len (slice_index title.now 0 % 32) }
         requires counted { open_count self.old.within < self.old.offset }
-        ensures entered { Enters self.old.strict self.old.within title.now start self.old.offset result (point_of self.new) }
+        ensures entered { Enters self.old.strict self.old.within title.now start self.old.offset result
+            (point_of self.new) }
         ensures strict { self.new.strict ≡ self.old.strict }
         ensures offset { self.new.offset ≡ self.old.offset }
     {
