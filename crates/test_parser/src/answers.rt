@@ -1,0 +1,88 @@
+// The answers to single pieces.
+
+use crate::shared::{MOST, add_bytes, decoded, holds};
+use cbor_parser::{Event, Parser};
+use std::alloc::{AllocError, Global};
+
+// Pieces, one after another, with how many bytes were taken and the event. A piece has more bytes than are taken, if the
+// next piece begins with them.
+static STEPS: [(&str, &str); 15] = [
+    ("", "0 need 1"),
+    ("821901", "1 header Array(Some(2)) at 0"),
+    ("1901", "2 need 1"),
+    ("", "0 need 1"),
+    ("0063", "1 header Positive(256) at 1"),
+    ("6361c3", "1 header Text(Some(3)) at 4"),
+    ("61c3", "1 text , left 2"),
+    ("c3", "1 need 1"),
+    ("a405", "1 text c3, left 0"),
+    ("440102", "1 header Bytes(Some(4)) at 8"),
+    ("0102", "2 body, left 2"),
+    ("030405", "2 body, left 0"),
+    ("1d00", "1 fault 13"),
+    ("00", "0 fault 13"),
+    ("", "0 fault 13"),
+];
+
+// The answer to a piece, as a line.
+fn answer(alloc: Global, parser: &mut Parser, bytes: &[u8]) -> Result<String, AllocError> {
+    let mut text = String::new(alloc);
+    let pushed = parser.push(bytes);
+    let taken = pushed.taken;
+    match pushed.event {
+        Event::Need(due) => write!(&mut text, "{taken} need {due}")?,
+        Event::Header { header, offset } => {
+            write!(&mut text, "{taken} header {header:?} at {offset}")?
+        }
+        Event::Body { left } => write!(&mut text, "{taken} body, left {left}")?,
+        Event::Text { carried, left } => {
+            write!(&mut text, "{taken} text ")?;
+            add_bytes(&mut text, carried.bytes())?;
+            write!(&mut text, ", left {left}")?
+        }
+        Event::Fault(place) => write!(&mut text, "{taken} fault {place}")?,
+        Event::TooLong => write!(&mut text, "{taken} too long")?,
+    }
+    Ok(text)
+}
+
+// Whether the answer to a piece is this one.
+fn is_answer(alloc: Global, parser: &mut Parser, digits: &str, want: &str) -> bool {
+    let mut space = [0; MOST];
+    let Some(bytes) = decoded(digits, &mut space) else {
+        return false;
+    };
+    match answer(alloc, parser, bytes) {
+        Ok(text) => text.as_str() == want,
+        Err(_) => false,
+    }
+}
+
+#[test]
+fn pieces(rt: HostRuntime) {
+    let mut parser = Parser::new();
+    for &(digits, want) in &STEPS {
+        holds(&rt, is_answer(rt.alloc(), &mut parser, digits, want), want);
+    }
+    holds(&rt, parser.offset() == 14, "fourteen bytes");
+    holds(&rt, parser.due() == 0, "nothing is due after a fault");
+    holds(&rt, !parser.is_between(), "a fault is no end");
+}
+
+#[test]
+fn questions(rt: HostRuntime) {
+    let mut parser = Parser::strict();
+    holds(&rt, parser.offset() == 0 && parser.due() == 1, "no byte");
+    holds(&rt, parser.is_between(), "no byte is an end");
+    holds(
+        &rt,
+        is_answer(rt.alloc(), &mut parser, "1b00", "2 need 7"),
+        "a title",
+    );
+    holds(
+        &rt,
+        parser.offset() == 2 && parser.due() == 7,
+        "seven bytes are due",
+    );
+    holds(&rt, !parser.is_between(), "a title goes on");
+}
