@@ -54,7 +54,7 @@ to_tail strict d ts v (more {before = c} {title = t} {body = y} {header = x} {to
     omega (arith, length-append c (t ++ y), length-append t y) in
     rw (append_assoc c (t ++ y) rest)
     (to_tail strict c vs u are ((t ++ y) ++ rest) _ q
-      (whole is long body (subst (λ (k : ℕ). Tail strict v k rest us q) n tail) (append_assoc t y rest)))
+    (whole is long body (subst (λ (k : ℕ). Tail strict v k rest us q) n tail) (append_assoc t y rest)))
 
 parsed_tail : (strict : Bool) (b : List ℕ) (ts : List Token) (q : Point) → IsParsed strict b ts q
     → Tail strict w.Nothing 0 b (behind ts []) q
@@ -65,7 +65,7 @@ parsed_tail strict b ts q (no_title {done = d} {title = t} {tokens = us} {within
     rw is (to_tail strict d us v are t [] (AtFault (length d)) (bad refused))
 parsed_tail strict b ts q (in_body {done = d} {title = t} {part = y} {body = z} {header = x} {tokens = us} {before = v} {within = u} are title piece is) =
     rw is (to_tail strict d us v are (t ++ y) (token x z ∷ []) q
-      (part title (subst (λ (k : ℕ). IsPart u (text_place v (length d) k x) x y z q) (length-append d t) piece) refl))
+    (part title (subst (λ (k : ℕ). IsPart u (text_place v (length d) k x) x y z q) (length-append d t) piece) refl))
 
 -- ---- one body
 

@@ -1,3 +1,4 @@
 pub mod Parsing
 pub mod Phases
 pub mod Pushing
+pub mod Saving

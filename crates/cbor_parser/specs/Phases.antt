@@ -49,7 +49,7 @@ within_text strict more (h.Text None) = deeper strict (w.Text (suc more))
 within_text strict more h.Break = Some (closed_text more)
 within_text strict more header = None
 
--- The strings that are open after a title of this header where none is open: `5f` and `7f` open one.
+-- The strings that are open after a title of this header, if none is open before it. `5f` and `7f` open one.
 abbrev pub opened : Header → Within
 opened (h.Bytes None) = w.Bytes 0
 opened (h.Text None) = w.Text 0

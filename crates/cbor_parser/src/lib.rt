@@ -8,7 +8,9 @@ mod event;
 pub mod laws;
 mod parser;
 mod phase;
+mod saved;
 mod title;
 
 pub use self::event::{Event, Pushed};
 pub use self::parser::Parser;
+pub use self::saved::Saved;

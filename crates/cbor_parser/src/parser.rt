@@ -6,9 +6,11 @@ ghost use Rattle.cbor_parser.specs.Phases.{carried_of, has_left, most_front, ope
 
 use crate::event::{Event, Pushed};
 use crate::phase::{Phase, Within};
+use crate::saved::{Saved, is_state, strict_of};
 use crate::title::{add, taken_header};
 use ciborium_ll_grammar::few::Few;
 use ciborium_ll_grammar::hdr::table::row_of;
+use ciborium_ll_grammar::limits::LONGEST_TITLE;
 use ciborium_ll_grammar::spelling::Spelling;
 use ciborium_ll_text::state::{State, text_front};
 
@@ -33,9 +35,10 @@ pub struct Parser {
 }
 
 impl Parser {
-    ghost use Rattle.std.specs.Prelude.{◌<◌, ◌+◌, ◌-◌, ◌%◌, ◌++◌, ◌⊎◌, Bool, ℕ, List, [], slice_index, take, false};
+    ghost use Rattle.std.specs.Prelude.{◌<◌, ◌+◌, ◌-◌, ◌%◌, ◌++◌, ◌⊎◌, Bool, ℕ, List, [], IfSome, IfNone, IsSomeAnd, slice_index, take, false};
     ghost use Rattle.cbor_parser.specs.Parsing.{AreTokens, AtFault, AtTitle, Token, due_of, point_of};
     ghost use Rattle.cbor_parser.specs.Pushing.{Enters, HasPushed, Pushes, Stops, text_point};
+    ghost use Rattle.cbor_parser.specs.Saving.{Holds, Keeps};
     ghost use Rattle.cbor_parser.specs.declared.event.Event.TheVariants as e;
     ghost use Rattle.cbor_parser.specs.declared.phase.Phase.TheVariants as p;
     ghost use Rattle.cbor_parser.specs.declared.phase.Within.TheVariants as w;
@@ -147,6 +150,56 @@ impl Parser {
             Phase::Text(left, place) => self.push_text(left, place, bytes),
             Phase::Faulted(_) => unreachable!(),
         }
+    }
+
+    /// Returns the parser as plain numbers.
+    pub fn save(&self) -> Saved
+        ensures holds { Holds result self.now }
+        ensures keeps { (strict : Bool) (before : List ℕ) (tokens : List Token)
+            → HasPushed strict before tokens self.now → Keeps strict before tokens result }
+    {
+        let (phase, number, place) = self.phase.numbers();
+        let (strings, more) = self.within.numbers();
+        let (kept, kept_len) = self.front.save();
+        Saved {
+            offset: self.offset as u64,
+            number: number as u64,
+            place: place as u64,
+            more: more as u64,
+            kept,
+            kept_len: kept_len as u8,
+            phase,
+            strings,
+            strict: u8::from(self.strict),
+        }
+    }
+
+    /// Returns the parser that these numbers hold, or `None` if they are the numbers of no parser.
+    pub fn restore(saved: Saved) -> Option<Parser>
+        ensures kept { (strict : Bool) (before : List ℕ) (tokens : List Token) → Keeps strict before tokens saved
+            → IsSomeAnd result (HasPushed strict before tokens) }
+        ensures some { IfSome result (Holds saved) }
+        ensures none { IfNone result ((parser : Parser) → Holds saved parser → ⊥) }
+    {
+        let phase = Phase::of(saved.phase, saved.number as usize, saved.place as usize)?;
+        let within = Within::of(saved.strings, saved.more as usize)?;
+        let strict = strict_of(saved.strict)?;
+        let len = usize::from(saved.kept_len);
+        if len > LONGEST_TITLE {
+            return None;
+        }
+        let front = Few::restore(&saved.kept, len);
+        let offset = saved.offset as usize;
+        if !is_state(phase, &front, within, offset) {
+            return None;
+        }
+        Some(Parser {
+            strict,
+            phase,
+            front,
+            within,
+            offset,
+        })
     }
 
     /// Takes bytes of a title from a piece that is not empty.

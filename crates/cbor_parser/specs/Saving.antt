@@ -1,0 +1,59 @@
+-- A parser as plain numbers, which a caller keeps in its own memory.
+use Rattle.std.specs.Prelude.{◌≡◌, ◌==◌, ◌≤◌, ℕ, Bool, true, false, List, Option, Some, None, if◌then◌else◌, length, take}
+use Rattle.ciborium_ll_grammar.specs.declared.limits.TheConstants.{LONGEST_TITLE}
+use Rattle.ciborium_ll_text.specs.Text.{IsStuck}
+use Rattle.cbor_parser.specs.declared.parser.Parser.{Parser}
+use Rattle.cbor_parser.specs.declared.phase.Phase.{Phase}
+use Rattle.cbor_parser.specs.declared.phase.Phase.TheVariants as p
+use Rattle.cbor_parser.specs.declared.phase.Within.{Within}
+use Rattle.cbor_parser.specs.declared.phase.Within.TheVariants as w
+use Rattle.cbor_parser.specs.declared.saved.Saved.{Saved}
+use Rattle.cbor_parser.specs.Phases.{carried_of, has_left, most_front, open_count}
+use Rattle.cbor_parser.specs.Parsing.{Token}
+use Rattle.cbor_parser.specs.Pushing.{HasPushed}
+
+-- The phase with these numbers. `number` counts the bytes due of a body, or is the place of a fault. Kind 2 with the
+-- number 7 is seven bytes of a byte string, and 4 with 7 is a fault at 7. 0 is no kind.
+abbrev pub phase_in : ℕ → ℕ → ℕ → Option Phase
+phase_in kind number place =
+    if kind == 1 then Some p.Title else
+    (if kind == 2 then Some (p.Bytes number) else
+    (if kind == 3 then Some (p.Text number place) else
+    (if kind == 4 then Some (p.Faulted number) else None)))
+
+-- Whether only the shortest spelling is taken, by a number: 0 is no, 1 is yes, and 2 is neither.
+abbrev pub strict_in : ℕ → Option Bool
+strict_in number = if number == 0 then Some false else (if number == 1 then Some true else None)
+
+-- The strings that are open, by the number of their kind and how many there are within the first. Kind 1 with the
+-- number 1 is two open byte strings, as after `5f 5f`.
+abbrev pub within_in : ℕ → ℕ → Option Within
+within_in kind more =
+    if kind == 0 then Some w.Nothing else
+    (if kind == 1 then Some (w.Bytes more) else
+    (if kind == 2 then Some (w.Text more) else None))
+
+-- A parser can have this phase, these bytes of a title or of a character, these open strings and this offset. So it is
+-- with a title that is due, `19 01`, no string and 2, and not with `19 01 00`.
+pub record IsState (phase : Phase) (front : List ℕ) (within : Within) (offset : ℕ) : Type 0 where
+  pub left : has_left phase ≡ true
+  pub fits : length front ≤ most_front phase front
+  pub stuck : IsStuck (carried_of phase front)
+  pub counted : open_count within ≤ offset
+
+-- The plain numbers are those of this parser. After `42 05` they are, among others, the phase 2 with the number 1, and
+-- the offset 2.
+pub record Holds (saved : Saved) (parser : Parser) : Type 0 where
+  pub phase : phase_in saved.phase saved.number saved.place ≡ Some parser.phase
+  pub strict : strict_in saved.strict ≡ Some parser.strict
+  pub kept : take saved.kept_len saved.kept ≡ parser.front
+  pub few : saved.kept_len ≤ LONGEST_TITLE
+  pub within : within_in saved.strings saved.more ≡ Some parser.within
+  pub offset : saved.offset ≡ parser.offset
+
+-- The plain numbers are those of a parser to which these bytes were pushed, and which found these tokens (RFC 7049, 2.1
+-- to 2.4). Numbers that a parser saved after `82 19` keep `82 19` and the token `Array(Some(2))`.
+pub record Keeps (strict : Bool) (bytes : List ℕ) (tokens : List Token) (saved : Saved) : Type 0 where
+  pub parser : Parser
+  pub holds : Holds saved parser
+  pub pushed : HasPushed strict bytes tokens parser

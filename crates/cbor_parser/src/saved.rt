@@ -1,0 +1,166 @@
+//! A parser as plain numbers.
+
+ghost use Rattle.std.specs.Prelude.{◌≡◌, ◌≤◌, length, true, Some};
+ghost use Rattle.ciborium_ll_text.specs.Text.{IsStuck};
+ghost use Rattle.cbor_parser.specs.Phases.{carried_of, has_left, most_front, open_count};
+ghost use Rattle.cbor_parser.specs.Saving.{IsState, phase_in, strict_in, within_in};
+
+use crate::phase::{Phase, Within};
+use ciborium_ll_grammar::few::Few;
+use ciborium_ll_grammar::hdr::table::row_of;
+use ciborium_ll_grammar::limits::{LONGEST_TITLE, MOST_KEPT};
+use ciborium_ll_text::state::{State, text_front};
+
+/// The state of a [`Parser`](crate::Parser) as plain numbers, for a caller that keeps it in memory of its own.
+///
+/// Only the calls of a parser say which number means what; numbers that are all 0 are no state. The calls refuse a kind
+/// that does not exist, or a number out of the few bounds that there are. They do not find all memory that was
+/// overwritten: numbers of another state restore that state, even if no bytes lead to it.
+#[derive(Clone, Copy)]
+#[repr(C)]
+pub struct Saved {
+    /// How many bytes were pushed and taken.
+    pub offset: u64,
+    /// How many bytes of a body are due, or the offset of a fault.
+    pub number: u64,
+    /// The offset that a fault of the text would have.
+    pub place: u64,
+    /// How many strings are open within the first open string.
+    pub more: u64,
+    /// The bytes of a title or of a character that is not whole.
+    pub kept: [u8; LONGEST_TITLE],
+    /// How many these are.
+    pub kept_len: u8,
+    /// What is due.
+    pub phase: u8,
+    /// Which strings are open.
+    pub strings: u8,
+    /// Whether the parser takes the shortest spelling only.
+    pub strict: u8,
+}
+
+impl Phase {
+    /// Returns the number of the kind, how many bytes are due or the place of a fault, and the place of a text.
+    pub(crate) fn numbers(self) -> (u8, usize, usize)
+        ensures { phase_in result.0 result.1 result.2 ≡ Some self }
+    {
+        match self {
+            Phase::Title => (1, 0, 0),
+            Phase::Bytes(left) => (2, left, 0),
+            Phase::Text(left, place) => (3, left, place),
+            Phase::Faulted(place) => (4, place, 0),
+        }
+    }
+
+    /// Returns the phase with these numbers, if there is one.
+    pub(crate) fn of(kind: u8, number: usize, place: usize) -> Option<Phase>
+        ensures { result ≡ phase_in kind number place }
+    {
+        match kind {
+            1 => Some(Phase::Title),
+            2 => Some(Phase::Bytes(number)),
+            3 => Some(Phase::Text(number, place)),
+            4 => Some(Phase::Faulted(number)),
+            _ => None,
+        }
+    }
+
+    /// Returns `false` for a body without bytes left.
+    fn has_left(self) -> bool
+        ensures { result ≡ has_left self }
+    {
+        match self {
+            Phase::Bytes(left) | Phase::Text(left, _) => left > 0,
+            Phase::Title | Phase::Faulted(_) => true,
+        }
+    }
+
+    /// Returns how many bytes are kept at most, if the bytes are these.
+    fn most_front(self, front: &[u8]) -> usize
+        ensures { result ≡ most_front self front.now }
+    {
+        match self {
+            Phase::Title if front.is_empty() => 0,
+            Phase::Title => row_of(front[0]).affix.len(),
+            Phase::Text(_, _) => MOST_KEPT,
+            Phase::Bytes(_) | Phase::Faulted(_) => 0,
+        }
+    }
+
+    /// Returns the bytes that are kept of a character, if the bytes that are kept are these.
+    fn carried(self, front: &[u8]) -> &[u8]
+        ensures { result.now ≡ carried_of self front.now }
+    {
+        match self {
+            Phase::Text(_, _) => front,
+            Phase::Title | Phase::Bytes(_) | Phase::Faulted(_) => &[],
+        }
+    }
+}
+
+/// Returns whether no front of the bytes but the empty one is text.
+fn is_stuck(bytes: &[u8]) -> bool
+    ensures yes { result ≡ true → IsStuck bytes.now }
+    ensures no { IsStuck bytes.now → result ≡ true }
+{
+    text_front(bytes, 0, State::Between).0.is_empty()
+}
+
+impl Within {
+    /// Returns the number of the kind, and how many strings are open within the first.
+    pub(crate) fn numbers(self) -> (u8, usize)
+        ensures { within_in result.0 result.1 ≡ Some self }
+    {
+        match self {
+            Within::Nothing => (0, 0),
+            Within::Bytes(more) => (1, more),
+            Within::Text(more) => (2, more),
+        }
+    }
+
+    /// Returns the open strings with these numbers, if there are any.
+    pub(crate) fn of(kind: u8, more: usize) -> Option<Within>
+        ensures { result ≡ within_in kind more }
+    {
+        match kind {
+            0 => Some(Within::Nothing),
+            1 => Some(Within::Bytes(more)),
+            2 => Some(Within::Text(more)),
+            _ => None,
+        }
+    }
+
+    /// Returns whether at least as many bytes came as strings are open.
+    fn is_counted(self, offset: usize) -> bool
+        ensures yes { result ≡ true → open_count self ≤ offset }
+        ensures no { open_count self ≤ offset → result ≡ true }
+    {
+        match self {
+            Within::Nothing => true,
+            Within::Bytes(more) | Within::Text(more) => more < offset,
+        }
+    }
+}
+
+/// Returns whether the parser takes the shortest spelling only: 0 is no, 1 is yes.
+pub(crate) fn strict_of(number: u8) -> Option<bool>
+    ensures { result ≡ strict_in number }
+{
+    match number {
+        0 => Some(false),
+        1 => Some(true),
+        _ => None,
+    }
+}
+
+/// Returns whether a parser can have this phase, these bytes, these open strings and this offset.
+pub(crate) fn is_state(phase: Phase, front: &Few, within: Within, offset: usize) -> bool
+    ensures yes { result ≡ true → IsState phase front.now within offset }
+    ensures no { IsState phase front.now within offset → result ≡ true }
+{
+    let bytes = front.bytes();
+    phase.has_left()
+        && bytes.len() <= phase.most_front(bytes)
+        && is_stuck(phase.carried(bytes))
+        && within.is_counted(offset)
+}
