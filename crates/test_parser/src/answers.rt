@@ -1,7 +1,7 @@
 // The answers to single pieces.
 
 use crate::shared::{MOST, add_bytes, decoded, holds};
-use cbor_parser::{Event, Parser};
+use cbor_parser::{Event, Parser, Saved};
 use std::alloc::{AllocError, Global};
 
 // Pieces, one after another, with how many bytes were taken and the event. A piece has more bytes than are taken, if the
@@ -85,4 +85,54 @@ fn questions(rt: HostRuntime) {
         "seven bytes are due",
     );
     holds(&rt, !parser.is_between(), "a title goes on");
+}
+
+// Whether the numbers are those of a parser.
+fn is_restored(saved: Saved) -> bool {
+    Parser::restore(saved).is_some()
+}
+
+#[test]
+fn numbers(rt: HostRuntime) {
+    let fresh = Parser::new().save();
+    holds(&rt, is_restored(fresh), "a new parser");
+    let mut no_phase = fresh;
+    no_phase.phase = 0;
+    holds(&rt, !is_restored(no_phase), "no phase");
+    let mut no_bytes = fresh;
+    no_bytes.phase = 2;
+    holds(&rt, !is_restored(no_bytes), "a body without bytes");
+    let mut whole = fresh;
+    whole.kept_len = 1;
+    holds(&rt, !is_restored(whole), "a title that is whole");
+    whole.kept[0] = 0x19;
+    holds(&rt, is_restored(whole), "a title that is not whole");
+    let mut long = fresh;
+    long.kept_len = 10;
+    holds(&rt, !is_restored(long), "ten bytes of a title");
+    let mut open = fresh;
+    open.strings = 1;
+    holds(&rt, !is_restored(open), "an open string without a byte");
+    open.offset = 1;
+    holds(&rt, is_restored(open), "an open string of one byte");
+    let mut spelled = fresh;
+    spelled.strict = 2;
+    holds(&rt, !is_restored(spelled), "no spelling");
+}
+
+#[test]
+fn lengths(rt: HostRuntime) {
+    let mut saved = Parser::new().save();
+    saved.offset = u64::MAX - 1;
+    let Some(mut parser) = Parser::restore(saved) else {
+        return holds(&rt, false, "a great offset");
+    };
+    holds(&rt, is_answer(rt.alloc(), &mut parser, "0001", "0 too long"), "two bytes");
+    holds(
+        &rt,
+        is_answer(rt.alloc(), &mut parser, "00", "1 header Positive(0) at 18446744073709551614"),
+        "the last byte",
+    );
+    holds(&rt, is_answer(rt.alloc(), &mut parser, "00", "0 too long"), "one byte more");
+    holds(&rt, parser.offset() == usize::MAX, "the greatest offset");
 }

@@ -73,6 +73,20 @@ fn add_piece(text: &mut String, parser: &mut Parser, piece: &[u8]) -> Result<(),
     Ok(())
 }
 
+// Pushes a piece to the parser, or to a parser that is restored from its numbers, and adds its events.
+fn add_cut(text: &mut String, parser: &mut Parser, piece: &[u8], is_saved: bool) -> Result<(), AllocError> {
+    if !is_saved {
+        return add_piece(text, parser, piece);
+    }
+    match Parser::restore(parser.save()) {
+        Some(other) => {
+            *parser = other;
+            add_piece(text, parser, piece)
+        }
+        None => text.push_str(" not restored"),
+    }
+}
+
 // Adds the answer to an empty piece: a fault, how many bytes are due, or nothing if the bytes may end.
 fn add_end(text: &mut String, parser: &mut Parser) -> Result<(), AllocError> {
     let is_between = parser.is_between();
@@ -86,21 +100,23 @@ fn add_end(text: &mut String, parser: &mut Parser) -> Result<(), AllocError> {
     write!(text, "{word} {number}")
 }
 
-// The tokens of bytes, with their offsets, and how they end. A bit of the mask says if the bytes are cut after a byte.
+// The tokens of bytes, with their offsets, and how they end. A bit of the mask says if the bytes are cut before a byte.
+// The first bit says if the parser is saved and restored at each cut.
 fn parsed(alloc: Global, bytes: &[u8], strict: bool, mask: u32) -> Result<String, AllocError> {
     let mut text = String::new(alloc);
     let mut parser = Parser::with_spelling(Spelling::shortest_if(strict));
     let mut start = 0;
+    let is_saved = mask & 1 == 1;
     for at in 0..bytes.len() {
         if (mask >> (at % CUTS)) & 1 == 1
             && let Some(piece) = bytes.get(start..at)
         {
-            add_piece(&mut text, &mut parser, piece)?;
+            add_cut(&mut text, &mut parser, piece, is_saved)?;
             start = at;
         }
     }
     if let Some(piece) = bytes.get(start..) {
-        add_piece(&mut text, &mut parser, piece)?;
+        add_cut(&mut text, &mut parser, piece, is_saved)?;
     }
     add_end(&mut text, &mut parser)?;
     Ok(text)
