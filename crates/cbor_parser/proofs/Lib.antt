@@ -1,3 +1,4 @@
+pub mod CharacterLaws
 pub mod OneParse
 pub mod ParseLaws
 pub mod PushLaws

@@ -1,5 +1,6 @@
 -- Bytes are the same tokens, however they were pushed.
-use Rattle.std.proofs.Common.{◌≡◌, ℕ, zero, suc, ◌+◌, ◌<◌, ◌≤◌, ◌⊎◌, Bool, List, [], ◌∷◌, ◌++◌, length, Some, None, inl, inr}
+use Rattle.std.proofs.Common.{◌≡◌, ℕ, zero, suc, ◌+◌, ◌<◌, ◌≤◌, ◌⊎◌, Bool, List, [], ◌∷◌, ◌++◌, length, Some, None, inl}
+use Rattle.std.proofs.Common.{inr}
 use Rattle.std.proofs.Common.{refl, sym, ap, subst, ◌∙◌, arith, append-nil, append_assoc, length-append}
 use Rattle.std.proofs.lemmas.Bool.{cases_lt}
 use Rattle.ciborium_ll_grammar.specs.declared.hdr.Header.{Header}
@@ -49,7 +50,8 @@ to_tail : (strict : Bool) (d : List ℕ) (ts : List Token) (v : Within) → AreT
     → Tail strict w.Nothing 0 (d ++ rest) (behind ts us) q
 unfolding behind
 to_tail strict d ts v none rest us q tail = tail
-to_tail strict d ts v (more {before = c} {title = t} {body = y} {header = x} {tokens = vs} {within = u} are is long body) rest us q tail =
+to_tail strict d ts v
+    (more {before = c} {title = t} {body = y} {header = x} {tokens = vs} {within = u} are is long body) rest us q tail =
     let n : length (c ++ (t ++ y)) ≡ length c + (length t + length y) =
     omega (arith, length-append c (t ++ y), length-append t y) in
     rw (append_assoc c (t ++ y) rest)
@@ -63,7 +65,9 @@ parsed_tail strict b ts q (at_title {done = d} {title = t} {tokens = us} {within
     rw is (to_tail strict d us v are t [] (AtTitle v t) (cut begun))
 parsed_tail strict b ts q (no_title {done = d} {title = t} {tokens = us} {within = v} are refused is) =
     rw is (to_tail strict d us v are t [] (AtFault (length d)) (bad refused))
-parsed_tail strict b ts q (in_body {done = d} {title = t} {part = y} {body = z} {header = x} {tokens = us} {before = v} {within = u} are title piece is) =
+parsed_tail strict b ts q
+    (in_body {done = d} {title = t} {part = y} {body = z} {header = x} {tokens = us} {before = v} {within = u} are title
+    piece is) =
     rw is (to_tail strict d us v are (t ++ y) (token x z ∷ []) q
     (part title (subst (λ (k : ℕ). IsPart u (text_place v (length d) k x) x y z q) (length-append d t) piece) refl))
 
@@ -87,7 +91,8 @@ one_cut b c b' c' is_text held is_text' held' e = (elim (cases_lt (length b) (le
 
 parts_one : (v v' : Within) (n n' : ℕ) (x x' : Header) (y y' z z' : List ℕ) (q q' : Point) → IsPart v n x y z q
     → IsPart v' n' x' y' z' q' → v ≡ v' → n ≡ n' → x ≡ x' → y ≡ y' → (z ≡ z') × (q ≡ q')
-parts_one v v' n n' x x' y y' z z' q q' (bytes {len = m} {left = k} long due) (bytes {len = m'} {left = k'} long' due') a b c d =
+parts_one v v' n n' x x' y y' z z' q q' (bytes {len = m} {left = k} long due)
+    (bytes {len = m'} {left = k'} long' due') a b c d =
     let len : m ≡ m' = cc c in
     let lens = ap length d in
     let left : k ≡ k' = omega (arith, len, long, long', lens) in
@@ -104,7 +109,8 @@ parts_one v v' n n' x x' y y' z z' q q' (text {len = m} {left = k} {carried = r}
     let other = ap length o.1 in
     let left : k ≡ k' = omega (arith, len, long, long', one, other) in
     (o.0, rw (a, o.1, left, b) refl)
-parts_one v v' n n' x x' y y' z z' q q' (no_text chars held can long) (no_text {carried = r'} chars' held' can' long') a b c d =
+parts_one v v' n n' x x' y y' z z' q q' (no_text chars held can long)
+    (no_text {carried = r'} chars' held' can' long') a b c d =
     ((one_cut z _ z' r' chars held chars' held' d).0, ap AtFault b)
 parts_one v v' n n' x x' y y' z z' q q' (text {len = m} {left = k} {carried = r} chars held can long due)
     (no_text {len = m'} {left = k'} {carried = r'} chars' held' can' long') a b c d =
@@ -133,7 +139,8 @@ not_whole v n x y z q (text {len = m} {carried = r} chars held can long due) bod
 not_whole v n x y z q (no_text {len = m} {left = k} {carried = r} chars held can long) body rest all is e =
     let lens = ap length e in
     let left : k ≡ 0 = omega (arith, long, all, lens, length-append body rest, length-append z r) in
-    let none : rest ≡ [] = length_zero rest (omega (arith, long, all, lens, length-append body rest, length-append z r)) in
+    let none : rest ≡ [] =
+    length_zero rest (omega (arith, long, all, lens, length-append body rest, length-append z r)) in
     let same : z ++ r ≡ body = e ∙ (ap (λ (l : List ℕ). body ++ l) none ∙ append-nil body) in
     let ends : IsCharacters r = IsCharacters-rest z r chars (subst IsCharacters (sym same) is) in
     can (rw left ([], refl, subst IsCharacters (sym (append-nil r)) ends))
@@ -184,18 +191,22 @@ tail_one strict v v' n n' b b' ts us q q' (cut begun) (bad refused) s m e =
     absurd (bad_not_cut strict v' b' refused (subst IsCutTitle e begun))
 tail_one strict v v' n n' b b' ts us q q' (cut begun) (part {t = t} {y = y} {x = x} title piece is) s m e =
     absurd (title_not_cut t y x title.is_title (subst IsCutTitle (e ∙ is) begun))
-tail_one strict v v' n n' b b' ts us q q' (cut begun) (whole {t = t} {y = y} {rest = r} {x = x} title long body tail is) s m e =
+tail_one strict v v' n n' b b' ts us q q' (cut begun)
+    (whole {t = t} {y = y} {rest = r} {x = x} title long body tail is) s m e =
     absurd (title_not_cut t (y ++ r) x title.is_title (subst IsCutTitle (e ∙ is) begun))
 tail_one strict v v' n n' b b' ts us q q' (bad refused) (cut begun) s m e =
     absurd (bad_not_cut strict v b refused (subst IsCutTitle (sym e) begun))
 tail_one strict v v' n n' b b' ts us q q' (bad refused) (bad refused') s m e = (refl, ap AtFault m)
-tail_one strict v v' n n' b b' ts us q q' (bad refused) (part {after = u} {t = t} {y = y} {x = x} title piece is) s m e =
+tail_one strict v v' n n' b b' ts us q q' (bad refused)
+    (part {after = u} {t = t} {y = y} {x = x} title piece is) s m e =
     absurd (bad_not_title strict v' u b' t y x (rw (sym s, sym e) refused) title is)
-tail_one strict v v' n n' b b' ts us q q' (bad refused) (whole {after = u} {t = t} {y = y} {rest = r} {x = x} title long body tail is) s m e =
+tail_one strict v v' n n' b b' ts us q q' (bad refused)
+    (whole {after = u} {t = t} {y = y} {rest = r} {x = x} title long body tail is) s m e =
     absurd (bad_not_title strict v' u b' t (y ++ r) x (rw (sym s, sym e) refused) title is)
 tail_one strict v v' n n' b b' ts us q q' (part {t = t} {y = y} {x = x} title piece is) (cut begun) s m e =
     absurd (title_not_cut t y x title.is_title (subst IsCutTitle (sym e ∙ is) begun))
-tail_one strict v v' n n' b b' ts us q q' (part {after = u} {t = t} {y = y} {x = x} title piece is) (bad refused) s m e =
+tail_one strict v v' n n' b b' ts us q q' (part {after = u} {t = t} {y = y} {x = x} title piece is)
+    (bad refused) s m e =
     absurd (bad_not_title strict v u b t y x (rw (s, e) refused) title is)
 tail_one strict v v' n n' b b' ts us q q' (part {after = u} {t = t} {y = y} {body = z} {x = x} title piece is)
     (part {after = u'} {t = t'} {y = y'} {body = z'} {x = x'} title' piece' is') s m e =
@@ -208,15 +219,18 @@ tail_one strict v v' n n' b b' ts us q q' (part {after = u} {t = t} {y = y} {bod
     (whole {t = t'} {y = y'} {rest = r} {x = x'} title' long body tail is') s m e =
     let o = one_title t t' y (y' ++ r) x x' title.is_title title'.is_title (sym is ∙ (e ∙ is')) in
     absurd (not_whole u _ x y z q piece y' r (long ∙ ap body_len (sym o.1)) (rw o.1 body) o.2)
-tail_one strict v v' n n' b b' ts us q q' (whole {t = t} {y = y} {rest = r} {x = x} title long body tail is) (cut begun) s m e =
+tail_one strict v v' n n' b b' ts us q q' (whole {t = t} {y = y} {rest = r} {x = x} title long body tail is)
+    (cut begun) s m e =
     absurd (title_not_cut t (y ++ r) x title.is_title (subst IsCutTitle (sym e ∙ is) begun))
-tail_one strict v v' n n' b b' ts us q q' (whole {after = u} {t = t} {y = y} {rest = r} {x = x} title long body tail is) (bad refused) s m e =
+tail_one strict v v' n n' b b' ts us q q'
+    (whole {after = u} {t = t} {y = y} {rest = r} {x = x} title long body tail is) (bad refused) s m e =
     absurd (bad_not_title strict v u b t (y ++ r) x (rw (s, e) refused) title is)
 tail_one strict v v' n n' b b' ts us q q' (whole {t = t'} {y = y'} {rest = r} {x = x'} title' long body tail is')
     (part {after = u} {t = t} {y = y} {body = z} {x = x} title piece is) s m e =
     let o = one_title t t' y (y' ++ r) x x' title.is_title title'.is_title (sym is ∙ (sym e ∙ is')) in
     absurd (not_whole u _ x y z q' piece y' r (long ∙ ap body_len (sym o.1)) (rw o.1 body) o.2)
-tail_one strict v v' n n' b b' ts us q q' (whole {after = u} {t = t} {y = y} {rest = r} {x = x} {ts = vs} title long body tail is)
+tail_one strict v v' n n' b b' ts us q q'
+    (whole {after = u} {t = t} {y = y} {rest = r} {x = x} {ts = vs} title long body tail is)
     (whole {after = u'} {t = t'} {y = y'} {rest = r'} {x = x'} {ts = ws} title' long' body' tail' is') s m e =
     let o = one_title t t' (y ++ r) (y' ++ r') x x' title.is_title title'.is_title (sym is ∙ (e ∙ is')) in
     let after = one_after strict v v' u u' x x' title.stands title'.stands s o.1 in
@@ -229,5 +243,6 @@ tail_one strict v v' n n' b b' ts us q q' (whole {after = u} {t = t} {y = y} {re
 pub one_parse : (strict : Bool) (b : List ℕ) (ts us : List Token) (q q' : Point) → IsParsed strict b ts q
     → IsParsed strict b us q' → (ts ≡ us) × (q ≡ q')
 one_parse strict b ts us q q' one other =
-    let o = tail_one strict w.Nothing w.Nothing 0 0 b b _ _ q q' (parsed_tail strict b ts q one) (parsed_tail strict b us q' other) refl refl refl in
+    let o = tail_one strict w.Nothing w.Nothing 0 0 b b _ _ q q' (parsed_tail strict b ts q one)
+    (parsed_tail strict b us q' other) refl refl refl in
     (behind_one ts us o.0, o.1)

@@ -27,7 +27,8 @@ nothing strict front e =
 -- Three lists and more of the last one.
 joined : (b d t y part : List ℕ) → b ≡ d ++ (t ++ y) → b ++ part ≡ d ++ (t ++ (y ++ part))
 joined b d t y part is =
-    ap (λ (z : List ℕ). z ++ part) is ∙ (append_assoc d (t ++ y) part ∙ ap (λ (z : List ℕ). d ++ z) (append_assoc t y part))
+    ap (λ (z : List ℕ). z ++ part) is
+    ∙ (append_assoc d (t ++ y) part ∙ ap (λ (z : List ℕ). d ++ z) (append_assoc t y part))
 
 -- ---- titles
 
@@ -48,15 +49,18 @@ title_on strict b tokens within title part (in_body are title' part' is) goes =
     absurd (not_title _ _ _ _ _ _ within title part' refl)
 
 -- A whole title, from `start` to `end`.
-entered : (strict : Bool) (b d t : List ℕ) (tokens : List Token) (before after : Within) (start end : ℕ) (header : Header)
-    → AreTokens strict d tokens before → IsTitleIn strict before t header after → b ≡ d ++ t → start ≡ length d
-    → end ≡ length (d ++ t)
+entered : (strict : Bool) (b d t : List ℕ) (tokens : List Token) (before after : Within) (start end : ℕ)
+    (header : Header) → AreTokens strict d tokens before → IsTitleIn strict before t header after → b ≡ d ++ t
+    → start ≡ length d → end ≡ length (d ++ t)
     → IsParsed strict b (token header [] ∷ tokens) (point_at (phase_after before start end header) after [])
 entered strict b d t tokens before after start end (h.Bytes (Some (suc len))) are is_title is from to =
-    in_body are is_title (bytes {len = suc len} {body = []} (omega arith) (omega arith)) (is ∙ ap (λ (z : List ℕ). d ++ z) (sym (append-nil t)))
+    in_body are is_title (bytes {len = suc len} {body = []} (omega arith) (omega arith))
+    (is ∙ ap (λ (z : List ℕ). d ++ z) (sym (append-nil t)))
 entered strict b d t tokens before after start end (h.Text (Some (suc len))) are is_title is from to =
     rw (from, to)
-    (in_body are is_title (text {len = suc len} {body = []} {carried = []} IsCharacters-nil IsStuck-nil (any_end (suc len)) (omega arith) (omega arith))
+    (in_body are is_title
+    (text {len = suc len} {body = []} {carried = []} IsCharacters-nil IsStuck-nil (any_end (suc len)) (omega arith)
+    (omega arith))
     (is ∙ ap (λ (z : List ℕ). d ++ z) (sym (append-nil t))))
 entered strict b d t tokens before after start end (h.Text (Some zero)) are is_title is from to =
     at_title (more {body = []} are is_title refl IsCharacters-nil) tt
@@ -103,16 +107,16 @@ title_tells strict b part all tokens within front title start end (e.Fault place
       },
       point ∙ ap AtFault (sym same),
     )
-title_tells strict b part all tokens within front title start end (e.Need due) new (at_title are cut is) e from to enters
-    spelling counted = elim enters [ ]
-title_tells strict b part all tokens within front title start end (e.Body left) new (at_title are cut is) e from to enters
-    spelling counted = elim enters [ ]
-title_tells strict b part all tokens within front title start end (e.Text carried left) new (at_title are cut is) e from to
+title_tells strict b part all tokens within front title start end (e.Need due) new (at_title are cut is) e from to
     enters spelling counted = elim enters [ ]
+title_tells strict b part all tokens within front title start end (e.Body left) new (at_title are cut is) e from to
+    enters spelling counted = elim enters [ ]
+title_tells strict b part all tokens within front title start end (e.Text carried left) new (at_title are cut is) e from
+    to enters spelling counted = elim enters [ ]
 title_tells strict b part all tokens within front title start end e.TooLong new (at_title are cut is) e from to enters
     spelling counted = elim enters [ ]
-title_tells strict b part all tokens within front title start end event new (in_body are title' part' is) e from to enters
-    spelling counted = absurd (not_title _ _ _ _ _ _ within front part' refl)
+title_tells strict b part all tokens within front title start end event new (in_body are title' part' is) e from to
+    enters spelling counted = absurd (not_title _ _ _ _ _ _ within front part' refl)
 
 -- ---- bodies
 
@@ -120,10 +124,12 @@ title_tells strict b part all tokens within front title start end event new (in_
 pub bytes_on : (strict : Bool) (b : List ℕ) (tokens : List Token) (within : Within) (left : ℕ)
     → IsParsed strict b tokens (InBytes within left) → (part : List ℕ) (rest : ℕ) → length part + rest ≡ left
     → IsParsed strict (b ++ part) (grown tokens part) (point_at (bytes_left rest) within [])
-bytes_on strict b tokens within left (in_body {done = d} {title = t} are is_title (bytes {body = y} long due) is) part zero e =
+bytes_on strict b tokens within left (in_body {done = d} {title = t} are is_title (bytes {body = y} long due) is) part
+    zero e =
     at_title (more are is_title (omega (arith, long, e, length-append y part)) tt) tt
     (joined b d t y part is ∙ sym (append-nil (d ++ (t ++ (y ++ part)))))
-bytes_on strict b tokens within left (in_body {done = d} {title = t} are is_title (bytes {body = y} long due) is) part (suc rest) e =
+bytes_on strict b tokens within left (in_body {done = d} {title = t} are is_title (bytes {body = y} long due) is) part
+    (suc rest) e =
     in_body are is_title (bytes (omega (arith, long, e, length-append y part)) (omega arith)) (joined b d t y part is)
 
 -- What the body lacks.
@@ -137,11 +143,12 @@ text_lacks (suc rest) place within = refl
 
 -- A part of a text.
 pub text_on : (strict : Bool) (b : List ℕ) (tokens : List Token) (within : Within) (carried : List ℕ) (left place : ℕ)
-    → IsParsed strict b tokens (InText within carried left place) → (part : List ℕ) (rest : ℕ) → length part + rest ≡ left
-    → IsCharacters (carried ++ part)
+    → IsParsed strict b tokens (InText within carried left place) → (part : List ℕ) (rest : ℕ)
+    → length part + rest ≡ left → IsCharacters (carried ++ part)
     → IsParsed strict (b ++ part) (grown tokens (carried ++ part)) (text_point within rest place)
 text_on strict b tokens within carried left place
-    (in_body {done = d} {title = t} {tokens = ts} are is_title (text {len = len} {body = y} chars stuck can long due) is) part rest e whole =
+    (in_body {done = d} {title = t} {tokens = ts} are is_title (text {len = len} {body = y} chars stuck can long due)
+    is) part rest e whole =
     by_rest rest refl
   where
     all : b ++ part ≡ d ++ (t ++ (y ++ (carried ++ part)))
@@ -154,30 +161,33 @@ text_on strict b tokens within carried left place
     counted = omega (arith, long, e, length-append y (carried ++ part), length-append carried part)
 
     by_rest : (n : ℕ) → n ≡ rest
-        → IsParsed strict (b ++ part) (token (h.Text (Some len)) (y ++ (carried ++ part)) ∷ ts) (text_point within n place)
+        → IsParsed strict (b ++ part) (token (h.Text (Some len)) (y ++ (carried ++ part)) ∷ ts)
+        (text_point within n place)
     by_rest zero same =
         at_title (more are is_title (omega (arith, counted, same)) body) tt
         (all ∙ sym (append-nil (d ++ (t ++ (y ++ (carried ++ part))))))
     by_rest (suc n) same =
         in_body are is_title
-        (text {len = len} {carried = []} body IsStuck-nil (any_end (suc n)) (omega (arith, counted, same)) (omega arith))
+        (text {len = len} {carried = []} body IsStuck-nil (any_end (suc n)) (omega (arith, counted, same))
+        (omega arith))
         (all ∙ ap (λ (z : List ℕ). d ++ (t ++ z)) (sym (append-nil (y ++ (carried ++ part)))))
 
 -- More of a character that is cut.
 pub text_cut : (strict : Bool) (b : List ℕ) (tokens : List Token) (within : Within) (carried : List ℕ) (left place : ℕ)
-    → IsParsed strict b tokens (InText within carried left place) → (part : List ℕ) (rest : ℕ) → length part + rest ≡ left
-    → IsStuck (carried ++ part) → CanEnd (carried ++ part) rest → 0 < rest
+    → IsParsed strict b tokens (InText within carried left place) → (part : List ℕ) (rest : ℕ)
+    → length part + rest ≡ left → IsStuck (carried ++ part) → CanEnd (carried ++ part) rest → 0 < rest
     → IsParsed strict (b ++ part) tokens (InText within (carried ++ part) rest place)
 text_cut strict b tokens within carried left place
-    (in_body {done = d} {title = t} are is_title (text {body = y} chars stuck can long due) is) part rest e held goes some =
+    (in_body {done = d} {title = t} are is_title (text {body = y} chars stuck can long due) is) part rest e held goes
+    some =
     in_body are is_title
     (text chars held goes (omega (arith, long, e, length-append carried part)) some)
     (joined b d t (y ++ carried) part is ∙ ap (λ (z : List ℕ). d ++ (t ++ z)) (append_assoc y carried part))
 
 -- Bytes with which no text goes on.
-pub text_fault : (strict : Bool) (b : List ℕ) (tokens : List Token) (within : Within) (carried : List ℕ) (left place : ℕ)
-    → IsParsed strict b tokens (InText within carried left place) → (part : List ℕ) (rest : ℕ) → length part + rest ≡ left
-    → IsStuck (carried ++ part) → (CanEnd (carried ++ part) rest → ⊥)
+pub text_fault : (strict : Bool) (b : List ℕ) (tokens : List Token) (within : Within) (carried : List ℕ)
+    (left place : ℕ) → IsParsed strict b tokens (InText within carried left place) → (part : List ℕ) (rest : ℕ)
+    → length part + rest ≡ left → IsStuck (carried ++ part) → (CanEnd (carried ++ part) rest → ⊥)
     → IsParsed strict (b ++ part) tokens (AtFault place)
 text_fault strict b tokens within carried left place
     (in_body {done = d} {title = t} are is_title (text {body = y} chars stuck can long due) is) part rest e held stops =

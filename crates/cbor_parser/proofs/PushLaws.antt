@@ -1,5 +1,6 @@
 -- What a push says of the tokens.
-use Rattle.std.proofs.Common.{◌≡◌, ℕ, zero, suc, ◌+◌, ◌-◌, ◌%◌, ◌<◌, Bool, true, List, [], ◌∷◌, ◌++◌, length, take, slice_index}
+use Rattle.std.proofs.Common.{◌≡◌, ℕ, zero, suc, ◌+◌, ◌-◌, ◌%◌, ◌<◌, Bool, true, List, [], ◌∷◌, ◌++◌, length, take}
+use Rattle.std.proofs.Common.{slice_index}
 use Rattle.std.proofs.Common.{refl, sym, ap, subst, ◌∙◌, arith, length-append}
 use Rattle.ciborium_ll_grammar.specs.Title.{IsCutTitle, affix_len}
 use Rattle.ciborium_ll_text.specs.Text.{IsCharacters, IsStuck}
@@ -14,12 +15,14 @@ use Rattle.cbor_parser.specs.Phases.{bytes_left, carried_of, has_left}
 use Rattle.cbor_parser.specs.Parsing.{AtFault, AtTitle, CanEnd, InText, IsParsed, Point, Token, due_of, left_of}
 use Rattle.cbor_parser.specs.Parsing.{point_at, point_of}
 use Rattle.cbor_parser.specs.Pushing.{Enters, HasPushed, Pushes, Tells, grown, text_point}
-use Rattle.cbor_parser.proofs.ParseLaws.{bytes_lack, bytes_on, text_cut, text_fault, text_lacks, text_on, title_on, title_tells}
+use Rattle.cbor_parser.proofs.ParseLaws.{bytes_lack, bytes_on, text_cut, text_fault, text_lacks, text_on, title_on}
+use Rattle.cbor_parser.proofs.ParseLaws.{title_tells}
 
 -- ---- small things
 
 -- The same phase, strings and bytes have one point.
-same_point : (ph ph' : Phase) (w w' : Within) (f f' : List ℕ) → ph ≡ ph' → w ≡ w' → f ≡ f' → point_at ph w f ≡ point_at ph' w' f'
+same_point : (ph ph' : Phase) (w w' : Within) (f f' : List ℕ) → ph ≡ ph' → w ≡ w' → f ≡ f'
+    → point_at ph w f ≡ point_at ph' w' f'
 same_point ph ph' w w' f f' a b c = rw (a, b, c) refl
 
 -- Bytes that lack some are a cut title.
@@ -28,13 +31,14 @@ cut_of [] due some lacks = tt
 cut_of (b ∷ t) due some lacks = omega (arith, some, lacks)
 
 -- They lack as many.
-pub due_is : (t : List ℕ) (within : Within) (due : ℕ) → 0 < length t → length t + due ≡ 1 + affix_len (slice_index t 0 % 32)
-    → due ≡ due_of (AtTitle within t)
+pub due_is : (t : List ℕ) (within : Within) (due : ℕ) → 0 < length t
+    → length t + due ≡ 1 + affix_len (slice_index t 0 % 32) → due ≡ due_of (AtTitle within t)
 due_is [] within due some lacks = absurd (omega (arith, some))
 due_is (b ∷ t) within due some lacks = omega (arith, lacks)
 
 -- The first byte of a title does not depend on the bytes after it.
-pub first_same : (front piece : List ℕ) (n : ℕ) → 0 < n → slice_index (front ++ take n piece) 0 ≡ slice_index (front ++ piece) 0
+pub first_same : (front piece : List ℕ) (n : ℕ) → 0 < n
+    → slice_index (front ++ take n piece) 0 ≡ slice_index (front ++ piece) 0
 first_same (b ∷ front) piece n some = refl
 first_same [] [] zero some = absurd (omega (arith, some))
 first_same [] [] (suc n) some = refl
@@ -53,7 +57,8 @@ kept_stuck phase front left place e stuck = subst (λ (q : Phase). IsStuck (carr
 
 -- What was pushed, by a phase that is known.
 at_phase : (strict : Bool) (before : List ℕ) (tokens : List Token) (old : Parser) (phase : Phase)
-    → HasPushed strict before tokens old → old.phase ≡ phase → IsParsed strict before tokens (point_at phase old.within old.front)
+    → HasPushed strict before tokens old → old.phase ≡ phase
+    → IsParsed strict before tokens (point_at phase old.within old.front)
 at_phase strict before tokens old phase is e =
     subst (λ (q : Phase). IsParsed strict before tokens (point_at q old.within old.front)) e is.parsed
 
@@ -62,7 +67,11 @@ pushed_of : (strict : Bool) (bytes : List ℕ) (tokens : List Token) (new : Pars
     → IsParsed strict bytes tokens point → point_of new ≡ point → new.strict ≡ strict → new.offset ≡ length bytes
     → HasPushed strict bytes tokens new
 pushed_of strict bytes tokens new point parsed e spelling offset =
-    record { parsed = subst (λ (q : Point). IsParsed strict bytes tokens q) (sym e) parsed; spelling = spelling; offset = offset }
+    record {
+      parsed = subst (λ (q : Point). IsParsed strict bytes tokens q) (sym e) parsed;
+      spelling = spelling;
+      offset = offset;
+    }
 
 -- ---- bodies
 
@@ -74,13 +83,15 @@ module _ (strict : Bool) (before : List ℕ) (tokens : List Token) (old new : Pa
 
   -- A part of the body of a byte string.
   pub bytes_tells : (left : ℕ) → old.phase ≡ p.Bytes left → length part + rest ≡ left → new.phase ≡ bytes_left rest
-      → new.within ≡ old.within → new.front ≡ [] → Tells strict before tokens part piece (e.Body rest) new
-  bytes_tells left phase e next within front =
+      → new.within ≡ old.within → new.front ≡ [] → (0 < rest → part ≡ piece)
+      → Tells strict before tokens part piece (e.Body rest) new
+  bytes_tells left phase e next within front all =
       let point = same_point new.phase (bytes_left rest) new.within old.within new.front [] next within front in
-      let parsed = bytes_on strict before tokens old.within left (at_phase strict before tokens old (p.Bytes left) is phase) part
-      rest e in (
+      let parsed = bytes_on strict before tokens old.within left
+      (at_phase strict before tokens old (p.Bytes left) is phase) part rest e in (
         pushed_of strict (before ++ part) (grown tokens part) new _ parsed point (spelling ∙ is.spelling) counted,
         bytes_lack rest old.within ∙ ap left_of (sym point),
+        all,
       )
 
   module _ (left place : ℕ) (phase : old.phase ≡ p.Text left place) (lacks : length part + rest ≡ left) where
@@ -128,7 +139,8 @@ module _ (strict : Bool) (before : List ℕ) (tokens : List Token) (old new : Pa
       let cut = cut_of (old.front ++ part) rest due lacks in (
         all,
         pushed_of strict (before ++ part) tokens new _
-            (title_on strict before tokens old.within old.front part (at_phase strict before tokens old p.Title is phase) cut) point
+            (title_on strict before tokens old.within old.front part
+            (at_phase strict before tokens old p.Title is phase) cut) point
             (spelling ∙ is.spelling) counted,
         due_is (old.front ++ part) old.within rest (omega (arith, some, length-append old.front part)) lacks
             ∙ ap due_of (sym point),
@@ -141,12 +153,13 @@ module _ (strict : Bool) (before : List ℕ) (tokens : List Token) (old new : Pa
       → Tells strict before tokens part piece event new
   whole_tells title start end event phase e from to enters =
       title_tells strict before part piece tokens old.within old.front title start end event new
-      (at_phase strict before tokens old p.Title is phase) e (omega (arith, from, is.offset)) (omega (arith, to, is.offset))
+      (at_phase strict before tokens old p.Title is phase) e (omega (arith, from, is.offset))
+      (omega (arith, to, is.offset))
       (subst (λ (s : Bool). Enters s old.within title start end event (point_of new)) is.spelling enters)
       (spelling ∙ is.spelling) (offset ∙ sym to)
 
 -- An answer, by its event and what was taken.
-pub pushes_of : (strict : Bool) (before : List ℕ) (tokens : List Token) (piece : List ℕ) (pushed : Pushed) (new : Parser)
-    (taken : ℕ) (event : Event) → pushed.taken ≡ taken → pushed.event ≡ event
+pub pushes_of : (strict : Bool) (before : List ℕ) (tokens : List Token) (piece : List ℕ) (pushed : Pushed)
+    (new : Parser) (taken : ℕ) (event : Event) → pushed.taken ≡ taken → pushed.event ≡ event
     → Tells strict before tokens (take taken piece) piece event new → Pushes strict before tokens piece pushed new
 pushes_of strict before tokens piece pushed new taken event a b tells = rw (a, b) tells

@@ -1,5 +1,6 @@
 -- Characters that are cut, and the bytes that may end them.
-use Rattle.std.proofs.Common.{◌≡◌, ℕ, zero, suc, ◌+◌, ◌-◌, ◌<◌, ◌≤◌, true, false, List, [], ◌∷◌, ◌++◌, length, take, drop}
+use Rattle.std.proofs.Common.{◌≡◌, ℕ, zero, suc, ◌+◌, ◌-◌, ◌<◌, ◌≤◌, true, false, List, [], ◌∷◌, ◌++◌, length, take}
+use Rattle.std.proofs.Common.{drop}
 use Rattle.std.proofs.Common.{refl, sym, ap, subst, ◌∙◌, arith, le-leb, append-nil, append_assoc, length-append}
 use Rattle.std.proofs.lemmas.Bool.Decides.{nat_tests}
 use Rattle.std.proofs.lemmas.List.{length-take-le, take-append-drop}
@@ -86,8 +87,9 @@ longer carried part front rest stuck is some = (elim (cases_lt (length carried) 
 ])
 
 -- Such a front is the cut character and the bytes at the beginning of the piece.
-pub part_of : (carried piece front rest : List ℕ) (n : ℕ) → n ≤ length piece → IsFront (carried ++ take n piece) front rest
-    → length carried ≤ length front → IsCharacters (carried ++ take (length front - length carried) piece)
+pub part_of : (carried piece front rest : List ℕ) (n : ℕ) → n ≤ length piece
+    → IsFront (carried ++ take n piece) front rest → length carried ≤ length front
+    → IsCharacters (carried ++ take (length front - length carried) piece)
 part_of carried piece front rest n within is long =
     let (m, e, o) = front_of_front carried front (take n piece) rest is.parts long in
     let l : length front ≡ length carried + length m = ap length e ∙ length-append carried m in
@@ -95,7 +97,8 @@ part_of carried piece front rest n within is long =
     is.parts ∙ (ap (λ (z : List ℕ). z ++ rest) e ∙ append_assoc carried m rest) in
     let parts = (same_front carried carried (take n piece) (m ++ rest) refl whole).1 in
     let all : piece ≡ m ++ (rest ++ drop n piece) =
-    sym (take-append-drop n piece) ∙ (ap (λ (z : List ℕ). z ++ drop n piece) parts ∙ append_assoc m rest (drop n piece)) in
+    sym (take-append-drop n piece)
+    ∙ (ap (λ (z : List ℕ). z ++ drop n piece) parts ∙ append_assoc m rest (drop n piece)) in
     let same : take (length front - length carried) piece ≡ m =
     front_of (length front - length carried) piece m (rest ++ drop n piece) all (omega (arith, l)) in
     subst IsCharacters (e ∙ ap (λ (z : List ℕ). carried ++ z) (sym same)) is.text
@@ -112,7 +115,8 @@ pub part_front : (piece front rest : List ℕ) (n : ℕ) → n ≤ length piece 
     → IsCharacters (take (length front) piece)
 part_front piece front rest n within is =
     let all : piece ≡ front ++ (rest ++ drop n piece) =
-    sym (take-append-drop n piece) ∙ (ap (λ (z : List ℕ). z ++ drop n piece) is.parts ∙ append_assoc front rest (drop n piece)) in
+    sym (take-append-drop n piece)
+    ∙ (ap (λ (z : List ℕ). z ++ drop n piece) is.parts ∙ append_assoc front rest (drop n piece)) in
     subst IsCharacters (sym (front_of (length front) piece front (rest ++ drop n piece) all refl)) is.text
 
 -- The state after bytes without a front tells if they can end.

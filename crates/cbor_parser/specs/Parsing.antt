@@ -20,7 +20,7 @@ pub record Token : Type 0 where
   pub header : Header
   pub body : List ℕ
 
--- A header with a body.
+-- A header with a body: `Bytes(Some(1))` and `05` for `41 05`.
 abbrev pub token : Header → List ℕ → Token
 token header body = record { header = header; body = body }
 
@@ -38,7 +38,8 @@ IsBody header body = Unit {0}
 
 -- The bytes are a title of this header, it is taken, and it may stand within the strings `before`. After it `after` are
 -- open (RFC 7049, 2.2.2 and 3.9). Within `5f`, the title `41` is such a title.
-pub record IsTitleIn (strict : Bool) (before : Within) (title : List ℕ) (header : Header) (after : Within) : Type 0 where
+pub record IsTitleIn (strict : Bool) (before : Within) (title : List ℕ) (header : Header) (after : Within) :
+    Type 0 where
   pub is_title : IsTitle title header
   pub taken : IsTakenTitle strict title header
   pub stands : within_after strict before header ≡ Some after
@@ -55,8 +56,8 @@ pub data AreTokens (strict : Bool) : List ℕ → List Token → Within → Type
 
 -- ---- faults
 
--- The bytes are no title that is taken: none begins so, or it is one that only a reader of any spelling takes (RFC 7049,
--- 2.1 and 3.9). So it is with `1c`, and if `strict` with `18 01`.
+-- The bytes are no title that is taken: none begins so, or it is one that only a reader of any spelling takes (RFC
+-- 7049, 2.1 and 3.9). So it is with `1c`, and if `strict` with `18 01`.
 abbrev pub IsNoTakenTitle : Bool → List ℕ → Type 0
 IsNoTakenTitle strict title =
     BeginsRefused title ⊎ ((header : Header) × IsTitle title header × (IsTakenTitle strict title header → ⊥))
@@ -65,7 +66,8 @@ IsNoTakenTitle strict title =
 -- 2.2.2). So it is with `1c`, and within `5f` with `61`.
 abbrev pub IsNoTitleIn : Bool → Within → List ℕ → Type 0
 IsNoTitleIn strict within title =
-    IsNoTakenTitle strict title ⊎ ((header : Header) × IsTitle title header × (within_after strict within header ≡ None))
+    IsNoTakenTitle strict title
+    ⊎ ((header : Header) × IsTitle title header × (within_after strict within header ≡ None))
 
 -- This many more bytes may end a text that begins so. One more byte may end `c3`, and none may end `c3` or `ff`.
 abbrev pub CanEnd : List ℕ → ℕ → Type 0
@@ -73,8 +75,8 @@ CanEnd bytes left = (more : List ℕ) × (length more ≡ left) × IsCharacters 
 
 -- ---- where bytes have come to
 
--- Where some bytes have come to. `AtTitle` has the bytes of a title that is not whole, as `19 01`, or none. `InBytes` and
--- `InText` have the number of bytes that a body lacks. `InText` has the bytes of a character that is not whole, as
+-- Where some bytes have come to. `AtTitle` has the bytes of a title that is not whole, as `19 01`, or none. `InBytes`
+-- and `InText` have the number of bytes that a body lacks. `InText` has the bytes of a character that is not whole, as
 -- `e2 82`, and the place that a fault would have. `AtFault` has the place of a fault.
 pub data Point : Type 0 where
   AtTitle : Within → List ℕ → Point
@@ -126,7 +128,8 @@ pub data IsParsed (strict : Bool) (bytes : List ℕ) : List Token → Point → 
       → bytes ≡ done ++ (title ++ part)
       → IsParsed strict bytes (token header body ∷ tokens) point
 
--- The point of a phase, with the strings that are open and the bytes that are kept.
+-- The point of a phase, with the strings that are open and the bytes that are kept: for `Title` and `19` it is
+-- `AtTitle` with `19`.
 abbrev pub point_at : Phase → Within → List ℕ → Point
 point_at p.Title within front = AtTitle within front
 point_at (p.Bytes left) within front = InBytes within left

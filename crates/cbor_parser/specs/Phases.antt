@@ -55,8 +55,8 @@ opened (h.Bytes None) = w.Bytes 0
 opened (h.Text None) = w.Text 0
 opened header = w.Nothing
 
--- The strings that are open after a title of this header, if it may stand here (RFC 7049, 2.2.2). After `5f 5f`, a break
--- leaves one open.
+-- The strings that are open after a title of this header, if it may stand here (RFC 7049, 2.2.2). After `5f 5f`, a
+-- break leaves one open.
 abbrev pub within_after : Bool → Within → Header → Option Within
 within_after strict w.Nothing header = Some (opened header)
 within_after strict (w.Bytes more) header = within_bytes strict more header
@@ -77,12 +77,14 @@ phase_after within start end (h.Text (Some (suc len))) =
     p.Text (suc len) (text_place within start end (h.Text (Some (suc len))))
 phase_after within start end header = p.Title
 
--- What is due if this many bytes of the body of a byte string are left: a title, if there are none.
+-- What is due if this many bytes of the body of a byte string are left: a title, if there are none. After `42 01` one
+-- byte is left.
 abbrev pub bytes_left : ℕ → Phase
 bytes_left zero = p.Title
 bytes_left (suc left) = p.Bytes (suc left)
 
--- What is due if this many bytes of the body of a text are left: a title, if there are none.
+-- What is due if this many bytes of the body of a text are left: a title, if there are none. After `62 61` one byte is
+-- left.
 abbrev pub text_left : ℕ → ℕ → Phase
 text_left zero place = p.Title
 text_left (suc left) place = p.Text (suc left) place

@@ -1,5 +1,5 @@
 -- What was pushed to a parser, and what an answer says of it.
-use Rattle.std.specs.Prelude.{◌≡◌, ℕ, ◌+◌, ◌≤◌, ◌^◌, Bool, List, [], ◌∷◌, ◌++◌, length, take}
+use Rattle.std.specs.Prelude.{◌≡◌, ℕ, ◌+◌, ◌<◌, ◌≤◌, ◌^◌, Bool, List, [], ◌∷◌, ◌++◌, length, take}
 use Rattle.ciborium_ll_grammar.specs.declared.hdr.Header.{Header}
 use Rattle.ciborium_ll_grammar.specs.Title.{IsTitle}
 use Rattle.ciborium_ll_text.specs.Text.{IsCharacters}
@@ -13,7 +13,8 @@ use Rattle.cbor_parser.specs.Parsing.{AtFault, IsNoTitleIn, IsParsed, IsTitleIn,
 use Rattle.cbor_parser.specs.Parsing.{point_at, point_of, token}
 
 -- These bytes were pushed to the parser and taken, and the events named these tokens, the last one first (RFC 7049, 2.1
--- to 2.4). If `strict`, only the shortest spelling is taken (3.9).
+-- to 2.4). If `strict`, only the shortest spelling is taken (3.9). After the pieces `82 19` and `01`, these are the
+-- bytes `82 19 01` and the token `Array(Some(2))`.
 pub record HasPushed (strict : Bool) (bytes : List ℕ) (tokens : List Token) (parser : Parser) : Type 0 where
   pub parsed : IsParsed strict bytes tokens (point_of parser)
   pub spelling : parser.strict ≡ strict
@@ -33,8 +34,8 @@ pub record EndsWithTitle (bytes : List ℕ) (header : Header) (offset : ℕ) : T
   pub place : offset ≡ length done
 
 -- `Tells strict before tokens part all event new`: what an event says, if these bytes and tokens came before, the part
--- of the piece was taken, and `all` are the bytes of the piece. After `42 05`, the piece `06 82` has the event `Body(0)`
--- with the part `06`.
+-- of the piece was taken, and `all` are the bytes of the piece. After `42 05`, the piece `06 82` has the event
+-- `Body(0)` with the part `06`. A body that lacks bytes takes the whole piece.
 abbrev pub Tells : Bool → List ℕ → List Token → List ℕ → List ℕ → Event → Parser → Type 0
 Tells strict before tokens part all (e.Need due) new =
     (part ≡ all) × HasPushed strict (before ++ part) tokens new × (due ≡ due_of (point_of new))
@@ -42,6 +43,7 @@ Tells strict before tokens part all (e.Header header offset) new =
     HasPushed strict (before ++ part) (token header [] ∷ tokens) new × EndsWithTitle (before ++ part) header offset
 Tells strict before tokens part all (e.Body left) new =
     HasPushed strict (before ++ part) (grown tokens part) new × (left ≡ left_of (point_of new))
+    × (0 < left → part ≡ all)
 Tells strict before tokens part all (e.Text carried left) new =
     HasPushed strict (before ++ part) (grown tokens (carried ++ part)) new × IsCharacters (carried ++ part)
     × (left ≡ left_of (point_of new))
@@ -50,18 +52,21 @@ Tells strict before tokens part all (e.Fault place) new =
 Tells strict before tokens part all e.TooLong new =
     HasPushed strict before tokens new × (part ≡ []) × (2 ^ 64 ≤ length before + length all)
 
--- The event takes no byte of a piece: a fault, or a piece that is too long. `Need` takes all.
+-- The event may take no byte of a piece that has some: a fault, as a second time after `1c`, or a piece that is too
+-- long.
 abbrev pub Stops : Event → Type 0
 Stops (e.Fault place) = Unit {0}
 Stops e.TooLong = Unit {0}
 Stops event = ⊥
 
--- What an answer says of a piece, if these bytes and tokens came before: `Tells` of the bytes that were taken.
+-- What an answer says of a piece, if these bytes and tokens came before: `Tells` of the bytes that were taken. Of the
+-- piece `06 82` it says that `06` was taken, if one byte was.
 abbrev pub Pushes : Bool → List ℕ → List Token → List ℕ → Pushed → Parser → Type 0
 Pushes strict before tokens piece pushed new =
     Tells strict before tokens (take pushed.taken piece) piece pushed.event new
 
 -- The point after a part of a text, with this many bytes left: `InText` with none of a character, or a title is due.
+-- After `62 61` one byte is left, and after `62 61 62` a title is due.
 abbrev pub text_point : Within → ℕ → ℕ → Point
 text_point within left place = point_at (text_left left place) within []
 

@@ -1,5 +1,6 @@
 -- A parser as plain numbers, which a caller keeps in its own memory.
-use Rattle.std.specs.Prelude.{◌≡◌, ◌==◌, ◌≤◌, ℕ, Bool, true, false, List, Option, Some, None, if◌then◌else◌, length, take}
+use Rattle.std.specs.Prelude.{◌≡◌, ◌==◌, ◌≤◌, ℕ, Bool, true, false, List, Option, Some, None, if◌then◌else◌, length}
+use Rattle.std.specs.Prelude.{take}
 use Rattle.ciborium_ll_grammar.specs.declared.limits.TheConstants.{LONGEST_TITLE}
 use Rattle.ciborium_ll_text.specs.Text.{IsStuck}
 use Rattle.cbor_parser.specs.declared.parser.Parser.{Parser}

@@ -16,7 +16,7 @@ pub enum Event {
         /// The offset of the title's first byte, in bytes.
         offset: usize,
     },
-    /// The bytes taken are the next part of the body of a byte string.
+    /// The bytes taken are the next part of the body of a byte string. A body without bytes has no part.
     Body {
         /// How many bytes the body still lacks: 0 for its last part.
         left: usize,

@@ -35,7 +35,8 @@ pub struct Parser {
 }
 
 impl Parser {
-    ghost use Rattle.std.specs.Prelude.{◌<◌, ◌+◌, ◌-◌, ◌%◌, ◌++◌, ◌⊎◌, Bool, ℕ, List, [], IfSome, IfNone, IsSomeAnd, slice_index, take, false};
+    ghost use Rattle.std.specs.Prelude.{◌<◌, ◌+◌, ◌-◌, ◌%◌, ◌++◌, ◌⊎◌, Bool, ℕ, List, [], IfSome, IfNone, IsSomeAnd};
+    ghost use Rattle.std.specs.Prelude.{slice_index, take, false};
     ghost use Rattle.cbor_parser.specs.Parsing.{AreTokens, AtFault, AtTitle, Token, due_of, point_of};
     ghost use Rattle.cbor_parser.specs.Pushing.{Enters, HasPushed, Pushes, Stops, text_point};
     ghost use Rattle.cbor_parser.specs.Saving.{Holds, Keeps};

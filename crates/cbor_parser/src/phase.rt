@@ -1,7 +1,8 @@
 //! What a parser waits for.
 
 ghost use Rattle.std.specs.Prelude.{◌≡◌, ◌<◌, ◌≤◌, ◌+◌, IfSome, Some, true};
-ghost use Rattle.cbor_parser.specs.Phases.{bytes_left, has_left, open_count, phase_after, text_left, text_place, within_after};
+ghost use Rattle.cbor_parser.specs.Phases.{bytes_left, has_left, open_count, phase_after, text_left, text_place};
+ghost use Rattle.cbor_parser.specs.Phases.{within_after};
 
 use ciborium_ll_grammar::hdr::Header;
 

@@ -11,18 +11,22 @@ pub returns-then-whole-gt0-clause-pushed : goal.returns-then-whole-gt0-clause-pu
 returns-then-whole-gt0-clause-pushed c = λ strict before tokens is.
     let within : c.min-len.result ≤ length c.args.bytes.now = search rules in
     let most : c.min-len.result ≤ c.args.left = search rules in
-    let few = front_within c.args.bytes.now c.text_front.result.0.now _ c.min-len.result within c.text_front.ensures.front in
+    let few = front_within c.args.bytes.now c.text_front.result.0.now _ c.min-len.result within
+    c.text_front.ensures.front in
     let taken : length c.text_front.result.0.now ≤ c.args.left = omega (arith, few, most) in
     let there : length c.text_front.result.0.now ≤ length c.args.bytes.now = omega (arith, few, within) in
     let long = length-take-le (length c.text_front.result.0.now) c.args.bytes.now there in
-    let whole = part_front c.args.bytes.now c.text_front.result.0.now _ c.min-len.result within c.text_front.ensures.front in
+    let whole = part_front c.args.bytes.now c.text_front.result.0.now _ c.min-len.result within
+    c.text_front.ensures.front in
     let none : c.args.self.now.front ≡ [] = length_zero c.args.self.now.front (search rules) in
     pushes_of strict before tokens c.args.bytes.now _ _ (length c.text_front.result.0.now)
     (e.Text c.args.self.now.front (c.args.left - length c.text_front.result.0.now)) c.take_text.ensures.taken
     c.take_text.ensures.event
     (text_tells strict before tokens c.args.self.now _ c.args.bytes.now
     (take (length c.text_front.result.0.now) c.args.bytes.now) (c.args.left - length c.text_front.result.0.now) is
-    c.take_text.ensures.strict (omega (arith, c.take_text.ensures.offset, long)) c.args.left c.args.place c.requires.phase
+    c.take_text.ensures.strict (omega (arith, c.take_text.ensures.offset, long)) c.args.left c.args.place
+    c.requires.phase
     (omega (arith, long, taken))
-    (subst (λ (f : List ℕ). IsCharacters (f ++ take (length c.text_front.result.0.now) c.args.bytes.now)) (sym none) whole)
+    (subst (λ (f : List ℕ). IsCharacters (f ++ take (length c.text_front.result.0.now) c.args.bytes.now)) (sym none)
+    whole)
     c.take_text.ensures.point)

@@ -19,7 +19,8 @@ returns-then-bytes-due-clause-pushed c = λ strict before tokens pushed.
 
 pub enter-requires-clause-long : goal.enter-requires-clause-long
 enter-requires-clause-long c =
-    let whole : c.bytes.result.now ≡ c.args.self.now.front ++ take c.title_due-due.result c.args.bytes.now = search rules in
+    let whole : c.bytes.result.now ≡ c.args.self.now.front ++ take c.title_due-due.result c.args.bytes.now =
+    search rules in
     let there : c.title_due-due.result ≤ length c.args.bytes.now = search rules in
     let long = length-take-le c.title_due-due.result c.args.bytes.now there in
     let sum = length-append c.args.self.now.front (take c.title_due-due.result c.args.bytes.now) in
@@ -28,7 +29,8 @@ enter-requires-clause-long c =
 
 pub returns-clause-pushed : goal.returns-clause-pushed
 returns-clause-pushed c = λ strict before tokens pushed.
-    let whole : c.bytes.result.now ≡ c.args.self.now.front ++ take c.title_due-due.result c.args.bytes.now = search rules in
+    let whole : c.bytes.result.now ≡ c.args.self.now.front ++ take c.title_due-due.result c.args.bytes.now =
+    search rules in
     let there : c.title_due-due.result ≤ length c.args.bytes.now = search rules in
     let long = length-take-le c.title_due-due.result c.args.bytes.now there in
     whole_tells strict before tokens c.args.self.now c.enter.new.self c.args.bytes.now
