@@ -4,8 +4,8 @@ use crate::shared::{MOST, add_bytes, decoded, holds};
 use cbor_parser::{Event, Parser, Saved};
 use std::alloc::{AllocError, Global};
 
-// Pieces, one after another, with how many bytes were taken and the event. A piece has more bytes than are taken, if the
-// next piece begins with them.
+// Pieces, one after another, with how many bytes were taken and the event. A piece may have more bytes than are taken.
+// The next piece begins with these.
 static STEPS: [(&str, &str); 15] = [
     ("", "0 need 1"),
     ("821901", "1 header Array(Some(2)) at 0"),
@@ -127,12 +127,25 @@ fn lengths(rt: HostRuntime) {
     let Some(mut parser) = Parser::restore(saved) else {
         return holds(&rt, false, "a great offset");
     };
-    holds(&rt, is_answer(rt.alloc(), &mut parser, "0001", "0 too long"), "two bytes");
     holds(
         &rt,
-        is_answer(rt.alloc(), &mut parser, "00", "1 header Positive(0) at 18446744073709551614"),
+        is_answer(rt.alloc(), &mut parser, "0001", "0 too long"),
+        "two bytes",
+    );
+    holds(
+        &rt,
+        is_answer(
+            rt.alloc(),
+            &mut parser,
+            "00",
+            "1 header Positive(0) at 18446744073709551614",
+        ),
         "the last byte",
     );
-    holds(&rt, is_answer(rt.alloc(), &mut parser, "00", "0 too long"), "one byte more");
+    holds(
+        &rt,
+        is_answer(rt.alloc(), &mut parser, "00", "0 too long"),
+        "one byte more",
+    );
     holds(&rt, parser.offset() == usize::MAX, "the greatest offset");
 }

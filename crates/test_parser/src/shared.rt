@@ -74,7 +74,12 @@ fn add_piece(text: &mut String, parser: &mut Parser, piece: &[u8]) -> Result<(),
 }
 
 // Pushes a piece to the parser, or to a parser that is restored from its numbers, and adds its events.
-fn add_cut(text: &mut String, parser: &mut Parser, piece: &[u8], is_saved: bool) -> Result<(), AllocError> {
+fn add_cut(
+    text: &mut String,
+    parser: &mut Parser,
+    piece: &[u8],
+    is_saved: bool,
+) -> Result<(), AllocError> {
     if !is_saved {
         return add_piece(text, parser, piece);
     }
