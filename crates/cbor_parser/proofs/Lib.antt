@@ -1,4 +1,5 @@
 pub mod CharacterLaws
+pub mod ElementTokens
 pub mod OneParse
 pub mod ParseLaws
 pub mod PushLaws

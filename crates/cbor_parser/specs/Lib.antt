@@ -1,3 +1,4 @@
+pub mod Naming
 pub mod Parsing
 pub mod Phases
 pub mod Pushing

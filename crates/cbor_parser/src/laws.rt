@@ -1,8 +1,10 @@
 //! Laws of what was pushed, each the contract of an empty function.
 
-ghost use Rattle.std.specs.Prelude.{◌≡◌, Bool, ℕ, List};
+ghost use Rattle.std.specs.Prelude.{◌≡◌, Bool, ℕ, List, false};
 ghost use Rattle.cbor_parser.specs.declared.parser.Parser.{Parser};
-ghost use Rattle.cbor_parser.specs.Parsing.{IsParsed, Point, Token, point_of};
+ghost use Rattle.cbor_parser.specs.declared.phase.Within.TheVariants as w;
+ghost use Rattle.cbor_parser.specs.Naming.{AreElements, IsNamed};
+ghost use Rattle.cbor_parser.specs.Parsing.{AreTokens, AtFault, IsParsed, Point, Token, point_of};
 ghost use Rattle.cbor_parser.specs.Pushing.{HasPushed};
 
 /// Bytes are the same tokens, and leave a parser in the same state, however a caller cut them into pieces.
@@ -17,4 +19,17 @@ pub fn exact_parse()
     ensures { (strict : Bool) (bytes : List ℕ) (tokens others : List Token) (point : Point) (parser : Parser)
         → IsParsed strict bytes tokens point → HasPushed strict bytes others parser
         → (tokens ≡ others) × (point ≡ point_of parser) }
+{}
+
+/// If a parser of any spelling is at a fault, the bytes have a fault at the same offset, as `recode` names it. So it is
+/// whatever bytes follow, if they are enough for the text that is under way.
+pub fn named_faults()
+    ensures { (bytes : List ℕ) (tokens : List Token) (place : ℕ) (parser : Parser)
+        → HasPushed false bytes tokens parser → point_of parser ≡ AtFault place → IsNamed bytes place }
+{}
+
+/// Whole tokens are elements.
+pub fn whole_elements()
+    ensures { (strict : Bool) (bytes : List ℕ) (tokens : List Token) → AreTokens strict bytes tokens w.Nothing
+        → AreElements bytes }
 {}
