@@ -1,20 +1,21 @@
 -- Tokens are elements, and the first fault after them is the fault of elements.
-use Rattle.std.proofs.Common.{◌≡◌, ℕ, zero, suc, ◌+◌, ◌-◌, ◌<◌, ◌≤◌, ◌⊎◌, Bool, true, false, List, [], ◌∷◌, ◌++◌, length}
-use Rattle.std.proofs.Common.{Some, None, drop, take, inl, inr, refl, sym, ap, subst, ◌∙◌, arith, append-nil, append_assoc}
-use Rattle.std.proofs.Common.{length-append}
+use Rattle.std.proofs.Common.{◌≡◌, ℕ, zero, suc, ◌+◌, ◌≤◌, Bool, true, false, List, [], ◌∷◌, ◌++◌, length}
+use Rattle.std.proofs.Common.{Some, None, drop, take, inl, inr, refl, sym, ap, subst, ◌∙◌, arith}
+use Rattle.std.proofs.Common.{append-nil, append_assoc, length-append}
 use Rattle.ciborium_ll_grammar.specs.declared.hdr.Header.{Header}
 use Rattle.ciborium_ll_grammar.specs.declared.hdr.Header.TheVariants as h
-use Rattle.ciborium_ll_grammar.specs.Title.{BeginsRefused, IsTitle, numbered, alone, shortest_title}
-use Rattle.ciborium_ll_grammar.specs.Strings.{Kind, Bytes, Text, kind_header, definite, IsMisplaced, IsWritable}
-use Rattle.ciborium_ll_grammar.specs.Elements.{AreWritable, IsElement, IsPlain, IsRun, Mark, done, plain, spelling, string}
+use Rattle.ciborium_ll_grammar.specs.Title.{BeginsRefused, IsTitle}
+use Rattle.ciborium_ll_grammar.specs.Strings.{Kind, Bytes, Text, kind_header, definite}
+use Rattle.ciborium_ll_grammar.specs.Elements.{AreWritable, IsPlain, IsRun, Mark, done, plain, string}
 use Rattle.ciborium_ll_grammar.specs.Elements.{Open, pieces}
-use Rattle.ciborium_ll_grammar.specs.Faults.{BodyDue, DamagedText, Due, FirstFault, HasFault, In, IsAtTitle, IsRefusedIn, NoTitle}
-use Rattle.ciborium_ll_grammar.specs.Faults.{OtherTitle, Point, Reaches, Syntax, body, body_inside, due, inside, with_front}
+use Rattle.ciborium_ll_grammar.specs.Faults.{BodyDue, DamagedText, Due, FirstFault, In, IsAtTitle, IsRefusedIn, NoTitle}
+use Rattle.ciborium_ll_grammar.specs.Faults.{OtherTitle, Point, Reaches, Syntax, body, body_inside, due, inside}
+use Rattle.ciborium_ll_grammar.specs.Faults.{with_front}
 use Rattle.ciborium_ll_grammar.proofs.ElementLaws.{AreWritable-append}
 use Rattle.ciborium_ll_grammar.proofs.OpenStrings.{IsInsideAt, one_open}
 use Rattle.ciborium_ll_grammar.proofs.StepLaws.{add_element, add_open, add_string, close_inner, close_last, counted}
 use Rattle.ciborium_ll_grammar.specs.Strings.{none}
-use Rattle.ciborium_ll_text.specs.Text.{IsCharacters, IsStuck}
+use Rattle.ciborium_ll_text.specs.Text.{IsCharacters}
 use Rattle.ciborium_ll_text.proofs.Lists.{front_of, length_zero}
 use Rattle.ciborium_ll_text.proofs.TextLaws.{IsCharacters-rest}
 use Rattle.std.proofs.lemmas.List.{length-take-le, take-append-drop}
@@ -53,8 +54,8 @@ writable_one Bytes y is = (tt, tt)
 writable_one Text y is = (is, tt)
 
 -- A string of a definite length after elements.
-after_elements : (k : Kind) (c t y : List ℕ) (n : ℕ) (v : Within) → Stands c w.Nothing → IsTitle t (kind_header k (Some n))
-    → length y ≡ n → IsBody (kind_header k None) y → v ≡ w.Nothing → Stands (c ++ (t ++ y)) v
+after_elements : (k : Kind) (c t y : List ℕ) (n : ℕ) (v : Within) → Stands c w.Nothing
+    → IsTitle t (kind_header k (Some n)) → length y ≡ n → IsBody (kind_header k None) y → v ≡ w.Nothing → Stands (c ++ (t ++ y)) v
 after_elements k c t y n v (between {n = i} {ms = ms} run e) is long text to =
     let title : IsTitle t (kind_header k (Some (length y))) =
     subst (λ (m : ℕ). IsTitle t (kind_header k (Some m))) (sym long) is in
@@ -71,8 +72,8 @@ open_elements k c t y v (within Bytes more run i ok e e') is long to = absurd (c
 open_elements k c t y v (within Text more run i ok e e') is long to = absurd (cc e')
 
 -- A title that begins no string, after elements.
-plain_elements : (c t y : List ℕ) (x : Header) (v : Within) → Stands c w.Nothing → IsTitle t x → IsPlain x → length y ≡ 0
-    → v ≡ w.Nothing → Stands (c ++ (t ++ y)) v
+plain_elements : (c t y : List ℕ) (x : Header) (v : Within) → Stands c w.Nothing → IsTitle t x → IsPlain x
+    → length y ≡ 0 → v ≡ w.Nothing → Stands (c ++ (t ++ y)) v
 plain_elements c t y x v (between {n = i} {ms = ms} run e) is no_string long to =
     subst (λ (z : List ℕ). Stands z v) (no_body c t y long)
     (between (add_element i c ms run t _ (plain x is no_string)) to)
@@ -184,8 +185,8 @@ from_nothing strict c t y (h.Text None) v stands is to long text =
     open_elements Text c t y v stands is long (some_one _ v to)
 from_nothing strict c t y x v stands is to long text = plain_elements c t y x v stands is tt long (some_one _ v to)
 
-from_bytes : (strict : Bool) (more : ℕ) (c t y : List ℕ) (x : Header) (v : Within) → Stands c (w.Bytes more) → IsTitle t x
-    → within_bytes strict more x ≡ Some v → length y ≡ body_len x → IsBody x y → Stands (c ++ (t ++ y)) v
+from_bytes : (strict : Bool) (more : ℕ) (c t y : List ℕ) (x : Header) (v : Within) → Stands c (w.Bytes more)
+    → IsTitle t x → within_bytes strict more x ≡ Some v → length y ≡ body_len x → IsBody x y → Stands (c ++ (t ++ y)) v
 from_bytes strict more c t y (h.Bytes (Some n)) v stands is to long text =
     string_within Bytes more c t y n v stands is long tt (some_one _ v to)
 from_bytes true more c t y (h.Bytes None) v stands is to long text = none_some v to
@@ -222,7 +223,8 @@ one_more strict c t y x (w.Text more) v stands is long text =
 -- Tokens are elements, or elements and strings that are open.
 tokens_stand : (strict : Bool) (d : List ℕ) (ts : List Token) (v : Within) → AreTokens strict d ts v → Stands d v
 tokens_stand strict d ts v parsing.none = between done refl
-tokens_stand strict d ts v (parsing.more {before = c} {title = t} {body = y} {header = x} {tokens = us} {within = u} are is
+tokens_stand strict d ts v
+    (parsing.more {before = c} {title = t} {body = y} {header = x} {tokens = us} {within = u} are is
     long text) =
     one_more strict c t y x u v (tokens_stand strict c us u are) is long text
 
@@ -287,20 +289,23 @@ at_title (w.Text more) = tt
 -- A fault of elements, at a point that a copy reaches.
 faults_at : (d ahead : List ℕ) (point : Point) (place : ℕ) (written : List ℕ) (consumed : ℕ) (r : Reached d point)
     → FirstFault false d r.marks point ahead (Syntax place) written consumed → FaultsAt (d ++ ahead) place
-faults_at d ahead point place written consumed r fault =
-    (r.count, record {
-      before = d;
-      marks = r.marks;
-      point = point;
-      ahead = ahead;
-      answer = Syntax place;
-      written = written;
-      consumed = consumed;
-      reach = r.reach;
-      is = refl;
-      spelled = λ e. absurd (cc e);
-      fault = fault;
-    }, refl)
+faults_at d ahead point place written consumed r fault = (
+  r.count,
+  record {
+    before = d;
+    marks = r.marks;
+    point = point;
+    ahead = ahead;
+    answer = Syntax place;
+    written = written;
+    consumed = consumed;
+    reach = r.reach;
+    is = refl;
+    spelled = λ e. absurd (cc e);
+    fault = fault;
+  },
+  refl,
+)
 
 misplaced_bytes : (more : ℕ) (x : Header) → within_bytes false more x ≡ None → IsRefusedIn false Bytes x
 misplaced_bytes more (h.Bytes (Some n)) e = absurd (cc e)
@@ -338,9 +343,11 @@ in_at m r = r.reach
 
 title_named : (d t : List ℕ) (v : Within) → Stands d v → IsNoTitleIn false v t → IsNamed (d ++ t) (length d)
 title_named d t v stands (inl (inl refused)) =
-    let r = reached d v stands in
-    (0, λ more least. rw (append_assoc d t more)
-      (faults_at d (t ++ more) (point_of v) (length d) _ _ r (NoTitle (at_title v) (refused_more t more refused))))
+    let r = reached d v stands in (
+      0,
+      λ more least. rw (append_assoc d t more)
+          (faults_at d (t ++ more) (point_of v) (length d) _ _ r (NoTitle (at_title v) (refused_more t more refused))),
+    )
 title_named d t v stands (inl (inr (x, is, longer))) = absurd (longer tt)
 title_named d t v stands (inr (x, is, misplaced)) =
     (0, λ more least. rw (append_assoc d t more) (other_title d t more v x (reached d v stands) is misplaced))
@@ -370,28 +377,35 @@ body_fault before y carried more ms len left start text stops long enough =
     (body_front y carried more left enough) in
     DamagedText y (carried ++ take left more)
     (omega (arith, long, enough, length-append (y ++ carried) more, length-append y carried))
-    (λ chars. stops (take left more, length-take-le left more enough,
-      IsCharacters-rest y (carried ++ take left more) text (subst IsCharacters front chars)))
+    (λ chars. stops (
+      take left more,
+      length-take-le left more enough,
+      IsCharacters-rest y (carried ++ take left more) text (subst IsCharacters front chars),
+    ))
     front text (omega arith) (omega (arith, long))
 
-text_named : (d t y carried : List ℕ) (v u : Within) (len left : ℕ) → Stands d v → IsTitleIn false v t (h.Text (Some len)) u
-    → IsCharacters y → (CanEnd carried left → ⊥) → length y + (length carried + left) ≡ len
+text_named : (d t y carried : List ℕ) (v u : Within) (len left : ℕ) → Stands d v
+    → IsTitleIn false v t (h.Text (Some len)) u → IsCharacters y → (CanEnd carried left → ⊥) → length y + (length carried + left) ≡ len
     → IsNamed (d ++ (t ++ (y ++ carried))) (text_place v (length d) (length (d ++ t)) (h.Text (Some len)))
 text_named d t y carried w.Nothing u len left stands is text stops long =
-    let r = reached d w.Nothing stands in
-    (left, λ more least.
-      rw (four d t (y ++ carried) more)
-      (faults_at (d ++ t) ((y ++ carried) ++ more) (BodyDue Text len _) _ _ _
-        (record { count = r.count; marks = r.marks; reach = body Text (due_at r) is.is_title })
-        (body_fault (d ++ t) y carried more r.marks len left _ text stops long least)))
+    let r = reached d w.Nothing stands in (
+      left,
+      λ more least.
+          rw (four d t (y ++ carried) more)
+          (faults_at (d ++ t) ((y ++ carried) ++ more) (BodyDue Text len _) _ _ _
+          (record { count = r.count; marks = r.marks; reach = body Text (due_at r) is.is_title })
+          (body_fault (d ++ t) y carried more r.marks len left _ text stops long least)),
+    )
 text_named d t y carried (w.Bytes m) u len left stands is text stops long = absurd (cc is.stands)
 text_named d t y carried (w.Text m) u len left stands is text stops long =
-    let r = reached d (w.Text m) stands in
-    (left, λ more least.
-      rw (four d t (y ++ carried) more)
-      (faults_at (d ++ t) ((y ++ carried) ++ more) (BodyDue Text len (length d)) _ _ _
-        (record { count = r.count; marks = r.marks; reach = body_inside (in_at m r) is.is_title })
-        (body_fault (d ++ t) y carried more r.marks len left _ text stops long least)))
+    let r = reached d (w.Text m) stands in (
+      left,
+      λ more least.
+          rw (four d t (y ++ carried) more)
+          (faults_at (d ++ t) ((y ++ carried) ++ more) (BodyDue Text len (length d)) _ _ _
+          (record { count = r.count; marks = r.marks; reach = body_inside (in_at m r) is.is_title })
+          (body_fault (d ++ t) y carried more r.marks len left _ text stops long least)),
+    )
 
 -- The fault of a parser is the fault of elements.
 pub named : (b : List ℕ) (ts : List Token) (place : ℕ) → IsParsed false b ts (AtFault place) → IsNamed b place

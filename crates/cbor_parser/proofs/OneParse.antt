@@ -1,12 +1,10 @@
 -- Bytes are the same tokens, however they were pushed.
-use Rattle.std.proofs.Common.{◌≡◌, ℕ, zero, suc, ◌+◌, ◌<◌, ◌≤◌, ◌⊎◌, Bool, List, [], ◌∷◌, ◌++◌, length, Some, None, inl}
+use Rattle.std.proofs.Common.{◌≡◌, ℕ, ◌+◌, ◌≤◌, Bool, List, [], ◌∷◌, ◌++◌, length, Some, None, inl}
 use Rattle.std.proofs.Common.{inr}
 use Rattle.std.proofs.Common.{refl, sym, ap, subst, ◌∙◌, arith, append-nil, append_assoc, length-append}
 use Rattle.std.proofs.lemmas.Bool.{cases_lt}
 use Rattle.ciborium_ll_grammar.specs.declared.hdr.Header.{Header}
-use Rattle.ciborium_ll_grammar.specs.declared.hdr.Header.TheVariants as h
 use Rattle.ciborium_ll_grammar.specs.Title.{BeginsRefused, IsCutTitle, IsTitle}
-use Rattle.ciborium_ll_grammar.specs.Items.{IsTakenTitle}
 use Rattle.ciborium_ll_grammar.proofs.TitleLaws.{one_title, title_refused}
 use Rattle.ciborium_ll_grammar.proofs.AffixLaws.{refused_affix, title_not_cut}
 use Rattle.ciborium_ll_text.specs.Text.{IsCharacters, IsStuck}
@@ -15,7 +13,7 @@ use Rattle.ciborium_ll_text.proofs.TextLaws.{IsCharacters-rest}
 use Rattle.cbor_parser.specs.declared.phase.Within.{Within}
 use Rattle.cbor_parser.specs.declared.phase.Within.TheVariants as w
 use Rattle.cbor_parser.specs.Phases.{text_place, within_after}
-use Rattle.cbor_parser.specs.Parsing.{AreTokens, AtFault, AtTitle, CanEnd, InBytes, InText, IsBody, IsNoTakenTitle}
+use Rattle.cbor_parser.specs.Parsing.{AreTokens, AtFault, AtTitle, IsBody}
 use Rattle.cbor_parser.specs.Parsing.{IsNoTitleIn, IsParsed, IsPart, IsTitleIn, Point, Token, at_title, body_len, bytes}
 use Rattle.cbor_parser.specs.Parsing.{in_body, more, no_text, no_title, none, text, token}
 

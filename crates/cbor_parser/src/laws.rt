@@ -1,10 +1,10 @@
 //! Laws of what was pushed, each the contract of an empty function.
 
-ghost use Rattle.std.specs.Prelude.{◌≡◌, Bool, ℕ, List, false};
+ghost use Rattle.std.specs.Prelude.{◌≡◌, Bool, ℕ, List, [], false};
 ghost use Rattle.cbor_parser.specs.declared.parser.Parser.{Parser};
 ghost use Rattle.cbor_parser.specs.declared.phase.Within.TheVariants as w;
 ghost use Rattle.cbor_parser.specs.Naming.{AreElements, IsNamed};
-ghost use Rattle.cbor_parser.specs.Parsing.{AreTokens, AtFault, IsParsed, Point, Token, point_of};
+ghost use Rattle.cbor_parser.specs.Parsing.{AreTokens, AtFault, AtTitle, IsParsed, Point, Token, point_of};
 ghost use Rattle.cbor_parser.specs.Pushing.{HasPushed};
 
 /// Bytes are the same tokens, and leave a parser in the same state, however a caller cut them into pieces.
@@ -28,8 +28,13 @@ pub fn named_faults()
         → HasPushed false bytes tokens parser → point_of parser ≡ AtFault place → IsNamed bytes place }
 {}
 
-/// Whole tokens are elements.
+/// Bytes are whole tokens in any spelling exactly if they are elements. So a parser says that they may end
+/// ([`Parser::is_between`](crate::Parser::is_between)) exactly if they are elements.
 pub fn whole_elements()
-    ensures { (strict : Bool) (bytes : List ℕ) (tokens : List Token) → AreTokens strict bytes tokens w.Nothing
+    ensures elements { (strict : Bool) (bytes : List ℕ) (tokens : List Token) → AreTokens strict bytes tokens w.Nothing
         → AreElements bytes }
+    ensures tokens { (bytes : List ℕ) → AreElements bytes
+        → (tokens : List Token) × AreTokens false bytes tokens w.Nothing }
+    ensures between { (bytes : List ℕ) (tokens : List Token) (parser : Parser) → AreElements bytes
+        → HasPushed false bytes tokens parser → point_of parser ≡ AtTitle w.Nothing [] }
 {}
