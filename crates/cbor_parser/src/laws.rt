@@ -21,11 +21,11 @@ pub fn exact_parse()
         → (tokens ≡ others) × (point ≡ point_of parser) }
 {}
 
-/// If a parser of any spelling is at a fault, the bytes have a fault at the same offset, as `recode` names it. So it is
-/// whatever bytes follow, if they are enough for the text that is under way.
+/// If a parser is at a fault, the bytes have a fault at the same offset, as `recode` names it, with a strict decoder if
+/// the parser is strict. So it is whatever bytes follow, if they are enough for the text that is under way.
 pub fn named_faults()
-    ensures { (bytes : List ℕ) (tokens : List Token) (place : ℕ) (parser : Parser)
-        → HasPushed false bytes tokens parser → point_of parser ≡ AtFault place → IsNamed bytes place }
+    ensures { (strict : Bool) (bytes : List ℕ) (tokens : List Token) (place : ℕ) (parser : Parser)
+        → HasPushed strict bytes tokens parser → point_of parser ≡ AtFault place → IsNamed strict bytes place }
 {}
 
 /// Bytes are whole tokens in any spelling exactly if they are elements. So a parser says that they may end

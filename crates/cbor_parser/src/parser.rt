@@ -117,8 +117,14 @@ impl Parser {
         }
     }
 
-    /// Takes bytes from the beginning of a piece: the rest of a title, a part of a body, or a part of these that ends
-    /// with the piece. A fault stays: each later call answers the same fault, and takes nothing.
+    /// Takes bytes from the beginning of a piece, and tells what they are. A caller pushes the rest of the piece until
+    /// no byte is left, or until the answer is a `Fault` or `TooLong`.
+    ///
+    /// For `82 42 05`, three calls take `82`, `42` and `05`. They answer with two headers, and with a `Body` that lacks
+    /// one byte. For `19 01` one call takes both bytes, and answers with `Need(1)`.
+    ///
+    /// A call takes the rest of a title, a part of a body, or a part of these that ends with the piece. A fault stays:
+    /// each later call answers the same fault, and takes nothing.
     pub fn push(&mut self, bytes: &[u8]) -> Pushed
         ensures taken { result.taken ≤ length bytes.now }
         ensures some { 0 < length bytes.now → (0 < result.taken) ⊎ Stops result.event }

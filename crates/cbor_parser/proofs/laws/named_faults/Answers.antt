@@ -1,8 +1,8 @@
-use Rattle.std.proofs.Common.{false, subst}
+use Rattle.std.proofs.Common.{subst}
 use Rattle.cbor_parser.specs.Parsing.{IsParsed, Point}
 use Rattle.cbor_parser.proofs.ElementTokens.{named}
 use Rattle.cbor_parser.proofs.laws.named_faults.Goals as goal
 
 pub returns : goal.returns
-returns c = λ bytes tokens place parser is at.
-    named bytes tokens place (subst (λ (q : Point). IsParsed false bytes tokens q) at is.parsed)
+returns c = λ strict bytes tokens place parser is at.
+    named strict bytes tokens place (subst (λ (q : Point). IsParsed strict bytes tokens q) at is.parsed)
