@@ -150,6 +150,18 @@ static FAULTS: [(&str, &str); 20] = [
     ("ff1c", "0 Break, fault 1"),
 ];
 
+// Texts of thirty bytes: ten characters, and nine with a damaged one. The title has two bytes.
+static LONG: [(&str, &str); 2] = [
+    (
+        "781ee6b0b4e6b0b4e6b0b4e6b0b4e6b0b4e6b0b4e6b0b4e6b0b4e6b0b4e6b0b4",
+        "0 Text(Some(30)) e6b0b4e6b0b4e6b0b4e6b0b4e6b0b4e6b0b4e6b0b4e6b0b4e6b0b4e6b0b4",
+    ),
+    (
+        "781ee6b0b4e6b0b4e6b0b4e6b0b4e6b0b4e6b0b4e6b0b4e6b0b4e6b0b4e6b028",
+        "0 Text(Some(30)) e6b0b4e6b0b4e6b0b4e6b0b4e6b0b4e6b0b4e6b0b4e6b0b4e6b0b4, fault 0",
+    ),
+];
+
 // Bytes that are parsed in another way if the shortest spelling alone is taken.
 static LONGER: [(&str, &str, &str); 12] = [
     ("1800", "0 Positive(0)", "fault 0"),
@@ -219,5 +231,13 @@ fn spellings(rt: HostRuntime) {
     for &(digits, any, shortest) in &LONGER {
         holds(&rt, is_row(rt.alloc(), digits, false, any), digits);
         holds(&rt, is_row(rt.alloc(), digits, true, shortest), digits);
+    }
+}
+
+#[test]
+fn long_texts(rt: HostRuntime) {
+    for &(digits, want) in &LONG {
+        holds(&rt, is_row(rt.alloc(), digits, false, want), digits);
+        holds(&rt, is_row(rt.alloc(), digits, true, want), digits);
     }
 }
