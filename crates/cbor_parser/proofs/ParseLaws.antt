@@ -16,7 +16,8 @@ use Rattle.cbor_parser.specs.Phases.{bytes_left, phase_after}
 use Rattle.cbor_parser.specs.Parsing.{AreTokens, AtFault, AtTitle, CanEnd, InBytes, InText, IsParsed, IsPart}
 use Rattle.cbor_parser.specs.Parsing.{IsTitleIn, Point, Token, at_title, bytes, in_body, left_of, more, no_text}
 use Rattle.cbor_parser.specs.Parsing.{no_title, none, point_at, point_of, text, token}
-use Rattle.cbor_parser.specs.Pushing.{Enters, Tells, grown, text_point}
+use Rattle.cbor_parser.specs.Events.{title_event}
+use Rattle.cbor_parser.specs.Pushing.{EndsWithTitle, Enters, HasPushed, Tells, grown, text_point}
 use Rattle.cbor_parser.proofs.TextEnds.{any_end}
 
 -- Nothing was pushed.
@@ -72,14 +73,17 @@ entered strict b d t tokens before after start end header are is_title is from t
     at_title (more {body = []} are is_title refl tt) tt
     (is ∙ (ap (λ (z : List ℕ). d ++ z) (sym (append-nil t)) ∙ sym (append-nil (d ++ (t ++ [])))))
 
--- What an event says of a whole title.
-pub title_tells : (strict : Bool) (b part all : List ℕ) (tokens : List Token) (within : Within) (front title : List ℕ)
-    (start end : ℕ) (event : Event) (new : Parser) → IsParsed strict b tokens (AtTitle within front)
+-- What is pushed with a whole title, and where it begins.
+whole_title : (strict : Bool) (b d part : List ℕ) (tokens : List Token) (within after : Within) (front title : List ℕ)
+    (start end offset : ℕ) (header : Header) (new : Parser) → AreTokens strict d tokens within → b ≡ d ++ front
     → title ≡ front ++ part → start ≡ length b - length front → end ≡ length b + length part
-    → Enters strict within title start end event (point_of new) → new.strict ≡ strict → new.offset ≡ end
-    → Tells strict b tokens part all event new
-title_tells strict b part all tokens within front title start end (e.Header header offset)
-    new (at_title {done = d} are cut is) e from to (after, is_title, place, point) spelling counted =
+    → IsTitleIn strict within title header after → offset ≡ start
+    → point_of new ≡ point_at (phase_after within start end header) after [] → new.strict ≡ strict
+    → new.offset ≡ end
+    → HasPushed strict (b ++ part) (token header [] ∷ tokens) new
+    × EndsWithTitle strict (b ++ part) tokens within header offset
+whole_title strict b d part tokens within after front title start end offset header new are is e from to is_title place
+    point spelling counted =
     let whole : b ++ part ≡ d ++ title =
     ap (λ (z : List ℕ). z ++ part) is ∙ (append_assoc d front part ∙ ap (λ (z : List ℕ). d ++ z) (sym e)) in
     let long = ap length is ∙ length-append d front in
@@ -91,8 +95,43 @@ title_tells strict b part all tokens within front title start end (e.Header head
         spelling = spelling;
         offset = counted ∙ (to ∙ sym (length-append b part));
       },
-      record { done = d; title = title; is_title = is_title.is_title; whole = whole; place = place ∙ at },
+      record {
+        done = d;
+        title = title;
+        are = are;
+        is_title = is_title.is_title;
+        whole = whole;
+        place = place ∙ at;
+      },
     )
+
+-- The event of a whole title that is taken.
+pub enters_of : (strict : Bool) (before after : Within) (title : List ℕ) (start end : ℕ) (header : Header)
+    (point : Point) → IsTitleIn strict before title header after
+    → point ≡ point_at (phase_after before start end header) after []
+    → Enters strict before title start end (title_event before header start) point
+enters_of strict w.Nothing after title start end header point is e = (after, is, refl, e, refl)
+enters_of strict (w.Bytes m) after title start end h.Break point is e = (after, is, refl, e, refl)
+enters_of strict (w.Bytes m) after title start end header point is e = (after, is, refl, e, refl)
+enters_of strict (w.Text m) after title start end h.Break point is e = (after, is, refl, e, refl)
+enters_of strict (w.Text m) after title start end header point is e = (after, is, refl, e, refl)
+
+-- What an event says of a whole title.
+pub title_tells : (strict : Bool) (b part all : List ℕ) (tokens : List Token) (within : Within) (front title : List ℕ)
+    (start end : ℕ) (event : Event) (new : Parser) → IsParsed strict b tokens (AtTitle within front)
+    → title ≡ front ++ part → start ≡ length b - length front → end ≡ length b + length part
+    → Enters strict within title start end event (point_of new) → new.strict ≡ strict → new.offset ≡ end
+    → Tells strict b tokens part all event new
+title_tells strict b part all tokens within front title start end (e.Header header offset)
+    new (at_title {done = d} are cut is) e from to (after, is_title, place, point, event) spelling counted =
+    let o = whole_title strict b d part tokens within after front title start end offset header new are is e from to
+    is_title place point spelling counted in
+    (o.0, (within, o.1, event))
+title_tells strict b part all tokens within front title start end (e.Close offset)
+    new (at_title {done = d} are cut is) e from to (after, is_title, place, point, event) spelling counted =
+    let o = whole_title strict b d part tokens within after front title start end offset h.Break new are is e from to
+    is_title place point spelling counted in
+    (o.0, (within, o.1, event))
 title_tells strict b part all tokens within front title start end (e.Fault place)
     new (at_title {done = d} are cut is) e from to (bad, same, point) spelling counted =
     let whole : b ++ part ≡ d ++ title =

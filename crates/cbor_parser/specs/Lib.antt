@@ -1,3 +1,4 @@
+pub mod Events
 pub mod Naming
 pub mod Parsing
 pub mod Phases

@@ -1,6 +1,7 @@
 -- What was pushed to a parser, and what an answer says of it.
 use Rattle.std.specs.Prelude.{◌≡◌, ℕ, ◌+◌, ◌<◌, ◌≤◌, ◌^◌, Bool, List, [], ◌∷◌, ◌++◌, length, take}
 use Rattle.ciborium_ll_grammar.specs.declared.hdr.Header.{Header}
+use Rattle.ciborium_ll_grammar.specs.declared.hdr.Header.TheVariants as h
 use Rattle.ciborium_ll_grammar.specs.Title.{IsTitle}
 use Rattle.ciborium_ll_text.specs.Text.{IsCharacters}
 use Rattle.cbor_parser.specs.declared.event.Event.{Event}
@@ -9,8 +10,9 @@ use Rattle.cbor_parser.specs.declared.event.Pushed.{Pushed}
 use Rattle.cbor_parser.specs.declared.parser.Parser.{Parser}
 use Rattle.cbor_parser.specs.declared.phase.Within.{Within}
 use Rattle.cbor_parser.specs.Phases.{phase_after, text_left}
-use Rattle.cbor_parser.specs.Parsing.{AtFault, IsNoTitleIn, IsParsed, IsTitleIn, Point, Token, due_of, left_of}
-use Rattle.cbor_parser.specs.Parsing.{point_at, point_of, token}
+use Rattle.cbor_parser.specs.Events.{title_event}
+use Rattle.cbor_parser.specs.Parsing.{AreTokens, AtFault, IsNoTitleIn, IsParsed, IsTitleIn, Point, Token, due_of}
+use Rattle.cbor_parser.specs.Parsing.{left_of, point_at, point_of, token}
 
 -- These bytes were pushed to the parser and taken, and the events named these tokens, the last one first (RFC 7049, 2.1
 -- to 2.4). If `strict`, only the shortest spelling is taken (3.9). After the pieces `82 19` and `01`, these are the
@@ -25,10 +27,13 @@ abbrev pub grown : List Token → List ℕ → List Token
 grown [] part = []
 grown (last ∷ tokens) part = record last { body = last.body ++ part } ∷ tokens
 
--- The bytes end with a title of this header, which begins at the offset. `82 19 01 00` ends with a title at 1.
-pub record EndsWithTitle (bytes : List ℕ) (header : Header) (offset : ℕ) : Type 0 where
+-- The bytes are these tokens, after which the strings `within` are open, and then a title of this header at the offset.
+-- `82 19 01 00` are the token `Array(Some(2))` and a title at 1, and no string is open.
+pub record EndsWithTitle (strict : Bool) (bytes : List ℕ) (tokens : List Token) (within : Within) (header : Header)
+    (offset : ℕ) : Type 0 where
   pub done : List ℕ
   pub title : List ℕ
+  pub are : AreTokens strict done tokens within
   pub is_title : IsTitle title header
   pub whole : bytes ≡ done ++ title
   pub place : offset ≡ length done
@@ -40,7 +45,13 @@ abbrev pub Tells : Bool → List ℕ → List Token → List ℕ → List ℕ �
 Tells strict before tokens part all (e.Need due) new =
     (part ≡ all) × HasPushed strict (before ++ part) tokens new × (due ≡ due_of (point_of new))
 Tells strict before tokens part all (e.Header header offset) new =
-    HasPushed strict (before ++ part) (token header [] ∷ tokens) new × EndsWithTitle (before ++ part) header offset
+    HasPushed strict (before ++ part) (token header [] ∷ tokens) new
+    × ((within : Within) × EndsWithTitle strict (before ++ part) tokens within header offset
+    × (e.Header header offset ≡ title_event within header offset))
+Tells strict before tokens part all (e.Close offset) new =
+    HasPushed strict (before ++ part) (token h.Break [] ∷ tokens) new
+    × ((within : Within) × EndsWithTitle strict (before ++ part) tokens within h.Break offset
+    × (e.Close offset ≡ title_event within h.Break offset))
 Tells strict before tokens part all (e.Body left) new =
     HasPushed strict (before ++ part) (grown tokens part) new × (left ≡ left_of (point_of new))
     × (0 < left → part ≡ all)
@@ -76,6 +87,11 @@ abbrev pub Enters : Bool → Within → List ℕ → ℕ → ℕ → Event → P
 Enters strict before title start end (e.Header header offset) point =
     (after : Within) × IsTitleIn strict before title header after × (offset ≡ start)
     × (point ≡ point_at (phase_after before start end header) after [])
+    × (e.Header header offset ≡ title_event before header offset)
+Enters strict before title start end (e.Close offset) point =
+    (after : Within) × IsTitleIn strict before title h.Break after × (offset ≡ start)
+    × (point ≡ point_at (phase_after before start end h.Break) after [])
+    × (e.Close offset ≡ title_event before h.Break offset)
 Enters strict before title start end (e.Fault place) point =
     IsNoTitleIn strict before title × (place ≡ start) × (point ≡ AtFault start)
 Enters strict before title start end event point = ⊥

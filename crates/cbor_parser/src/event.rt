@@ -1,5 +1,9 @@
 //! The answers of a parser.
 
+ghost use Rattle.std.specs.Prelude.{◌≡◌};
+ghost use Rattle.cbor_parser.specs.Events.{title_event};
+
+use crate::phase::Within;
 use ciborium_ll_grammar::few::Few;
 use ciborium_ll_grammar::hdr::Header;
 
@@ -9,11 +13,16 @@ pub enum Event {
     /// All bytes of the piece were taken, and a title or a body goes on. It lacks exactly this many bytes. Before the
     /// first byte of a title this is 1.
     Need(usize),
-    /// The title of this header ended.
+    /// The title of this header ended. A break within a string of indefinite length is a `Close`.
     Header {
         /// The meaning of the title.
         header: Header,
         /// The offset of the title's first byte, in bytes.
+        offset: usize,
+    },
+    /// A break ended the innermost string of indefinite length.
+    Close {
+        /// The offset of the break, in bytes.
         offset: usize,
     },
     /// The bytes taken are the next part of the body of a byte string. A body without bytes has no part.
@@ -33,6 +42,16 @@ pub enum Event {
     Fault(usize),
     /// The piece would take the offset above `usize::MAX`, and no byte of it was taken.
     TooLong,
+}
+
+/// Returns the event of a title of this header at `offset`, within these strings.
+pub(crate) fn title_event(within: Within, header: Header, offset: usize) -> Event
+    ensures { result ≡ title_event within header offset }
+{
+    match (within, header) {
+        (Within::Bytes(_) | Within::Text(_), Header::Break) => Event::Close { offset },
+        _ => Event::Header { header, offset },
+    }
 }
 
 /// The answer to a piece.

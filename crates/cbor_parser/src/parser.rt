@@ -4,7 +4,7 @@ ghost use Rattle.std.specs.Prelude.{◌≡◌, ◌≤◌, length, true};
 ghost use Rattle.ciborium_ll_text.specs.Text.{IsStuck};
 ghost use Rattle.cbor_parser.specs.Phases.{carried_of, has_left, most_front, open_count};
 
-use crate::event::{Event, Pushed};
+use crate::event::{Event, Pushed, title_event};
 use crate::phase::{Phase, Within};
 use crate::saved::{Saved, is_state, strict_of};
 use crate::title::{add, taken_header};
@@ -271,12 +271,10 @@ impl Parser {
         let Some(within) = self.within.after(self.strict, header) else {
             return self.refuse(start);
         };
+        let event = title_event(self.within, header, start);
         self.phase = Phase::after(self.within, start, end, header);
         self.within = within;
-        Event::Header {
-            header,
-            offset: start,
-        }
+        event
     }
 
     /// Refuses a title: a fault at this place.

@@ -34,6 +34,7 @@ fn answer(alloc: Global, parser: &mut Parser, bytes: &[u8]) -> Result<String, Al
         Event::Header { header, offset } => {
             write!(&mut text, "{taken} header {header:?} at {offset}")?
         }
+        Event::Close { offset } => write!(&mut text, "{taken} close at {offset}")?,
         Event::Body { left } => write!(&mut text, "{taken} body, left {left}")?,
         Event::Text { carried, left } => {
             write!(&mut text, "{taken} text ")?;
@@ -67,6 +68,26 @@ fn pieces(rt: HostRuntime) {
     holds(&rt, parser.offset() == 14, "fourteen bytes");
     holds(&rt, parser.due() == 0, "nothing is due after a fault");
     holds(&rt, !parser.is_between(), "a fault is no end");
+}
+
+#[test]
+fn breaks(rt: HostRuntime) {
+    let mut parser = Parser::new();
+    holds(
+        &rt,
+        is_answer(rt.alloc(), &mut parser, "5fff", "1 header Bytes(None) at 0"),
+        "an open",
+    );
+    holds(
+        &rt,
+        is_answer(rt.alloc(), &mut parser, "ffff", "1 close at 1"),
+        "its break",
+    );
+    holds(
+        &rt,
+        is_answer(rt.alloc(), &mut parser, "ff", "1 header Break at 2"),
+        "another break",
+    );
 }
 
 #[test]

@@ -61,11 +61,11 @@ static ITEMS: [(&str, &str); 40] = [
     ),
     (
         "5f42010243030405ff",
-        "0 Bytes(None), 1 Bytes(Some(2)) 0102, 4 Bytes(Some(3)) 030405, 8 Break",
+        "0 Bytes(None), 1 Bytes(Some(2)) 0102, 4 Bytes(Some(3)) 030405, 8 Close",
     ),
     (
         "7f657374726561646d696e67ff",
-        "0 Text(None), 1 Text(Some(5)) 7374726561, 7 Text(Some(4)) 6d696e67, 12 Break",
+        "0 Text(None), 1 Text(Some(5)) 7374726561, 7 Text(Some(4)) 6d696e67, 12 Close",
     ),
     ("9fff", "0 Array(None), 1 Break"),
     (
@@ -98,7 +98,7 @@ static OPENS: [(&str, &str); 5] = [
     ),
     (
         "5f44aabbccdd43eeff99ff",
-        "0 Bytes(None), 1 Bytes(Some(4)) aabbccdd, 6 Bytes(Some(3)) eeff99, 10 Break",
+        "0 Bytes(None), 1 Bytes(Some(4)) aabbccdd, 6 Bytes(Some(3)) eeff99, 10 Close",
     ),
     (
         "a2616100616201",
@@ -146,7 +146,7 @@ static FAULTS: [(&str, &str); 20] = [
     ("7f61614101ff", "0 Text(None), 1 Text(Some(1)) 61, fault 3"),
     ("7f61c361a4ff", "0 Text(None), 1 Text(Some(1)), fault 1"),
     ("7f80ff", "0 Text(None), fault 1"),
-    ("5fff1c", "0 Bytes(None), 1 Break, fault 2"),
+    ("5fff1c", "0 Bytes(None), 1 Close, fault 2"),
     ("ff1c", "0 Break, fault 1"),
 ];
 
@@ -184,12 +184,12 @@ static LONGER: [(&str, &str, &str); 12] = [
     ),
     (
         "5f5f4101ffff",
-        "0 Bytes(None), 1 Bytes(None), 2 Bytes(Some(1)) 01, 4 Break, 5 Break",
+        "0 Bytes(None), 1 Bytes(None), 2 Bytes(Some(1)) 01, 4 Close, 5 Close",
         "0 Bytes(None), fault 1",
     ),
     (
         "7f7fffff",
-        "0 Text(None), 1 Text(None), 2 Break, 3 Break",
+        "0 Text(None), 1 Text(None), 2 Close, 3 Close",
         "0 Text(None), fault 1",
     ),
 ];

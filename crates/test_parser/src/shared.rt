@@ -53,6 +53,10 @@ fn add_event(text: &mut String, event: &Event, part: &[u8]) -> Result<(), AllocE
     match event {
         Event::Need(_) => Ok(()),
         Event::Header { header, offset } => add_header(text, *offset, *header),
+        Event::Close { offset } => {
+            add_comma(text)?;
+            write!(text, "{} Close", *offset)
+        }
         Event::Body { left: _ } => add_body(text, &[], part),
         Event::Text { carried, left: _ } => add_body(text, carried.bytes(), part),
         Event::Fault(_) | Event::TooLong => Ok(()),
