@@ -13,7 +13,7 @@ why_text NotShortest = codes "a shorter form says the same"
 why_text Indefinite = codes "an indefinite length or a break"
 why_text NoSimple = codes "a simple value from 24 to 31"
 why_text NoText = codes "a text that is not UTF-8"
-why_text KeyOrder = codes "a key that comes before the one in front of it"
+why_text KeyOrder = codes "a key that sorts before the previous key"
 why_text DuplicateKey = codes "the same key twice"
 why_text Deep = codes "too deep a nesting"
 

@@ -17,7 +17,7 @@ impl fmt::Display for Why {
             Why::Indefinite => write!(f, "an indefinite length or a break"),
             Why::NoSimple => write!(f, "a simple value from 24 to 31"),
             Why::NoText => write!(f, "a text that is not UTF-8"),
-            Why::KeyOrder => write!(f, "a key that comes before the one in front of it"),
+            Why::KeyOrder => write!(f, "a key that sorts before the previous key"),
             Why::DuplicateKey => write!(f, "the same key twice"),
             Why::Deep => write!(f, "too deep a nesting"),
         }

@@ -16,7 +16,7 @@ abbrev pub error_text : {T : Type 0} → (T → Option (List ℕ)) → Error T �
 error_text shown (e.Io fault) = behind (codes "the reader failed: ") (shown fault)
 error_text shown (e.Syntax place) = Some (codes "no CBOR that may stand at offset " ++ decimal place)
 error_text shown e.TooLong = Some (codes "the offset can't take the next read")
-error_text shown e.Waiting = Some (codes "a header waits in front of the bytes")
+error_text shown e.Waiting = Some (codes "a header waits before the bytes")
 
 -- The text that `{}` writes for an error of a copy: the decoder's error, or that the writer failed. `shown` and `told`
 -- give the texts of the reader's and of the writer's own errors. For `Write` of an error "full" it is "the writer

@@ -14,7 +14,7 @@ impl<T: fmt::Display> fmt::Display for Error<T> {
             Error::Io(fault) => write!(f, "the reader failed: {fault}"),
             Error::Syntax(place) => write!(f, "no CBOR that may stand at offset {place}"),
             Error::TooLong => f.write_str("the offset can't take the next read"),
-            Error::Waiting => f.write_str("a header waits in front of the bytes"),
+            Error::Waiting => f.write_str("a header waits before the bytes"),
         }
     }
 }

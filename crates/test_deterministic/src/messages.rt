@@ -16,7 +16,7 @@ static TEXTS: [(Why, &str); 9] = [
     (Why::NoText, "a text that is not UTF-8 at offset 7"),
     (
         Why::KeyOrder,
-        "a key that comes before the one in front of it at offset 7",
+        "a key that sorts before the previous key at offset 7",
     ),
     (Why::DuplicateKey, "the same key twice at offset 7"),
     (Why::Deep, "too deep a nesting at offset 7"),

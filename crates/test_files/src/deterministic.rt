@@ -34,12 +34,12 @@ static ROWS: [(&str, &str, &str); 53] = [
     (
         "check --order length-first --deterministic",
         BYTEWISE,
-        "refused 6: a key that comes before the one in front of it",
+        "refused 6: a key that sorts before the previous key",
     ),
     (
         "check --deterministic",
         LENGTH_FIRST,
-        "refused 7: a key that comes before the one in front of it",
+        "refused 7: a key that sorts before the previous key",
     ),
     (
         "check --deterministic --order=length-first --order=bytewise",
@@ -156,7 +156,7 @@ static ROWS: [(&str, &str, &str); 53] = [
     (
         "check --deterministic",
         "82 01 02 f6 a2 02 00 01 00",
-        "refused 7: a key that comes before the one in front of it",
+        "refused 7: a key that sorts before the previous key",
     ),
     (
         "check --deterministic",
@@ -192,7 +192,7 @@ static ROWS: [(&str, &str, &str); 53] = [
     (
         "check --one --deterministic --order length-first",
         BYTEWISE,
-        "refused 6: a key that comes before the one in front of it",
+        "refused 6: a key that sorts before the previous key",
     ),
     // The shortest spelling is not enough.
     ("check --strict", "9f ff", "ok 1 2"),

@@ -108,7 +108,7 @@ fn a_writer_that_keeps_nothing(rt: HostRuntime) {
     holds(&rt, writes(&mut writer, &[7, 8]), "two bytes fit");
     holds(&rt, !writes(&mut writer, &[9, 9]), "there is room for one");
     let is_right = writer.room() == 1 && writes(&mut writer, &[]);
-    holds(&rt, is_right, "a write of none succeeds in front of it");
+    holds(&rt, is_right, "a write of none succeeds before it");
     let mut encoder = Encoder::from(writer);
     let is_written = pushes(&mut encoder, Header::Positive(24));
     let is_right = !is_written && encoder.into_inner().room() == 0;

@@ -20,7 +20,7 @@ static DECODER_ERRORS: [(Error<EndOfFile>, &str); 4] = [
     ),
     (Error::Syntax(7), "no CBOR that may stand at offset 7"),
     (Error::TooLong, "the offset can't take the next read"),
-    (Error::Waiting, "a header waits in front of the bytes"),
+    (Error::Waiting, "a header waits before the bytes"),
 ];
 
 // The texts of a copy's errors between slices.
